@@ -1,0 +1,64 @@
+// A point in time.
+ghost use Rattle.std.specs.Prelude.{◌≡◌, ℕ, ◌+◌, ◌*◌, ◌/◌, ◌<◌, ◌==◌};
+ghost use Rattle.amr_time.specs.Time.{before_year_10000, in_same_second};
+
+use crate::spans::Span;
+use std::marker::Model;
+
+const SECOND: u128 = 1_000_000_000;
+
+/// Whole nanoseconds since 1970-01-01T00:00:00Z, before the year 10000.
+#[derive(Clone, Copy, Debug, PartialEq, Eq, PartialOrd, Ord, Hash)]
+pub struct Moment {
+    nanoseconds: u128,
+}
+
+impl Model for Moment {
+    ghost use Rattle.std.specs.Prelude.{ℕ, ◌<◌};
+
+    ghost Value = { ℕ };
+
+    ghost view = { λ moment. moment.nanoseconds };
+
+    ghost invariant = { λ moment. moment.nanoseconds < 253_402_300_800_000_000_000 };
+
+    ghost inverse = { λ n. record { nanoseconds = n } };
+}
+
+impl Moment {
+    /// 1970-01-01T00:00:00Z.
+    pub const START: Moment = Moment { nanoseconds: 0 };
+
+    /// The moment so many nanoseconds after 1970-01-01T00:00:00Z.
+    pub fn from_nanoseconds(nanoseconds: u128) -> Moment
+        requires { nanoseconds < before_year_10000 }
+        ensures { result ≡ nanoseconds }
+    {
+        Moment { nanoseconds }
+    }
+
+    /// How many nanoseconds it is after 1970-01-01T00:00:00Z.
+    pub fn nanoseconds(self) -> u128
+        ensures value { result ≡ self }
+        ensures bound { self < before_year_10000 }
+    {
+        self.nanoseconds
+    }
+
+    /// The moment later by a span.
+    pub fn plus(self, span: Span) -> Moment
+        requires { self + span < before_year_10000 }
+        ensures { result ≡ self + span }
+    {
+        Moment {
+            nanoseconds: self.nanoseconds + span.nanoseconds() as u128,
+        }
+    }
+
+    /// Whether no whole second since 1970 begins between the two.
+    pub fn in_same_second(self, other: Moment) -> bool
+        ensures { result ≡ in_same_second self other }
+    {
+        self.nanoseconds / SECOND == other.nanoseconds / SECOND
+    }
+}
