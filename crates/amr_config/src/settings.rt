@@ -1,0 +1,25 @@
+//! A route's settings, stated there or inherited.
+
+use crate::route::Grouping;
+use amr_labels::{Listing, Matchers, Text};
+use amr_time::Span;
+
+/// What holds at a route, stated by it or by the nearest route above that states it, or by default.
+#[derive(Debug, Drop)]
+pub struct Settings {
+    pub parent: Option<usize>,
+    /// The route's own matchers.
+    pub matchers: Matchers,
+    pub continues: bool,
+    pub receiver: Text,
+    /// How alerts are grouped; not at all where no route states it.
+    pub group_by: Option<Grouping>,
+    /// 30 seconds by default.
+    pub group_wait: Span,
+    /// 5 minutes by default.
+    pub group_interval: Span,
+    /// 4 hours by default.
+    pub repeat_interval: Span,
+    /// The sorted matchers of each route from the root down to this one.
+    pub path: Listing<Matchers>,
+}
