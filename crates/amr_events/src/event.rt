@@ -1,0 +1,78 @@
+//! An event: a moment and what happens then.
+ghost use Rattle.std.specs.Prelude.{◌≡◌, ◌≤◌};
+ghost use Rattle.amr_time.specs.Time.{latest_read};
+
+use amr_labels::{Listing, Text, TextMap};
+use amr_time::Moment;
+use std::marker::Model;
+
+/// An alert as it is posted (a postable alert of Alertmanager's API v2). Its times may be missing.
+#[derive(Debug, Drop)]
+pub struct PostedAlert {
+    /// Names with values, as they stand in the posted object.
+    pub labels: Listing<(Text, Text)>,
+    pub annotations: TextMap,
+    pub starts_at: Option<Moment>,
+    pub ends_at: Option<Moment>,
+}
+
+/// What happens at an event.
+#[derive(Debug, Drop)]
+pub enum Act {
+    /// Alerts are posted.
+    Post(Listing<PostedAlert>),
+    /// Time passes.
+    Tick,
+}
+
+/// Something that happens at a moment. The moment is one that a script can state.
+#[derive(Debug, Drop)]
+pub struct Event {
+    at: Moment,
+    act: Act,
+}
+
+impl Model for Event {
+    ghost use Rattle.std.specs.Prelude.{◌≤◌};
+    ghost use Rattle.std.specs.Coded.{codes};
+    ghost use Rattle.amr_labels.specs.Map as map;
+    ghost use Rattle.amr_time.specs.Time.{latest_read};
+    ghost use Rattle.amr_events.specs.Events.{Event};
+
+    ghost Value = { Event };
+
+    ghost coded = { Prim.hlevel (codes, map.code) };
+
+    ghost use Rattle.amr_events.specs.Acts.{event_of};
+
+    ghost view = { event_of };
+
+    ghost invariant = { λ event. event.at ≤ latest_read };
+}
+
+impl Event {
+    ghost use Rattle.amr_events.specs.Acts.{act_of, event_at};
+
+    /// The event of an act at a moment.
+    pub fn new(at: Moment, act: Act) -> Event
+        requires { at ≤ latest_read }
+        ensures { result ≡ event_at at (act_of act) }
+    {
+        Event { at, act }
+    }
+
+    /// When it happens.
+    pub fn at(&self) -> Moment
+        ensures value { result ≡ self.now.at }
+        ensures bound { result ≤ latest_read }
+    {
+        self.at
+    }
+
+    /// What happens.
+    pub fn act(&self) -> &Act
+        ensures { act_of result.now ≡ self.now.act }
+    {
+        &self.act
+    }
+}
