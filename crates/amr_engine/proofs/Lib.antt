@@ -1,0 +1,4 @@
+pub mod RunsLaws
+pub mod MovesLaws
+pub mod TickLaws
+pub mod RefusalLaws

@@ -1,0 +1,16 @@
+-- The state that the code keeps.
+use Rattle.amr_labels.specs.Map.{empty}
+use Rattle.amr_engine.specs.State.{State}
+use Rattle.amr_engine.specs.declared.store.Store.TheInside.{Inside}
+
+abbrev pub state_of : Inside → State
+state_of store = record {
+  moment = store.moment;
+  config = store.config;
+  alerts = store.alerts;
+  silences = empty;
+  placements = store.placements;
+  clocks = store.clocks;
+  log = store.log;
+  notes = store.notes;
+}
