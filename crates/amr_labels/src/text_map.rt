@@ -1,10 +1,12 @@
 //! Texts under names.
-ghost use Rattle.std.specs.Prelude.{◌≡◌, ◌==◌, ℕ, List, T, length, reverse, IfOk};
+ghost use Rattle.std.specs.Prelude.{◌≡◌, ◌==◌, ℕ, List, T, not, length, reverse, IfOk};
+ghost use Rattle.std.specs.List.{filter, list_any};
+ghost use Rattle.std.specs.Ordering.{eq_by_cmp};
 ghost use Rattle.std.specs.Option.{option_copied};
 ghost use Rattle.std.specs.BTreeMap.{IsOrdered};
 ghost use Rattle.std.specs.FinMap.{find, is_sorted};
 ghost use Rattle.amr_labels.specs.Map as map;
-ghost use Rattle.amr_labels.specs.Labels.{text_cmp};
+ghost use Rattle.amr_labels.specs.Labels.{text_cmp, value_of, is_empty};
 
 use crate::text::Text;
 use std::alloc::{AllocError, Global};
@@ -52,6 +54,50 @@ fn pairs_of(alloc: Global, tree: BTreeMap<Text, Text>) -> Result<Vec<(Text, Text
     ensures { IfOk result (λ pairs. pairs.items ≡ tree.entries) }
 {
     tree.into_iter().collect(alloc)
+}
+
+/// The pair again.
+fn copied(pair: &(Text, Text)) -> Result<(Text, Text), AllocError>
+    ensures { IfOk result (λ copy. copy ≡ pair.now) }
+{
+    Ok((pair.0.clone()?, pair.1.clone()?))
+}
+
+/// The pairs whose texts are not empty.
+fn filled(alloc: Global, pairs: &[(Text, Text)]) -> Result<Vec<(Text, Text)>, AllocError>
+    ensures { IfOk result (λ kept. kept.items ≡ filter (λ pair. not (is_empty pair.1)) pairs.now) }
+{
+    let mut kept = Vec::new(alloc);
+    for pair in pairs {
+        if !pair.1.is_empty() {
+            kept.push(copied(pair)?)?;
+        }
+    }
+    Ok(kept)
+}
+
+/// Whether the name is one of the names.
+fn is_among(name: &Text, names: &[Text]) -> bool
+    ensures { result ≡ list_any (eq_by_cmp text_cmp name.now) names.now }
+{
+    names.iter().any(|other| name == other)
+}
+
+/// The pairs whose names are among the names.
+fn named(
+    alloc: Global,
+    pairs: &[(Text, Text)],
+    names: &[Text],
+) -> Result<Vec<(Text, Text)>, AllocError>
+    ensures { IfOk result (λ kept. kept.items ≡ filter (λ pair. list_any (eq_by_cmp text_cmp pair.0) names.now) pairs.now) }
+{
+    let mut kept = Vec::new(alloc);
+    for pair in pairs {
+        if is_among(&pair.0, names) {
+            kept.push(copied(pair)?)?;
+        }
+    }
+    Ok(kept)
 }
 
 /// The text under the name, among pairs.
@@ -105,6 +151,32 @@ impl TextMap {
         ensures { option_copied result ≡ map.get self.now name.now }
     {
         text_under(self.entries(), name)
+    }
+
+    /// The text under the name, or else the empty text.
+    pub fn text_of(&self, name: &str) -> &str
+        ensures { result.now ≡ value_of self.now name.now }
+    {
+        match self.get(name) {
+            Some(text) => text.as_str(),
+            None => "",
+        }
+    }
+
+    /// The texts that are not empty.
+    pub fn without_empty_texts(&self, alloc: Global) -> Result<TextMap, AllocError>
+        ensures { IfOk result (λ kept. kept ≡ map.retain_keys self.now (λ name. not (is_empty (value_of self.now name)))) }
+    {
+        let kept = filled(alloc, self.entries())?;
+        TextMap::of_sorted(alloc, kept)
+    }
+
+    /// The texts under some names.
+    pub fn kept_by_names(&self, alloc: Global, names: &[Text]) -> Result<TextMap, AllocError>
+        ensures { IfOk result (λ kept. kept ≡ map.retain_keys self.now (λ name. list_any (eq_by_cmp text_cmp name) names.now)) }
+    {
+        let kept = named(alloc, self.entries(), names)?;
+        TextMap::of_sorted(alloc, kept)
     }
 
     /// How many names there are.
