@@ -1,0 +1,98 @@
+-- What an ordered tree of std says of the finite map of its entries.
+use Rattle.std.proofs.Common.{◌≡◌, Bool, true, false, not, cond, List, [], ◌∷◌, Some, map, refl, sym, ap, subst, ◌∙◌, T}
+use Rattle.std.specs.declared.cmp.Ordering.{Ordering}
+use Rattle.std.specs.declared.cmp.Ordering.TheVariants.{Less, Equal, Greater}
+use Rattle.std.specs.Prelude.{◌&&◌}
+use Rattle.std.specs.Ordering.{is_lt, is_eq, eq_by_cmp, match_ordering}
+use Rattle.std.specs.FinMap.{find, put, is_sorted}
+use Rattle.std.specs.FinMap.Entries.{below_all, by_order, where_key}
+use Rattle.std.specs.Map.{lookup, remove_entry}
+use Rattle.std.specs.List.{AllByRecursion}
+use Rattle.std.specs.List.Sorted.{IsStrictlySortedBy}
+use Rattle.std.specs.Cmp.{IsTotalOrder}
+use Rattle.std.specs.BTreeMap as tree
+use Rattle.std.specs.BTreeMap.{BTreeMap, insert_entry}
+use Rattle.std.proofs.lemmas.Map.Keys.{sorted_head, sorted_tail}
+use Rattle.amr_labels.specs.Map.{from_sorted, entries, get, insert, remove, empty, entries-from_sorted, entries-retain_keys, entries-insert, get-entries, same_entries_map}
+
+both : (a b : Bool) → T a → T b → T (a && b)
+both true b p q = q
+both false b p q = absurd p
+
+module _ {K X : Type 0} (R : K → K → Ordering) where
+  below : (k : K) (es : List (K × X)) → AllByRecursion (λ y. R k y ≡ Less) (map (λ e. e.0) es) → T (below_all R k es)
+  below k [] h = tt
+  below k (e ∷ es) h = both _ _ (subst (λ o. T (is_lt o)) (sym h.0) tt) (below k es h.1)
+
+  pub sorted_entries : (es : List (K × X)) → IsStrictlySortedBy R (map (λ e. e.0) es) → T (is_sorted R es)
+  sorted_entries [] h = tt
+  sorted_entries (e ∷ es) h =
+      both _ _ (below e.0 es (sorted_head R e.0 (map (λ e. e.0) es) h)) (sorted_entries es (sorted_tail R e.0 (map (λ e. e.0) es) h))
+
+  -- std's insertion is the finite map's
+  pub put_is : (es : List (K × X)) (k : K) (v : X) → insert_entry R es k v ≡ put R k v es
+  put_is [] k v = refl
+  put_is (e ∷ es) k v =
+      elim (R k e.0) as (λ o. match_ordering o ((k, v) ∷ e ∷ es) ((e.0, v) ∷ es) (e ∷ insert_entry R es k v) ≡ by_order o ((k, v) ∷ e ∷ es) ((e.0, v) ∷ es) (e ∷ put R k v es)) [
+        | Less ↦ refl
+        | Equal ↦ refl
+        | Greater ↦ ap (λ t. e ∷ t) (put_is es k v)
+      ]
+
+  pub lookup_is : (es : List (K × X)) (q : K) → find R q es ≡ lookup (tree.is_at (R q)) es
+  lookup_is [] q = refl
+  lookup_is (e ∷ es) q = ap (cond (eq_by_cmp R q e.0) (Some e.1)) (lookup_is es q)
+
+  pub entries_of_tree : (m : BTreeMap K X) → tree.IsOrdered R m → entries (from_sorted {R = R} m.entries) ≡ m.entries
+  entries_of_tree m h = entries-from_sorted R m.entries (sorted_entries m.entries h)
+
+  pub get_of_tree : (m : BTreeMap K X) (q : K) → tree.IsOrdered R m → get (from_sorted {R = R} m.entries) q ≡ tree.get R m q
+  get_of_tree m q h = get-entries (from_sorted m.entries) q ∙ ap (find R q) (entries_of_tree m h) ∙ lookup_is m.entries q
+
+  pub empty_of_entries : (es : List (K × X)) → es ≡ [] → from_sorted {R = R} es ≡ empty
+  unfolding empty entries
+  empty_of_entries es e = ap (from_sorted {R = R}) e ∙ same_entries_map _ _ (entries-from_sorted R [] tt)
+
+  pub empty_of_tree : (m : BTreeMap K X) → m.entries ≡ [] → from_sorted {R = R} m.entries ≡ empty
+  empty_of_tree m e = empty_of_entries m.entries e
+
+less : (o : Ordering) → T (is_lt o) → o ≡ Less
+less Less p = refl
+less Equal p = absurd p
+less Greater p = absurd p
+
+first : (a b : Bool) → T (a && b) → T a
+first true b p = tt
+first false b p = p
+
+second : (a b : Bool) → T (a && b) → T b
+second true b p = p
+second false b p = absurd p
+
+module _ {K X : Type 0} {R : K → K → Ordering} (o : IsTotalOrder R) where
+  -- keys above one that ties with k do not tie with k
+  apart : (k x : K) (es : List (K × X)) → R k x ≡ Equal → T (below_all R x es) → where_key R (λ y. not (eq_by_cmp R k y)) es ≡ es
+  apart k x [] e h = refl
+  apart k x (f ∷ es) e h =
+      let rest : List (K × X) = where_key R (λ y. not (eq_by_cmp R k y)) es in
+      ap (λ r. cond (not (is_eq r)) (f ∷ rest) rest) (o.congr k x f.0 e ∙ less _ (first _ _ h))
+      ∙ ap (λ t. f ∷ t) (apart k x es e (second _ _ h))
+
+  -- std's removal is the finite map's
+  pub removed_is : (k : K) (es : List (K × X)) → T (is_sorted R es) → remove_entry (tree.is_at (R k)) es ≡ where_key R (λ y. not (eq_by_cmp R k y)) es
+  removed_is k [] h = refl
+  removed_is k (e ∷ es) h =
+      elim (R k e.0) as (λ r. R k e.0 ≡ r → cond (is_eq r) es (e ∷ remove_entry (tree.is_at (R k)) es) ≡ cond (not (is_eq r)) (e ∷ where_key R (λ y. not (eq_by_cmp R k y)) es) (where_key R (λ y. not (eq_by_cmp R k y)) es)) [
+        | Less ↦ λ t. ap (λ t. e ∷ t) (removed_is k es (second _ _ h))
+        | Equal ↦ λ t. sym (apart k e.0 es t (first _ _ h))
+        | Greater ↦ λ t. ap (λ t. e ∷ t) (removed_is k es (second _ _ h))
+      ] refl
+
+  pub insert_of_tree : (m n : BTreeMap K X) (k : K) (v : X) → tree.IsOrdered R m → tree.IsOrdered R n → n.entries ≡ insert_entry R m.entries k v → from_sorted {R = R} n.entries ≡ insert (from_sorted m.entries) k v
+  insert_of_tree m n k v hm hn e =
+      same_entries_map _ _ (entries_of_tree R n hn ∙ e ∙ put_is R m.entries k v ∙ ap (put R k v) (sym (entries_of_tree R m hm)) ∙ sym (entries-insert o (from_sorted m.entries) k v))
+
+  pub remove_of_tree : (m n : BTreeMap K X) (k : K) → tree.IsOrdered R m → tree.IsOrdered R n → n.entries ≡ remove_entry (tree.is_at (R k)) m.entries → from_sorted {R = R} n.entries ≡ remove (from_sorted m.entries) k
+  unfolding remove
+  remove_of_tree m n k hm hn e =
+      same_entries_map _ _ (entries_of_tree R n hn ∙ e ∙ removed_is k m.entries (sorted_entries R m.entries hm) ∙ ap (where_key R (λ y. not (eq_by_cmp R k y))) (sym (entries_of_tree R m hm)) ∙ sym (entries-retain_keys (from_sorted m.entries) _))

@@ -1,0 +1,88 @@
+//! A list of values that contracts see as a list.
+ghost use Rattle.std.specs.Prelude.{◌≡◌, ◌==◌, List, [], ◌∷◌, ◌++◌, length, OnOk, OnErr};
+
+use crate::exact::Exact;
+use std::alloc::{AllocError, Global};
+use std::marker::Model;
+
+/// A list of values. Contracts see the list.
+#[derive(Debug, Drop)]
+pub struct Listing<T> {
+    items: Vec<T>,
+}
+
+impl<T> Model for Listing<T> {
+    ghost use Rattle.std.specs.Prelude.{List};
+
+    ghost Value = { List T };
+
+    ghost view = { λ listing. listing.items.items };
+}
+
+impl<T> Listing<T> {
+    /// The list of no value.
+    pub fn new(alloc: Global) -> Listing<T>
+        ensures { result ≡ [] }
+    {
+        Listing {
+            items: Vec::new(alloc),
+        }
+    }
+
+    /// The list of the values of `items`.
+    pub fn from_vec(items: Vec<T>) -> Listing<T>
+        ensures { result ≡ items.items }
+    {
+        Listing { items }
+    }
+
+    /// The values of the list.
+    pub fn into_vec(self) -> Vec<T>
+        ensures { result.items ≡ self }
+    {
+        let Listing { items } = self;
+        items
+    }
+
+    /// The values of the list.
+    pub fn as_slice(&self) -> &[T]
+        ensures { result.now ≡ self.now }
+    {
+        self.items.as_slice()
+    }
+
+    /// How many values there are.
+    pub fn len(&self) -> usize
+        ensures { result ≡ length self.now }
+    {
+        self.items.len()
+    }
+
+    /// Whether there is no value.
+    pub fn is_empty(&self) -> bool
+        ensures { result ≡ (length self.now == 0) }
+    {
+        self.items.is_empty()
+    }
+}
+
+impl<T: Drop> Listing<T> {
+    /// Appends a value.
+    pub fn push(&mut self, item: T) -> Result<(), AllocError>
+        ensures ok { OnOk result (self.new ≡ self.old ++ item ∷ []) }
+        ensures err { OnErr result (self.new ≡ self.old) }
+    {
+        self.items.push(item)?;
+        Ok(())
+    }
+}
+
+impl<T: Exact + Drop> Clone for Listing<T> {
+    ghost is_clone = { λ a b. b ≡ a };
+
+    fn clone(&self) -> Result<Listing<T>, AllocError> {
+        Ok(Listing {
+            items: self.items.clone()?,
+        })
+    }
+}
