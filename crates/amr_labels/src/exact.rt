@@ -1,8 +1,10 @@
 //! Types whose clones are the same value.
 ghost use Rattle.std.specs.Prelude.{◌≡◌};
 
+use crate::label_map::LabelMap;
 use crate::labels::Labels;
 use crate::listing::Listing;
+use crate::shared::Shared;
 use crate::text::Text;
 use crate::text_map::TextMap;
 
@@ -24,6 +26,14 @@ impl Exact for TextMap {
 }
 
 impl Exact for Labels {
+    ghost exact = { λ x y same. same };
+}
+
+impl<V: Exact + Drop> Exact for LabelMap<V> {
+    ghost exact = { λ x y same. same };
+}
+
+impl<T: Drop> Exact for Shared<T> {
     ghost exact = { λ x y same. same };
 }
 
