@@ -1,0 +1,4 @@
+pub mod Dates
+pub mod Days
+pub mod Decimals
+pub mod Durations
