@@ -4,14 +4,14 @@ ghost use Rattle.std.specs.Option.{option_copied};
 ghost use Rattle.std.specs.Ordering.{eq_by_cmp};
 ghost use Rattle.std.specs.List.{find};
 ghost use Rattle.amr_labels.specs.Labels.{text_cmp};
-ghost use Rattle.amr_config.specs.Routing.{group_wait_of, group_interval_of, repeat_interval_of, receiver_name_of, integrations_of, path_of};
+ghost use Rattle.amr_config.specs.Routing.{group_wait_of, group_interval_of, repeat_interval_of, receiver_name_of, integrations_of, path_of, chosen, group_of, grouped_by};
 ghost use Rattle.amr_config.specs.Settled.{settings_of};
 
 use crate::receiver::{Integration, Receiver};
-use crate::route::Route;
+use crate::route::{Grouping, Route};
 use crate::rule::InhibitRule;
 use crate::settings::Settings;
-use amr_labels::{Exact, Listing, Matchers, Text};
+use amr_labels::{Exact, Labels, Listing, Matchers, Text};
 use amr_time::Span;
 use std::alloc::{AllocError, Global};
 use std::cmp::Ordering;
@@ -155,6 +155,22 @@ impl Config {
         }
     }
 
+    /// The group labels that an alert with these labels has at the route (`group_by`).
+    #[tactic(auto, using(crate::proofs::Inherited::inherited_past), unfolding(crate::specs::Settled::settings_of, crate::specs::Routing::group_of))]
+    pub fn group_of(
+        &self,
+        alloc: Global,
+        route: usize,
+        labels: &Labels,
+    ) -> Result<Labels, AllocError>
+        ensures { IfOk result (λ group. group ≡ group_of self.now route labels.now) }
+    {
+        match self.settings_at(route) {
+            Some(settings) => grouped_by(alloc, &settings.group_by, labels),
+            None => Labels::empty(alloc),
+        }
+    }
+
     /// The receiver with this name.
     pub fn receiver(&self, name: &str) -> Option<&Receiver>
         ensures { option_copied result ≡ find (λ receiver. eq_by_cmp text_cmp receiver.name name.now) self.now.receivers }
@@ -198,4 +214,28 @@ fn receiver_named<'a>(receivers: &'a [Receiver], name: &str) -> Option<&'a Recei
         }
     }
     None
+}
+
+/// The labels that a grouping keeps.
+fn grouped_by(
+    alloc: Global,
+    grouping: &Option<Grouping>,
+    labels: &Labels,
+) -> Result<Labels, AllocError>
+    ensures { IfOk result (λ group. group ≡ grouped_by grouping.now labels.now) }
+{
+    match grouping {
+        None => Labels::empty(alloc),
+        Some(Grouping::AllLabels) => labels.clone(),
+        Some(Grouping::Named(names)) => labels.kept_by_names(alloc, names.as_slice()),
+    }
+}
+
+impl Config {
+    /// The numbers of the routes that take an alert with these labels, rising.
+    pub fn routes_of(&self, alloc: Global, labels: &Labels) -> Result<Vec<usize>, AllocError>
+        ensures { IfOk result (λ routes. routes.items ≡ chosen self.now labels.now) }
+    {
+        Err(AllocError)
+    }
 }

