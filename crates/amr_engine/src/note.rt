@@ -1,7 +1,10 @@
 //! What the state holds beside alerts: clocks of groups, keys of the notification log, notes.
+ghost use Rattle.std.specs.Prelude.{◌≡◌};
+ghost use Rattle.std.proofs.Common.{rules};
 
-use amr_labels::{Labels, Listing, Matchers, Text, TextMap};
+use amr_labels::{Exact, Labels, Listing, Matchers, Text, TextMap};
 use amr_time::Moment;
+use std::alloc::AllocError;
 
 /// The clock of a group.
 #[derive(Clone, Copy, Debug)]
@@ -10,6 +13,10 @@ pub struct Clock {
     pub flushed: bool,
     /// Since when the group has no member.
     pub empty_since: Option<Moment>,
+}
+
+impl Exact for Clock {
+    ghost exact = { λ x y same. Prim.search rules };
 }
 
 /// What an entry of the notification log is kept under.
@@ -22,6 +29,24 @@ pub struct LogKey {
     pub group: Labels,
     /// The sorted matchers of each route from the root down to the group's.
     pub path: Listing<Matchers>,
+}
+
+impl Clone for LogKey {
+    ghost is_clone = { λ a b. b ≡ a };
+
+    fn clone(&self) -> Result<LogKey, AllocError> {
+        Ok(LogKey {
+            receiver: self.receiver.clone()?,
+            kind: self.kind.clone()?,
+            place: self.place,
+            group: self.group.clone()?,
+            path: self.path.clone()?,
+        })
+    }
+}
+
+impl Exact for LogKey {
+    ghost exact = { λ x y same. same };
 }
 
 /// What a note tells of an alert that fires.

@@ -9,7 +9,7 @@ use crate::note::{Clock, LogKey, Note};
 use crate::spot::Spot;
 use crate::spot_map::SpotMap;
 use amr_config::Config;
-use amr_labels::{LabelMap, Labels, Listing};
+use amr_labels::{LabelMap, Labels, Listing, Shared};
 use amr_rules::{Alert, LogEntry};
 use amr_time::Moment;
 use std::alloc::{AllocError, Global};
@@ -25,7 +25,7 @@ pub(crate) struct Store {
     placements: SpotMap<Alert>,
     clocks: SpotMap<Clock>,
     log: LogMap,
-    notes: Listing<Note>,
+    notes: Listing<Shared<Note>>,
 }
 
 impl Model for Store {
@@ -122,10 +122,10 @@ impl Store {
         &self.log
     }
 
-    pub(crate) fn notes(&self) -> &Listing<Note>
+    pub(crate) fn notes(&self) -> &[Shared<Note>]
         ensures { result.now ≡ self.now.notes }
     {
-        &self.notes
+        self.notes.as_slice()
     }
 
     /// The clock goes on.
@@ -147,7 +147,7 @@ impl Store {
     pub(crate) fn remove_alert(&mut self, labels: &Labels)
         ensures { self.new ≡ record self.old { alerts = map.remove self.old.alerts labels.now } }
     {
-        self.alerts.remove(labels)
+        let _ = self.alerts.remove(labels);
     }
 
     /// A copy of an alert becomes a member.
@@ -165,10 +165,10 @@ impl Store {
     }
 
     /// A group's clock is set.
-    pub(crate) fn set_clock(&mut self, group: Spot, clock: Clock) -> Result<(), AllocError>
-        ensures { OnOk result (self.new ≡ record self.old { clocks = map.insert self.old.clocks group clock }) }
+    pub(crate) fn set_clock(&mut self, group: Spot, clock: &Clock) -> Result<(), AllocError>
+        ensures { OnOk result (self.new ≡ record self.old { clocks = map.insert self.old.clocks group clock.now }) }
     {
-        self.clocks.insert(group, clock)
+        self.clocks.insert(group, *clock)
     }
 
     /// A group is removed.
@@ -189,6 +189,7 @@ impl Store {
     pub(crate) fn append_note(&mut self, note: Note) -> Result<(), AllocError>
         ensures { OnOk result (self.new ≡ record self.old { notes = self.old.notes ++ note ∷ [] }) }
     {
+        let note = Shared::new(self.alloc, note)?;
         self.notes.push(note)
     }
 }
