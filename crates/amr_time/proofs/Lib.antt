@@ -1,0 +1,5 @@
+pub mod Dates
+pub mod Days
+pub mod Decimals
+pub mod Durations
+pub mod Takes
