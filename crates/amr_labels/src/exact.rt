@@ -1,9 +1,10 @@
 //! Types whose clones are the same value.
 ghost use Rattle.std.specs.Prelude.{◌≡◌};
 
+use crate::labels::Labels;
 use crate::listing::Listing;
 use crate::text::Text;
-use std::rc::Rc;
+use crate::text_map::TextMap;
 
 /// A type whose clones are the same value.
 pub trait Exact: Clone {
@@ -15,6 +16,14 @@ impl Exact for Text {
 }
 
 impl<T: Exact + Drop> Exact for Listing<T> {
+    ghost exact = { λ x y same. same };
+}
+
+impl Exact for TextMap {
+    ghost exact = { λ x y same. same };
+}
+
+impl Exact for Labels {
     ghost exact = { λ x y same. same };
 }
 

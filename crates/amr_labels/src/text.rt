@@ -1,10 +1,11 @@
 //! A text that is copied without its bytes.
-ghost use Rattle.std.specs.Prelude.{◌≡◌, ℕ, ◌==◌, List, length, IfOk};
+ghost use Rattle.std.specs.Prelude.{◌≡◌, IfOk};
 ghost use Rattle.std.proofs.Common.{rules};
 ghost use Rattle.std.specs.Cmp.{partial_order_from_own_ties};
 ghost use Rattle.std.specs.Cmp.Rules.{comparing};
 ghost use Rattle.std.specs.Ordering.{as_partial_cmp, nat_cmp, eq_by_cmp};
 ghost use Rattle.std.specs.Cmp.Lexicographic.{slice_cmp};
+ghost use Rattle.amr_labels.specs.Labels.{is_empty};
 
 use std::alloc::{AllocError, Global};
 use std::cmp::Ordering;
@@ -47,7 +48,7 @@ impl Text {
 
     /// Whether the text has no byte.
     pub fn is_empty(&self) -> bool
-        ensures { result ≡ (length self.now == 0) }
+        ensures { result ≡ is_empty self.now }
     {
         self.as_str().is_empty()
     }

@@ -1,0 +1,19 @@
+use Rattle.std.proofs.Common.{ap, ◌∙◌}
+use Rattle.std.proofs.lemmas.Result.{IfOk-weaker}
+use Rattle.std.specs.Cmp.Lexicographic.{nat_list_cmp_total}
+use Rattle.std.specs.List.{filter, list_any}
+use Rattle.std.specs.Ordering.{eq_by_cmp}
+use Rattle.amr_labels.specs.Labels.{Text, text_cmp}
+use Rattle.amr_labels.proofs.Pairs.{sorted_where_key, retained}
+use Rattle.amr_labels.proofs.text_map.TextMap.kept_by_names.Goals as goal
+
+pub of_sorted-requires : goal.of_sorted-requires
+of_sorted-requires c =
+    sorted_where_key nat_list_cmp_total c.args.self.now _ _
+    (c.in_ok-kept.ensures ∙ ap (filter (λ (pair : Text × Text). list_any (eq_by_cmp text_cmp pair.0) c.args.names.now)) c.entries.ensures)
+
+pub returns : goal.returns
+returns c =
+    IfOk-weaker c.of_sorted.result _ _ (λ kept e. e ∙ retained nat_list_cmp_total c.args.self.now _ _
+    (c.in_ok-kept.ensures ∙ ap (filter (λ (pair : Text × Text). list_any (eq_by_cmp text_cmp pair.0) c.args.names.now)) c.entries.ensures))
+    c.of_sorted.ensures

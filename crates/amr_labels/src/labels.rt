@@ -1,0 +1,177 @@
+//! Label sets.
+ghost use Rattle.std.specs.Prelude.{◌≡◌, ◌==◌, List, ℕ, IfOk};
+ghost use Rattle.std.proofs.Common.{rules};
+ghost use Rattle.std.specs.Cmp.{partial_order_from_own_ties};
+ghost use Rattle.std.specs.Cmp.Rules.{comparing};
+ghost use Rattle.std.specs.List.{list_any};
+ghost use Rattle.std.specs.Option.{option_copied};
+ghost use Rattle.std.specs.Ordering.{as_partial_cmp, eq_by_cmp};
+ghost use Rattle.amr_labels.specs.Map as map;
+ghost use Rattle.amr_labels.specs.Labels.{text_cmp, value_of, label_set_cmp, label_set_cmp_total, labels_of_pairs};
+
+use crate::text::Text;
+use crate::text_map::TextMap;
+use std::alloc::{AllocError, Global};
+use std::cmp::Ordering;
+use std::hash::{Hash, Hasher};
+use std::marker::Model;
+
+/// A label set: values under the names of labels, as Alertmanager's API takes them in `labels`. A label that is absent has the empty value.
+/// Clones share the texts.
+#[derive(Debug, Drop)]
+pub struct Labels {
+    texts: TextMap,
+}
+
+impl Model for Labels {
+    ghost use Rattle.std.specs.Prelude.{List, ℕ};
+    ghost use Rattle.std.specs.Coded.{coded_ℕ, coded_list};
+    ghost use Rattle.amr_labels.specs.Map as map;
+    ghost use Rattle.amr_labels.specs.Labels.{text_cmp};
+
+    ghost Value = { map.Map text_cmp (List ℕ) };
+
+    ghost coded = { map.code (coded_list coded_ℕ) (coded_list coded_ℕ) };
+
+    ghost view = { λ labels. labels.texts };
+}
+
+impl Labels {
+    /// The label set without a label.
+    pub fn empty(alloc: Global) -> Result<Labels, AllocError>
+        ensures { IfOk result (λ labels. labels ≡ map.empty) }
+    {
+        Ok(Labels {
+            texts: TextMap::empty(alloc)?,
+        })
+    }
+
+    /// The label set of pairs of a name and a value. Of equal names the last counts, and then a label whose value is empty is dropped.
+    /// There is none where a name that is left is empty.
+    pub fn of_pairs(alloc: Global, pairs: &[(Text, Text)]) -> Result<Option<Labels>, AllocError>
+        ensures { IfOk result (λ found. found ≡ labels_of_pairs pairs.now) }
+    {
+        let last = TextMap::from_pairs(alloc, pairs)?;
+        let texts = last.without_empty_texts(alloc)?;
+        if texts.get("").is_some() {
+            return Ok(None);
+        }
+        Ok(Some(Labels { texts }))
+    }
+
+    /// The value under the name.
+    pub fn get(&self, name: &str) -> Option<&Text>
+        ensures { option_copied result ≡ map.get self.now name.now }
+    {
+        self.texts.get(name)
+    }
+
+    /// The value under the name, which is empty where the label is absent.
+    pub fn value_of(&self, name: &str) -> &str
+        ensures { result.now ≡ value_of self.now name.now }
+    {
+        self.texts.text_of(name)
+    }
+
+    /// The pairs of a name and a value, in the order of the names.
+    pub fn entries(&self) -> &[(Text, Text)]
+        ensures { result.now ≡ map.entries self.now }
+    {
+        self.texts.entries()
+    }
+
+    /// How many labels there are.
+    pub fn len(&self) -> usize
+        ensures { result ≡ map.len self.now }
+    {
+        self.texts.len()
+    }
+
+    /// Whether there is no label.
+    pub fn is_empty(&self) -> bool
+        ensures { result ≡ (map.len self.now == 0) }
+    {
+        self.texts.is_empty()
+    }
+
+    /// An equal label set.
+    pub fn copy(&self) -> Result<Labels, AllocError>
+        ensures { IfOk result (λ copy. copy ≡ self.now) }
+    {
+        self.clone()
+    }
+
+    /// The labels under some names.
+    pub fn kept_by_names(&self, alloc: Global, names: &[Text]) -> Result<Labels, AllocError>
+        ensures { IfOk result (λ kept. kept ≡ map.retain_keys self.now (λ name. list_any (eq_by_cmp text_cmp name) names.now)) }
+    {
+        Ok(Labels {
+            texts: self.texts.kept_by_names(alloc, names)?,
+        })
+    }
+}
+
+impl Clone for Labels {
+    ghost is_clone = { λ a b. b ≡ a };
+
+    fn clone(&self) -> Result<Labels, AllocError> {
+        Ok(Labels {
+            texts: self.texts.clone()?,
+        })
+    }
+}
+
+impl PartialEq for Labels {
+    ghost eq = { eq_by_cmp label_set_cmp };
+
+    ghost laws = { Prim.search (comparing, rules, label_set_cmp_total) };
+
+    fn eq(&self, other: &Labels) -> bool {
+        self.cmp(other) == Ordering::Equal
+    }
+}
+
+impl Eq for Labels {
+    ghost laws = { Prim.search (comparing, rules, label_set_cmp_total) };
+}
+
+impl Ord for Labels {
+    ghost cmp = { label_set_cmp };
+
+    ghost total = { label_set_cmp_total };
+
+    ghost matches_partial_cmp = { Prim.search (comparing, rules) };
+
+    ghost matches_eq = { Prim.search (comparing, rules) };
+
+    fn cmp(&self, other: &Labels) -> Ordering {
+        self.entries().cmp(other.entries())
+    }
+}
+
+impl PartialOrd for Labels {
+    ghost partial_cmp = { as_partial_cmp label_set_cmp };
+
+    ghost laws = { partial_order_from_own_ties (Prim.search (comparing, rules, label_set_cmp_total)) (Prim.search (comparing, rules)) };
+
+    fn partial_cmp(&self, other: &Labels) -> Option<Ordering> {
+        Some(self.cmp(other))
+    }
+}
+
+impl Hash for Labels {
+    ghost use Rattle.std.specs.Prelude.{◌++◌, List, ℕ};
+    ghost use Rattle.std.specs.Hash as fed;
+    ghost use Rattle.std.proofs.Common.{ap};
+    ghost use Rattle.std.proofs.lemmas.Map.Views.{tells_apart};
+    ghost use Rattle.amr_labels.specs.Map as map;
+    ghost use Rattle.amr_labels.specs.Labels.{label_set_cmp-IsAntisymmetric, label_set_writes};
+
+    ghost hash_input = { label_set_writes };
+
+    ghost respects_eq = { λ x y h. ap label_set_writes (tells_apart label_set_cmp-IsAntisymmetric x y h) };
+
+    fn hash<H: Hasher>(&self, state: &mut H) {
+        self.entries().hash(state);
+    }
+}

@@ -1,0 +1,205 @@
+//! Texts under names.
+ghost use Rattle.std.specs.Prelude.{◌≡◌, ◌==◌, ℕ, List, T, not, length, reverse, IfOk};
+ghost use Rattle.std.specs.List.{filter, list_any};
+ghost use Rattle.std.specs.Ordering.{eq_by_cmp};
+ghost use Rattle.std.specs.Option.{option_copied};
+ghost use Rattle.std.specs.BTreeMap.{IsOrdered};
+ghost use Rattle.std.specs.FinMap.{find, is_sorted};
+ghost use Rattle.amr_labels.specs.Map as map;
+ghost use Rattle.amr_labels.specs.Labels.{text_cmp, value_of, is_empty};
+
+use crate::text::Text;
+use std::alloc::{AllocError, Global};
+use std::cmp::Ordering;
+use std::collections::BTreeMap;
+use std::marker::Model;
+use std::rc::Rc;
+
+/// Texts under names, in the order of the names. Clones share the texts.
+#[derive(Debug, Drop)]
+pub struct TextMap {
+    pairs: Rc<Vec<(Text, Text)>>,
+}
+
+impl Model for TextMap {
+    ghost use Rattle.std.specs.Prelude.{List, ℕ, T};
+    ghost use Rattle.std.specs.Coded.{coded_ℕ, coded_list};
+    ghost use Rattle.std.specs.FinMap.{is_sorted};
+    ghost use Rattle.amr_labels.specs.Map as map;
+    ghost use Rattle.amr_labels.specs.Labels.{text_cmp};
+
+    ghost Value = { map.Map text_cmp (List ℕ) };
+
+    ghost coded = { map.code (coded_list coded_ℕ) (coded_list coded_ℕ) };
+
+    ghost view = { λ texts. map.from_sorted texts.pairs.value.items };
+
+    ghost invariant = { λ texts. T (is_sorted text_cmp texts.pairs.value.items) };
+}
+
+/// The tree of the pairs. Of equal names the last counts.
+fn tree_of(alloc: Global, pairs: &[(Text, Text)]) -> Result<BTreeMap<Text, Text>, AllocError>
+    ensures ordered { IfOk result (λ tree. IsOrdered text_cmp tree) }
+    ensures made { IfOk result (λ tree. map.from_sorted {R = text_cmp} tree.entries ≡ map.from_entries (reverse pairs.now)) }
+{
+    let mut tree = BTreeMap::new(alloc);
+    for pair in pairs {
+        tree.insert(pair.0.clone()?, pair.1.clone()?)?;
+    }
+    Ok(tree)
+}
+
+/// The pairs of the tree, in order.
+fn pairs_of(alloc: Global, tree: BTreeMap<Text, Text>) -> Result<Vec<(Text, Text)>, AllocError>
+    ensures { IfOk result (λ pairs. pairs.items ≡ tree.entries) }
+{
+    tree.into_iter().collect(alloc)
+}
+
+/// The pair again.
+fn copied(pair: &(Text, Text)) -> Result<(Text, Text), AllocError>
+    ensures { IfOk result (λ copy. copy ≡ pair.now) }
+{
+    Ok((pair.0.clone()?, pair.1.clone()?))
+}
+
+/// The pairs whose texts are not empty.
+fn filled(alloc: Global, pairs: &[(Text, Text)]) -> Result<Vec<(Text, Text)>, AllocError>
+    ensures { IfOk result (λ kept. kept.items ≡ filter (λ pair. not (is_empty pair.1)) pairs.now) }
+{
+    let mut kept = Vec::new(alloc);
+    for pair in pairs {
+        if !pair.1.is_empty() {
+            kept.push(copied(pair)?)?;
+        }
+    }
+    Ok(kept)
+}
+
+/// Whether the name is one of the names.
+fn is_among(name: &Text, names: &[Text]) -> bool
+    ensures { result ≡ list_any (eq_by_cmp text_cmp name.now) names.now }
+{
+    names.iter().any(|other| name == other)
+}
+
+/// The pairs whose names are among the names.
+fn named(
+    alloc: Global,
+    pairs: &[(Text, Text)],
+    names: &[Text],
+) -> Result<Vec<(Text, Text)>, AllocError>
+    ensures { IfOk result (λ kept. kept.items ≡ filter (λ pair. list_any (eq_by_cmp text_cmp pair.0) names.now) pairs.now) }
+{
+    let mut kept = Vec::new(alloc);
+    for pair in pairs {
+        if is_among(&pair.0, names) {
+            kept.push(copied(pair)?)?;
+        }
+    }
+    Ok(kept)
+}
+
+/// The text under the name, among pairs.
+fn text_under<'a>(pairs: &'a [(Text, Text)], name: &str) -> Option<&'a Text>
+    ensures { option_copied result ≡ find text_cmp name.now pairs.now }
+{
+    for pair in pairs {
+        if name.cmp(pair.0.as_str()) == Ordering::Equal {
+            return Some(&pair.1);
+        }
+    }
+    None
+}
+
+impl TextMap {
+    /// No text.
+    pub fn empty(alloc: Global) -> Result<TextMap, AllocError>
+        ensures { IfOk result (λ texts. texts ≡ map.empty) }
+    {
+        TextMap::of_sorted(alloc, Vec::new(alloc))
+    }
+
+    /// The texts of pairs whose names rise.
+    fn of_sorted(alloc: Global, pairs: Vec<(Text, Text)>) -> Result<TextMap, AllocError>
+        requires { T (is_sorted text_cmp pairs.items) }
+        ensures { IfOk result (λ texts. texts ≡ map.from_sorted pairs.items) }
+    {
+        Ok(TextMap {
+            pairs: Rc::new(alloc, pairs)?,
+        })
+    }
+
+    /// The texts of pairs of a name and a text. Of equal names the last counts.
+    pub fn from_pairs(alloc: Global, pairs: &[(Text, Text)]) -> Result<TextMap, AllocError>
+        ensures { IfOk result (λ texts. texts ≡ map.from_entries (reverse pairs.now)) }
+    {
+        let tree = tree_of(alloc, pairs)?;
+        let sorted = pairs_of(alloc, tree)?;
+        TextMap::of_sorted(alloc, sorted)
+    }
+
+    /// The pairs of a name and a text, in the order of the names.
+    pub fn entries(&self) -> &[(Text, Text)]
+        ensures { result.now ≡ map.entries self.now }
+    {
+        self.pairs.as_slice()
+    }
+
+    /// The text under the name.
+    pub fn get(&self, name: &str) -> Option<&Text>
+        ensures { option_copied result ≡ map.get self.now name.now }
+    {
+        text_under(self.entries(), name)
+    }
+
+    /// The text under the name, or else the empty text.
+    pub fn text_of(&self, name: &str) -> &str
+        ensures { result.now ≡ value_of self.now name.now }
+    {
+        match self.get(name) {
+            Some(text) => text.as_str(),
+            None => "",
+        }
+    }
+
+    /// The texts that are not empty.
+    pub fn without_empty_texts(&self, alloc: Global) -> Result<TextMap, AllocError>
+        ensures { IfOk result (λ kept. kept ≡ map.retain_keys self.now (λ name. not (is_empty (value_of self.now name)))) }
+    {
+        let kept = filled(alloc, self.entries())?;
+        TextMap::of_sorted(alloc, kept)
+    }
+
+    /// The texts under some names.
+    pub fn kept_by_names(&self, alloc: Global, names: &[Text]) -> Result<TextMap, AllocError>
+        ensures { IfOk result (λ kept. kept ≡ map.retain_keys self.now (λ name. list_any (eq_by_cmp text_cmp name) names.now)) }
+    {
+        let kept = named(alloc, self.entries(), names)?;
+        TextMap::of_sorted(alloc, kept)
+    }
+
+    /// How many names there are.
+    pub fn len(&self) -> usize
+        ensures { result ≡ map.len self.now }
+    {
+        self.entries().len()
+    }
+
+    /// Whether there is no name.
+    pub fn is_empty(&self) -> bool
+        ensures { result ≡ (map.len self.now == 0) }
+    {
+        self.entries().is_empty()
+    }
+}
+
+impl Clone for TextMap {
+    ghost is_clone = { λ a b. b ≡ a };
+
+    fn clone(&self) -> Result<TextMap, AllocError> {
+        Ok(TextMap {
+            pairs: self.pairs.clone()?,
+        })
+    }
+}
