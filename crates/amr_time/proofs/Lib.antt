@@ -2,3 +2,4 @@ pub mod Dates
 pub mod Days
 pub mod Decimals
 pub mod Durations
+pub mod Takes
