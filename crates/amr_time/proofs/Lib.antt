@@ -3,3 +3,4 @@ pub mod Days
 pub mod Decimals
 pub mod Durations
 pub mod Takes
+pub mod Spelled
