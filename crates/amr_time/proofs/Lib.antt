@@ -4,3 +4,4 @@ pub mod Decimals
 pub mod Durations
 pub mod Takes
 pub mod Spelled
+pub mod Written

@@ -1,13 +1,13 @@
 -- A moment's text, spelled by its parts, is read.
-use Rattle.std.proofs.Common.{◌≡◌, ℕ, ◌+◌, ◌-◌, ◌*◌, ◌/◌, ◌%◌, ◌<◌, ◌≤◌, ◌⊎◌, inl, inr, Bool, true, false, cond, leb, ltb, eqb, ◌&&◌, ◌||◌, List, [], ◌∷◌, ◌++◌, length, take, drop, Option, Some, None, ℤ, pos, negsuc, ◌+ℤ◌, ◌-ℤ◌, ◌*ℤ◌, refl, sym, ap, ◌∙◌, arith, append-nil}
-use Rattle.std.proofs.lemmas.Bool.{and_from, le-leb, lt-ltb, eq-eqb, ne_eqb}
+use Rattle.std.proofs.Common.{◌≡◌, ℕ, ◌+◌, ◌-◌, ◌*◌, ◌/◌, ◌%◌, ◌<◌, ◌≤◌, ◌⊎◌, inl, inr, true, false, leb, eqb, List, [], ◌∷◌, ◌++◌, length, Some, pos, refl, arith}
+use Rattle.std.proofs.lemmas.Bool.{and_from, le-leb, lt-ltb}
 use Rattle.std.proofs.Math.Seq.{drop-append_seam}
-use Rattle.std.specs.List.{AllByRecursion, prefix_len}
+use Rattle.std.specs.List.{AllByRecursion}
 use Rattle.std.proofs.lemmas.List.Sums.{take_while-cons}
 use Rattle.jiff_core.specs.Calendar.{days_in_month, days_from_civil}
-use Rattle.amr_time.specs.Time.{second, latest_read}
-use Rattle.amr_time.specs.MomentText.{IsDigit, digit, two_digits, four_digits, date_text, time_text, fraction_text, fraction_nanoseconds, zone_text, Zone, Utc, Ahead, Behind, IsOffset, offset_minutes, Parts, AreParts, spelling, IsMomentText}
-use Rattle.amr_time.specs.MomentRead.{◌>>=◌, is_digit, mark_at, two_at, four_at, is_date, day_number, day_at, minutes_at, seconds_at, digits_of, fraction_digits_at, fraction_at, offset_at, time_mark_at, in_range, moment_at}
+use Rattle.amr_time.specs.Time.{latest_read}
+use Rattle.amr_time.specs.MomentText.{IsDigit, digit, two_digits, four_digits, date_text, time_text, fraction_text, fraction_nanoseconds, zone_text, Zone, Utc, Ahead, Behind, IsOffset, offset_minutes}
+use Rattle.amr_time.specs.MomentRead.{is_digit, two_at, four_at, is_date, day_number, day_at, minutes_at, seconds_at, digits_of, fraction_digits_at, fraction_at, offset_at, time_mark_at, moment_at}
 use Rattle.amr_time.specs.Laws.{SpelledIsRead}
 
 is_one : (c : ℕ) → 48 ≤ c → c ≤ 57 → is_digit c ≡ true
