@@ -165,10 +165,14 @@ impl Store {
     }
 
     /// A group's clock is set.
-    pub(crate) fn set_clock(&mut self, group: Spot, clock: &Clock) -> Result<(), AllocError>
-        ensures { OnOk result (self.new ≡ record self.old { clocks = map.insert self.old.clocks group clock.now }) }
+    pub(crate) fn set_clock(&mut self, group: Spot, clock: Clock) -> Result<(), AllocError>
+        ensures { OnOk result (self.new ≡ record self.old { clocks = map.insert self.old.clocks group clock }) }
     {
-        self.clocks.insert(group, *clock)
+        let clock = Clock {
+            empty_since: clock.empty_since,
+            ..clock
+        };
+        self.clocks.insert(group, clock)
     }
 
     /// A group is removed.
