@@ -1,6 +1,6 @@
 // A point in time.
 ghost use Rattle.std.specs.Prelude.{◌≡◌, ℕ, ◌+◌, ◌*◌, ◌/◌, ◌<◌, ◌==◌};
-ghost use Rattle.amr_time.specs.Time.{before_year_10000, in_same_second};
+ghost use Rattle.amr_time.specs.Time.{before_year_10000, in_same_second, next_multiple_of, IsNextMultiple};
 
 use crate::spans::Span;
 use std::marker::Model;
@@ -61,4 +61,15 @@ impl Moment {
     {
         self.nanoseconds / SECOND == other.nanoseconds / SECOND
     }
+}
+
+/// The least multiple of the unit that is greater than the moment, in nanoseconds since 1970: it may lie past the last
+/// moment.
+pub fn next_multiple(moment: Moment, unit: Span) -> u128
+    requires { 0 < unit }
+    ensures value { result ≡ next_multiple_of moment unit }
+    ensures least { IsNextMultiple moment unit result }
+{
+    let unit = unit.nanoseconds() as u128;
+    (moment.nanoseconds() / unit + 1) * unit
 }

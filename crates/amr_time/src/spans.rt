@@ -1,7 +1,11 @@
 // A length of time.
-ghost use Rattle.std.specs.Prelude.{◌≡◌, ℕ, ◌+◌, ◌*◌, ◌≤◌};
+ghost use Rattle.std.specs.Prelude.{◌≡◌, ℕ, ◌+◌, ◌*◌, ◌<◌, ◌≤◌, List, Option, All, min, map, length};
+ghost use Rattle.std.specs.Result.{result_ok};
 ghost use Rattle.amr_time.specs.Time.{longest_span, second, minute, hour};
+ghost use Rattle.amr_time.specs.MomentText.{decimal};
+ghost use Rattle.amr_time.specs.SpanRead.{word_of, parts_at, span_of, SameOrTooLong};
 
+use crate::digits::{capped, digit_count, is_digit};
 use std::marker::Model;
 
 /// A length of time in whole nanoseconds, at most ten years of 365 days.
@@ -69,5 +73,114 @@ impl Span {
         ensures bound { self ≤ longest_span }
     {
         self.nanoseconds
+    }
+
+    /// The length of time that a text stands for: `0`, or whole numbers with the units `y` (365 days), `w`, `d`, `h`,
+    /// `m`, `s` and `ms`, each at most once and in this order, as in `1h30m`.
+    #[tactic(auto, using(crate::proofs::Durations::same_some, crate::proofs::Durations::too_long, crate::proofs::Durations::same_none), unfolding(crate::specs::SpanRead::span_of))]
+    pub fn read(text: &str) -> Result<Span, BadDuration>
+        ensures { result_ok result ≡ span_of text.now }
+    {
+        if text == "0" {
+            return Ok(Span::ZERO);
+        }
+        if text.is_empty() {
+            return Err(BadDuration);
+        }
+        let total = parts(&UNITS, text.as_bytes());
+        match total {
+            Some(nanoseconds) => {
+                if nanoseconds < TOO_LONG {
+                    Ok(Span::from_nanoseconds(nanoseconds))
+                } else {
+                    Err(BadDuration)
+                }
+            }
+            None => Err(BadDuration),
+        }
+    }
+}
+
+/// The text isn't a duration.
+#[derive(Clone, Copy, Debug, PartialEq, Eq)]
+pub struct BadDuration;
+
+/// A unit of duration: its letters, and its length in nanoseconds.
+#[derive(Clone, Copy)]
+struct Unit {
+    letters: &'static str,
+    nanoseconds: u64,
+}
+
+const DAY: u64 = 86_400_000_000_000;
+
+/// One more than the longest duration.
+const TOO_LONG: u64 = 3650 * DAY + 1;
+
+const UNITS: [Unit; 7] = [
+    Unit {
+        letters: "y",
+        nanoseconds: 365 * DAY,
+    },
+    Unit {
+        letters: "w",
+        nanoseconds: 7 * DAY,
+    },
+    Unit {
+        letters: "d",
+        nanoseconds: DAY,
+    },
+    Unit {
+        letters: "h",
+        nanoseconds: 3_600_000_000_000,
+    },
+    Unit {
+        letters: "m",
+        nanoseconds: 60_000_000_000,
+    },
+    Unit {
+        letters: "s",
+        nanoseconds: 1_000_000_000,
+    },
+    Unit {
+        letters: "ms",
+        nanoseconds: 1_000_000,
+    },
+];
+
+/// How many bytes stand before the next digit.
+fn word_len(bytes: &[u8]) -> usize
+    ensures { result ≡ length (word_of bytes.now) }
+{
+    bytes.iter().take_while(|byte| !is_digit(**byte)).count()
+}
+
+/// A number of units in nanoseconds, and what follows, or one more than the longest duration where it is longer.
+fn scaled(digits: &[u8], unit: u64, rest: u64) -> u64
+    requires unit_in { 1 ≤ unit }
+    ensures { min 315_360_000_000_000_001 result ≡ min 315_360_000_000_000_001 (decimal digits.now * unit + rest) }
+{
+    let number = capped(digits, TOO_LONG);
+    let total = number as u128 * unit as u128 + rest as u128;
+    total.min(TOO_LONG as u128) as u64
+}
+
+#[tactic(auto, unfolding(crate::specs::SpanRead::parts_at))]
+fn parts(units: &[Unit], bytes: &[u8]) -> Option<u64>
+    requires { All (λ u. 1 ≤ u.nanoseconds) units.now }
+    ensures { SameOrTooLong result (parts_at (map (λ u. (u.letters.now, u.nanoseconds)) units.now) bytes.now) }
+{
+    match units {
+        [] => { if bytes.is_empty() { Some(0) } else { None } }
+        [unit, smaller @ ..] => {
+            let (digits, rest) = bytes.split_at(digit_count(bytes));
+            let (word, after) = rest.split_at(word_len(rest));
+            if 1 <= digits.len() && word == unit.letters.as_bytes() {
+                let rest = parts(smaller, after)?;
+                Some(scaled(digits, unit.nanoseconds, rest))
+            } else {
+                parts(smaller, bytes)
+            }
+        }
     }
 }

@@ -1,0 +1,7 @@
+pub mod Dates
+pub mod Days
+pub mod Decimals
+pub mod Durations
+pub mod Takes
+pub mod Spelled
+pub mod Written

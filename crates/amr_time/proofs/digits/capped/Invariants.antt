@@ -1,0 +1,7 @@
+use Rattle.std.proofs.Common.{◌≡◌, take}
+use Rattle.std.specs.Prelude.{min}
+use Rattle.amr_time.specs.MomentText.{decimal}
+use Rattle.amr_time.proofs.digits.capped.Given as goal
+
+abbrev pub invariant-loop-byte : goal.invariant-loop-byte
+invariant-loop-byte l = l.number ≡ min l.limit (decimal (take l.byte-index l.bytes))

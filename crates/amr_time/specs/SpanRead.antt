@@ -1,0 +1,48 @@
+-- Durations as texts: whole numbers with their units, from the largest unit to the smallest, each at most once.
+use Rattle.std.specs.Prelude.{◌≡◌, ℕ, ◌+◌, min, ◌*◌, ◌&&◌, ◌==◌, List, [], ◌∷◌, length, drop, Bool, not, nat_le, if◌then◌else◌, Option, Some, None, option_map}
+use Rattle.std.specs.List.{take_while}
+use Rattle.std.specs.Str.{bytes_eq}
+use Rattle.amr_time.specs.Time.{Span, second, minute, hour, longest_span}
+use Rattle.amr_time.specs.MomentText.{decimal}
+use Rattle.amr_time.specs.MomentRead.{is_digit, digits_of}
+
+-- a unit: its letters and its length
+abbrev pub UnitOfTime : Type 0
+UnitOfTime = List ℕ × Span
+
+-- y, w, d, h, m, s and ms
+abbrev pub units : List UnitOfTime
+units = (121 ∷ [], 365 * 24 * hour) ∷ (119 ∷ [], 7 * 24 * hour) ∷ (100 ∷ [], 24 * hour) ∷ (104 ∷ [], hour) ∷ (109 ∷ [], minute) ∷ (115 ∷ [], second) ∷ (109 ∷ 115 ∷ [], 1_000_000) ∷ []
+
+-- the letters that stand before the next digit
+abbrev pub word_of : List ℕ → List ℕ
+word_of text = take_while (λ c. not (is_digit c)) text
+
+abbrev pub after_digits : List ℕ → List ℕ
+after_digits text = drop (length (digits_of text)) text
+
+abbrev pub after_word : List ℕ → List ℕ
+after_word text = drop (length (word_of text)) text
+
+-- a number and the letters of the unit stand at the front
+abbrev pub has_unit : UnitOfTime → List ℕ → Bool
+has_unit unit text = nat_le 1 (length (digits_of text)) && bytes_eq (word_of (after_digits text)) unit.0
+
+-- the nanoseconds of a text of these units, each at most once and in this order
+unfoldable pub parts_at : List UnitOfTime → List ℕ → Option ℕ
+parts_at [] [] = Some 0
+parts_at [] (c ∷ cs) = None
+parts_at (unit ∷ smaller) text = if has_unit unit text then option_map (λ n. decimal (digits_of text) * unit.1 + n) (parts_at smaller (after_word (after_digits text))) else parts_at smaller text
+
+-- where there is one, and it is no longer than the longest
+abbrev pub limited : Option ℕ → Option Span
+limited None = None
+limited (Some n) = if nat_le n longest_span then Some n else None
+
+-- `0`, or a text of units that isn't empty, to ten years
+unfoldable pub span_of : List ℕ → Option Span
+span_of text = if bytes_eq text (48 ∷ []) then Some 0 else (if length text == 0 then None else limited (parts_at units text))
+
+-- the same number, or both longer than the longest duration
+abbrev pub SameOrTooLong : Option ℕ → Option ℕ → Type 0
+SameOrTooLong a b = option_map (min 315_360_000_000_000_001) a ≡ option_map (min 315_360_000_000_000_001) b

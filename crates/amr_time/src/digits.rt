@@ -1,0 +1,29 @@
+// Decimal digits at the front of a text.
+ghost use Rattle.std.specs.Prelude.{◌≡◌, ◌<◌, ◌^◌, min, length};
+ghost use Rattle.amr_time.specs.MomentText.{decimal};
+ghost use Rattle.amr_time.specs.MomentRead.{is_digit as tests_digit, digits_of};
+
+pub(crate) fn is_digit(byte: u8) -> bool
+    ensures { result ≡ tests_digit byte }
+{
+    48 <= byte && byte <= 57
+}
+
+/// How many digits stand at the front.
+pub(crate) fn digit_count(bytes: &[u8]) -> usize
+    ensures { result ≡ length (digits_of bytes.now) }
+{
+    bytes.iter().take_while(|byte| is_digit(**byte)).count()
+}
+
+/// The number that the bytes stand for as decimal digits, or the limit where it is less.
+pub(crate) fn capped(bytes: &[u8], limit: u64) -> u64
+    requires { limit < 2 ^ 59 }
+    ensures { result ≡ min limit (decimal bytes.now) }
+{
+    let mut number = 0;
+    for byte in bytes {
+        number = (number * 10 + byte.saturating_sub(b'0') as u64).min(limit);
+    }
+    number
+}

@@ -1,0 +1,208 @@
+// Moments from their texts, read from left to right.
+ghost use Rattle.std.specs.Prelude.{◌≡◌, ◌<◌, ◌≤◌, ◌^◌, ℤ, pos, ◌+◌, ◌*◌, ◌+ℤ◌, ◌-ℤ◌, ◌*ℤ◌, min, length, drop, option_map, IfSome, IfOk, OnErr, Some, None, Ok};
+ghost use Rattle.std.specs.Result.{result_ok};
+ghost use Rattle.jiff.specs.Words.{IsEpochDay, IsWithin};
+ghost use Rattle.amr_time.specs.Time.{latest_read};
+ghost use Rattle.amr_time.specs.MomentRead.{mark_at, two_at, four_at, day_at, minutes_at, seconds_at, digits_of, fraction_digits_at, fraction_at, offset_at, time_mark_at, in_range, moment_at};
+
+use crate::digits::{capped, digit_count, is_digit};
+use crate::moments::Moment;
+use jiff::civil::Date;
+
+/// The text isn't a moment.
+#[derive(Clone, Copy, Debug, PartialEq, Eq)]
+pub struct BadTime;
+
+fn mark(bytes: &[u8], wanted: u8) -> Option<&[u8]>
+    ensures { option_map (λ rest. rest.now) result ≡ mark_at wanted bytes.now }
+{
+    match bytes {
+        [found, rest @ ..] => { if *found == wanted { Some(rest) } else { None } }
+        [] => None,
+    }
+}
+
+/// Two digits at the front, and what stands after them.
+fn two(bytes: &[u8]) -> Option<(u8, &[u8])>
+    ensures value { option_map (λ x. (x.0, x.1.now)) result ≡ two_at bytes.now }
+    ensures bound { IfSome result (λ x. x.0 < 100) }
+{
+    match bytes {
+        [tens, units, rest @ ..] => {
+            if is_digit(*tens) && is_digit(*units) {
+                Some(((*tens - 48) * 10 + (*units - 48), rest))
+            } else {
+                None
+            }
+        }
+        _ => None,
+    }
+}
+
+#[tactic(auto, unfolding(crate::specs::MomentRead::four_at))]
+fn four(bytes: &[u8]) -> Option<(u16, &[u8])>
+    ensures value { option_map (λ x. (x.0, x.1.now)) result ≡ four_at bytes.now }
+    ensures bound { IfSome result (λ x. x.0 < 10000) }
+{
+    let (high, rest) = two(bytes)?;
+    let (low, rest) = two(rest)?;
+    Some((high as u16 * 100 + low as u16, rest))
+}
+
+/// The day number of a date, where it exists.
+fn day_number(year: u16, month: u8, day: u8) -> Option<i32>
+    requires year_in { year < 10000 }
+    requires month_in { month < 100 }
+    requires day_in { day < 100 }
+    ensures value { result ≡ Rattle.amr_time.specs.MomentRead.day_number year month day }
+    ensures bound { IfSome result (λ n. IsEpochDay n) }
+{
+    match Date::new(year as i16, month as i8, day as i8) {
+        Ok(date) => Some(date.to_plain().to_unix_epoch_day()),
+        Err(_) => None,
+    }
+}
+
+/// The day number of the date at the front.
+#[tactic(auto, unfolding(crate::specs::MomentRead::day_at))]
+fn day(bytes: &[u8]) -> Option<(i32, &[u8])>
+    ensures value { option_map (λ x. (x.0, x.1.now)) result ≡ day_at bytes.now }
+    ensures bound { IfSome result (λ x. IsEpochDay x.0) }
+{
+    let (year, rest) = four(bytes)?;
+    let (month, rest) = two(mark(rest, b'-')?)?;
+    let (day, rest) = two(mark(rest, b'-')?)?;
+    let number = day_number(year, month, day)?;
+    Some((number, rest))
+}
+
+/// Hours and minutes at the front, in minutes.
+#[tactic(auto, unfolding(crate::specs::MomentRead::minutes_at))]
+fn minutes(bytes: &[u8]) -> Option<(u32, &[u8])>
+    ensures value { option_map (λ x. (x.0, x.1.now)) result ≡ minutes_at bytes.now }
+    ensures bound { IfSome result (λ x. x.0 < 1440) }
+{
+    let (hour, rest) = two(bytes)?;
+    let (minute, rest) = two(mark(rest, b':')?)?;
+    if hour < 24 && minute < 60 {
+        Some((hour as u32 * 60 + minute as u32, rest))
+    } else {
+        None
+    }
+}
+
+#[tactic(auto, unfolding(crate::specs::MomentRead::seconds_at))]
+fn seconds(bytes: &[u8]) -> Option<(u32, &[u8])>
+    ensures value { option_map (λ x. (x.0, x.1.now)) result ≡ seconds_at bytes.now }
+    ensures bound { IfSome result (λ x. x.0 < 86400) }
+{
+    let (minutes, rest) = minutes(bytes)?;
+    let (second, rest) = two(mark(rest, b':')?)?;
+    if second < 60 {
+        Some((minutes * 60 + second as u32, rest))
+    } else {
+        None
+    }
+}
+
+/// The nanoseconds of one to nine digits at the front.
+fn fraction_digits(bytes: &[u8]) -> Option<(u64, &[u8])>
+    ensures value { option_map (λ x. (x.0, x.1.now)) result ≡ fraction_digits_at bytes.now }
+    ensures bound { IfSome result (λ x. x.0 < 2 ^ 60) }
+{
+    let count = digit_count(bytes);
+    if count < 1 || count > 9 {
+        return None;
+    }
+    let number = capped(&bytes[..count], 999_999_999);
+    Some((number * 10u64.pow(9 - count as u32), &bytes[count..]))
+}
+
+fn fraction(bytes: &[u8]) -> Option<(u64, &[u8])>
+    ensures value { option_map (λ x. (x.0, x.1.now)) result ≡ fraction_at bytes.now }
+    ensures bound { IfSome result (λ x. x.0 < 2 ^ 60) }
+{
+    match bytes {
+        [b'.', rest @ ..] => fraction_digits(rest),
+        _ => Some((0, bytes)),
+    }
+}
+
+/// Minutes from UTC, and what stands after the mark of the zone.
+#[tactic(auto, unfolding(crate::specs::MomentRead::offset_at))]
+fn offset(bytes: &[u8]) -> Option<(i32, &[u8])>
+    ensures value { option_map (λ x. (x.0, x.1.now)) result ≡ offset_at bytes.now }
+    ensures bound { IfSome result (λ x. IsWithin 1440 x.0) }
+{
+    match bytes {
+        [b'Z' | b'z', rest @ ..] => Some((0, rest)),
+        [b'+', rest @ ..] => {
+            let (minutes, rest) = minutes(rest)?;
+            Some((minutes as i32, rest))
+        }
+        [b'-', rest @ ..] => {
+            let (minutes, rest) = minutes(rest)?;
+            Some((-(minutes as i32), rest))
+        }
+        _ => None,
+    }
+}
+
+fn time_mark(bytes: &[u8]) -> Option<&[u8]>
+    ensures { option_map (λ rest. rest.now) result ≡ time_mark_at bytes.now }
+{
+    match bytes {
+        [b'T' | b't', rest @ ..] => Some(rest),
+        _ => None,
+    }
+}
+
+/// The parts in nanoseconds since 1970.
+fn nanoseconds_of(day: i32, seconds: u32, fraction: u64, offset: i32) -> i128
+    requires day_in { IsEpochDay day }
+    requires seconds_in { seconds < 86400 }
+    requires fraction_in { fraction < 2 ^ 60 }
+    requires offset_in { IsWithin 1440 offset }
+    ensures { result ≡ day *ℤ pos 86_400_000_000_000 +ℤ pos (seconds * 1_000_000_000 + fraction) -ℤ offset *ℤ pos 60_000_000_000 }
+{
+    let clock = seconds as u64 * 1_000_000_000 + fraction;
+    day as i128 * 86_400_000_000_000 + clock as i128 - offset as i128 * 60_000_000_000
+}
+
+/// The moment, where a text may stand for it.
+fn within(nanoseconds: i128) -> Option<Moment>
+    ensures value { result ≡ in_range nanoseconds }
+    ensures bound { IfSome result (λ m. m ≤ latest_read) }
+{
+    if 0 <= nanoseconds && nanoseconds <= 221_845_391_999_999_999_999 {
+        Some(Moment::from_nanoseconds(nanoseconds as u128))
+    } else {
+        None
+    }
+}
+
+#[tactic(auto, unfolding(crate::specs::MomentRead::moment_at))]
+fn moment(bytes: &[u8]) -> Option<Moment>
+    ensures value { result ≡ moment_at bytes.now }
+    ensures bound { IfSome result (λ m. m ≤ latest_read) }
+{
+    let (day, rest) = day(bytes)?;
+    let (seconds, rest) = seconds(time_mark(rest)?)?;
+    let (fraction, rest) = fraction(rest)?;
+    let (offset, rest) = offset(rest)?;
+    if !rest.is_empty() {
+        return None;
+    }
+    within(nanoseconds_of(day, seconds, fraction, offset))
+}
+
+/// The moment that a text stands for: a date and a time of day as RFC 3339 has them, in the years 1970 to 8999,
+/// with at most nine digits of a fraction.
+///
+/// `T` and `Z` may be in either case, and the second 60 is refused.
+pub fn read_moment(text: &str) -> Result<Moment, BadTime>
+    ensures value { result_ok result ≡ moment_at text.now }
+    ensures bound { IfOk result (λ m. m ≤ latest_read) }
+{
+    moment(text.as_bytes()).ok_or(BadTime)
+}
