@@ -1,8 +1,13 @@
 //! Types whose clones are the same value.
-ghost use Rattle.std.specs.Prelude.{◌≡◌};
+ghost use Rattle.std.specs.Prelude.{◌≡◌, Some, None, refl};
+ghost use Rattle.std.proofs.Common.{ap};
 
+use crate::interner::Interner;
+use crate::label_map::LabelMap;
 use crate::labels::Labels;
 use crate::listing::Listing;
+use crate::matcher::Matcher;
+use crate::shared::Shared;
 use crate::text::Text;
 use crate::text_map::TextMap;
 
@@ -27,6 +32,26 @@ impl Exact for Labels {
     ghost exact = { λ x y same. same };
 }
 
+impl Exact for Matcher {
+    ghost exact = { λ x y same. same };
+}
+
+impl Exact for Interner {
+    ghost exact = { λ x y same. same };
+}
+
+impl<V: Exact + Drop> Exact for LabelMap<V> {
+    ghost exact = { λ x y same. same };
+}
+
+impl<T: Drop> Exact for Shared<T> {
+    ghost exact = { λ x y same. same };
+}
+
+impl<T: Exact> Exact for Option<T> {
+    ghost exact = { λ x y same. elim x as (λ a. ⟦<Option<T> as Clone>⟧.is_clone a y → y ≡ a) [ None ↦ elim y as (λ b. ⟦<Option<T> as Clone>⟧.is_clone None b → b ≡ None) [ None ↦ λ h. refl | Some w ↦ λ h. absurd h ] | Some v ↦ elim y as (λ b. ⟦<Option<T> as Clone>⟧.is_clone (Some v) b → b ≡ Some v) [ None ↦ λ h. absurd h | Some w ↦ λ h. ap (λ z. Some z) (T.exact v w h) ] ] same };
+}
+
 impl Exact for () {
     ghost exact = { λ x y same. same };
 }
@@ -37,4 +62,20 @@ impl Exact for bool {
 
 impl Exact for usize {
     ghost exact = { λ x y same. same };
+}
+
+impl Exact for u64 {
+    ghost exact = { λ x y same. same };
+}
+
+impl Exact for u128 {
+    ghost exact = { λ x y same. same };
+}
+
+impl Exact for i128 {
+    ghost exact = { λ x y same. same };
+}
+
+impl<A: Exact + Drop, B: Exact + Drop> Exact for (A, B) {
+    ghost exact = { λ x y same. λ i. (A.exact x.0 y.0 same.0 i, B.exact x.1 y.1 same.1 i) };
 }

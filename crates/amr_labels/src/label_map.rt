@@ -1,0 +1,99 @@
+//! Values under label sets.
+ghost use Rattle.std.specs.Prelude.{◌≡◌, ◌==◌, List, ℕ, OnOk, OnErr};
+ghost use Rattle.std.specs.Option.{option_copied};
+ghost use Rattle.amr_labels.specs.Map as map;
+
+use crate::exact::Exact;
+use crate::labels::Labels;
+use std::alloc::{AllocError, Global};
+use std::collections::BTreeMap;
+use std::collections::btree_map::Iter;
+use std::marker::Model;
+
+/// Values under label sets, in the order of the label sets.
+#[derive(Debug, Drop)]
+pub struct LabelMap<V> {
+    tree: BTreeMap<Labels, V>,
+}
+
+impl<V> Model for LabelMap<V> {
+    ghost use Rattle.std.specs.Prelude.{List, ℕ};
+    ghost use Rattle.std.specs.Coded.{coded_ℕ, coded_list};
+    ghost use Rattle.std.specs.BTreeMap.{IsOrdered};
+    ghost use Rattle.amr_labels.specs.Map as map;
+    ghost use Rattle.amr_labels.specs.Labels.{label_set_cmp};
+
+    ghost Value = { map.Map label_set_cmp V };
+
+    ghost coded = { map.code (map.code (coded_list coded_ℕ) (coded_list coded_ℕ)) V.code };
+
+    ghost view = { λ values. map.from_sorted values.tree.entries };
+
+    ghost invariant = { λ values. IsOrdered label_set_cmp values.tree };
+}
+
+impl<V: Drop> LabelMap<V> {
+    /// No value.
+    pub fn new(alloc: Global) -> LabelMap<V>
+        ensures { result ≡ map.empty }
+    {
+        LabelMap {
+            tree: BTreeMap::new(alloc),
+        }
+    }
+
+    /// The value under the label set.
+    pub fn get(&self, labels: &Labels) -> Option<&V>
+        ensures { option_copied result ≡ map.get self.now labels.now }
+    {
+        self.tree.get(labels)
+    }
+
+    /// Puts a value under the label set, in place of the one that is there.
+    pub fn insert(&mut self, labels: Labels, value: V) -> Result<(), AllocError>
+        ensures ok { OnOk result (self.new ≡ map.insert self.old labels value) }
+        ensures err { OnErr result (self.new ≡ self.old) }
+    {
+        self.tree.insert(labels, value)?;
+        Ok(())
+    }
+
+    /// Takes the value under the label set out.
+    pub fn remove(&mut self, labels: &Labels) -> Option<V>
+        ensures value { result ≡ map.get self.old labels.now }
+        ensures left { self.new ≡ map.remove self.old labels.now }
+    {
+        self.tree.remove(labels)
+    }
+
+    /// The values with their label sets, in the order of the label sets.
+    pub fn iter(&self) -> Iter<'_, Labels, V>
+        ensures { result ≡ map.entries self.now }
+    {
+        self.tree.iter()
+    }
+
+    /// How many values there are.
+    pub fn len(&self) -> usize
+        ensures { result ≡ map.len self.now }
+    {
+        self.tree.len()
+    }
+
+    /// Whether there is no value.
+    pub fn is_empty(&self) -> bool
+        ensures { result ≡ (map.len self.now == 0) }
+    {
+        self.len() == 0
+    }
+}
+
+impl<V: Exact + Drop> Clone for LabelMap<V> {
+    ghost is_clone = { λ a b. b ≡ a };
+
+    fn clone(&self) -> Result<LabelMap<V>, AllocError> {
+        Ok(LabelMap {
+            tree: self.tree.clone()?,
+        })
+    }
+}
