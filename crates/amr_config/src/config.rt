@@ -1,14 +1,20 @@
 //! A configuration, shared by those who hold it.
-ghost use Rattle.std.specs.Prelude.{◌≡◌, ℕ, length, IfOk, Some};
-ghost use Rattle.amr_config.specs.Routing.{chosen, group_of, group_wait_of, group_interval_of, repeat_interval_of, receiver_name_of, integrations_of, path_of};
+ghost use Rattle.std.specs.Prelude.{◌≡◌, ℕ, ◌<◌, ◌≤◌, length, IfOk, MatchOption, map};
+ghost use Rattle.std.specs.Option.{option_copied};
+ghost use Rattle.std.specs.Ordering.{eq_by_cmp};
+ghost use Rattle.std.specs.List.{find};
+ghost use Rattle.amr_labels.specs.Labels.{text_cmp};
+ghost use Rattle.amr_config.specs.Routing.{group_wait_of, group_interval_of, repeat_interval_of, receiver_name_of, integrations_of, path_of, chosen, group_of, grouped_by};
+ghost use Rattle.amr_config.specs.Settled.{settings_of};
 
 use crate::receiver::{Integration, Receiver};
-use crate::route::Route;
+use crate::route::{Grouping, Route};
 use crate::rule::InhibitRule;
 use crate::settings::Settings;
 use amr_labels::{Exact, Labels, Listing, Matchers, Text};
 use amr_time::Span;
 use std::alloc::{AllocError, Global};
+use std::cmp::Ordering;
 use std::marker::Model;
 use std::rc::Rc;
 
@@ -23,14 +29,15 @@ pub(crate) struct Parts {
 }
 
 /// A configuration. Clones share what it holds.
-#[derive(Drop)]
+///
+/// Routes are named by their numbers, which count them in preorder from 0, the root.
+#[derive(Debug, Drop)]
 pub struct Config {
     shared: Rc<Parts>,
 }
 
 impl Model for Config {
     ghost use Rattle.amr_config.specs.Config.{Config};
-    ghost use Rattle.std.specs.Coded.{codes};
 
     ghost Value = { Config };
 
@@ -39,4 +46,196 @@ impl Model for Config {
     ghost view = { λ a. config_of_parts a.shared.value };
 
     ghost invariant = { λ a. AreSettled a.shared.value };
+}
+
+impl Clone for Config {
+    ghost is_clone = { λ a b. b ≡ a };
+
+    fn clone(&self) -> Result<Config, AllocError> {
+        Ok(Config {
+            shared: self.shared.clone()?,
+        })
+    }
+}
+
+impl Exact for Config {
+    ghost exact = { λ x y same. same };
+}
+
+impl Config {
+    /// The settings of the route with this number.
+    fn settings_at(&self, route: usize) -> Option<&Settings>
+        ensures { MatchOption result (length self.now.routes ≤ route) (λ found. (route < length self.now.routes) × (found.now ≡ settings_of self.now route)) }
+    {
+        self.shared.settings.as_slice().get(route)
+    }
+
+    /// How many routes there are.
+    pub fn route_count(&self) -> usize
+        ensures { result ≡ length self.now.routes }
+    {
+        self.shared.routes.len()
+    }
+
+    /// How many receivers there are.
+    pub fn receiver_count(&self) -> usize
+        ensures { result ≡ length self.now.receivers }
+    {
+        self.shared.receivers.len()
+    }
+
+    /// The inhibition rules.
+    pub fn rules(&self) -> &[InhibitRule]
+        ensures { result.now ≡ self.now.rules }
+    {
+        self.shared.rules.as_slice()
+    }
+
+    /// When a posted alert without an end is over, counted from its post.
+    pub fn resolve_timeout(&self) -> Span
+        ensures { result ≡ self.now.resolve_timeout }
+    {
+        self.shared.resolve_timeout
+    }
+}
+
+#[tactic(auto, using(crate::proofs::Inherited::inherited_past), unfolding(crate::specs::Settled::settings_of))]
+impl Config {
+    /// How long a group of the route waits before its first flush (`group_wait` of Alertmanager's configuration).
+    pub fn group_wait(&self, route: usize) -> Span
+        ensures { result ≡ group_wait_of self.now route }
+    {
+        match self.settings_at(route) {
+            Some(settings) => settings.group_wait,
+            None => Span::from_seconds(30),
+        }
+    }
+
+    /// How long a group of the route waits from one flush to the next (`group_interval`).
+    pub fn group_interval(&self, route: usize) -> Span
+        ensures { result ≡ group_interval_of self.now route }
+    {
+        match self.settings_at(route) {
+            Some(settings) => settings.group_interval,
+            None => Span::from_minutes(5),
+        }
+    }
+
+    /// How long a notification that still stands isn't repeated (`repeat_interval`).
+    pub fn repeat_interval(&self, route: usize) -> Span
+        ensures { result ≡ repeat_interval_of self.now route }
+    {
+        match self.settings_at(route) {
+            Some(settings) => settings.repeat_interval,
+            None => Span::from_hours(4),
+        }
+    }
+
+    /// The name of the receiver that the route notifies.
+    pub fn receiver_name(&self, alloc: Global, route: usize) -> Result<Text, AllocError>
+        ensures { IfOk result (λ name. name ≡ receiver_name_of self.now route) }
+    {
+        match self.settings_at(route) {
+            Some(settings) => settings.receiver.clone(),
+            None => Text::from_str(alloc, ""),
+        }
+    }
+
+    /// The matchers of each route from the root down to this one, each list sorted by name, value and operator.
+    pub fn path(&self, alloc: Global, route: usize) -> Result<Listing<Matchers>, AllocError>
+        ensures { IfOk result (λ path. path ≡ path_of self.now route) }
+    {
+        match self.settings_at(route) {
+            Some(settings) => settings.path.clone(),
+            None => {
+                let mut path = Listing::new(alloc);
+                path.push(Matchers::none(alloc)?)?;
+                Ok(path)
+            }
+        }
+    }
+
+    /// The group labels that an alert with these labels has at the route (`group_by`).
+    #[tactic(auto, using(crate::proofs::Inherited::inherited_past), unfolding(crate::specs::Settled::settings_of, crate::specs::Routing::group_of))]
+    pub fn group_of(
+        &self,
+        alloc: Global,
+        route: usize,
+        labels: &Labels,
+    ) -> Result<Labels, AllocError>
+        ensures { IfOk result (λ group. group ≡ group_of self.now route labels.now) }
+    {
+        match self.settings_at(route) {
+            Some(settings) => grouped_by(alloc, &settings.group_by, labels),
+            None => Labels::empty(alloc),
+        }
+    }
+
+    /// The receiver with this name.
+    pub fn receiver(&self, name: &str) -> Option<&Receiver>
+        ensures { option_copied result ≡ find (λ receiver. eq_by_cmp text_cmp receiver.name name.now) self.now.receivers }
+    {
+        receiver_named(self.shared.receivers.as_slice(), name)
+    }
+
+    /// The integrations of the route's receiver, by kind and then by place.
+    pub fn integrations(&self, route: usize) -> &[Integration]
+        ensures { result.now ≡ integrations_of self.now route }
+    {
+        let name = match self.settings_at(route) {
+            Some(settings) => settings.receiver.as_str(),
+            None => "",
+        };
+        match self.receiver(name) {
+            Some(receiver) => receiver.integrations.as_slice(),
+            None => &[],
+        }
+    }
+
+    /// What holds at the route, stated by it, inherited or by default.
+    pub fn route(&self, id: usize) -> &Settings
+        requires { id < length self.now.routes }
+        ensures { result.now ≡ settings_of self.now id }
+    {
+        match self.settings_at(id) {
+            Some(settings) => settings,
+            None => unreachable!(),
+        }
+    }
+}
+
+/// The receiver with this name, among some.
+fn receiver_named<'a>(receivers: &'a [Receiver], name: &str) -> Option<&'a Receiver>
+    ensures { option_copied result ≡ find (λ receiver. eq_by_cmp text_cmp receiver.name name.now) receivers.now }
+{
+    for receiver in receivers {
+        if receiver.name.as_str().cmp(name) == Ordering::Equal {
+            return Some(receiver);
+        }
+    }
+    None
+}
+
+/// The labels that a grouping keeps.
+fn grouped_by(
+    alloc: Global,
+    grouping: &Option<Grouping>,
+    labels: &Labels,
+) -> Result<Labels, AllocError>
+    ensures { IfOk result (λ group. group ≡ grouped_by grouping.now labels.now) }
+{
+    match grouping {
+        None => Labels::empty(alloc),
+        Some(Grouping::AllLabels) => labels.clone(),
+        Some(Grouping::Named(names)) => labels.kept_by_names(alloc, names.as_slice()),
+    }
+}
+
+impl Config {
+    /// The numbers of the routes that take an alert with these labels, rising.
+    pub fn routes_of(&self, alloc: Global, labels: &Labels) -> Result<Vec<usize>, AllocError>
+        ensures { IfOk result (λ routes. routes.items ≡ chosen self.now labels.now) }
+    {
+        Err(AllocError)
+    }
 }

@@ -1,0 +1,49 @@
+-- What the settings of a configuration say of its routes.
+use Rattle.std.proofs.Common.{◌≡◌, ℕ, zero, suc, ◌+◌, ◌<◌, ◌≤◌, List, [], ◌∷◌, length, get_or, map, Option, Some, None, MatchOption, Bor, reverse, refl, sym, ap, ◌∙◌, arith}
+use Rattle.std.specs.Option.{option_map_or, option_or}
+use Rattle.std.specs.List.{slice_get, range_with_len}
+use Rattle.std.specs.Slice.{IsItemAt}
+use Rattle.std.proofs.lemmas.List.FromFn.{length-map-range_with_len, get_or-map-range_with_len}
+use Rattle.std.proofs.lemmas.Option.{slice_get_past}
+use Rattle.amr_config.specs.declared.route.Route.{Route}
+use Rattle.amr_config.specs.declared.settings.Settings.{Settings}
+use Rattle.amr_config.specs.Config.{Config}
+use Rattle.amr_config.specs.Routing.{parent_of, line_within, line_of, first_stated, inherited, sorted_matchers, path_of}
+use Rattle.amr_config.specs.Settled.{settings_of, settled}
+
+pub length-settled : (config : Config) → length (settled config) ≡ length config.routes
+unfolding settled
+length-settled config = length-map-range_with_len (settings_of config) 0 (length config.routes)
+
+pub get_or-settled : (config : Config) (n : ℕ) (d : Settings) → n < length config.routes → get_or (settled config) n d ≡ settings_of config n
+unfolding settled
+get_or-settled config n d h = get_or-map-range_with_len (settings_of config) 0 (length config.routes) n n d h (omega arith)
+
+pub settings_found : (config : Config) (settings : List Settings) (n : ℕ) (r : Option (Bor Settings)) → settings ≡ settled config → IsItemAt settings n r → MatchOption r (length config.routes ≤ n) (λ found. (n < length config.routes) × (found.now ≡ settings_of config n))
+settings_found config settings n None e h =
+    let l : length settings ≡ length config.routes = ap length e ∙ length-settled config in
+    let past : length settings ≤ n = h.3 in
+    omega arith
+settings_found config settings n (Some x) e h =
+    let l : length settings ≡ length config.routes = ap length e ∙ length-settled config in
+    let within : n < length settings = h.3.0 in
+    let lt : n < length config.routes = omega arith in
+    (lt, h.4 (omega arith) x.now ∙ ap (λ s. get_or s n x.now) e ∙ get_or-settled config n x.now lt)
+
+-- no route above a place where there is none
+no_line : (config : Config) (most n : ℕ) → length config.routes ≤ n → line_within most config n ≡ n ∷ []
+no_line config zero n h = refl
+no_line config (suc most) n h =
+    ap (λ o. n ∷ option_map_or (λ parent. line_within most config parent) (option_map_or (λ (route : Route). route.parent) o None) []) (slice_get_past config.routes n h)
+
+pub inherited_past : {X : Type 0} (field : Route → Option X) (config : Config) (n : ℕ) → length config.routes ≤ n → inherited field config n ≡ None
+unfolding inherited
+inherited_past field config n h =
+    ap (first_stated field config) (no_line config n n h)
+    ∙ ap (λ o. option_or (option_map_or field o None) None) (slice_get_past config.routes n h)
+
+pub path_of_past : (config : Config) (n : ℕ) → length config.routes ≤ n → path_of config n ≡ [] ∷ []
+unfolding path_of
+path_of_past config n h =
+    ap (λ ns. reverse (map (λ m. option_map_or (λ (route : Route). sorted_matchers route.matchers) (slice_get config.routes m) []) ns)) (no_line config n n h)
+    ∙ ap (λ o. option_map_or (λ (route : Route). sorted_matchers route.matchers) o [] ∷ []) (slice_get_past config.routes n h)
