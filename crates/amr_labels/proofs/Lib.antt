@@ -1,3 +1,4 @@
+pub mod Finds
 pub mod Numbers
 pub mod Pairs
 pub mod Trees

@@ -2,9 +2,11 @@
 ghost use Rattle.std.specs.Prelude.{◌≡◌, Some, None, refl};
 ghost use Rattle.std.proofs.Common.{ap};
 
+use crate::interner::Interner;
 use crate::label_map::LabelMap;
 use crate::labels::Labels;
 use crate::listing::Listing;
+use crate::matcher::Matcher;
 use crate::shared::Shared;
 use crate::text::Text;
 use crate::text_map::TextMap;
@@ -27,6 +29,14 @@ impl Exact for TextMap {
 }
 
 impl Exact for Labels {
+    ghost exact = { λ x y same. same };
+}
+
+impl Exact for Matcher {
+    ghost exact = { λ x y same. same };
+}
+
+impl Exact for Interner {
     ghost exact = { λ x y same. same };
 }
 

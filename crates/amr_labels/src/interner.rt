@@ -77,3 +77,13 @@ impl Interner {
         self.seen.len()
     }
 }
+
+impl Clone for Interner {
+    ghost is_clone = { λ a b. b ≡ a };
+
+    fn clone(&self) -> Result<Interner, AllocError> {
+        Ok(Interner {
+            seen: self.seen.clone()?,
+        })
+    }
+}
