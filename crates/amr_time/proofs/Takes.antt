@@ -1,5 +1,5 @@
 -- What a part of a moment's text reads is what the text spells there.
-use Rattle.std.proofs.Common.{◌≡◌, ℕ, ◌+◌, ◌-◌, ◌*◌, ◌/◌, ◌%◌, ◌<◌, ◌≤◌, ◌⊎◌, inl, inr, Bool, true, false, cond, leb, ltb, eqb, ◌&&◌, ◌||◌, List, [], ◌∷◌, ◌++◌, length, take, drop, Option, Some, None, ℤ, pos, negsuc, ◌+ℤ◌, ◌-ℤ◌, ◌*ℤ◌, refl, sym, ap, ◌∙◌, arith, append-nil}
+use Rattle.std.proofs.Common.{◌≡◌, ℕ, ◌+◌, ◌-◌, ◌*◌, ◌/◌, ◌%◌, ◌<◌, ◌≤◌, ◌⊎◌, inl, inr, Bool, true, false, cond, leb, ltb, eqb, ◌&&◌, ◌||◌, List, [], ◌∷◌, ◌++◌, length, drop, Option, Some, None, ℤ, pos, negsuc, ◌+ℤ◌, ◌-ℤ◌, ◌*ℤ◌, refl, sym, ap, ◌∙◌, arith, append-nil}
 use Rattle.std.proofs.lemmas.Bool.{and_parts, or_cases, leb-true, ltb-true, lt-ltb, eqb-true}
 use Rattle.std.proofs.lemmas.Option.{cond_some, same_Some}
 use Rattle.std.proofs.lemmas.List.{take-append-drop}
@@ -7,7 +7,7 @@ use Rattle.std.proofs.lemmas.List.Folds.{length-prefix_len}
 use Rattle.std.specs.List.{AllByRecursion, prefix_len}
 use Rattle.jiff_core.specs.Calendar.{days_in_month, days_from_civil}
 use Rattle.amr_time.specs.Time.{second, latest_read}
-use Rattle.amr_time.specs.MomentText.{IsDigit, digit, two_digits, four_digits, date_text, time_text, fraction_text, fraction_nanoseconds, zone_text, Zone, Utc, Ahead, Behind, IsOffset, offset_minutes, IsMomentText}
+use Rattle.amr_time.specs.MomentText.{IsDigit, digit, two_digits, four_digits, date_text, time_text, fraction_text, fraction_nanoseconds, zone_text, Zone, Utc, Ahead, Behind, IsOffset, offset_minutes}
 use Rattle.amr_time.specs.MomentRead.{◌>>=◌, is_digit, mark_at, two_at, four_at, is_date, day_number, day_at, minutes_at, seconds_at, digits_of, fraction_digits_at, fraction_at, offset_at, time_mark_at, in_range, moment_at}
 use Rattle.amr_time.specs.Laws.{ReadIsSpelled}
 use Rattle.amr_time.proofs.Decimals.{digit_in, digits_of_are}
@@ -161,7 +161,7 @@ some_fraction : (digits : List ℕ) → 1 ≤ length digits → fraction_text di
 some_fraction [] le = absurd (omega arith)
 some_fraction (d ∷ ds) le = refl
 
-parted : (bytes : List ℕ) → digits_of bytes ++ drop (length (digits_of bytes)) bytes ≡ bytes
+pub parted : (bytes : List ℕ) → digits_of bytes ++ drop (length (digits_of bytes)) bytes ≡ bytes
 parted bytes = rw (length-prefix_len is_digit bytes) (take-append-drop (prefix_len is_digit bytes) bytes)
 
 after_point : (c : ℕ) (cs : List ℕ) (b : Bool) (read : ℕ × List ℕ) → eqb c 46 ≡ b → cond b (fraction_digits_at cs) (Some (0, c ∷ cs)) ≡ Some read → FractionTaken (c ∷ cs) read.0 read.1

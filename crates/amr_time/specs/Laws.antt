@@ -1,5 +1,5 @@
 -- What holds of the texts of moments: reading is the inverse of spelling.
-use Rattle.std.specs.Prelude.{◌≡◌, ℕ, ◌<◌, ◌≤◌, List, Some, ℤ, pos}
+use Rattle.std.specs.Prelude.{◌≡◌, ℕ, ◌<◌, ◌≤◌, List, Some, pos}
 use Rattle.amr_time.specs.Time.{Moment, latest_read, before_year_10000}
 use Rattle.amr_time.specs.MomentText.{AreParts, IsMomentText, nanoseconds_of, parts_of, moment_text}
 use Rattle.amr_time.specs.MomentRead.{moment_at}
