@@ -3,3 +3,5 @@ pub mod MovesLaws
 pub mod TickLaws
 pub mod RefusalLaws
 pub mod Least
+pub mod Cascade
+pub mod Endings
