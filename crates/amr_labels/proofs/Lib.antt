@@ -3,4 +3,5 @@ pub mod Numbers
 pub mod Pairs
 pub mod Proper
 pub mod Searches
+pub mod Sorted
 pub mod Trees
