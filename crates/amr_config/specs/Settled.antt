@@ -28,11 +28,11 @@ settings_of config n = record {
 unfoldable pub settled : Config → List Settings
 settled config = map (settings_of config) (route_numbers config)
 
-abbrev pub config_of : Stated → Config
-config_of stated = record { routes = stated.routes; receivers = stated.receivers; rules = stated.rules; resolve_timeout = stated.resolve_timeout }
+abbrev pub stated_config : Stated → Config
+stated_config stated = record { routes = stated.routes; receivers = stated.receivers; rules = stated.rules; resolve_timeout = stated.resolve_timeout }
 
 abbrev pub config_of_parts : Parts → Config
-config_of_parts parts = config_of parts.stated
+config_of_parts parts = stated_config parts.stated
 
 -- each parent stands before its children
 abbrev pub AreParentsFirst : Config → Type 0

@@ -5,7 +5,7 @@ ghost use Rattle.std.specs.Ordering.{eq_by_cmp};
 ghost use Rattle.std.specs.List.{find};
 ghost use Rattle.amr_labels.specs.Labels.{text_cmp};
 ghost use Rattle.amr_config.specs.Routing.{group_wait_of, group_interval_of, repeat_interval_of, receiver_name_of, integrations_of, path_of, group_of, grouped_by};
-ghost use Rattle.amr_config.specs.Settled.{settings_of, config_of, AreParentsFirst};
+ghost use Rattle.amr_config.specs.Settled.{settings_of, stated_config, AreParentsFirst};
 
 use crate::receiver::{Integration, Receiver};
 use crate::route::Grouping;
@@ -64,8 +64,8 @@ impl Exact for Config {
 impl Config {
     /// The configuration that is stated.
     pub(crate) fn from_stated(alloc: Global, stated: Stated) -> Result<Config, AllocError>
-        requires { AreParentsFirst (config_of stated) }
-        ensures { IfOk result (λ config. config ≡ config_of stated) }
+        requires { AreParentsFirst (stated_config stated) }
+        ensures { IfOk result (λ config. config ≡ stated_config stated) }
     {
         let settings = settle(alloc, &stated)?;
         Ok(Config {

@@ -2,7 +2,7 @@
 ghost use Rattle.std.specs.Prelude.{◌≡◌, ◌*◌, [], ◌∷◌, ◌++◌, None, IfOk, unwrap_or, option_and_then, slice_get};
 ghost use Rattle.std.specs.Option.{option_copied, option_map_or, option_or};
 ghost use Rattle.amr_config.specs.Routing.{sorted_matchers};
-ghost use Rattle.amr_config.specs.Settled.{config_of, settled, settled_under, AreParentsFirst};
+ghost use Rattle.amr_config.specs.Settled.{stated_config, settled, settled_under, AreParentsFirst};
 
 use crate::route::{Grouping, Route};
 use crate::settings::Settings;
@@ -97,8 +97,8 @@ fn above<'a>(settings: &'a [Settings], parent: Option<usize>) -> Option<&'a Sett
 
 /// The settings of all routes.
 pub(crate) fn settle(alloc: Global, stated: &Stated) -> Result<Listing<Settings>, AllocError>
-    requires { AreParentsFirst (config_of stated.now) }
-    ensures { IfOk result (λ settings. settings ≡ settled (config_of stated.now)) }
+    requires { AreParentsFirst (stated_config stated.now) }
+    ensures { IfOk result (λ settings. settings ≡ settled (stated_config stated.now)) }
 {
     let mut settings = Vec::new(alloc);
     for route in stated.routes.as_slice() {
