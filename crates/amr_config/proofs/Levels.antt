@@ -1,12 +1,12 @@
 -- One level of the tree of routes.
-use Rattle.std.proofs.Common.{◌≡◌, ◌≢◌, ℕ, zero, suc, ◌-◌, List, [], ◌∷◌, length, Option, Result, Ok, Err, refl, sym, ap, ◌∙◌, arith}
+use Rattle.std.proofs.Common.{◌≡◌, ◌≢◌, ℕ, zero, suc, ◌-◌, List, length, Option, Ok, Err, refl, arith}
 use Rattle.serde_json.specs.Data.{Data, Items}
 use Rattle.amr_config.specs.declared.error.ConfigError.{ConfigError}
 use Rattle.amr_config.specs.declared.error.ConfigError.TheVariants.{Memory, Refused}
 use Rattle.amr_config.specs.declared.error.Refusal.TheVariants.{TooDeep}
 use Rattle.amr_config.specs.declared.read_routes.Tree.{Tree}
 use Rattle.amr_config.specs.Answers.{Fails}
-use Rattle.amr_config.specs.Members.{◌>>=◌, each_item}
+use Rattle.amr_config.specs.Members.{each_item}
 use Rattle.amr_config.specs.ReadRoutes.{own_into, children_at, add_route, child_into}
 
 pub at_zero : (left : ℕ) (path : List ℕ) (parent : Option ℕ) (d : Data) (tree : Tree) → left ≡ 0 → add_route left path parent d tree ≡ Err TooDeep

@@ -1,5 +1,5 @@
 -- A list that is `...` alone.
-use Rattle.std.proofs.Common.{◌≡◌, ◌≢◌, ℕ, Bool, false, List, [], ◌∷◌, length, get_or, refl, sym, ap, arith, codes}
+use Rattle.std.proofs.Common.{◌≡◌, ◌≢◌, false, List, [], ◌∷◌, length, get_or, refl, sym, ap, arith, codes}
 use Rattle.std.specs.Ordering.{eq_by_cmp}
 use Rattle.amr_labels.specs.Labels.{Text, text_cmp}
 use Rattle.amr_config.specs.ReadRoutes.{is_all}

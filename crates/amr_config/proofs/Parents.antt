@@ -6,7 +6,6 @@ use Rattle.std.proofs.lemmas.Option.{none-some, same_Some}
 use Rattle.std.proofs.lemmas.List.{length_push}
 use Rattle.serde_json.specs.Data.{Data, Items, no_items, item}
 use Rattle.amr_config.specs.declared.error.Refusal.{Refusal}
-use Rattle.amr_config.specs.declared.error.Refusal.TheVariants.{BadConfig, TooDeep}
 use Rattle.amr_config.specs.declared.route.Route.{Route}
 use Rattle.amr_config.specs.declared.read_routes.Tree.{Tree}
 use Rattle.amr_config.specs.declared.read.Walked.{Walked}

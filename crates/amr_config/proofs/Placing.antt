@@ -1,5 +1,5 @@
 -- Insertion in a sorted list.
-use Rattle.std.proofs.Common.{◌≡◌, ℕ, suc, ◌+◌, Bool, true, false, cond, List, [], ◌∷◌, ◌++◌, take, drop, refl, sym, ap, ◌∙◌, add-one}
+use Rattle.std.proofs.Common.{◌≡◌, ℕ, ◌+◌, Bool, true, false, cond, List, [], ◌∷◌, refl, ap, ◌∙◌, add-one}
 use Rattle.std.specs.List.{insert}
 use Rattle.std.specs.Ordering.{is_gt}
 use Rattle.amr_labels.specs.Matchers.{Matcher, matcher_cmp}

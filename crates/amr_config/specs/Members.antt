@@ -1,5 +1,5 @@
 -- The shapes of members. `null` counts as absent.
-use Rattle.std.specs.Prelude.{ℕ, ◌+◌, List, [], ◌∷◌, ◌++◌, Bool, true, false, Option, Some, None, Result, Ok, Err, codes}
+use Rattle.std.specs.Prelude.{ℕ, ◌+◌, List, [], ◌∷◌, ◌++◌, Bool, true, false, Option, Some, None, Result, Ok, Err}
 use Rattle.serde_json.specs.Data.{Data, null, boolean, number, string, array, object, Items, no_items, item, Members, no_members, member}
 use Rattle.serde_json.specs.Find.{get, as_str, as_bool, as_array, as_object}
 use Rattle.amr_time.specs.SpanRead.{span_of}
@@ -7,7 +7,7 @@ use Rattle.amr_time.specs.Time.{Span}
 use Rattle.amr_labels.specs.Labels.{Text}
 use Rattle.amr_config.specs.declared.error.Refusal.{Refusal}
 use Rattle.amr_config.specs.declared.error.Refusal.TheVariants.{BadConfig}
-use Rattle.amr_config.specs.Paths.{under, item_path}
+use Rattle.amr_config.specs.Paths.{item_path}
 
 infixl 10 ◌>>=◌
 abbrev pub ◌>>=◌ : {A B : Type 0} → Result A Refusal → (A → Result B Refusal) → Result B Refusal

@@ -1,5 +1,5 @@
 -- The routes of a configuration, by the walk through their members in the order of the keys.
-use Rattle.std.specs.Prelude.{ℕ, zero, suc, ◌+◌, ◌-◌, List, [], ◌∷◌, ◌++◌, length, Bool, true, false, Option, Some, None, Result, Ok, Err, codes, unwrap_or, if◌then◌else◌, option_and_then, ◌||◌, ◌==◌}
+use Rattle.std.specs.Prelude.{ℕ, zero, suc, List, [], ◌∷◌, ◌++◌, length, Bool, true, false, Option, Some, None, Result, Ok, Err, codes, unwrap_or, if◌then◌else◌, option_and_then, ◌||◌, ◌==◌}
 use Rattle.std.specs.Option.{option_map_or}
 use Rattle.std.specs.Ordering.{eq_by_cmp}
 use Rattle.serde_json.specs.Find.{as_array}
@@ -7,7 +7,6 @@ use Rattle.serde_json.specs.Data.{Data, Items, no_items, item}
 use Rattle.amr_labels.specs.Labels.{Text, text_cmp}
 use Rattle.amr_labels.specs.Matchers.{Matcher}
 use Rattle.amr_labels.specs.declared.Operator.TheVariants.{Equal}
-use Rattle.amr_time.specs.Time.{Span}
 use Rattle.amr_config.specs.declared.error.Refusal.{Refusal}
 use Rattle.amr_config.specs.declared.error.Refusal.TheVariants.{BadConfig, TooDeep}
 use Rattle.amr_config.specs.declared.route.Route.{Route}

@@ -1,5 +1,5 @@
 -- A configuration, from the value that it is read from.
-use Rattle.std.specs.Prelude.{◌*◌, [], Bool, true, false, Option, Some, None, Result, Ok, Err, codes, unwrap_or, if◌then◌else◌, ◌||◌}
+use Rattle.std.specs.Prelude.{◌*◌, [], false, Option, Some, None, Result, Ok, Err, codes, unwrap_or, if◌then◌else◌, ◌||◌}
 use Rattle.serde_json.specs.Data.{Data}
 use Rattle.amr_time.specs.Time.{Span, minute}
 use Rattle.amr_config.specs.declared.error.Refusal.{Refusal}

@@ -1,4 +1,4 @@
-use Rattle.std.proofs.Common.{◌≡◌, refl}
+use Rattle.std.proofs.Common.{refl}
 use Rattle.amr_config.specs.Reading.{walked_at}
 use Rattle.amr_config.proofs.read.walk.Goals as goal
 

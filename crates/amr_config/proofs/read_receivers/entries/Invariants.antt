@@ -1,7 +1,7 @@
-use Rattle.std.proofs.Common.{◌≡◌, ◌+◌, ◌++◌, drop, take}
-use Rattle.serde_json.specs.View.{view, items_view, members_view}
+use Rattle.std.proofs.Common.{◌≡◌, drop}
+use Rattle.serde_json.specs.View.{view, items_view}
 use Rattle.amr_config.specs.Paths.{place_path}
-use Rattle.amr_config.specs.Members.{each_item, each_member}
+use Rattle.amr_config.specs.Members.{each_item}
 use Rattle.amr_config.specs.ReadReceivers.{entry_into, entries_at}
 use Rattle.amr_config.proofs.read_receivers.entries.Given as goal
 

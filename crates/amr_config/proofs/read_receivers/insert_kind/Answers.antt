@@ -1,4 +1,4 @@
-use Rattle.std.proofs.Common.{◌≡◌, ℕ, sym, ap, ◌∙◌}
+use Rattle.std.proofs.Common.{ℕ, sym, ap, ◌∙◌}
 use Rattle.std.specs.List.{insert}
 use Rattle.amr_config.specs.ReadReceivers.{kind_place}
 use Rattle.amr_config.proofs.Placing.{with_kind_is}

@@ -1,4 +1,4 @@
-use Rattle.std.proofs.Common.{◌≡◌, length, option_and_then, slice_get, sym, ap, ◌∙◌, arith}
+use Rattle.std.proofs.Common.{◌≡◌, length, option_and_then, slice_get, ap, ◌∙◌, arith}
 use Rattle.amr_config.specs.Settled.{stated_config, settled_to}
 use Rattle.amr_config.proofs.Settling.{settled_more, settled_all}
 use Rattle.amr_config.proofs.settle.settle.Goals as goal

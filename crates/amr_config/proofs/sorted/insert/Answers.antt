@@ -1,4 +1,4 @@
-use Rattle.std.proofs.Common.{◌≡◌, ℕ, sym, ap, ◌∙◌}
+use Rattle.std.proofs.Common.{ℕ, sym, ap, ◌∙◌}
 use Rattle.std.specs.List.{insert}
 use Rattle.amr_labels.specs.Matchers.{Matcher}
 use Rattle.amr_config.specs.Places.{place_in}
