@@ -1,6 +1,5 @@
-use Rattle.std.proofs.Common.{◌≡◌, ◌++◌, ◌∷◌, [], cond, sym, ap, ◌∙◌}
+use Rattle.std.proofs.Common.{◌++◌, ◌∷◌, [], ap}
 use Rattle.std.proofs.lemmas.List.{append-nil}
-use Rattle.amr_config.specs.Marks.{chosen_numbers}
 use Rattle.amr_config.proofs.Chosen.{chosen_more}
 use Rattle.amr_config.proofs.walk.chosen_places.Goals as goal
 use Rattle.amr_config.proofs.walk.chosen_places.Goals.{then-is_chosen+in_ok-push, else-is_chosen}

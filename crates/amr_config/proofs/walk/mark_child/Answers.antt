@@ -1,4 +1,4 @@
-use Rattle.std.proofs.Common.{◌≡◌, ◌++◌, ◌∷◌, [], true, false, not, set, inl, inr, sym, ap, ◌∙◌, arith}
+use Rattle.std.proofs.Common.{◌≡◌, ◌++◌, ◌∷◌, [], true, not, set, inl, inr, sym, ap, ◌∙◌, arith}
 use Rattle.amr_config.specs.declared.walk.Mark.{Mark}
 use Rattle.amr_config.specs.Marks.{marks_at}
 use Rattle.amr_config.proofs.Chosen.{shut_step, unmatched_step, taken_step, mark_found, matches_is, continues_is}

@@ -1,5 +1,4 @@
-use Rattle.std.proofs.Common.{◌≡◌, ◌++◌, ◌∷◌, [], false, sym, ap, ◌∙◌}
-use Rattle.amr_config.specs.declared.walk.Mark.{Mark}
+use Rattle.std.proofs.Common.{◌++◌, ◌∷◌, [], sym, ap, ◌∙◌}
 use Rattle.amr_config.specs.Marks.{marks_at}
 use Rattle.amr_config.proofs.Chosen.{root_step, matches_is, parent_is}
 use Rattle.amr_config.proofs.walk.mark_next.Goals as goal

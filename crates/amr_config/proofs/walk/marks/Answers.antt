@@ -1,4 +1,4 @@
-use Rattle.std.proofs.Common.{◌≡◌, ◌+◌, length, vec_len, sym, ap, ◌∙◌, arith}
+use Rattle.std.proofs.Common.{◌≡◌, ◌+◌, length, ap, arith}
 use Rattle.amr_config.specs.Marks.{marks_at}
 use Rattle.amr_config.proofs.Chosen.{length-marks_at}
 use Rattle.amr_config.proofs.walk.marks.Goals as goal

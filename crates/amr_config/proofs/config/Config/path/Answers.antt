@@ -1,4 +1,4 @@
-use Rattle.std.proofs.Common.{◌≡◌, sym, ◌∙◌, rules}
+use Rattle.std.proofs.Common.{rules}
 use Rattle.amr_config.proofs.Inherited.{path_of_past}
 use Rattle.amr_config.proofs.config.Config.path.Goals as goal
 

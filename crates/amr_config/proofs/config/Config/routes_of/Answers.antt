@@ -1,4 +1,4 @@
-use Rattle.std.proofs.Common.{◌≡◌, sym, ap, ◌∙◌, IfOk}
+use Rattle.std.proofs.Common.{◌∙◌}
 use Rattle.std.proofs.lemmas.Result.{IfOk-weaker}
 use Rattle.amr_config.proofs.Chosen.{chosen_from_marks}
 use Rattle.amr_config.proofs.config.Config.routes_of.Goals as goal

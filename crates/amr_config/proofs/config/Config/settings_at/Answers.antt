@@ -1,4 +1,4 @@
-use Rattle.std.proofs.Common.{◌≡◌, sym, ap, ◌∙◌}
+use Rattle.std.proofs.Common.{◌≡◌, ap, ◌∙◌}
 use Rattle.amr_config.specs.Settled.{config_of_parts}
 use Rattle.amr_config.proofs.Inherited.{settings_found}
 use Rattle.amr_config.proofs.config.Config.settings_at.Goals as goal
