@@ -39,6 +39,7 @@ fn nanoseconds(moment: Option<Moment>) -> u128 {
 fn reads_alerts_and_ticks(rt: HostRuntime) -> Result<(), Fail> {
     let script = Script::read(rt.alloc(), DISK_FULL.as_bytes())?;
     assert_eq!(rt; script.len(), 2);
+    assert!(rt; !script.is_empty());
     let post = script.event(0);
     assert_eq!(rt; post.at().nanoseconds(), TEN);
     match post.act() {
