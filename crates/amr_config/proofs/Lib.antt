@@ -1,1 +1,4 @@
+pub mod Chosen
 pub mod Inherited
+pub mod Lines
+pub mod Ranges

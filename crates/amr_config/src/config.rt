@@ -4,8 +4,8 @@ ghost use Rattle.std.specs.Option.{option_copied};
 ghost use Rattle.std.specs.Ordering.{eq_by_cmp};
 ghost use Rattle.std.specs.List.{find};
 ghost use Rattle.amr_labels.specs.Labels.{text_cmp};
-ghost use Rattle.amr_config.specs.Routing.{group_wait_of, group_interval_of, repeat_interval_of, receiver_name_of, integrations_of, path_of, chosen, group_of, grouped_by};
-ghost use Rattle.amr_config.specs.Settled.{settings_of};
+ghost use Rattle.amr_config.specs.Routing.{group_wait_of, group_interval_of, repeat_interval_of, receiver_name_of, integrations_of, path_of, group_of, grouped_by};
+ghost use Rattle.amr_config.specs.Settled.{settings_of, AreParentsFirst};
 
 use crate::receiver::{Integration, Receiver};
 use crate::route::{Grouping, Route};
@@ -65,7 +65,8 @@ impl Exact for Config {
 impl Config {
     /// The settings of the route with this number.
     fn settings_at(&self, route: usize) -> Option<&Settings>
-        ensures { MatchOption result (length self.now.routes ≤ route) (λ found. (route < length self.now.routes) × (found.now ≡ settings_of self.now route)) }
+        ensures found { MatchOption result (length self.now.routes ≤ route) (λ found. (route < length self.now.routes) × (found.now ≡ settings_of self.now route)) }
+        ensures parents { AreParentsFirst self.now }
     {
         self.shared.settings.as_slice().get(route)
     }
@@ -195,7 +196,8 @@ impl Config {
     /// What holds at the route, stated by it, inherited or by default.
     pub fn route(&self, id: usize) -> &Settings
         requires { id < length self.now.routes }
-        ensures { result.now ≡ settings_of self.now id }
+        ensures value { result.now ≡ settings_of self.now id }
+        ensures parents { AreParentsFirst self.now }
     {
         match self.settings_at(id) {
             Some(settings) => settings,
@@ -228,14 +230,5 @@ fn grouped_by(
         None => Labels::empty(alloc),
         Some(Grouping::AllLabels) => labels.clone(),
         Some(Grouping::Named(names)) => labels.kept_by_names(alloc, names.as_slice()),
-    }
-}
-
-impl Config {
-    /// The numbers of the routes that take an alert with these labels, rising.
-    pub fn routes_of(&self, alloc: Global, labels: &Labels) -> Result<Vec<usize>, AllocError>
-        ensures { IfOk result (λ routes. routes.items ≡ chosen self.now labels.now) }
-    {
-        Err(AllocError)
     }
 }

@@ -1,9 +1,11 @@
 //! The notification log's test: whether an integration is told of a group.
-ghost use Rattle.std.specs.Prelude.{◌≡◌};
+ghost use Rattle.std.specs.Prelude.{◌≡◌, ◌+◌, nat_lt, IfOk};
 ghost use Rattle.std.specs.Option.{option_map};
+ghost use Rattle.amr_labels.specs.Set as set;
 
-use amr_labels::LabelMap;
+use amr_labels::{Exact, LabelMap, Labels};
 use amr_time::{Moment, Span};
+use std::alloc::{AllocError, Global};
 
 /// What the notification log keeps of the last note.
 #[derive(Debug, Drop)]
@@ -13,4 +15,94 @@ pub struct LogEntry {
     pub firing: LabelMap<()>,
     /// The label sets of the alerts that were resolved.
     pub resolved: LabelMap<()>,
+}
+
+impl Clone for LogEntry {
+    ghost is_clone = { λ a b. b ≡ a };
+
+    fn clone(&self) -> Result<LogEntry, AllocError> {
+        Ok(LogEntry {
+            time: self.time,
+            firing: self.firing.clone()?,
+            resolved: self.resolved.clone()?,
+        })
+    }
+}
+
+impl Exact for LogEntry {
+    ghost exact = { λ x y same. same };
+}
+
+ghost use Rattle.amr_rules.specs.Updates.{differs, needs_update};
+
+/// The set of some label sets.
+pub fn labels_of(alloc: Global, members: &[Labels]) -> Result<LabelMap<()>, AllocError>
+    ensures { IfOk result (λ made. made ≡ set.from_list members.now) }
+{
+    let mut made = LabelMap::new(alloc);
+    for labels in members {
+        made.insert(labels.clone()?, ())?;
+    }
+    Ok(made)
+}
+
+/// Whether each label set of the one is in the other.
+pub fn is_subset(a: &LabelMap<()>, b: &LabelMap<()>) -> bool
+    ensures { result ≡ set.is_subset a.now b.now }
+{
+    for (labels, _) in a.iter() {
+        if b.get(labels).is_none() {
+            return false;
+        }
+    }
+    true
+}
+
+/// Whether a moment lies strictly before now less a span.
+fn is_before(moment: Moment, span: Span, now: Moment) -> bool
+    ensures { result ≡ nat_lt (moment + span) now }
+{
+    moment.nanoseconds() + u128::from(span.nanoseconds()) < now.nanoseconds()
+}
+
+/// Whether a note is due beside the entry of the last one.
+fn differs(
+    entry: &LogEntry,
+    firing: &LabelMap<()>,
+    resolved: &LabelMap<()>,
+    send_resolved: bool,
+    now: Moment,
+    repeat_interval: Span,
+) -> bool
+    ensures { result ≡ differs entry.now firing.now resolved.now send_resolved now repeat_interval }
+{
+    if !is_subset(firing, &entry.firing) {
+        return true;
+    }
+    if firing.is_empty() {
+        return !entry.firing.is_empty();
+    }
+    send_resolved && !is_subset(resolved, &entry.resolved)
+        || is_before(entry.time, repeat_interval, now)
+}
+
+/// Whether a note is due, where the log may have an entry of the last one. Without an entry something has to fire.
+/// Beside an entry something new has to fire, or nothing fires any more, or something new is resolved and the
+/// integration tells of resolved alerts (`send_resolved`), or the entry is older than `repeat_interval`.
+#[tactic(auto, unfolding(crate::specs::Updates::needs_update))]
+pub fn needs_update(
+    entry: Option<&LogEntry>,
+    firing: &LabelMap<()>,
+    resolved: &LabelMap<()>,
+    send_resolved: bool,
+    now: Moment,
+    repeat_interval: Span,
+) -> bool
+    ensures { result ≡ needs_update (option_map (λ entry. entry.now) entry.entry)
+        firing.now resolved.now send_resolved now repeat_interval }
+{
+    match entry {
+        None => !firing.is_empty(),
+        Some(entry) => differs(entry, firing, resolved, send_resolved, now, repeat_interval),
+    }
 }

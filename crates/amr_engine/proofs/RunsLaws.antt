@@ -1,0 +1,120 @@
+-- Runs: what is run within a limit is the one run of no more steps.
+use Rattle.std.specs.Prelude.{◌≡◌, ℕ, zero, suc, List, [], ◌∷◌, Option, Some, None, length, ◌≤◌, ◌++◌}
+use Rattle.std.specs.Option.{option_map, option_map_or}
+use Rattle.std.proofs.Common.{refl, sym, ap, ◌∙◌, subst, arith}
+use Rattle.amr_engine.specs.Runs as run
+
+module _ {S D : Type 0} (next : S → Option D) (step : D → S → S) where
+  abbrev Runs : S → List D → S → Type 0
+  Runs = run.Runs next step
+
+  abbrev Begins : S → List D → Type 0
+  Begins = run.Begins next step
+
+  abbrev after_step : D → List D × S → List D × S
+  after_step = run.after_step next step
+
+  abbrev ran : List D → S → Option (List D × S)
+  ran = run.ran next step
+
+  abbrev run_within : ℕ → S → Option (List D × S)
+  run_within = run.run_within next step
+
+  -- the run is unique
+  pub Runs-unique : (s : S) (ds es : List D) (a b : S) → Runs s ds a → Runs s es b → (ds ≡ es) × (a ≡ b)
+  Runs-unique s [] [] a b r q = (refl, sym r.1 ∙ q.1)
+  Runs-unique s [] (e ∷ es) a b r q = absurd (cc (r.0, q.0))
+  Runs-unique s (d ∷ ds) [] a b r q = absurd (cc (r.0, q.0))
+  Runs-unique s (d ∷ ds) (e ∷ es) a b r q =
+      let same : d ≡ e = cc (r.0, q.0) in
+      let rest = Runs-unique (step d s) ds es a b r.1 (subst (λ (x : D). Runs (step x s) es b) (sym same) q.1) in
+      ((λ i. same i ∷ rest.0 i), rest.1)
+
+  -- what is run within a limit is a run, of no more steps
+  by_steps : (limit : ℕ) (s : S) (d : D) (o : Option (List D × S)) (ds : List D) (end : S) → next s ≡ Some d
+      → ((es : List D) (b : S) → o ≡ ran es b → Runs (step d s) es b × (length es ≤ limit))
+      → option_map (after_step d) o ≡ ran ds end → Runs s ds end × (length ds ≤ suc limit)
+  by_steps limit s d None ds end is rest e = absurd (cc)
+  by_steps limit s d (Some (es, b)) ds end is rest e =
+      let r = rest es b refl in
+      let parts : ◌≡◌ {A = List D × S} (d ∷ es, b) (ds, end) = cc in
+      subst (λ (x : List D × S). Runs s x.0 x.1 × (length x.0 ≤ suc limit)) parts ((is, r.0), omega (arith, r.1))
+
+  at_end : (limit : ℕ) (s : S) (ds : List D) (end : S) → next s ≡ None → ran [] s ≡ ran ds end → Runs s ds end × (length ds ≤ limit)
+  at_end limit s ds end is e =
+      let parts : ◌≡◌ {A = List D × S} ([], s) (ds, end) = cc in
+      subst (λ (x : List D × S). Runs s x.0 x.1 × (length x.0 ≤ limit)) parts ((is, refl), omega arith)
+
+  pub run_within-sound : (limit : ℕ) (s : S) (ds : List D) (end : S) → run_within limit s ≡ ran ds end → Runs s ds end × (length ds ≤ limit)
+  run_within-sound zero s ds end e =
+      elim (next s) as (λ o. next s ≡ o → option_map_or (λ d. None) o (ran [] s) ≡ ran ds end → Runs s ds end × (length ds ≤ 0)) [
+        | None ↦ λ is e. at_end 0 s ds end is e
+        | Some d ↦ λ is e. absurd (cc)
+      ] refl e
+  run_within-sound (suc limit) s ds end e =
+      elim (next s) as (λ o. next s ≡ o → option_map_or (λ d. option_map (after_step d) (run_within limit (step d s))) o (ran [] s) ≡ ran ds end → Runs s ds end × (length ds ≤ suc limit)) [
+        | None ↦ λ is e. at_end (suc limit) s ds end is e
+        | Some d ↦ λ is e. by_steps limit s d (run_within limit (step d s)) ds end is (run_within-sound limit (step d s)) e
+      ] refl e
+
+  -- a run of no more steps is what is run within the limit
+  pub run_within-complete : (limit : ℕ) (s : S) (ds : List D) (end : S) → Runs s ds end → length ds ≤ limit → run_within limit s ≡ ran ds end
+  run_within-complete zero s [] end r h = ap (λ o. option_map_or (λ d. None) o (ran [] s)) r.0 ∙ ap (λ (x : S). ran [] x) r.1
+  run_within-complete (suc limit) s [] end r h = ap (λ o. option_map_or (λ d. option_map (after_step d) (run_within limit (step d s))) o (ran [] s)) r.0 ∙ ap (λ (x : S). ran [] x) r.1
+  run_within-complete zero s (d ∷ ds) end r h = absurd (omega arith)
+  run_within-complete (suc limit) s (d ∷ ds) end r h =
+      ap (λ o. option_map_or (λ d. option_map (after_step d) (run_within limit (step d s))) o (ran [] s)) r.0
+      ∙ ap (option_map (after_step d)) (run_within-complete limit (step d s) ds end r.1 (omega arith))
+
+  -- nothing is run within a limit where one more step is next
+  pub run_within-none : (limit : ℕ) (s : S) (ds : List D) → length ds ≡ suc limit → Begins s ds → run_within limit s ≡ None
+  run_within-none limit s [] h b = absurd (omega arith)
+  run_within-none zero s (d ∷ ds) h b = ap (λ o. option_map_or (λ d. None) o (ran [] s)) b.0
+  run_within-none (suc limit) s (d ∷ ds) h b =
+      ap (λ o. option_map_or (λ d. option_map (after_step d) (run_within limit (step d s))) o (ran [] s)) b.0
+      ∙ ap (option_map (after_step d)) (run_within-none limit (step d s) ds (omega arith) b.1)
+
+  no_rest : (d : D) (o : Option (List D × S)) → option_map (after_step d) o ≡ None → o ≡ None
+  no_rest d None e = refl
+  no_rest d (Some x) e = absurd (cc)
+
+  -- nothing is run within a limit only where one more step is next
+  pub none-run_within : (limit : ℕ) (s : S) → run_within limit s ≡ None → (ds : List D) × (length ds ≡ suc limit) × Begins s ds
+  none-run_within zero s e =
+      elim (next s) as (λ o. next s ≡ o → option_map_or (λ d. None) o (ran [] s) ≡ None → (ds : List D) × (length ds ≡ 1) × Begins s ds) [
+        | None ↦ λ is e. absurd (cc)
+        | Some d ↦ λ is e. (d ∷ [], refl, (is, tt))
+      ] refl e
+  none-run_within (suc limit) s e =
+      elim (next s) as (λ o. next s ≡ o → option_map_or (λ d. option_map (after_step d) (run_within limit (step d s))) o (ran [] s) ≡ None → (ds : List D) × (length ds ≡ suc (suc limit)) × Begins s ds) [
+        | None ↦ λ is e. absurd (cc)
+        | Some d ↦ λ is e. let rest = none-run_within limit (step d s) (no_rest d (run_within limit (step d s)) e) in (d ∷ rest.0, ap suc rest.1, (is, rest.2))
+      ] refl e
+
+-- Two ways to say what is next, of which the first says nothing that the second does not say too, as an earlier moment and a later one.
+module _ {S D : Type 0} (next later : S → Option D) (step : D → S → S) (agree : (s : S) (d : D) → next s ≡ Some d → later s ≡ Some d) where
+  -- the longer run goes through the end of the shorter one
+  pub Runs-split : (s : S) (ds es : List D) (mid end : S) → run.Runs next step s ds mid → run.Runs later step s es end
+      → (rest : List D) × (es ≡ ds ++ rest) × run.Runs later step mid rest end
+  Runs-split s [] es mid end r q = (es, refl, subst (λ (x : S). run.Runs later step x es end) r.1 q)
+  Runs-split s (d ∷ ds) [] mid end r q = absurd (cc (agree s d r.0, q.0))
+  Runs-split s (d ∷ ds) (e ∷ es) mid end r q =
+      let same : e ≡ d = cc (agree s d r.0, q.0) in
+      let more = Runs-split (step d s) ds es mid end r.1 (subst (λ (x : D). run.Runs later step (step x s) es end) same q.1) in
+      (more.0, (λ i. same i ∷ more.1 i), more.2)
+
+  -- where the longer run ends, so does a shorter one, in no more steps
+  pub Runs-shorter : (s : S) (es : List D) (end : S) → run.Runs later step s es end → (ds : List D) × (mid : S) × (length ds ≤ length es) × run.Runs next step s ds mid
+  Runs-shorter s [] end q = ([], s, omega arith, (none_next s (next s) refl q.0, refl))
+    where
+      none_next : (s : S) (o : Option D) → next s ≡ o → later s ≡ None → next s ≡ None
+      none_next s None is none = is
+      none_next s (Some d) is none = absurd (cc (agree s d is))
+  Runs-shorter s (e ∷ es) end q =
+      elim (next s) as (λ o. next s ≡ o → (ds : List D) × (mid : S) × (length ds ≤ length (e ∷ es)) × run.Runs next step s ds mid) [
+        | None ↦ λ is. ([], s, omega arith, (is, refl))
+        | Some d ↦ λ is.
+            let same : e ≡ d = cc (agree s d is, q.0) in
+            let rest = Runs-shorter (step e s) es end q.1 in
+            (e ∷ rest.0, rest.1, omega (arith, rest.2), (is ∙ ap (λ (x : D). Some x) (sym same), rest.3))
+      ] refl

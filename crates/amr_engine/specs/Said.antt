@@ -1,0 +1,51 @@
+-- What is next, and what an event comes to, said by relations.
+use Rattle.std.specs.Prelude.{◌≡◌, ℕ, suc, is_ok, Bool, true, false, List, [], ◌∷◌, Ok, Err, length, ◌≤◌, nat_lt, ◌⊎◌}
+use Rattle.std.specs.Ordering.{is_gt}
+use Rattle.amr_events.specs.Events.{Event, Reason}
+use Rattle.amr_engine.specs.declared.due.Due.{Due}
+use Rattle.amr_engine.specs.State.{State}
+use Rattle.amr_engine.specs.Runs.{Begins}
+use Rattle.amr_engine.specs.Moves.{due_cmp, next_due, move, Advances}
+use Rattle.amr_engine.specs.Events.{after_act, at_moment}
+
+-- the item is one of the list
+abbrev pub IsIn : Due → List Due → Type 0
+IsIn due [] = ⊥
+IsIn due (other ∷ rest) = (due ≡ other) ⊎ IsIn due rest
+
+-- the item is one of the list, and none of the list goes before it
+pub record IsLeast (due : Due) (list : List Due) : Type 0 where
+  pub among : IsIn due list
+  pub before_all : (other : Due) → IsIn other list → is_gt (due_cmp due other) ≡ false
+
+-- an accepted event: it is not past, its act has no reason against it on the state before, its moves are each the least that is due up to its moment and they are no more than the limit, and then its act is done
+pub record Does (limit : ℕ) (s : State) (event : Event) (moves : List Due) (after : State) : Type 0 where
+  pub not_past : nat_lt event.at s.moment ≡ false
+  pub acceptable : is_ok (after_act (at_moment event.at s) event.act) ≡ true
+  pub moved : State
+  pub advanced : Advances event.at s moves moved
+  pub few : length moves ≤ limit
+  pub acted : after_act (at_moment event.at moved) event.act ≡ Ok after
+
+-- the event is past
+pub record IsPast (s : State) (event : Event) (reason : Reason) : Type 0 where
+  pub past : nat_lt event.at s.moment ≡ true
+  pub number : reason ≡ 20
+
+-- the act has its own reason against it on the state before, with the clock at the event
+pub record HasOwnReason (s : State) (event : Event) (reason : Reason) : Type 0 where
+  pub not_past : nat_lt event.at s.moment ≡ false
+  pub own : after_act (at_moment event.at s) event.act ≡ Err reason
+
+-- more moves are due than the limit
+pub record HasTooManyMoves (limit : ℕ) (s : State) (event : Event) (reason : Reason) : Type 0 where
+  pub not_past : nat_lt event.at s.moment ≡ false
+  pub acceptable : is_ok (after_act (at_moment event.at s) event.act) ≡ true
+  pub moves : List Due
+  pub begin : Begins (next_due event.at) move s moves
+  pub many : length moves ≡ suc limit
+  pub number : reason ≡ 21
+
+-- the first that stands is the reason that refuses the event
+abbrev pub Refuses : ℕ → State → Event → Reason → Type 0
+Refuses limit s event reason = IsPast s event reason ⊎ (HasOwnReason s event reason ⊎ HasTooManyMoves limit s event reason)

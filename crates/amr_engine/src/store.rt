@@ -1,0 +1,208 @@
+//! The state, and each kind of change of it.
+ghost use Rattle.std.specs.Prelude.{◌≡◌, ◌≤◌, ◌++◌, ◌∷◌, [], OnOk, OnErr, IfOk};
+ghost use Rattle.amr_labels.specs.Map as map;
+ghost use Rattle.amr_time.specs.Time.{latest_read};
+ghost use Rattle.amr_engine.specs.State.{start};
+
+use crate::log_map::LogMap;
+use crate::note::{Clock, LogKey, Note};
+use crate::spot::Spot;
+use crate::spot_map::SpotMap;
+use amr_config::Config;
+use amr_labels::{LabelMap, Labels, Listing, Shared};
+use amr_rules::{Alert, LogEntry, SilenceMap};
+use amr_time::Moment;
+use std::alloc::{AllocError, Global};
+use std::marker::Model;
+
+/// The state of the replayed instance. Contracts see it as a value.
+#[derive(Drop)]
+pub(crate) struct Store {
+    alloc: Global,
+    moment: Moment,
+    config: Config,
+    alerts: LabelMap<Alert>,
+    silences: SilenceMap,
+    placements: SpotMap<Alert>,
+    clocks: SpotMap<Clock>,
+    log: LogMap,
+    notes: Listing<Shared<Note>>,
+}
+
+impl Model for Store {
+    ghost use Rattle.std.specs.Prelude.{◌≤◌};
+    ghost use Rattle.std.specs.Coded.{codes};
+    ghost use Rattle.amr_labels.specs.Map as map;
+    ghost use Rattle.amr_time.specs.Time.{latest_read};
+    ghost use Rattle.amr_engine.specs.State.{State};
+
+    ghost Value = { State };
+
+    ghost coded = { Prim.hlevel (codes, map.code) };
+
+    ghost use Rattle.amr_engine.specs.Stored.{state_of};
+
+    ghost view = { state_of };
+
+    ghost invariant = { λ store. store.moment ≤ latest_read };
+}
+
+impl Clone for Store {
+    ghost is_clone = { λ a b. b ≡ a };
+
+    fn clone(&self) -> Result<Store, AllocError> {
+        Ok(Store {
+            alloc: self.alloc,
+            moment: self.moment,
+            config: self.config.clone()?,
+            alerts: self.alerts.clone()?,
+            silences: self.silences.clone()?,
+            placements: self.placements.clone()?,
+            clocks: self.clocks.clone()?,
+            log: self.log.clone()?,
+            notes: self.notes.clone()?,
+        })
+    }
+}
+
+impl Store {
+    /// The state at the start.
+    pub(crate) fn new(alloc: Global, config: Config) -> Store
+        ensures { result ≡ start config }
+    {
+        Store {
+            alloc,
+            moment: Moment::START,
+            config,
+            alerts: LabelMap::new(alloc),
+            silences: SilenceMap::new(alloc),
+            placements: SpotMap::new(alloc),
+            clocks: SpotMap::new(alloc),
+            log: LogMap::new(alloc),
+            notes: Listing::new(alloc),
+        }
+    }
+
+    /// What memory is taken from.
+    pub(crate) fn alloc(&self) -> Global {
+        self.alloc
+    }
+
+    pub(crate) fn moment(&self) -> Moment
+        ensures value { result ≡ self.now.moment }
+        ensures bound { self.now.moment ≤ latest_read }
+    {
+        self.moment
+    }
+
+    pub(crate) fn config(&self) -> &Config
+        ensures { result.now ≡ self.now.config }
+    {
+        &self.config
+    }
+
+    pub(crate) fn alerts(&self) -> &LabelMap<Alert>
+        ensures { result.now ≡ self.now.alerts }
+    {
+        &self.alerts
+    }
+
+    pub(crate) fn silences(&self) -> &SilenceMap
+        ensures { result.now ≡ self.now.silences }
+    {
+        &self.silences
+    }
+
+    pub(crate) fn placements(&self) -> &SpotMap<Alert>
+        ensures { result.now ≡ self.now.placements }
+    {
+        &self.placements
+    }
+
+    pub(crate) fn clocks(&self) -> &SpotMap<Clock>
+        ensures { result.now ≡ self.now.clocks }
+    {
+        &self.clocks
+    }
+
+    pub(crate) fn log(&self) -> &LogMap
+        ensures { result.now ≡ self.now.log }
+    {
+        &self.log
+    }
+
+    pub(crate) fn notes(&self) -> &[Shared<Note>]
+        ensures { result.now ≡ self.now.notes }
+    {
+        self.notes.as_slice()
+    }
+
+    /// The clock goes on.
+    pub(crate) fn set_moment(&mut self, at: Moment)
+        requires { at ≤ latest_read }
+        ensures { self.new ≡ record self.old { moment = at } }
+    {
+        self.moment = at;
+    }
+
+    /// An alert is stored.
+    pub(crate) fn insert_alert(&mut self, labels: Labels, alert: Alert) -> Result<(), AllocError>
+        ensures { OnOk result (self.new ≡ record self.old { alerts = map.insert self.old.alerts labels alert }) }
+    {
+        self.alerts.insert(labels, alert)
+    }
+
+    /// A stored alert is removed.
+    pub(crate) fn remove_alert(&mut self, labels: &Labels)
+        ensures { self.new ≡ record self.old { alerts = map.remove self.old.alerts labels.now } }
+    {
+        let _ = self.alerts.remove(labels);
+    }
+
+    /// A copy of an alert becomes a member.
+    pub(crate) fn place_copy(&mut self, spot: Spot, alert: Alert) -> Result<(), AllocError>
+        ensures { OnOk result (self.new ≡ record self.old { placements = map.insert self.old.placements spot alert }) }
+    {
+        self.placements.insert(spot, alert)
+    }
+
+    /// A member leaves.
+    pub(crate) fn remove_copy(&mut self, spot: &Spot)
+        ensures { self.new ≡ record self.old { placements = map.remove self.old.placements spot.now } }
+    {
+        self.placements.remove(spot)
+    }
+
+    /// A group's clock is set.
+    pub(crate) fn set_clock(&mut self, group: Spot, clock: Clock) -> Result<(), AllocError>
+        ensures { OnOk result (self.new ≡ record self.old { clocks = map.insert self.old.clocks group clock }) }
+    {
+        let clock = Clock {
+            empty_since: clock.empty_since,
+            ..clock
+        };
+        self.clocks.insert(group, clock)
+    }
+
+    /// A group is removed.
+    pub(crate) fn remove_clock(&mut self, group: &Spot)
+        ensures { self.new ≡ record self.old { clocks = map.remove self.old.clocks group.now } }
+    {
+        self.clocks.remove(group)
+    }
+
+    /// An entry of the notification log is written.
+    pub(crate) fn write_log(&mut self, key: LogKey, entry: LogEntry) -> Result<(), AllocError>
+        ensures { OnOk result (self.new ≡ record self.old { log = map.insert self.old.log key entry }) }
+    {
+        self.log.insert(key, entry)
+    }
+
+    /// A note is appended.
+    pub(crate) fn append_note(&mut self, note: Note) -> Result<(), AllocError>
+        ensures { OnOk result (self.new ≡ record self.old { notes = self.old.notes ++ note ∷ [] }) }
+    {
+        let note = Shared::new(self.alloc, note)?;
+        self.notes.push(note)
+    }
+}

@@ -1,0 +1,47 @@
+-- A set does not depend on the order of the list that it is made of.
+use Rattle.std.proofs.Common.{◌≡◌, ℕ, ◌+◌, ◌<◌, Bool, true, false, ◌||◌, Some, None, List, [], ◌∷◌, ◌++◌, length, take, reverse, get_or, cond, refl, sym, ap, ◌∙◌}
+use Rattle.std.specs.declared.cmp.Ordering.{Ordering}
+use Rattle.std.specs.Ordering.{eq_by_cmp}
+use Rattle.std.specs.Cmp.{IsTotalOrder}
+use Rattle.std.specs.FinMap.{IsAntisymmetric}
+use Rattle.std.specs.List.{list_any}
+use Rattle.std.proofs.lemmas.List.{take_more, reverse-append}
+use Rattle.std.proofs.lemmas.List.Folds.{list_any-append}
+use Rattle.amr_labels.specs.Map.{get, insert, get-empty, get-insert, same_map}
+use Rattle.amr_labels.specs.Set.{from_list}
+
+either : {A : Type 0} (a b : Bool) (x y : A) → cond a x (cond b x y) ≡ cond (a || b) x y
+either true b x y = refl
+either false b x y = refl
+
+swapped : (a b : Bool) → (a || (b || false)) ≡ (b || a)
+swapped true true = refl
+swapped true false = refl
+swapped false true = refl
+swapped false false = refl
+
+list_any-reverse : {K : Type 0} (test : K → Bool) (ks : List K) → list_any test (reverse ks) ≡ list_any test ks
+list_any-reverse test [] = refl
+list_any-reverse test (k ∷ ks) =
+    ap (list_any test) (reverse-append (k ∷ []) ks) ∙ list_any-append test (reverse ks) (k ∷ [])
+    ∙ ap (λ b. b || (test k || false)) (list_any-reverse test ks) ∙ swapped (list_any test ks) (test k)
+
+module _ {K : Type 0} {R : K → K → Ordering} (o : IsTotalOrder R) where
+  -- a set has the keys of the list
+  pub get-from_list : (ks : List K) (q : K) → get (from_list {R = R} ks) q ≡ cond (list_any (eq_by_cmp R q) ks) (Some tt) None
+  get-from_list [] q = get-empty R q
+  get-from_list (k ∷ ks) q =
+      get-insert o (from_list ks) k tt q ∙ ap (cond (eq_by_cmp R q k) (Some tt)) (get-from_list ks q)
+      ∙ either (eq_by_cmp R q k) (list_any (eq_by_cmp R q) ks) (Some tt) None
+
+  pub from_list-reverse : IsAntisymmetric R → (ks : List K) → from_list {R = R} (reverse ks) ≡ from_list ks
+  from_list-reverse same ks =
+      same_map o same _ _ (λ q.
+      get-from_list (reverse ks) q ∙ ap (λ b. cond b (Some tt) None) (list_any-reverse (eq_by_cmp R q) ks) ∙ sym (get-from_list ks q))
+
+-- one more key is inserted into the set of the keys before
+pub one_more : {K : Type 0} (R : K → K → Ordering) (ks : List K) (i : ℕ) (k : K) → i < length ks → k ≡ get_or ks i k
+    → from_list {R = R} (reverse (take (i + 1) ks)) ≡ insert (from_list (reverse (take i ks))) k tt
+one_more R ks i k within is =
+    ap (λ keys. from_list {R = R} (reverse keys)) (take_more ks i k within ∙ ap (λ key. take i ks ++ key ∷ []) (sym is))
+    ∙ ap (from_list {R = R}) (reverse-append (take i ks) (k ∷ []))
