@@ -1,5 +1,5 @@
 //! Scripts: events, a line each.
-ghost use Rattle.std.specs.Prelude.{◌≡◌, ◌<◌, length, Some};
+ghost use Rattle.std.specs.Prelude.{◌≡◌, ◌<◌, ◌==◌, length, Some};
 ghost use Rattle.std.specs.List.{slice_get};
 ghost use Rattle.std.specs.Global.{Vec};
 ghost use Rattle.amr_events.specs.Events.{Event};
@@ -79,8 +79,11 @@ fn add_line(
 impl Event {
     /// Reads one line of a script; the line's number in a fault is 1.
     ///
-    /// A line is an object with a moment under `at` and exactly one act: `alerts`, a list of postable alerts
-    /// (Alertmanager's API v2), or `tick`, which is `true`. Other keys are ignored. Other acts are no events.
+    /// A line is an object with a moment (RFC 3339) under `at` and exactly one act: `alerts`, a list of postable
+    /// alerts (Alertmanager's API v2), or `tick`, which is `true`. An alert has `labels`, an object of texts, and may
+    /// have `annotations`, an object of texts, `startsAt` and `endsAt`. A time is missing where it is absent, `null`,
+    /// empty, or `0001-01-01T00:00:00Z`, also with a fraction of 1 to 9 zeros. Other keys are ignored. A line with
+    /// `silence`, `expire` or `reload` is no event. Of members of one name the last counts.
     pub fn read(alloc: Global, line: &[u8]) -> Result<Event, ScriptError>
         ensures { Gives (λ event. event) result (or_bad_line (event_of_line line.now)) }
     {
@@ -93,7 +96,11 @@ impl Event {
 }
 
 impl Script {
-    /// Reads a script: JSON lines, each an event. Blank lines are passed over; the last line may lack its line feed.
+    /// Reads a script: JSON lines (jsonlines.org), each an event as `Event::read` reads it.
+    ///
+    /// A line feed ends a line; the last may lack it. Lines of JSON's white space alone are passed over, and
+    /// counted in line numbers. A line has at most 1,048,576 bytes, and a script at most 1,000,000 events. The first
+    /// faulty line decides: one that is too long, then an event too many, then a line that is no event.
     pub fn read(alloc: Global, bytes: &[u8]) -> Result<Script, ScriptError>
         ensures { Gives (λ script. script) result (script_of bytes.now) }
     {
@@ -113,6 +120,13 @@ impl Script {
         ensures { result ≡ length self.now }
     {
         self.events.len()
+    }
+
+    /// Whether there is no event.
+    pub fn is_empty(&self) -> bool
+        ensures { result ≡ (length self.now == 0) }
+    {
+        self.events.is_empty()
     }
 
     /// The event of this number, from 0.
