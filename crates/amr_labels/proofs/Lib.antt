@@ -1,4 +1,6 @@
 pub mod Finds
 pub mod Numbers
 pub mod Pairs
+pub mod Proper
+pub mod Searches
 pub mod Trees
