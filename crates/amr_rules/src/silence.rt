@@ -67,7 +67,8 @@ impl Ord for SilenceId {
     ghost matches_eq = { Prim.search (comparing, rules) };
 
     fn cmp(&self, other: &SilenceId) -> Ordering {
-        self.bits.cmp(&other.bits)
+        let ours = self.bits;
+        ours.cmp(&other.bits)
     }
 }
 
