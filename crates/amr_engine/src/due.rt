@@ -77,7 +77,11 @@ fn lesser<'a>(first: Option<Coming<'a>>, second: Coming<'a>) -> Option<Coming<'a
 {
     match first {
         None => Some(second),
-        Some(first) => Some(if is_after(first, second) { second } else { first }),
+        Some(first) => Some(if is_after(first, second) {
+            second
+        } else {
+            first
+        }),
     }
 }
 
@@ -157,7 +161,10 @@ fn with_flushes<'a>(store: &'a Store, mut best: Option<Coming<'a>>) -> Option<Co
 fn first_due(store: &Store) -> Option<Coming<'_>>
     ensures { option_map due_of result ≡ least_due (dues store.now) }
 {
-    with_flushes(store, with_group_removals(store, first_alert_removal(store)))
+    with_flushes(
+        store,
+        with_group_removals(store, first_alert_removal(store)),
+    )
 }
 
 /// The least that is due at or before a moment.

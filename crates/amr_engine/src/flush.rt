@@ -207,7 +207,15 @@ fn tell(
         resolved: labels_of(alloc, resolved.as_slice())?,
     };
     store.write_log(key.clone()?, entry)?;
-    let note = note_told(alloc, at, group, key.clone()?, send_resolved, firing.as_slice(), resolved.as_slice())?;
+    let note = note_told(
+        alloc,
+        at,
+        group,
+        key.clone()?,
+        send_resolved,
+        firing.as_slice(),
+        resolved.as_slice(),
+    )?;
     if let Some(note) = note {
         store.append_note(note)?;
     }
@@ -231,7 +239,14 @@ fn is_due(
     let firing = labels_of(alloc, firing.as_slice())?;
     let resolved = labels_of(alloc, resolved.as_slice())?;
     let repeat = store.config().repeat_interval(group.route);
-    Ok(needs_update(store.log().get(key), &firing, &resolved, send_resolved, at, repeat))
+    Ok(needs_update(
+        store.log().get(key),
+        &firing,
+        &resolved,
+        send_resolved,
+        at,
+        repeat,
+    ))
 }
 
 /// The integration's turn: it is told where the log's test says so.
@@ -322,12 +337,7 @@ fn drop_resolved(
 }
 
 /// What a flush does with the members of the group, where there are any.
-fn serve(
-    store: &mut Store,
-    at: Moment,
-    group: &Spot,
-    members: &[Member],
-) -> Result<(), AllocError>
+fn serve(store: &mut Store, at: Moment, group: &Spot, members: &[Member]) -> Result<(), AllocError>
     ensures { OnOk result (store.new ≡ serve at group.now members.now store.old) }
 {
     if members.is_empty() {

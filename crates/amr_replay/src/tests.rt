@@ -8,10 +8,12 @@ use std::test::Fail;
 
 /// Ten o'clock of 2024-05-01, in nanoseconds since 1970 (by `date -u -d 2024-05-01T10:00:00Z +%s`).
 const TEN: u128 = 1_714_557_600_000_000_000;
+
 const SECOND: u128 = 1_000_000_000;
 
 /// One root route, by the name of the alert, and one webhook.
-const OPS: &str = r#"{"route":{"receiver":"ops","group_by":["alertname"]},"receivers":[{"name":"ops","webhook_configs":[{}]}]}"#;
+const OPS: &str =
+    r#"{"route":{"receiver":"ops","group_by":["alertname"]},"receivers":[{"name":"ops","webhook_configs":[{}]}]}"#;
 
 fn session(alloc: Global, script: &str) -> Result<Session, Fail> {
     let value = Value::from_str(alloc, OPS)?;
@@ -108,7 +110,8 @@ fn an_old_alert_is_due_at_once(rt: HostRuntime) -> Result<(), Fail> {
 
 #[test]
 fn ten_thousand_moves_are_made_and_one_more_is_refused(rt: HostRuntime) -> Result<(), Fail> {
-    let alert = r#"{"at":"2024-05-01T10:00:00Z","alerts":[{"labels":{"alertname":"X"},"startsAt":"2024-05-01T10:00:00Z","endsAt":"2025-01-01T00:00:00Z"}]}
+    let alert =
+        r#"{"at":"2024-05-01T10:00:00Z","alerts":[{"labels":{"alertname":"X"},"startsAt":"2024-05-01T10:00:00Z","endsAt":"2025-01-01T00:00:00Z"}]}
 "#;
     let mut script = String::from_str(rt.alloc(), alert)?;
     script.push_str(r#"{"at":"2024-06-05T03:20:30Z","tick":true}"#)?;
