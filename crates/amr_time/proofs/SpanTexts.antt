@@ -47,18 +47,18 @@ unit_takes u us text n false e again h =
     record { amounts = [] ∷ t.amounts; digits = (tt, t.digits); text_is = t.text_is; sum = t.sum ∙ sym (nothing_of u.1 (amounts_total us t.amounts)) }
 unit_takes u us text n true e again h =
     mapped (λ k. decimal (digits_of text) * u.1 + k) (parts_at us (after_word (after_digits text))) n h (λ k at sum.
-      let t = again (after_word (after_digits text)) k at in
-      let a = and_parts (leb 1 (length (digits_of text))) (bytes_eq (word_of (after_digits text)) u.0) e in
-      let word : word_of (after_digits text) ≡ u.0 = (bytes_eq-Decides (word_of (after_digits text)) u.0).0 a.1 in
-      let after : after_digits text ≡ u.0 ++ amounts_text us t.amounts = sym (parted_word (after_digits text)) ∙ ap (λ (w : List ℕ). w ++ after_word (after_digits text)) word ∙ ap (λ (r : List ℕ). u.0 ++ r) t.text_is in
-      let whole : text ≡ (digits_of text ++ u.0) ++ amounts_text us t.amounts = sym (parted text) ∙ ap (λ (r : List ℕ). digits_of text ++ r) after ∙ sym (append_assoc (digits_of text) u.0 (amounts_text us t.amounts)) in
-      let amount = some_amount u (digits_of text) (leb-true 1 (length (digits_of text)) a.0) in
-      record {
-        amounts = digits_of text ∷ t.amounts;
-        digits = (digits_of_are text, t.digits);
-        text_is = whole ∙ ap (λ (w : List ℕ). w ++ amounts_text us t.amounts) (sym amount);
-        sum = sym sum ∙ ap (λ (i : ℕ). decimal (digits_of text) * u.1 + i) t.sum;
-      })
+    let t = again (after_word (after_digits text)) k at in
+    let a = and_parts (leb 1 (length (digits_of text))) (bytes_eq (word_of (after_digits text)) u.0) e in
+    let word : word_of (after_digits text) ≡ u.0 = (bytes_eq-Decides (word_of (after_digits text)) u.0).0 a.1 in
+    let after : after_digits text ≡ u.0 ++ amounts_text us t.amounts = sym (parted_word (after_digits text)) ∙ ap (λ (w : List ℕ). w ++ after_word (after_digits text)) word ∙ ap (λ (r : List ℕ). u.0 ++ r) t.text_is in
+    let whole : text ≡ (digits_of text ++ u.0) ++ amounts_text us t.amounts = sym (parted text) ∙ ap (λ (r : List ℕ). digits_of text ++ r) after ∙ sym (append_assoc (digits_of text) u.0 (amounts_text us t.amounts)) in
+    let amount = some_amount u (digits_of text) (leb-true 1 (length (digits_of text)) a.0) in
+    record {
+      amounts = digits_of text ∷ t.amounts;
+      digits = (digits_of_are text, t.digits);
+      text_is = whole ∙ ap (λ (w : List ℕ). w ++ amounts_text us t.amounts) (sym amount);
+      sum = sym sum ∙ ap (λ (i : ℕ). decimal (digits_of text) * u.1 + i) t.sum;
+    })
 
 parts_take : (us : List UnitOfTime) (text : List ℕ) (n : ℕ) → parts_at us text ≡ Some n → PartsTaken us text n
 unfolding parts_at
@@ -103,13 +103,37 @@ AreApart [] = Unit {0}
 AreApart (u ∷ us) = (1 ≤ length u.0) × NoDigits u.0 × AllByRecursion (λ v. bytes_eq v.0 u.0 ≡ false) us × AreApart us
 
 units_apart : AreApart units
-units_apart = (omega arith, (refl, tt), (refl, (refl, (refl, (refl, (refl, (refl, tt)))))),
-  (omega arith, (refl, tt), (refl, (refl, (refl, (refl, (refl, tt))))),
-  (omega arith, (refl, tt), (refl, (refl, (refl, (refl, tt)))),
-  (omega arith, (refl, tt), (refl, (refl, (refl, tt))),
-  (omega arith, (refl, tt), (refl, (refl, tt)),
-  (omega arith, (refl, tt), (refl, tt),
-  (omega arith, (refl, (refl, tt)), tt, tt)))))))
+units_apart = (
+  omega arith,
+  (refl, tt),
+  (refl, (refl, (refl, (refl, (refl, (refl, tt)))))),
+  (
+    omega arith,
+    (refl, tt),
+    (refl, (refl, (refl, (refl, (refl, tt))))),
+    (
+      omega arith,
+      (refl, tt),
+      (refl, (refl, (refl, (refl, tt)))),
+      (
+        omega arith,
+        (refl, tt),
+        (refl, (refl, (refl, tt))),
+        (
+          omega arith,
+          (refl, tt),
+          (refl, (refl, tt)),
+          (
+            omega arith,
+            (refl, tt),
+            (refl, tt),
+            (omega arith, (refl, (refl, tt)), tt, tt),
+          ),
+        ),
+      ),
+    ),
+  ),
+)
 
 -- the end, or a digit
 abbrev DigitFirst : List ℕ → Type 0
@@ -198,6 +222,6 @@ spelled_span_is_read text span (inr a) =
     elim (cases_Bool (bytes_eq text (48 ∷ []))) [
       | inl h ↦ absurd (zero_apart a.amounts a.digits (sym ((bytes_eq-Decides text (48 ∷ [])).0 h) ∙ a.text_is))
       | inr h ↦
-        let total : parts_at units text ≡ Some span = rw (a.text_is, a.sum) (parts_again units a.amounts units_apart a.digits) in
-        rw (h, empty_is text a.some, total, le-leb span longest_span a.bound) refl
+          let total : parts_at units text ≡ Some span = rw (a.text_is, a.sum) (parts_again units a.amounts units_apart a.digits) in
+          rw (h, empty_is text a.some, total, le-leb span longest_span a.bound) refl
     ]

@@ -106,9 +106,13 @@ spelled_is_read text moment (p, a, e, v, last) =
     let zone : List ℕ = zone_text p.utc_mark p.zone in
     let r₃ : List ℕ = fraction_text p.fraction ++ zone in
     let r₂ : List ℕ = time_text p.hours p.minutes p.seconds ++ r₃ in
-    rw (e, day_again p.year p.month p.day (p.time_mark ∷ r₂) a.year a.month a.day,
+    rw (
+      e,
+      day_again p.year p.month p.day (p.time_mark ∷ r₂) a.year a.month a.day,
       time_mark_again p.time_mark r₂ a.marks.0,
       seconds_again p.hours p.minutes p.seconds r₃ a.clock,
       fraction_before p.fraction zone (zone_front p.utc_mark p.zone a.marks.1) a.fraction,
       offset_again p.utc_mark p.zone a.zone a.marks.1,
-      ← v, le-leb moment latest_read last) refl
+      ← v,
+      le-leb moment latest_read last,
+    ) refl

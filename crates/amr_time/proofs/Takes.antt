@@ -47,10 +47,10 @@ unfolding four_at
 four_takes bytes read h =
     given (two_at bytes) _ read h (λ high e1 h1.
     given (two_at high.1) _ read h1 (λ low e2 h2.
-      let x = two_takes bytes high e1 in
-      let y = two_takes high.1 low e2 in
-      let n = four_is high.0 low.0 x.1 y.1 in
-      rw (← same_Some (high.0 * 100 + low.0, low.1) read h2, n.0, n.1, x.0, y.0) (refl, n.2)))
+    let x = two_takes bytes high e1 in
+    let y = two_takes high.1 low e2 in
+    let n = four_is high.0 low.0 x.1 y.1 in
+    rw (← same_Some (high.0 * 100 + low.0, low.1) read h2, n.0, n.1, x.0, y.0) (refl, n.2)))
 
 pub record DayTaken (bytes : List ℕ) (number : ℤ) (rest : List ℕ) : Type 0 where
   pub year : ℕ
@@ -75,25 +75,25 @@ day_takes bytes read h =
     given (mark_at 45 month.1) _ read h3 (λ dash2 e4 h4.
     given (two_at dash2) _ read h4 (λ day e5 h5.
     given (day_number year.0 month.0 day.0) _ read h5 (λ number e6 h6.
-      let x = four_takes bytes year e1 in
-      let p = mark_takes 45 year.1 dash e2 in
-      let y = two_takes dash month e3 in
-      let q = mark_takes 45 month.1 dash2 e4 in
-      let z = two_takes dash2 day e5 in
-      let n = number_takes year.0 month.0 day.0 number e6 in
-      let a = and_parts (leb 1 month.0 && leb month.0 12 && leb 1 day.0) (leb day.0 (days_in_month (pos year.0) month.0)) n.0 in
-      let b = and_parts (leb 1 month.0 && leb month.0 12) (leb 1 day.0) a.0 in
-      let e = and_parts (leb 1 month.0) (leb month.0 12) b.0 in
-      rw (← same_Some (number, day.1) read h6) (record {
-        year = year.0;
-        month = month.0;
-        day = day.0;
-        text = rw (x.0, p, y.0, q, z.0) refl;
-        year_in = x.1;
-        month_in = (leb-true 1 month.0 e.0, leb-true month.0 12 e.1);
-        day_in = (leb-true 1 day.0 b.1, leb-true day.0 (days_in_month (pos year.0) month.0) a.1);
-        value = sym n.1;
-      })))))))
+    let x = four_takes bytes year e1 in
+    let p = mark_takes 45 year.1 dash e2 in
+    let y = two_takes dash month e3 in
+    let q = mark_takes 45 month.1 dash2 e4 in
+    let z = two_takes dash2 day e5 in
+    let n = number_takes year.0 month.0 day.0 number e6 in
+    let a = and_parts (leb 1 month.0 && leb month.0 12 && leb 1 day.0) (leb day.0 (days_in_month (pos year.0) month.0)) n.0 in
+    let b = and_parts (leb 1 month.0 && leb month.0 12) (leb 1 day.0) a.0 in
+    let e = and_parts (leb 1 month.0) (leb month.0 12) b.0 in
+    rw (← same_Some (number, day.1) read h6) (record {
+      year = year.0;
+      month = month.0;
+      day = day.0;
+      text = rw (x.0, p, y.0, q, z.0) refl;
+      year_in = x.1;
+      month_in = (leb-true 1 month.0 e.0, leb-true month.0 12 e.1);
+      day_in = (leb-true 1 day.0 b.1, leb-true day.0 (days_in_month (pos year.0) month.0) a.1);
+      value = sym n.1;
+    })))))))
 
 pub record MinutesTaken (bytes : List ℕ) (total : ℕ) (rest : List ℕ) : Type 0 where
   pub hours : ℕ
@@ -109,19 +109,19 @@ minutes_takes bytes read h =
     given (two_at bytes) _ read h (λ hour e1 h1.
     given (mark_at 58 hour.1) _ read h1 (λ colon e2 h2.
     given (two_at colon) _ read h2 (λ minute e3 h3.
-      let x = two_takes bytes hour e1 in
-      let p = mark_takes 58 hour.1 colon e2 in
-      let y = two_takes colon minute e3 in
-      let g = cond_some (ltb hour.0 24 && ltb minute.0 60) (hour.0 * 60 + minute.0, minute.1) read h3 in
-      let a = and_parts (ltb hour.0 24) (ltb minute.0 60) g.0 in
-      rw (← g.1) (record {
-        hours = hour.0;
-        minutes = minute.0;
-        text = rw (x.0, p, y.0) refl;
-        hours_in = ltb-true hour.0 24 a.0;
-        minutes_in = ltb-true minute.0 60 a.1;
-        value = refl;
-      }))))
+    let x = two_takes bytes hour e1 in
+    let p = mark_takes 58 hour.1 colon e2 in
+    let y = two_takes colon minute e3 in
+    let g = cond_some (ltb hour.0 24 && ltb minute.0 60) (hour.0 * 60 + minute.0, minute.1) read h3 in
+    let a = and_parts (ltb hour.0 24) (ltb minute.0 60) g.0 in
+    rw (← g.1) (record {
+      hours = hour.0;
+      minutes = minute.0;
+      text = rw (x.0, p, y.0) refl;
+      hours_in = ltb-true hour.0 24 a.0;
+      minutes_in = ltb-true minute.0 60 a.1;
+      value = refl;
+    }))))
 
 pub record TimeTaken (bytes : List ℕ) (total : ℕ) (rest : List ℕ) : Type 0 where
   pub hours : ℕ
@@ -137,18 +137,18 @@ seconds_takes bytes read h =
     given (minutes_at bytes) _ read h (λ minutes e1 h1.
     given (mark_at 58 minutes.1) _ read h1 (λ colon e2 h2.
     given (two_at colon) _ read h2 (λ second e3 h3.
-      let x = minutes_takes bytes minutes e1 in
-      let p = mark_takes 58 minutes.1 colon e2 in
-      let y = two_takes colon second e3 in
-      let g = cond_some (ltb second.0 60) (minutes.0 * 60 + second.0, second.1) read h3 in
-      rw (← g.1) (record {
-        hours = x.hours;
-        minutes = x.minutes;
-        seconds = second.0;
-        text = x.text ∙ ap (λ (r : List ℕ). two_digits x.hours ++ 58 ∷ two_digits x.minutes ++ r) (p ∙ ap (λ (r : List ℕ). 58 ∷ r) y.0);
-        clock = (x.hours_in, x.minutes_in, ltb-true second.0 60 g.0);
-        value = ap (λ (n : ℕ). n * 60 + second.0) x.value;
-      }))))
+    let x = minutes_takes bytes minutes e1 in
+    let p = mark_takes 58 minutes.1 colon e2 in
+    let y = two_takes colon second e3 in
+    let g = cond_some (ltb second.0 60) (minutes.0 * 60 + second.0, second.1) read h3 in
+    rw (← g.1) (record {
+      hours = x.hours;
+      minutes = x.minutes;
+      seconds = second.0;
+      text = x.text ∙ ap (λ (r : List ℕ). two_digits x.hours ++ 58 ∷ two_digits x.minutes ++ r) (p ∙ ap (λ (r : List ℕ). 58 ∷ r) y.0);
+      clock = (x.hours_in, x.minutes_in, ltb-true second.0 60 g.0);
+      value = ap (λ (n : ℕ). n * 60 + second.0) x.value;
+    }))))
 
 pub record FractionTaken (bytes : List ℕ) (nanoseconds : ℕ) (rest : List ℕ) : Type 0 where
   pub digits : List ℕ
@@ -191,37 +191,37 @@ pub record OffsetTaken (bytes : List ℕ) (minutes : ℤ) (rest : List ℕ) : Ty
   pub value : minutes ≡ offset_minutes zone
 
 either : (c k l : ℕ) → (eqb c k || eqb c l) ≡ true → (c ≡ k) ⊎ (c ≡ l)
-either c k l h = elim (or_cases (eqb c k) (eqb c l) h) [ | inl x ↦ inl (eqb-true c k x) | inr y ↦ inr (eqb-true c l y) ]
+either c k l h = elim (or_cases (eqb c k) (eqb c l) h) [ inl x ↦ inl (eqb-true c k x) | inr y ↦ inr (eqb-true c l y) ]
 
 behind : (c : ℕ) (cs : List ℕ) (b : Bool) (read : ℤ × List ℕ) → eqb c 45 ≡ b
     → cond b (minutes_at cs >>= λ m. Some (pos 0 -ℤ pos m.0, m.1)) None ≡ Some read → OffsetTaken (c ∷ cs) read.0 read.1
 behind c cs false read e h = absurd cc
 behind c cs true read e h =
     given (minutes_at cs) _ read h (λ m e1 h1.
-      let x = minutes_takes cs m e1 in
-      rw (← same_Some (pos 0 -ℤ pos m.0, m.1) read h1) (record {
-        zone = Behind x.hours x.minutes;
-        mark = 90;
-        text = rw (eqb-true c 45 e) (ap (λ (ds : List ℕ). 45 ∷ ds) x.text);
-        are = (x.hours_in, x.minutes_in);
-        marks = inl refl;
-        value = ap (λ (n : ℕ). pos 0 -ℤ pos n) x.value;
-      }))
+    let x = minutes_takes cs m e1 in
+    rw (← same_Some (pos 0 -ℤ pos m.0, m.1) read h1) (record {
+      zone = Behind x.hours x.minutes;
+      mark = 90;
+      text = rw (eqb-true c 45 e) (ap (λ (ds : List ℕ). 45 ∷ ds) x.text);
+      are = (x.hours_in, x.minutes_in);
+      marks = inl refl;
+      value = ap (λ (n : ℕ). pos 0 -ℤ pos n) x.value;
+    }))
 
 ahead : (c : ℕ) (cs : List ℕ) (b : Bool) (read : ℤ × List ℕ) → eqb c 43 ≡ b
     → cond b (minutes_at cs >>= λ m. Some (pos m.0, m.1)) (cond (eqb c 45) (minutes_at cs >>= λ m. Some (pos 0 -ℤ pos m.0, m.1)) None) ≡ Some read → OffsetTaken (c ∷ cs) read.0 read.1
 ahead c cs false read e h = behind c cs (eqb c 45) read refl h
 ahead c cs true read e h =
     given (minutes_at cs) _ read h (λ m e1 h1.
-      let x = minutes_takes cs m e1 in
-      rw (← same_Some (pos m.0, m.1) read h1) (record {
-        zone = Ahead x.hours x.minutes;
-        mark = 90;
-        text = rw (eqb-true c 43 e) (ap (λ (ds : List ℕ). 43 ∷ ds) x.text);
-        are = (x.hours_in, x.minutes_in);
-        marks = inl refl;
-        value = ap (λ (n : ℕ). pos n) x.value;
-      }))
+    let x = minutes_takes cs m e1 in
+    rw (← same_Some (pos m.0, m.1) read h1) (record {
+      zone = Ahead x.hours x.minutes;
+      mark = 90;
+      text = rw (eqb-true c 43 e) (ap (λ (ds : List ℕ). 43 ∷ ds) x.text);
+      are = (x.hours_in, x.minutes_in);
+      marks = inl refl;
+      value = ap (λ (n : ℕ). pos n) x.value;
+    }))
 
 at_utc : (c : ℕ) (cs : List ℕ) (b : Bool) (read : ℤ × List ℕ) → (eqb c 90 || eqb c 122) ≡ b
     → cond b (Some (pos 0, cs)) (cond (eqb c 43) (minutes_at cs >>= λ m. Some (pos m.0, m.1)) (cond (eqb c 45) (minutes_at cs >>= λ m. Some (pos 0 -ℤ pos m.0, m.1)) None)) ≡ Some read → OffsetTaken (c ∷ cs) read.0 read.1
@@ -274,14 +274,14 @@ read_is_spelled text moment h =
     given (seconds_at mark) _ moment h2 (λ seconds e3 h3.
     given (fraction_at seconds.1) _ moment h3 (λ fraction e4 h4.
     given (offset_at fraction.1) _ moment h4 (λ offset e5 h5.
-      let d = day_takes text day e1 in
-      let t = time_mark_takes day.1 mark e2 in
-      let s = seconds_takes mark seconds e3 in
-      let f = fraction_takes seconds.1 fraction e4 in
-      let o = offset_takes fraction.1 offset e5 in
-      let last = nothing_left offset.1 _ moment h5 in
-      let r = range_takes (day.0 *ℤ pos 86_400_000_000_000 +ℤ pos (seconds.0 * second + fraction.0) -ℤ offset.0 *ℤ pos 60_000_000_000) moment last.1 in
-      (record {
+    let d = day_takes text day e1 in
+    let t = time_mark_takes day.1 mark e2 in
+    let s = seconds_takes mark seconds e3 in
+    let f = fraction_takes seconds.1 fraction e4 in
+    let o = offset_takes fraction.1 offset e5 in
+    let last = nothing_left offset.1 _ moment h5 in
+    let r = range_takes (day.0 *ℤ pos 86_400_000_000_000 +ℤ pos (seconds.0 * second + fraction.0) -ℤ offset.0 *ℤ pos 60_000_000_000) moment last.1 in (
+      record {
         year = d.year;
         month = d.month;
         day = d.day;
@@ -292,7 +292,8 @@ read_is_spelled text moment h =
         zone = o.zone;
         time_mark = t.mark;
         utc_mark = o.mark;
-      }, record {
+      },
+      record {
         year = d.year_in;
         month = d.month_in;
         day = d.day_in;
@@ -303,4 +304,5 @@ read_is_spelled text moment h =
       },
       joined text day.1 mark seconds.1 fraction.1 offset.1 d.year d.month d.day t.mark s.hours s.minutes s.seconds (fraction_text f.digits) (zone_text o.mark o.zone) d.text t.text s.text f.text o.text last.0,
       valued day.0 (days_from_civil (pos d.year) d.month d.day) offset.0 (offset_minutes o.zone) seconds.0 ((s.hours * 60 + s.minutes) * 60 + s.seconds) fraction.0 (fraction_nanoseconds f.digits) moment d.value s.value f.value o.value r.0,
-      r.1))))))
+      r.1,
+    ))))))

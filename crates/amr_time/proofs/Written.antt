@@ -44,16 +44,18 @@ written_is_spelled m lt =
     let day : ℕ = m / 86_400_000_000_000 in
     let last : day ≤ 2_932_896 = omega arith in
     let d = date_is day last in
-    let f = fraction_cases (m % second) (eqb (m % second) 0) (omega arith) refl in
-    (record {
-      year = omega (arith, ints, d.civil.0);
-      month = d.civil.1;
-      day = d.civil.2;
-      clock = (omega arith, omega arith, omega arith);
-      fraction = (f.few, f.are);
-      zone = tt;
-      marks = (inl refl, inl refl);
-    }, rw (d.number, f.value) (ap (λ (n : ℕ). pos n) (clock_value m ∙ sym (add-zero _))))
+    let f = fraction_cases (m % second) (eqb (m % second) 0) (omega arith) refl in (
+      record {
+        year = omega (arith, ints, d.civil.0);
+        month = d.civil.1;
+        day = d.civil.2;
+        clock = (omega arith, omega arith, omega arith);
+        fraction = (f.few, f.are);
+        zone = tt;
+        marks = (inl refl, inl refl);
+      },
+      rw (d.number, f.value) (ap (λ (n : ℕ). pos n) (clock_value m ∙ sym (add-zero _))),
+    )
 
 pub written_is_read : WrittenIsRead
 written_is_read m last =

@@ -59,7 +59,8 @@ impl Moment {
     pub fn in_same_second(self, other: Moment) -> bool
         ensures { result ≡ in_same_second self other }
     {
-        self.nanoseconds / SECOND == other.nanoseconds / SECOND
+        let second = self.nanoseconds / SECOND;
+        second == other.nanoseconds / SECOND
     }
 }
 

@@ -68,6 +68,7 @@ impl Span {
         }
     }
 
+    /// How many nanoseconds long it is.
     pub fn nanoseconds(self) -> u64
         ensures value { result ≡ self }
         ensures bound { self ≤ longest_span }
