@@ -1,6 +1,13 @@
-// Laws of the texts of moments and durations: each function says one, and does nothing.
+// Laws of moments, durations and their texts: each function says one, and does nothing.
+ghost use Rattle.std.specs.Prelude.{ℕ, ◌<◌};
+ghost use Rattle.amr_time.specs.Time.{IsNextMultiple, next_multiple_of};
 ghost use Rattle.amr_time.specs.Laws.{ReadIsSpelled, SpelledIsRead, WrittenIsSpelled, WrittenIsRead};
 ghost use Rattle.amr_time.specs.SpanText.{ReadSpanIsSpelled, SpelledSpanIsRead};
+
+/// What `next_multiple` gives is a multiple of the unit that is greater than the moment, and no other such is less.
+pub fn next_multiple_is_the_least()
+    ensures { (m unit : ℕ) → 0 < unit → IsNextMultiple m unit (next_multiple_of m unit) }
+{}
 
 /// A text that is read as a moment spells a date that exists, a time of day and an offset, whose nanoseconds are it.
 pub fn what_is_read_is_spelled()

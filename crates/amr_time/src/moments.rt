@@ -1,5 +1,5 @@
 // A point in time.
-ghost use Rattle.std.specs.Prelude.{◌≡◌, ℕ, ◌+◌, ◌*◌, ◌/◌, ◌<◌, ◌==◌};
+ghost use Rattle.std.specs.Prelude.{◌≡◌, ◌+◌, ◌<◌};
 ghost use Rattle.amr_time.specs.Time.{before_year_10000, in_same_second, next_multiple_of, IsNextMultiple};
 
 use crate::spans::Span;
@@ -59,7 +59,8 @@ impl Moment {
     pub fn in_same_second(self, other: Moment) -> bool
         ensures { result ≡ in_same_second self other }
     {
-        self.nanoseconds / SECOND == other.nanoseconds / SECOND
+        let second = self.nanoseconds / SECOND;
+        second == other.nanoseconds / SECOND
     }
 }
 

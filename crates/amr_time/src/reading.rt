@@ -1,9 +1,9 @@
 // Moments from their texts, read from left to right.
-ghost use Rattle.std.specs.Prelude.{◌≡◌, ◌<◌, ◌≤◌, ◌^◌, ℤ, pos, ◌+◌, ◌*◌, ◌+ℤ◌, ◌-ℤ◌, ◌*ℤ◌, min, length, drop, option_map, IfSome, IfOk, OnErr, Some, None, Ok};
+ghost use Rattle.std.specs.Prelude.{◌≡◌, ◌<◌, ◌≤◌, ◌^◌, pos, ◌+◌, ◌*◌, ◌+ℤ◌, ◌-ℤ◌, ◌*ℤ◌, option_map, IfSome, IfOk};
 ghost use Rattle.std.specs.Result.{result_ok};
 ghost use Rattle.jiff.specs.Words.{IsEpochDay, IsWithin};
 ghost use Rattle.amr_time.specs.Time.{latest_read};
-ghost use Rattle.amr_time.specs.MomentRead.{mark_at, two_at, four_at, day_at, minutes_at, seconds_at, digits_of, fraction_digits_at, fraction_at, offset_at, time_mark_at, in_range, moment_at};
+ghost use Rattle.amr_time.specs.MomentRead.{mark_at, two_at, four_at, day_at, minutes_at, seconds_at, fraction_digits_at, fraction_at, offset_at, time_mark_at, in_range, moment_at};
 
 use crate::digits::{capped, digit_count, is_digit};
 use crate::moments::Moment;

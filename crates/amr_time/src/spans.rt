@@ -1,5 +1,5 @@
 // A length of time.
-ghost use Rattle.std.specs.Prelude.{◌≡◌, ℕ, ◌+◌, ◌*◌, ◌<◌, ◌≤◌, List, Option, All, min, map, length};
+ghost use Rattle.std.specs.Prelude.{◌≡◌, ◌+◌, ◌*◌, ◌≤◌, All, min, map, length};
 ghost use Rattle.std.specs.Result.{result_ok};
 ghost use Rattle.amr_time.specs.Time.{longest_span, second, minute, hour};
 ghost use Rattle.amr_time.specs.MomentText.{decimal};
@@ -68,6 +68,7 @@ impl Span {
         }
     }
 
+    /// How many nanoseconds long it is.
     pub fn nanoseconds(self) -> u64
         ensures value { result ≡ self }
         ensures bound { self ≤ longest_span }
