@@ -1,0 +1,47 @@
+-- A configuration of one route, and the words of the worked incidents.
+use Rattle.std.specs.Prelude.{true, false, List, [], ◌∷◌, Option, Some, None, codes, ◌*◌, map}
+use Rattle.amr_labels.specs.Map.{entries, empty}
+use Rattle.amr_labels.specs.Labels.{Text}
+use Rattle.amr_time.specs.Time.{Moment, second, minute}
+use Rattle.amr_config.specs.declared.route.Route.{Route}
+use Rattle.amr_config.specs.declared.route.Grouping.TheVariants.{Named}
+use Rattle.amr_config.specs.Config.{Config}
+use Rattle.amr_events.specs.declared.event.PostedAlert.{PostedAlert}
+use Rattle.amr_events.specs.Events.{Event, Act}
+use Rattle.amr_engine.specs.declared.note.Note.{Note}
+
+abbrev pub ten : Moment
+ten = 1714557600 * second
+
+abbrev pub root : Text → Route
+root name = record {
+  parent = None;
+  matchers = [];
+  continues = false;
+  receiver = Some name;
+  group_by = Some (Named (codes "alertname" ∷ []));
+  group_wait = None;
+  group_interval = None;
+  repeat_interval = None;
+}
+
+abbrev pub config_ops : Config
+config_ops = record {
+  routes = root (codes "ops") ∷ [];
+  receivers = record { name = codes "ops"; integrations = record { kind = codes "webhook"; place = 0; send_resolved = true } ∷ [] } ∷ [];
+  rules = [];
+  resolve_timeout = 5 * minute;
+}
+
+abbrev pub alert : List (Text × Text) → Option Moment → Option Moment → PostedAlert
+alert labels from to = record { labels = labels; annotations = empty; starts_at = from; ends_at = to }
+
+abbrev pub posts : Moment → List PostedAlert → Event
+posts at alerts = record { at = at; act = Act.Post alerts }
+
+abbrev pub ticks : Moment → Event
+ticks at = record { at = at; act = Act.Tick }
+
+-- a note by its moment, its route, and the labels of what fires and what is resolved
+abbrev pub told : Note → Moment × (List (List (Text × Text)) × List (List (Text × Text)))
+told note = (note.at, (map (λ member. entries member.labels) note.firing, map (λ member. entries member.labels) note.resolved))
