@@ -1,22 +1,51 @@
 -- The lines of the faults on standard error, and the statuses.
-use Rattle.std.specs.Prelude.{ℕ, List, [], ◌∷◌, ◌++◌, codes, decimal, string_bytes}
+use Rattle.std.specs.Prelude.{ℕ, List, [], ◌∷◌, ◌++◌, codes, decimal}
+use Rattle.amreplay.specs.declared.stub.Refusal.{Refusal}
+use Rattle.amreplay.specs.declared.stub.Refusal.TheVariants.{BadConfig, UnknownReceiver, DuplicateReceiver, RootRoute, ZeroInterval, BadGroupBy, TooDeep, TimeIntervals}
+use Rattle.amreplay.specs.declared.stub.ConfigError.{ConfigError}
+use Rattle.amreplay.specs.declared.stub.ConfigError.TheVariants as config_error
+use Rattle.amreplay.specs.declared.stub.ScriptFault.{ScriptFault}
+use Rattle.amreplay.specs.declared.stub.ScriptFault.TheVariants.{BadLine, LineTooLong, TooManyEvents}
+use Rattle.amreplay.specs.declared.stub.ScriptError.{ScriptError}
+use Rattle.amreplay.specs.declared.stub.ScriptError.TheVariants as script_error
+use Rattle.amreplay.specs.declared.run.Stopped.{Stopped}
+use Rattle.amreplay.specs.declared.run.Stopped.TheVariants as stopped
 use Rattle.amreplay.specs.declared.fault.Fault.{Fault}
-use Rattle.amreplay.specs.declared.fault.Fault.TheVariants.{BadConfig, UnknownReceiver, DuplicateReceiver, RootRoute, ZeroInterval, BadGroupBy, TooDeep, TimeIntervals, BadLine, LineTooLong, TooManyEvents, CannotReadConfig, CannotReadScript, CannotWrite, OutOfMemory, Usage}
+use Rattle.amreplay.specs.declared.fault.Fault.TheVariants.{Config, Script, CannotReadConfig, CannotReadScript, CannotWrite, OutOfMemory, Usage}
 use Rattle.amreplay.specs.declared.fault.Place.{Place}
 use Rattle.amreplay.specs.declared.fault.Place.TheVariants as place
 
+-- the fault of an error
+abbrev pub config_fault : ConfigError → Fault
+config_fault config_error.Memory = OutOfMemory
+config_fault (config_error.Refused refusal) = Config refusal
+
+abbrev pub script_fault : ScriptError → Fault
+script_fault script_error.Memory = OutOfMemory
+script_fault (script_error.Refused fault) = Script fault
+
+abbrev pub stop_fault : Stopped → Fault
+stop_fault stopped.OutOfMemory = OutOfMemory
+stop_fault stopped.CannotWrite = CannotWrite
+
+abbrev pub config_name : Refusal → List ℕ
+config_name (BadConfig path) = codes "amreplay: config: 5 BadConfig"
+config_name UnknownReceiver = codes "amreplay: config: 6 UnknownReceiver"
+config_name DuplicateReceiver = codes "amreplay: config: 7 DuplicateReceiver"
+config_name RootRoute = codes "amreplay: config: 8 RootRoute"
+config_name ZeroInterval = codes "amreplay: config: 9 ZeroInterval"
+config_name BadGroupBy = codes "amreplay: config: 10 BadGroupBy"
+config_name TooDeep = codes "amreplay: config: 11 TooDeep"
+config_name TimeIntervals = codes "amreplay: config: 12 TimeIntervals"
+
+abbrev pub script_name : ScriptFault → List ℕ
+script_name (BadLine line) = codes "amreplay: script: 13 BadLine"
+script_name (LineTooLong line) = codes "amreplay: script: 14 LineTooLong"
+script_name TooManyEvents = codes "amreplay: script: 15 TooManyEvents"
+
 abbrev pub fault_name : Fault → List ℕ
-fault_name (BadConfig path) = codes "amreplay: config: 5 BadConfig"
-fault_name UnknownReceiver = codes "amreplay: config: 6 UnknownReceiver"
-fault_name DuplicateReceiver = codes "amreplay: config: 7 DuplicateReceiver"
-fault_name RootRoute = codes "amreplay: config: 8 RootRoute"
-fault_name ZeroInterval = codes "amreplay: config: 9 ZeroInterval"
-fault_name BadGroupBy = codes "amreplay: config: 10 BadGroupBy"
-fault_name TooDeep = codes "amreplay: config: 11 TooDeep"
-fault_name TimeIntervals = codes "amreplay: config: 12 TimeIntervals"
-fault_name (BadLine line) = codes "amreplay: script: 13 BadLine"
-fault_name (LineTooLong line) = codes "amreplay: script: 14 LineTooLong"
-fault_name TooManyEvents = codes "amreplay: script: 15 TooManyEvents"
+fault_name (Config refusal) = config_name refusal
+fault_name (Script fault) = script_name fault
 fault_name CannotReadConfig = codes "amreplay: cannot read config"
 fault_name CannotReadScript = codes "amreplay: cannot read script"
 fault_name CannotWrite = codes "amreplay: cannot write"
@@ -38,18 +67,24 @@ abbrev pub path_place : List ℕ → FaultPlace
 path_place [] = Nowhere
 path_place (b ∷ bs) = AtPath (b ∷ bs)
 
+abbrev pub config_place : Refusal → FaultPlace
+config_place (BadConfig path) = path_place path
+config_place UnknownReceiver = Nowhere
+config_place DuplicateReceiver = Nowhere
+config_place RootRoute = Nowhere
+config_place ZeroInterval = Nowhere
+config_place BadGroupBy = Nowhere
+config_place TooDeep = Nowhere
+config_place TimeIntervals = Nowhere
+
+abbrev pub script_place : ScriptFault → FaultPlace
+script_place (BadLine line) = AtLine line
+script_place (LineTooLong line) = AtLine line
+script_place TooManyEvents = Nowhere
+
 abbrev pub fault_place : Fault → FaultPlace
-fault_place (BadConfig path) = path_place (string_bytes path)
-fault_place UnknownReceiver = Nowhere
-fault_place DuplicateReceiver = Nowhere
-fault_place RootRoute = Nowhere
-fault_place ZeroInterval = Nowhere
-fault_place BadGroupBy = Nowhere
-fault_place TooDeep = Nowhere
-fault_place TimeIntervals = Nowhere
-fault_place (BadLine line) = AtLine line
-fault_place (LineTooLong line) = AtLine line
-fault_place TooManyEvents = Nowhere
+fault_place (Config refusal) = config_place refusal
+fault_place (Script fault) = script_place fault
 fault_place CannotReadConfig = Nowhere
 fault_place CannotReadScript = Nowhere
 fault_place CannotWrite = Nowhere
@@ -65,17 +100,8 @@ abbrev pub fault_line : Fault → List ℕ
 fault_line fault = line_with_place (fault_name fault) (fault_place fault)
 
 abbrev pub status_of : Fault → ℕ
-status_of (BadConfig path) = 1
-status_of UnknownReceiver = 1
-status_of DuplicateReceiver = 1
-status_of RootRoute = 1
-status_of ZeroInterval = 1
-status_of BadGroupBy = 1
-status_of TooDeep = 1
-status_of TimeIntervals = 1
-status_of (BadLine line) = 1
-status_of (LineTooLong line) = 1
-status_of TooManyEvents = 1
+status_of (Config refusal) = 1
+status_of (Script fault) = 1
 status_of CannotReadConfig = 1
 status_of CannotReadScript = 1
 status_of CannotWrite = 1

@@ -3,7 +3,10 @@
 
 mod fault;
 mod lines;
+mod load;
 mod outlet;
+mod run;
+mod stub;
 mod values;
 mod words;
 
