@@ -1,17 +1,18 @@
 -- The lines of a run, event by event.
-use Rattle.std.proofs.Common.{◌≡◌, ℕ, suc, ◌+◌, ◌≤◌, ◌<◌, List, [], ◌∷◌, ◌++◌, length, take, Option, Some, refl, sym, ap, ◌∙◌, append_assoc, append-nil, subst, drop, take-append-drop, length-take, arith}
+use Rattle.std.proofs.Common.{◌≡◌, ℕ, suc, ◌+◌, ◌≤◌, ◌<◌, List, [], ◌∷◌, ◌++◌, length, take, Option, Some, Result, Ok, Err, refl, sym, ap, ◌∙◌, append_assoc, append-nil, subst, drop, take-append-drop, length-take, arith}
 use Rattle.std.proofs.lemmas.List.{take_more}
 use Rattle.std.proofs.lemmas.Option.{slice_get_within, get_or_from_slice_get}
 use Rattle.std.specs.List.{slice_get, fold}
-use Rattle.std.specs.Io.KnownBytes.{Appends}
-use Rattle.std.proofs.KnownBytes.{Appends-nil, Appends-trans}
+use Rattle.std.specs.Io.KnownBytes.{Appends, Keeps}
+use Rattle.std.proofs.KnownBytes.{Appends-nil, Appends-trans, Appends-kept}
 use Rattle.amr_labels.specs.Labels.{Text}
 use Rattle.amr_config.specs.Config.{Config}
 use Rattle.amr_events.specs.Events.{Event}
 use Rattle.amr_engine.specs.State.{State, start}
 use Rattle.amr_engine.specs.Events.{Outcome, outcome_of, after_event, after_events, run_of}
 use Rattle.amreplay.specs.Printed.{event_lines}
-use Rattle.amreplay.specs.Runs.{lines_from, run_lines, LeavesAt, RunLeavesAt}
+use Rattle.amreplay.specs.Runs.{lines_from, run_lines, LeavesAt, RunLeavesAt, RunLeaves}
+use Rattle.amreplay.specs.Outlet.{AppendsBeginning}
 use Rattle.amreplay.specs.declared.run.Stopped.{Stopped}
 use Rattle.amreplay.specs.declared.run.Stopped.TheVariants.{OutOfMemory, CannotWrite}
 use Rattle.amreplay.proofs.Parts.{AppendsBeginning-after}
@@ -74,3 +75,29 @@ module _ (a b c : Option Text) (config : Config) (events : List Event) (k : ℕ)
   pub RunLeavesAt-event : (stopped : Stopped) → LeavesAt b c (event_lines (k + 1) outcome) stopped → RunLeavesAt a c config events stopped
   RunLeavesAt-event OutOfMemory left = (k, subst (Appends a c) (append-nil (run_lines config (take k events))) (Appends-trans a b c _ _ before left))
   RunLeavesAt-event CannotWrite left = AppendsBeginning-after a b c _ _ rest_lines.0 _ before left rest_lines.1
+
+-- the lines of the first events are a beginning of all
+run_lines-split : (config : Config) (events : List Event) (k : ℕ) → (rest : Text) × (run_lines config events ≡ run_lines config (take k events) ++ rest)
+unfolding run_lines
+run_lines-split config events k =
+    (lines_from (1 + length (take k events)) (after_events (start config) (take k events)) (drop k events),
+    ap (lines_from 1 (start config)) (sym (take-append-drop k events)) ∙ lines_from-append 1 (start config) (take k events) (drop k events))
+
+-- what the writer holds back can't be handed on
+pub RunLeaves-unflushed : (a b c : Option Text) (config : Config) (events : List Event) (ended : Result (Unit {0}) Stopped)
+    → RunLeaves a b config events ended → Keeps b c → AppendsBeginning a c (run_lines config events)
+RunLeaves-unflushed a b c config events (Ok u) left kept =
+    record { written = run_lines config events; unwritten = []; parts = sym (append-nil (run_lines config events)); appended = Appends-kept a b c _ left kept }
+RunLeaves-unflushed a b c config events (Err OutOfMemory) left kept =
+    let split = run_lines-split config events left.0 in
+    record { written = run_lines config (take left.0 events); unwritten = split.0; parts = split.1; appended = Appends-kept a b c _ left.1 kept }
+RunLeaves-unflushed a b c config events (Err CannotWrite) left kept =
+    record { written = left.written; unwritten = left.unwritten; parts = left.parts; appended = Appends-kept a b c _ left.appended kept }
+
+-- it is handed on
+pub RunLeaves-flushed : (a b c : Option Text) (config : Config) (events : List Event) (ended : Result (Unit {0}) Stopped)
+    → RunLeaves a b config events ended → Keeps b c → RunLeaves a c config events ended
+RunLeaves-flushed a b c config events (Ok u) left kept = Appends-kept a b c _ left kept
+RunLeaves-flushed a b c config events (Err OutOfMemory) left kept = (left.0, Appends-kept a b c _ left.1 kept)
+RunLeaves-flushed a b c config events (Err CannotWrite) left kept =
+    record { written = left.written; unwritten = left.unwritten; parts = left.parts; appended = Appends-kept a b c _ left.appended kept }

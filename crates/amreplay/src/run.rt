@@ -72,7 +72,11 @@ fn write_event<W: Write>(
 }
 
 /// Steps a session from its start to its end, and writes each event's lines.
-fn write_run<W: Write>(alloc: Global, session: &mut Session, out: &mut W) -> Result<(), Stopped>
+fn write_events<W: Write>(
+    alloc: Global,
+    session: &mut Session,
+    out: &mut W,
+) -> Result<(), Stopped>
     requires { session.old ≡ at_cursor session.old.config session.old.events 0 }
     ensures { RunLeaves (W.contents out.old) (W.contents out.new) session.old.config session.old.events result }
 {
@@ -84,8 +88,17 @@ fn write_run<W: Write>(alloc: Global, session: &mut Session, out: &mut W) -> Res
         };
         write_event(alloc, number as u64 + 1, &outcome, out)?;
     }
-    flush(out)?;
     Ok(())
+}
+
+/// The same, and hands on what the writer holds back, also where memory stops the run.
+fn write_run<W: Write>(alloc: Global, session: &mut Session, out: &mut W) -> Result<(), Stopped>
+    requires { session.old ≡ at_cursor session.old.config session.old.events 0 }
+    ensures { RunLeaves (W.contents out.old) (W.contents out.new) session.old.config session.old.events result }
+{
+    let ended = write_events(alloc, session, out);
+    flush(out)?;
+    ended
 }
 
 /// Runs a script over a configuration, and writes the lines of its events.

@@ -3,7 +3,7 @@ use Rattle.std.proofs.Common.{◌≡◌, take}
 use Rattle.std.specs.Io.KnownBytes.{Appends}
 use Rattle.amreplay.specs.StubSession.{at_cursor}
 use Rattle.amreplay.specs.Runs.{run_lines}
-use Rattle.amreplay.proofs.run.write_run.Given as goal
+use Rattle.amreplay.proofs.run.write_events.Given as goal
 
 abbrev pub invariant-loop-number : goal.invariant-loop-number
 invariant-loop-number g l = record {
