@@ -65,11 +65,13 @@ module _ (a b c : Option Text) (config : Config) (events : List Event) (k : ℕ)
   rest_lines : (rest : Text) × (run_lines config events ≡ run_lines config (take k events) ++ (event_lines (k + 1) outcome ++ rest))
   unfolding run_lines
   rest_lines =
-      let rest : Text = lines_from (1 + length (take (k + 1) events)) (after_events (start config) (take (k + 1) events)) (drop (k + 1) events) in
-      (rest, ap (lines_from 1 (start config)) (sym (take-append-drop (k + 1) events))
-          ∙ lines_from-append 1 (start config) (take (k + 1) events) (drop (k + 1) events)
-          ∙ ap (λ l. l ++ rest) next_lines
-          ∙ append_assoc (run_lines config (take k events)) (event_lines (k + 1) outcome) rest)
+      let rest : Text = lines_from (1 + length (take (k + 1) events)) (after_events (start config) (take (k + 1) events)) (drop (k + 1) events) in (
+        rest,
+        ap (lines_from 1 (start config)) (sym (take-append-drop (k + 1) events))
+            ∙ lines_from-append 1 (start config) (take (k + 1) events) (drop (k + 1) events)
+            ∙ ap (λ l. l ++ rest) next_lines
+            ∙ append_assoc (run_lines config (take k events)) (event_lines (k + 1) outcome) rest,
+      )
 
   -- the run stops at an event
   pub RunLeavesAt-event : (stopped : Stopped) → LeavesAt b c (event_lines (k + 1) outcome) stopped → RunLeavesAt a c config events stopped
@@ -79,9 +81,10 @@ module _ (a b c : Option Text) (config : Config) (events : List Event) (k : ℕ)
 -- the lines of the first events are a beginning of all
 run_lines-split : (config : Config) (events : List Event) (k : ℕ) → (rest : Text) × (run_lines config events ≡ run_lines config (take k events) ++ rest)
 unfolding run_lines
-run_lines-split config events k =
-    (lines_from (1 + length (take k events)) (after_events (start config) (take k events)) (drop k events),
-    ap (lines_from 1 (start config)) (sym (take-append-drop k events)) ∙ lines_from-append 1 (start config) (take k events) (drop k events))
+run_lines-split config events k = (
+  lines_from (1 + length (take k events)) (after_events (start config) (take k events)) (drop k events),
+  ap (lines_from 1 (start config)) (sym (take-append-drop k events)) ∙ lines_from-append 1 (start config) (take k events) (drop k events),
+)
 
 -- what the writer holds back can't be handed on
 pub RunLeaves-unflushed : (a b c : Option Text) (config : Config) (events : List Event) (ended : Result (Unit {0}) Stopped)

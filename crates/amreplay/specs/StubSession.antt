@@ -17,7 +17,6 @@ abbrev pub states_before : State → List Event → List State
 states_before s [] = []
 states_before s (event ∷ events) = s ∷ states_before (after_event s event) events
 
-
 -- what is seen of a session: its state, and the states before the events that it has passed
 pub record View : Type 0 where
   pub config : Config

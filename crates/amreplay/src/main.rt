@@ -8,6 +8,8 @@ mod load;
 mod outlet;
 mod run;
 mod stub;
+#[cfg(test)]
+mod tests;
 mod values;
 mod words;
 
@@ -44,19 +46,18 @@ fn start(rt: &HostRuntime) -> Result<(), Fault> {
 
 /// Runs the script of one file over the configuration of another.
 fn run_files(rt: &HostRuntime, config: &str, script: &str) -> Result<(), Fault> {
-    let config = read_file(rt, config, LONGEST_CONFIG as u64 + 1)
-        .map_err(|unread| fault_of(unread, Fault::CannotReadConfig))?;
-    let script = read_file(rt, script, u64::MAX)
-        .map_err(|unread| fault_of(unread, Fault::CannotReadScript))?;
+    let config = read_file(rt, config, LONGEST_CONFIG as u64 + 1).map_err(|unread| fault_of(
+        unread,
+        Fault::CannotReadConfig,
+    ))?;
+    let script = read_file(rt, script, u64::MAX).map_err(|unread| fault_of(
+        unread,
+        Fault::CannotReadScript,
+    ))?;
     let Ok(mut out) = BufWriter::new(rt.alloc(), rt.stdout()) else {
         return Err(Fault::OutOfMemory);
     };
-    run_script(
-        rt.alloc(),
-        config.as_slice(),
-        script.as_slice(),
-        &mut out,
-    )
+    run_script(rt.alloc(), config.as_slice(), script.as_slice(), &mut out)
 }
 
 /// The words after the program's name. A word that isn't UTF-8 is no word of a form.

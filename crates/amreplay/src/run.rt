@@ -72,11 +72,7 @@ fn write_event<W: Write>(
 }
 
 /// Steps a session from its start to its end, and writes each event's lines.
-fn write_events<W: Write>(
-    alloc: Global,
-    session: &mut Session,
-    out: &mut W,
-) -> Result<(), Stopped>
+fn write_events<W: Write>(alloc: Global, session: &mut Session, out: &mut W) -> Result<(), Stopped>
     requires { session.old ≡ at_cursor session.old.config session.old.events 0 }
     ensures { RunLeaves (W.contents out.old) (W.contents out.new) session.old.config session.old.events result }
 {
