@@ -1,14 +1,14 @@
 -- What the settings of a configuration say of its routes.
-use Rattle.std.proofs.Common.{◌≡◌, ℕ, zero, suc, ◌+◌, ◌<◌, ◌≤◌, List, [], ◌∷◌, length, get_or, map, Option, Some, None, MatchOption, Bor, reverse, refl, sym, ap, ◌∙◌, arith}
+use Rattle.std.proofs.Common.{◌≡◌, ℕ, zero, suc, ◌<◌, ◌≤◌, List, [], ◌∷◌, length, get_or, map, Option, Some, None, MatchOption, Bor, reverse, refl, ap, ◌∙◌, arith}
 use Rattle.std.specs.Option.{option_map_or, option_or}
-use Rattle.std.specs.List.{slice_get, range_with_len}
+use Rattle.std.specs.List.{slice_get}
 use Rattle.std.specs.Slice.{IsItemAt}
 use Rattle.std.proofs.lemmas.List.FromFn.{length-map-range_with_len, get_or-map-range_with_len}
 use Rattle.std.proofs.lemmas.Option.{slice_get_past}
 use Rattle.amr_config.specs.declared.route.Route.{Route}
 use Rattle.amr_config.specs.declared.settings.Settings.{Settings}
 use Rattle.amr_config.specs.Config.{Config}
-use Rattle.amr_config.specs.Routing.{parent_of, line_within, line_of, first_stated, inherited, sorted_matchers, path_of}
+use Rattle.amr_config.specs.Routing.{line_within, first_stated, inherited, sorted_matchers, path_of}
 use Rattle.amr_config.specs.Settled.{settings_of, settled}
 
 pub length-settled : (config : Config) → length (settled config) ≡ length config.routes

@@ -1,1 +1,10 @@
+pub mod Chosen
 pub mod Inherited
+pub mod Levels
+pub mod Lines
+pub mod Loops
+pub mod Names
+pub mod Parents
+pub mod Placing
+pub mod Ranges
+pub mod Settling

@@ -1,10 +1,14 @@
 -- What holds at each route, by itself or from above.
-use Rattle.std.specs.Prelude.{◌≡◌, ℕ, Bool, false, ◌<◌, List, [], map, Option, Some, slice_get}
-use Rattle.std.specs.Option.{option_map_or}
+use Rattle.std.specs.Prelude.{◌≡◌, ℕ, ◌<◌, ◌*◌, List, [], ◌∷◌, ◌++◌, map, Option, Some, None, slice_get, unwrap_or}
+use Rattle.std.specs.Option.{option_map_or, option_or}
+use Rattle.std.specs.List.{range_with_len}
+use Rattle.amr_time.specs.Time.{second, minute, hour}
+use Rattle.amr_config.specs.declared.route.Route.{Route}
 use Rattle.amr_config.specs.declared.settings.Settings.{Settings}
 use Rattle.amr_config.specs.declared.config.Parts.{Parts}
+use Rattle.amr_config.specs.declared.stated.Stated.{Stated}
 use Rattle.amr_config.specs.Config.{Config}
-use Rattle.amr_config.specs.Routing.{route_numbers, route_is, parent_of, inherited, group_wait_of, group_interval_of, repeat_interval_of, receiver_name_of, path_of}
+use Rattle.amr_config.specs.Routing.{route_numbers, route_is, parent_of, inherited, group_wait_of, group_interval_of, repeat_interval_of, receiver_name_of, path_of, sorted_matchers}
 
 -- the settings of the route with this number, and the defaults where there is none
 unfoldable pub settings_of : Config → ℕ → Settings
@@ -24,8 +28,11 @@ settings_of config n = record {
 unfoldable pub settled : Config → List Settings
 settled config = map (settings_of config) (route_numbers config)
 
+abbrev pub stated_config : Stated → Config
+stated_config stated = record { routes = stated.routes; receivers = stated.receivers; rules = stated.rules; resolve_timeout = stated.resolve_timeout }
+
 abbrev pub config_of_parts : Parts → Config
-config_of_parts parts = record { routes = parts.routes; receivers = parts.receivers; rules = parts.rules; resolve_timeout = parts.resolve_timeout }
+config_of_parts parts = stated_config parts.stated
 
 -- each parent stands before its children
 abbrev pub AreParentsFirst : Config → Type 0
@@ -34,3 +41,21 @@ AreParentsFirst config = (n parent : ℕ) → parent_of config n ≡ Some parent
 pub record AreSettled (parts : Parts) : Type 0 where
   pub settings : parts.settings ≡ settled (config_of_parts parts)
   pub parents : AreParentsFirst (config_of_parts parts)
+
+-- the settings of a route that states this, below its parent's settings, if it has a parent
+unfoldable pub settled_under : Route → Option Settings → Settings
+settled_under route above = record {
+  parent = route.parent;
+  matchers = route.matchers;
+  continues = route.continues;
+  receiver = unwrap_or route.receiver (option_map_or (λ settings. settings.receiver) above []);
+  group_by = option_or route.group_by (option_map_or (λ settings. settings.group_by) above None);
+  group_wait = unwrap_or route.group_wait (option_map_or (λ settings. settings.group_wait) above (30 * second));
+  group_interval = unwrap_or route.group_interval (option_map_or (λ settings. settings.group_interval) above (5 * minute));
+  repeat_interval = unwrap_or route.repeat_interval (option_map_or (λ settings. settings.repeat_interval) above (4 * hour));
+  path = option_map_or (λ settings. settings.path) above [] ++ sorted_matchers route.matchers ∷ [];
+}
+
+-- the settings of the first routes
+unfoldable pub settled_to : Config → ℕ → List Settings
+settled_to config n = map (settings_of config) (range_with_len 0 n)

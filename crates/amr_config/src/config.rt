@@ -4,13 +4,15 @@ ghost use Rattle.std.specs.Option.{option_copied};
 ghost use Rattle.std.specs.Ordering.{eq_by_cmp};
 ghost use Rattle.std.specs.List.{find};
 ghost use Rattle.amr_labels.specs.Labels.{text_cmp};
-ghost use Rattle.amr_config.specs.Routing.{group_wait_of, group_interval_of, repeat_interval_of, receiver_name_of, integrations_of, path_of, chosen, group_of, grouped_by};
-ghost use Rattle.amr_config.specs.Settled.{settings_of};
+ghost use Rattle.amr_config.specs.Routing.{group_wait_of, group_interval_of, repeat_interval_of, receiver_name_of, integrations_of, path_of, group_of, grouped_by};
+ghost use Rattle.amr_config.specs.Settled.{settings_of, stated_config, AreParentsFirst};
 
 use crate::receiver::{Integration, Receiver};
-use crate::route::{Grouping, Route};
+use crate::route::Grouping;
 use crate::rule::InhibitRule;
 use crate::settings::Settings;
+use crate::settle::settle;
+use crate::stated::Stated;
 use amr_labels::{Exact, Labels, Listing, Matchers, Text};
 use amr_time::Span;
 use std::alloc::{AllocError, Global};
@@ -18,14 +20,11 @@ use std::cmp::Ordering;
 use std::marker::Model;
 use std::rc::Rc;
 
-/// What a configuration holds: its routes as they are stated and as they are settled, and the rest.
+/// What a configuration holds: what it states, and what holds at each route.
 #[derive(Debug, Drop)]
 pub(crate) struct Parts {
-    pub(crate) routes: Listing<Route>,
+    pub(crate) stated: Stated,
     pub(crate) settings: Listing<Settings>,
-    pub(crate) receivers: Listing<Receiver>,
-    pub(crate) rules: Listing<InhibitRule>,
-    pub(crate) resolve_timeout: Span,
 }
 
 /// A configuration. Clones share what it holds.
@@ -63,9 +62,21 @@ impl Exact for Config {
 }
 
 impl Config {
+    /// The configuration that is stated.
+    pub(crate) fn from_stated(alloc: Global, stated: Stated) -> Result<Config, AllocError>
+        requires { AreParentsFirst (stated_config stated) }
+        ensures { IfOk result (λ config. config ≡ stated_config stated) }
+    {
+        let settings = settle(alloc, &stated)?;
+        Ok(Config {
+            shared: Rc::new(alloc, Parts { stated, settings })?,
+        })
+    }
+
     /// The settings of the route with this number.
     fn settings_at(&self, route: usize) -> Option<&Settings>
-        ensures { MatchOption result (length self.now.routes ≤ route) (λ found. (route < length self.now.routes) × (found.now ≡ settings_of self.now route)) }
+        ensures found { MatchOption result (length self.now.routes ≤ route) (λ found. (route < length self.now.routes) × (found.now ≡ settings_of self.now route)) }
+        ensures parents { AreParentsFirst self.now }
     {
         self.shared.settings.as_slice().get(route)
     }
@@ -74,28 +85,28 @@ impl Config {
     pub fn route_count(&self) -> usize
         ensures { result ≡ length self.now.routes }
     {
-        self.shared.routes.len()
+        self.shared.stated.routes.len()
     }
 
     /// How many receivers there are.
     pub fn receiver_count(&self) -> usize
         ensures { result ≡ length self.now.receivers }
     {
-        self.shared.receivers.len()
+        self.shared.stated.receivers.len()
     }
 
     /// The inhibition rules.
     pub fn rules(&self) -> &[InhibitRule]
         ensures { result.now ≡ self.now.rules }
     {
-        self.shared.rules.as_slice()
+        self.shared.stated.rules.as_slice()
     }
 
     /// When a posted alert without an end is over, counted from its post.
     pub fn resolve_timeout(&self) -> Span
         ensures { result ≡ self.now.resolve_timeout }
     {
-        self.shared.resolve_timeout
+        self.shared.stated.resolve_timeout
     }
 }
 
@@ -175,7 +186,7 @@ impl Config {
     pub fn receiver(&self, name: &str) -> Option<&Receiver>
         ensures { option_copied result ≡ find (λ receiver. eq_by_cmp text_cmp receiver.name name.now) self.now.receivers }
     {
-        receiver_named(self.shared.receivers.as_slice(), name)
+        receiver_named(self.shared.stated.receivers.as_slice(), name)
     }
 
     /// The integrations of the route's receiver, by kind and then by place.
@@ -195,7 +206,8 @@ impl Config {
     /// What holds at the route, stated by it, inherited or by default.
     pub fn route(&self, id: usize) -> &Settings
         requires { id < length self.now.routes }
-        ensures { result.now ≡ settings_of self.now id }
+        ensures value { result.now ≡ settings_of self.now id }
+        ensures parents { AreParentsFirst self.now }
     {
         match self.settings_at(id) {
             Some(settings) => settings,
@@ -228,14 +240,5 @@ fn grouped_by(
         None => Labels::empty(alloc),
         Some(Grouping::AllLabels) => labels.clone(),
         Some(Grouping::Named(names)) => labels.kept_by_names(alloc, names.as_slice()),
-    }
-}
-
-impl Config {
-    /// The numbers of the routes that take an alert with these labels, rising.
-    pub fn routes_of(&self, alloc: Global, labels: &Labels) -> Result<Vec<usize>, AllocError>
-        ensures { IfOk result (λ routes. routes.items ≡ chosen self.now labels.now) }
-    {
-        Err(AllocError)
     }
 }

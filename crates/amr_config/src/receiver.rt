@@ -1,6 +1,8 @@
 //! Receivers and their integrations.
+ghost use Rattle.std.specs.Prelude.{◌≡◌};
 
-use amr_labels::{Listing, Text};
+use amr_labels::{Exact, Listing, Text};
+use std::alloc::AllocError;
 
 /// An integration of a receiver, as an entry of its `webhook_configs`.
 #[derive(Debug, Drop)]
@@ -10,6 +12,22 @@ pub struct Integration {
     /// Counts the entries of one kind at one receiver, from 0.
     pub place: usize,
     pub send_resolved: bool,
+}
+
+impl Clone for Integration {
+    ghost is_clone = { λ a b. b ≡ a };
+
+    fn clone(&self) -> Result<Integration, AllocError> {
+        Ok(Integration {
+            kind: self.kind.clone()?,
+            place: self.place,
+            send_resolved: self.send_resolved,
+        })
+    }
+}
+
+impl Exact for Integration {
+    ghost exact = { λ x y same. same };
 }
 
 /// A receiver with its integrations by kind, and then by place.

@@ -1,7 +1,9 @@
 //! Routes as they are stated.
+ghost use Rattle.std.specs.Prelude.{◌≡◌};
 
-use amr_labels::{Listing, Matchers, Text};
+use amr_labels::{Exact, Listing, Matchers, Text};
 use amr_time::Span;
+use std::alloc::AllocError;
 
 /// How a route groups alerts (`group_by` of Alertmanager's configuration).
 #[derive(Debug, Drop)]
@@ -10,6 +12,21 @@ pub enum Grouping {
     AllLabels,
     /// By the labels of these names.
     Named(Listing<Text>),
+}
+
+impl Clone for Grouping {
+    ghost is_clone = { λ a b. b ≡ a };
+
+    fn clone(&self) -> Result<Grouping, AllocError> {
+        match self {
+            Grouping::AllLabels => Ok(Grouping::AllLabels),
+            Grouping::Named(names) => Ok(Grouping::Named(names.clone()?)),
+        }
+    }
+}
+
+impl Exact for Grouping {
+    ghost exact = { λ x y same. same };
 }
 
 /// A route with what it states itself. What is absent is inherited from the parent.

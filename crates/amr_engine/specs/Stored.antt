@@ -1,5 +1,4 @@
 -- The state that the code keeps.
-use Rattle.amr_labels.specs.Map.{empty}
 use Rattle.amr_engine.specs.State.{State}
 use Rattle.amr_engine.specs.declared.store.Store.TheInside.{Inside}
 
@@ -8,7 +7,7 @@ state_of store = record {
   moment = store.moment;
   config = store.config;
   alerts = store.alerts;
-  silences = empty;
+  silences = store.silences;
   placements = store.placements;
   clocks = store.clocks;
   log = store.log;

@@ -5,6 +5,7 @@ ghost use Rattle.std.proofs.Common.{rules};
 use amr_labels::{Exact, Labels, Listing, Matchers, Text, TextMap};
 use amr_time::Moment;
 use std::alloc::AllocError;
+use std::cmp::Ordering;
 
 /// The clock of a group.
 #[derive(Clone, Copy, Debug)]
@@ -42,6 +43,67 @@ impl Clone for LogKey {
             group: self.group.clone()?,
             path: self.path.clone()?,
         })
+    }
+}
+
+impl PartialEq for LogKey {
+    ghost use Rattle.std.specs.Ordering.{eq_by_cmp};
+    ghost use Rattle.std.specs.Cmp.Rules.{comparing};
+    ghost use Rattle.std.proofs.Common.{rules};
+    ghost use Rattle.amr_engine.specs.State.{log_key_cmp, log_key_cmp_total};
+
+    ghost eq = { eq_by_cmp log_key_cmp };
+
+    ghost laws = { Prim.search (comparing, rules, log_key_cmp_total) };
+
+    fn eq(&self, other: &LogKey) -> bool {
+        self.cmp(other) == Ordering::Equal
+    }
+}
+
+impl Eq for LogKey {
+    ghost use Rattle.std.specs.Cmp.Rules.{comparing};
+    ghost use Rattle.std.proofs.Common.{rules};
+    ghost use Rattle.amr_engine.specs.State.{log_key_cmp_total};
+
+    ghost laws = { Prim.search (comparing, rules, log_key_cmp_total) };
+}
+
+impl Ord for LogKey {
+    ghost use Rattle.std.specs.Cmp.Rules.{comparing};
+    ghost use Rattle.std.proofs.Common.{rules};
+    ghost use Rattle.amr_engine.specs.State.{log_key_cmp, log_key_cmp_total};
+
+    ghost cmp = { log_key_cmp };
+
+    ghost total = { log_key_cmp_total };
+
+    ghost matches_partial_cmp = { Prim.search (comparing, rules) };
+
+    ghost matches_eq = { Prim.search (comparing, rules) };
+
+    fn cmp(&self, other: &LogKey) -> Ordering {
+        let by_path = self.path.as_slice().cmp(other.path.as_slice());
+        let by_group = self.group.cmp(&other.group).then(by_path);
+        let by_place = self.place.cmp(&other.place).then(by_group);
+        let by_kind = self.kind.cmp(&other.kind).then(by_place);
+        self.receiver.cmp(&other.receiver).then(by_kind)
+    }
+}
+
+impl PartialOrd for LogKey {
+    ghost use Rattle.std.specs.Cmp.{partial_order_from_own_ties};
+    ghost use Rattle.std.specs.Cmp.Rules.{comparing};
+    ghost use Rattle.std.specs.Ordering.{as_partial_cmp};
+    ghost use Rattle.std.proofs.Common.{rules};
+    ghost use Rattle.amr_engine.specs.State.{log_key_cmp, log_key_cmp_total};
+
+    ghost partial_cmp = { as_partial_cmp log_key_cmp };
+
+    ghost laws = { partial_order_from_own_ties (Prim.search (comparing, rules, log_key_cmp_total)) (Prim.search (comparing, rules)) };
+
+    fn partial_cmp(&self, other: &LogKey) -> Option<Ordering> {
+        Some(self.cmp(other))
     }
 }
 

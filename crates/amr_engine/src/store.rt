@@ -10,7 +10,7 @@ use crate::spot::Spot;
 use crate::spot_map::SpotMap;
 use amr_config::Config;
 use amr_labels::{LabelMap, Labels, Listing, Shared};
-use amr_rules::{Alert, LogEntry};
+use amr_rules::{Alert, LogEntry, SilenceMap};
 use amr_time::Moment;
 use std::alloc::{AllocError, Global};
 use std::marker::Model;
@@ -22,6 +22,7 @@ pub(crate) struct Store {
     moment: Moment,
     config: Config,
     alerts: LabelMap<Alert>,
+    silences: SilenceMap,
     placements: SpotMap<Alert>,
     clocks: SpotMap<Clock>,
     log: LogMap,
@@ -55,6 +56,7 @@ impl Clone for Store {
             moment: self.moment,
             config: self.config.clone()?,
             alerts: self.alerts.clone()?,
+            silences: self.silences.clone()?,
             placements: self.placements.clone()?,
             clocks: self.clocks.clone()?,
             log: self.log.clone()?,
@@ -73,6 +75,7 @@ impl Store {
             moment: Moment::START,
             config,
             alerts: LabelMap::new(alloc),
+            silences: SilenceMap::new(alloc),
             placements: SpotMap::new(alloc),
             clocks: SpotMap::new(alloc),
             log: LogMap::new(alloc),
@@ -102,6 +105,12 @@ impl Store {
         ensures { result.now ≡ self.now.alerts }
     {
         &self.alerts
+    }
+
+    pub(crate) fn silences(&self) -> &SilenceMap
+        ensures { result.now ≡ self.now.silences }
+    {
+        &self.silences
     }
 
     pub(crate) fn placements(&self) -> &SpotMap<Alert>

@@ -9,10 +9,12 @@ use std::marker::Model;
 /// An alert as it is posted (a postable alert of Alertmanager's API v2). Its times may be missing.
 #[derive(Debug, Drop)]
 pub struct PostedAlert {
-    /// Names with values, as they stand in the posted object.
+    /// Names with values as they are posted, in the byte order of the names. Empty ones are kept.
     pub labels: Listing<(Text, Text)>,
     pub annotations: TextMap,
+    /// None where it is missing.
     pub starts_at: Option<Moment>,
+    /// None where it is missing.
     pub ends_at: Option<Moment>,
 }
 

@@ -1,4 +1,7 @@
 pub mod Finds
 pub mod Numbers
 pub mod Pairs
+pub mod Proper
+pub mod Searches
+pub mod Sorted
 pub mod Trees

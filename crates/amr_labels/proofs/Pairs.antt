@@ -1,16 +1,15 @@
 -- Maps made of pairs, where of equal keys the last counts.
-use Rattle.std.proofs.Common.{◌≡◌, ℕ, ◌+◌, ◌<◌, Bool, true, false, cond, T, List, [], ◌∷◌, ◌++◌, Option, Some, length, take, reverse, get_or, refl, sym, ap, subst, ◌∙◌}
-use Rattle.std.specs.Prelude.{◌&&◌}
+use Rattle.std.proofs.Common.{◌≡◌, ℕ, ◌+◌, ◌<◌, Bool, cond, T, List, [], ◌∷◌, ◌++◌, Option, Some, length, take, reverse, get_or, refl, sym, ap, subst, ◌∙◌}
 use Rattle.std.specs.Cmp.{IsTotalOrder, tied_itself}
 use Rattle.std.specs.FinMap.{find, is_sorted}
 use Rattle.std.specs.FinMap.Entries.{below_all, where_key, is_sorted-where_key}
 use Rattle.std.specs.List.{AllByRecursion, filter}
 use Rattle.std.specs.Option.{unwrap_or}
-use Rattle.std.specs.Ordering.{is_lt, is_eq, ordering_reverse}
+use Rattle.std.specs.Ordering.{is_eq, ordering_reverse}
 use Rattle.std.specs.declared.cmp.Ordering.{Ordering}
-use Rattle.std.specs.declared.cmp.Ordering.TheVariants.{Less, Equal, Greater}
 use Rattle.std.proofs.lemmas.List.{take_more, reverse-append}
 use Rattle.amr_labels.specs.Map.{Map, entries, get, from_entries, from_sorted, insert, retain_keys, entries-from_sorted, entries-retain_keys, entries-sorted, get-entries, same_entries_map}
+use Rattle.amr_labels.proofs.Sorted.{first, second, less}
 
 -- one more pair is inserted into the map of the pairs before
 pub last_counts : {K X : Type 0} (R : K → K → Ordering) (pairs : List (K × X)) (i : ℕ) (pair : K × X) → i < length pairs → pair ≡ get_or pairs i pair
@@ -18,19 +17,6 @@ pub last_counts : {K X : Type 0} (R : K → K → Ordering) (pairs : List (K × 
 last_counts {K} {X} R pairs i pair within is =
     ap (λ (ps : List (K × X)). from_entries {R = R} (reverse ps)) (take_more pairs i pair within ∙ ap (λ (p : K × X). take i pairs ++ p ∷ []) (sym is))
     ∙ ap (from_entries {R = R}) (reverse-append (take i pairs) (pair ∷ []))
-
-first : (a b : Bool) → T (a && b) → T a
-first true b p = tt
-first false b p = p
-
-second : (a b : Bool) → T (a && b) → T b
-second true b p = p
-second false b p = absurd p
-
-less : (o : Ordering) → T (is_lt o) → o ≡ Less
-less Less p = refl
-less Equal p = absurd p
-less Greater p = absurd p
 
 -- tests that agree on each item keep the same items
 filter_alike : {X : Type 0} (p q : X → Bool) (xs : List X) → AllByRecursion (λ x. p x ≡ q x) xs → filter p xs ≡ filter q xs

@@ -1,8 +1,7 @@
 -- What an ordered tree of std says of the finite map of its entries.
-use Rattle.std.proofs.Common.{◌≡◌, Bool, true, false, not, cond, List, [], ◌∷◌, Some, map, refl, sym, ap, subst, ◌∙◌, T}
+use Rattle.std.proofs.Common.{◌≡◌, not, cond, List, [], ◌∷◌, Some, map, refl, sym, ap, subst, ◌∙◌, T}
 use Rattle.std.specs.declared.cmp.Ordering.{Ordering}
 use Rattle.std.specs.declared.cmp.Ordering.TheVariants.{Less, Equal, Greater}
-use Rattle.std.specs.Prelude.{◌&&◌}
 use Rattle.std.specs.Ordering.{is_lt, is_eq, eq_by_cmp, match_ordering}
 use Rattle.std.specs.FinMap.{find, put, is_sorted}
 use Rattle.std.specs.FinMap.Entries.{below_all, by_order, where_key}
@@ -14,10 +13,7 @@ use Rattle.std.specs.BTreeMap as tree
 use Rattle.std.specs.BTreeMap.{BTreeMap, insert_entry}
 use Rattle.std.proofs.lemmas.Map.Keys.{sorted_head, sorted_tail}
 use Rattle.amr_labels.specs.Map.{from_sorted, entries, get, insert, remove, empty, entries-from_sorted, entries-retain_keys, entries-insert, get-entries, same_entries_map}
-
-both : (a b : Bool) → T a → T b → T (a && b)
-both true b p q = q
-both false b p q = absurd p
+use Rattle.amr_labels.proofs.Sorted.{both, first, second, less}
 
 module _ {K X : Type 0} (R : K → K → Ordering) where
   below : (k : K) (es : List (K × X)) → AllByRecursion (λ y. R k y ≡ Less) (map (λ e. e.0) es) → T (below_all R k es)
@@ -55,19 +51,6 @@ module _ {K X : Type 0} (R : K → K → Ordering) where
 
   pub empty_of_tree : (m : BTreeMap K X) → m.entries ≡ [] → from_sorted {R = R} m.entries ≡ empty
   empty_of_tree m e = empty_of_entries m.entries e
-
-less : (o : Ordering) → T (is_lt o) → o ≡ Less
-less Less p = refl
-less Equal p = absurd p
-less Greater p = absurd p
-
-first : (a b : Bool) → T (a && b) → T a
-first true b p = tt
-first false b p = p
-
-second : (a b : Bool) → T (a && b) → T b
-second true b p = p
-second false b p = absurd p
 
 module _ {K X : Type 0} {R : K → K → Ordering} (o : IsTotalOrder R) where
   -- keys above one that ties with k do not tie with k

@@ -1,5 +1,5 @@
 //! Label sets.
-ghost use Rattle.std.specs.Prelude.{◌≡◌, ◌==◌, List, ℕ, IfOk};
+ghost use Rattle.std.specs.Prelude.{◌≡◌, ◌==◌, List, ℕ, IfOk, IfSome};
 ghost use Rattle.std.proofs.Common.{rules};
 ghost use Rattle.std.specs.Cmp.{partial_order_from_own_ties};
 ghost use Rattle.std.specs.Cmp.Rules.{comparing};
@@ -7,7 +7,7 @@ ghost use Rattle.std.specs.List.{list_any};
 ghost use Rattle.std.specs.Option.{option_copied};
 ghost use Rattle.std.specs.Ordering.{as_partial_cmp, eq_by_cmp};
 ghost use Rattle.amr_labels.specs.Map as map;
-ghost use Rattle.amr_labels.specs.Labels.{text_cmp, value_of, label_set_cmp, label_set_cmp_total, labels_of_pairs};
+ghost use Rattle.amr_labels.specs.Labels.{text_cmp, value_of, label_set_cmp, label_set_cmp_total, labels_of_pairs, IsLabelSet};
 
 use crate::text::Text;
 use crate::text_map::TextMap;
@@ -49,7 +49,8 @@ impl Labels {
     /// The label set of pairs of a name and a value. Of equal names the last counts, and then a label whose value is empty is dropped.
     /// There is none where a name that is left is empty.
     pub fn of_pairs(alloc: Global, pairs: &[(Text, Text)]) -> Result<Option<Labels>, AllocError>
-        ensures { IfOk result (λ found. found ≡ labels_of_pairs pairs.now) }
+        ensures made { IfOk result (λ found. found ≡ labels_of_pairs pairs.now) }
+        ensures proper { IfOk result (λ found. IfSome found IsLabelSet) }
     {
         let last = TextMap::from_pairs(alloc, pairs)?;
         let texts = last.without_empty_texts(alloc)?;

@@ -100,16 +100,18 @@ fn named(
     Ok(kept)
 }
 
-/// The text under the name, among pairs.
+/// The text under the name, among pairs whose names rise.
 fn text_under<'a>(pairs: &'a [(Text, Text)], name: &str) -> Option<&'a Text>
+    requires { T (is_sorted text_cmp pairs.now) }
     ensures { option_copied result ≡ find text_cmp name.now pairs.now }
 {
-    for pair in pairs {
-        if name.cmp(pair.0.as_str()) == Ordering::Equal {
-            return Some(&pair.1);
-        }
+    let by_name = |pair: &(Text, Text)| -> Ordering
+        ensures { result ≡ text_cmp pair.now.0 name.entry.now }
+    { pair.0.as_str().cmp(name) };
+    match pairs.binary_search_by(by_name) {
+        Ok(at) => Some(&pairs[at].1),
+        Err(_) => None,
     }
-    None
 }
 
 impl TextMap {

@@ -1,5 +1,5 @@
 -- A set does not depend on the order of the list that it is made of.
-use Rattle.std.proofs.Common.{◌≡◌, ℕ, ◌+◌, ◌<◌, Bool, true, false, ◌||◌, Option, Some, None, List, [], ◌∷◌, ◌++◌, length, take, reverse, get_or, cond, refl, sym, ap, ◌∙◌}
+use Rattle.std.proofs.Common.{◌≡◌, ℕ, ◌+◌, ◌<◌, Bool, true, false, ◌||◌, Some, None, List, [], ◌∷◌, ◌++◌, length, take, reverse, get_or, cond, refl, sym, ap, ◌∙◌}
 use Rattle.std.specs.declared.cmp.Ordering.{Ordering}
 use Rattle.std.specs.Ordering.{eq_by_cmp}
 use Rattle.std.specs.Cmp.{IsTotalOrder}
@@ -8,7 +8,7 @@ use Rattle.std.specs.List.{list_any}
 use Rattle.std.proofs.lemmas.List.{take_more, reverse-append}
 use Rattle.std.proofs.lemmas.List.Folds.{list_any-append}
 use Rattle.amr_labels.specs.Map.{get, insert, get-empty, get-insert, same_map}
-use Rattle.amr_labels.specs.Set.{Set, from_list}
+use Rattle.amr_labels.specs.Set.{from_list}
 
 either : {A : Type 0} (a b : Bool) (x y : A) → cond a x (cond b x y) ≡ cond (a || b) x y
 either true b x y = refl
@@ -37,7 +37,7 @@ module _ {K : Type 0} {R : K → K → Ordering} (o : IsTotalOrder R) where
   pub from_list-reverse : IsAntisymmetric R → (ks : List K) → from_list {R = R} (reverse ks) ≡ from_list ks
   from_list-reverse same ks =
       same_map o same _ _ (λ q.
-          get-from_list (reverse ks) q ∙ ap (λ b. cond b (Some tt) None) (list_any-reverse (eq_by_cmp R q) ks) ∙ sym (get-from_list ks q))
+      get-from_list (reverse ks) q ∙ ap (λ b. cond b (Some tt) None) (list_any-reverse (eq_by_cmp R q) ks) ∙ sym (get-from_list ks q))
 
 -- one more key is inserted into the set of the keys before
 pub one_more : {K : Type 0} (R : K → K → Ordering) (ks : List K) (i : ℕ) (k : K) → i < length ks → k ≡ get_or ks i k

@@ -103,13 +103,6 @@ pub fn needs_update(
 {
     match entry {
         None => !firing.is_empty(),
-        Some(entry) => differs(
-            entry,
-            firing,
-            resolved,
-            send_resolved,
-            now,
-            repeat_interval,
-        ),
+        Some(entry) => differs(entry, firing, resolved, send_resolved, now, repeat_interval),
     }
 }

@@ -5,3 +5,4 @@ pub mod Durations
 pub mod Takes
 pub mod Spelled
 pub mod Written
+pub mod SpanTexts

@@ -10,7 +10,7 @@ use Rattle.amr_time.specs.MomentText.{IsDigit, digit, two_digits, four_digits, d
 use Rattle.amr_time.specs.MomentRead.{is_digit, two_at, four_at, is_date, day_number, day_at, minutes_at, seconds_at, digits_of, fraction_digits_at, fraction_at, offset_at, time_mark_at, moment_at}
 use Rattle.amr_time.specs.Laws.{SpelledIsRead}
 
-is_one : (c : ℕ) → 48 ≤ c → c ≤ 57 → is_digit c ≡ true
+pub is_one : (c : ℕ) → 48 ≤ c → c ≤ 57 → is_digit c ≡ true
 is_one c low high = and_from (leb 48 c) (leb c 57) (le-leb 48 c low) (le-leb c 57 high)
 
 two_again : (n : ℕ) (rest : List ℕ) → n < 100 → two_at (two_digits n ++ rest) ≡ Some (n, rest)
@@ -61,7 +61,7 @@ time_mark_again mark rest (inl e) = rw e refl
 time_mark_again mark rest (inr e) = rw e refl
 
 -- digits before another byte are all that are taken
-digits_again : (digits : List ℕ) (c : ℕ) (cs : List ℕ) → AllByRecursion IsDigit digits → is_digit c ≡ false → digits_of (digits ++ c ∷ cs) ≡ digits
+pub digits_again : (digits : List ℕ) (c : ℕ) (cs : List ℕ) → AllByRecursion IsDigit digits → is_digit c ≡ false → digits_of (digits ++ c ∷ cs) ≡ digits
 digits_again [] c cs all stops = rw (take_while-cons is_digit c cs, stops) refl
 digits_again (d ∷ ds) c cs all stops =
     rw (take_while-cons is_digit d (ds ++ c ∷ cs), is_one d all.0.0 all.0.1, digits_again ds c cs all.1 stops) refl

@@ -161,7 +161,7 @@ some_fraction : (digits : List ℕ) → 1 ≤ length digits → fraction_text di
 some_fraction [] le = absurd (omega arith)
 some_fraction (d ∷ ds) le = refl
 
-parted : (bytes : List ℕ) → digits_of bytes ++ drop (length (digits_of bytes)) bytes ≡ bytes
+pub parted : (bytes : List ℕ) → digits_of bytes ++ drop (length (digits_of bytes)) bytes ≡ bytes
 parted bytes = rw (length-prefix_len is_digit bytes) (take-append-drop (prefix_len is_digit bytes) bytes)
 
 after_point : (c : ℕ) (cs : List ℕ) (b : Bool) (read : ℕ × List ℕ) → eqb c 46 ≡ b → cond b (fraction_digits_at cs) (Some (0, c ∷ cs)) ≡ Some read → FractionTaken (c ∷ cs) read.0 read.1

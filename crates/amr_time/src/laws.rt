@@ -1,5 +1,6 @@
-// Laws of the texts of moments: each function says one, and does nothing.
+// Laws of the texts of moments and durations: each function says one, and does nothing.
 ghost use Rattle.amr_time.specs.Laws.{ReadIsSpelled, SpelledIsRead, WrittenIsSpelled, WrittenIsRead};
+ghost use Rattle.amr_time.specs.SpanText.{ReadSpanIsSpelled, SpelledSpanIsRead};
 
 /// A text that is read as a moment spells a date that exists, a time of day and an offset, whose nanoseconds are it.
 pub fn what_is_read_is_spelled()
@@ -19,4 +20,14 @@ pub fn what_is_written_is_spelled()
 /// The text that is written is read back as the same moment.
 pub fn what_is_written_is_read()
     ensures { WrittenIsRead }
+{}
+
+/// A text that is read as a duration is `0`, or spells amounts of the units, whose sum is it.
+pub fn what_is_read_as_a_span_is_spelled()
+    ensures { ReadSpanIsSpelled }
+{}
+
+/// A text that is `0`, or spells amounts of the units, at most ten years together, is read as their sum.
+pub fn what_is_spelled_as_a_span_is_read()
+    ensures { SpelledSpanIsRead }
 {}

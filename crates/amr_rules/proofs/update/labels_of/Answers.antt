@@ -2,7 +2,7 @@ use Rattle.std.proofs.Common.{sym, ap, ◌∙◌, reverse}
 use Rattle.std.proofs.lemmas.List.{take_all}
 use Rattle.amr_labels.specs.Map.{insert}
 use Rattle.amr_labels.specs.Set as set
-use Rattle.amr_labels.specs.Labels.{LabelSet, label_set_cmp, label_set_cmp_total, label_set_cmp-IsAntisymmetric}
+use Rattle.amr_labels.specs.Labels.{label_set_cmp, label_set_cmp_total, label_set_cmp-IsAntisymmetric}
 use Rattle.amr_rules.proofs.Sets.{one_more, from_list-reverse}
 use Rattle.amr_rules.proofs.update.labels_of.Goals as goal
 

@@ -1,0 +1,294 @@
+-- The walk through the routes, one after another, finds those that the rule chooses.
+use Rattle.std.proofs.Common.{◌≡◌, ◌≢◌, ℕ, ◌+◌, ◌<◌, ◌≤◌, Bool, true, false, not, List, [], ◌∷◌, ◌++◌, length, get_or, set, map, cond, Option, Some, None, refl, sym, ap, ◌∙◌, arith, inl, inr, ◌⊎◌}
+use Rattle.std.specs.Prelude.{◌&&◌, ◌||◌, nat_lt, ◌==◌}
+use Rattle.std.specs.Option.{option_map_or}
+use Rattle.std.specs.List.{list_all, list_any, filter, range_with_len, slice_get}
+use Rattle.std.proofs.Math.Bool.{or-false, and-false}
+use Rattle.std.proofs.lemmas.Bool.{lt-ltb, le-ltb, ne_eqb, eq-eqb, cases_eq, and_parts}
+use Rattle.std.proofs.lemmas.Option.{none-some, same_Some, slice_get-get_or, slice_get_cases}
+use Rattle.std.proofs.lemmas.List.{same_lists, length-set, get_or-set_same, get_or-set_other}
+use Rattle.std.proofs.lemmas.List.Elements.{filter-append}
+use Rattle.std.proofs.lemmas.List.FromFn.{length-map-range_with_len, get_or-map-range_with_len, map-range_with_len_more}
+use Rattle.amr_labels.specs.Labels.{LabelSet}
+use Rattle.amr_labels.specs.Matchers.{all_hold}
+use Rattle.amr_config.specs.declared.walk.Mark.{Mark}
+use Rattle.amr_config.specs.Config.{Config}
+use Rattle.amr_config.specs.Routing.{parent_of, matches_route, is_child, is_cut_off, is_chosen, route_is, chosen}
+use Rattle.amr_config.specs.declared.route.Route.{Route}
+use Rattle.amr_config.specs.declared.settings.Settings.{Settings}
+use Rattle.amr_config.specs.Settled.{AreParentsFirst, settings_of}
+use Rattle.amr_config.specs.Marks.{is_open, takes_from, closes, mark_of, marks_at, is_chosen_mark, chosen_numbers}
+use Rattle.amr_config.proofs.Lines.{line_of-root, line_of-child}
+use Rattle.amr_config.proofs.Ranges.{any_below, any_nowhere, any_none_below, any_more, any_wider, map_same, filter_same, range_more}
+
+abbrev mark : Bool → Bool → Bool → Mark
+mark reached taken closed = record { is_open = reached; is_taken = taken; is_closed = closed }
+
+or_true : (b : Bool) → (b || true) ≡ true
+or_true true = refl
+or_true false = refl
+
+third_false : (a b c : Bool) → (((a && false) && b) && c) ≡ false
+third_false true b c = refl
+third_false false b c = refl
+
+and_true : (b : Bool) → (b && true) ≡ b
+and_true true = refl
+and_true false = refl
+
+module _ (config : Config) (labels : LabelSet) (first : AreParentsFirst config) where
+  continues : ℕ → Bool
+  continues m = route_is (λ route. route.continues) config m
+
+  cut_root : (n : ℕ) → parent_of config n ≡ None → is_cut_off config labels n ≡ false
+  cut_root n e =
+      any_nowhere _ (length config.routes) (λ m.
+      ap (λ o. ((nat_lt m n && option_map_or (λ parent. is_child config parent m) o false) && matches_route config labels m) && not (route_is (λ route. route.continues) config m)) e
+      ∙ third_false (nat_lt m n) (matches_route config labels m) (not (route_is (λ route. route.continues) config m)))
+
+  cut_child : (n parent : ℕ) → n ≤ length config.routes → parent_of config n ≡ Some parent → is_cut_off config labels n ≡ list_any (closes config labels parent) (range_with_len 0 n)
+  cut_child n parent le e =
+      any_below _ (closes config labels parent) n (length config.routes) le
+      (λ m h.
+      ap (λ o. ((nat_lt m n && option_map_or (λ parent. is_child config parent m) o false) && matches_route config labels m) && not (route_is (λ route. route.continues) config m)) e
+      ∙ ap (λ b. ((b && is_child config parent m) && matches_route config labels m) && not (route_is (λ route. route.continues) config m)) (lt-ltb m n h))
+      (λ m h.
+      ap (λ o. ((nat_lt m n && option_map_or (λ parent. is_child config parent m) o false) && matches_route config labels m) && not (route_is (λ route. route.continues) config m)) e
+      ∙ ap (λ b. ((b && is_child config parent m) && matches_route config labels m) && not (route_is (λ route. route.continues) config m)) (le-ltb m n h))
+
+  open_root : (n : ℕ) → parent_of config n ≡ None → is_open config labels n ≡ matches_route config labels n
+  unfolding is_open
+  open_root n e =
+      ap (list_all (λ m. matches_route config labels m && not (is_cut_off config labels m))) (line_of-root config first n e)
+      ∙ and_true (matches_route config labels n && not (is_cut_off config labels n))
+      ∙ ap (λ b. matches_route config labels n && not b) (cut_root n e)
+      ∙ and_true (matches_route config labels n)
+
+  open_child : (n parent : ℕ) → parent_of config n ≡ Some parent → is_open config labels n ≡ ((matches_route config labels n && not (is_cut_off config labels n)) && is_open config labels parent)
+  unfolding is_open
+  open_child n parent e = ap (list_all (λ m. matches_route config labels m && not (is_cut_off config labels m))) (line_of-child config first n parent e)
+
+  -- a route that takes and closes nothing leaves a mark as it is
+  mark_stays : (n q : ℕ) → takes_from config labels q n ≡ false → closes config labels q n ≡ false → mark_of config labels (n + 1) q ≡ mark_of config labels n q
+  unfolding mark_of
+  mark_stays n q t c =
+      ap (λ b. mark (is_open config labels q) (is_open config labels q && b) (is_open config labels q && list_any (closes config labels q) (range_with_len 0 (n + 1))))
+      (any_more (takes_from config labels q) n ∙ ap (λ b. list_any (takes_from config labels q) (range_with_len 0 n) || b) t ∙ or-false _)
+      ∙ ap (λ b. mark (is_open config labels q) (is_open config labels q && list_any (takes_from config labels q) (range_with_len 0 n)) (is_open config labels q && b))
+      (any_more (closes config labels q) n ∙ ap (λ b. list_any (closes config labels q) (range_with_len 0 n) || b) c ∙ or-false _)
+
+  not_child : (n q : ℕ) → is_child config q n ≡ false → mark_of config labels (n + 1) q ≡ mark_of config labels n q
+  not_child n q e =
+      mark_stays n q (ap (λ b. b && matches_route config labels n) e)
+      (ap (λ b. (b && matches_route config labels n) && not (route_is (λ route. route.continues) config n)) e)
+
+  not_matching : (n q : ℕ) → matches_route config labels n ≡ false → mark_of config labels (n + 1) q ≡ mark_of config labels n q
+  not_matching n q e =
+      let t : takes_from config labels q n ≡ false = ap (λ b. is_child config q n && b) e ∙ and-false (is_child config q n) in
+      mark_stays n q t (ap (λ b. b && not (route_is (λ route. route.continues) config n)) t)
+
+  -- a mark that isn't open says nothing
+  not_open : (n m q : ℕ) → is_open config labels q ≡ false → mark_of config labels n q ≡ mark_of config labels m q
+  unfolding mark_of
+  not_open n m q e = rw e refl
+
+  child_of_parent : (n q : ℕ) (o : Option ℕ) → parent_of config n ≡ o → ((p : ℕ) → o ≡ Some p → p ≢ q) → is_child config q n ≡ false
+  child_of_parent n q None e h = ap (λ o. option_map_or (λ p. p == q) o false) e
+  child_of_parent n q (Some p) e h = ap (λ o. option_map_or (λ p. p == q) o false) e ∙ ne_eqb p q (h p refl)
+
+  after_all : (n m : ℕ) (o : Option ℕ) → parent_of config m ≡ o → m < n + 1 → is_child config n m ≡ false
+  after_all n m None e h = ap (λ o. option_map_or (λ p. p == n) o false) e
+  after_all n m (Some p) e h =
+      ap (λ o. option_map_or (λ p. p == n) o false) e ∙ ne_eqb p n (λ same. absurd (omega (arith, first m p e, h, same)))
+
+  -- a route has no child among those up to itself
+  fresh : (n : ℕ) → mark_of config labels (n + 1) n ≡ mark (is_open config labels n) false false
+  unfolding mark_of
+  fresh n =
+      let none : (m : ℕ) → m < n + 1 → is_child config n m ≡ false = λ m h. after_all n m (parent_of config m) refl h in
+      ap (λ b. mark (is_open config labels n) (is_open config labels n && b) (is_open config labels n && list_any (closes config labels n) (range_with_len 0 (n + 1))))
+      (any_none_below (takes_from config labels n) (n + 1) (λ m h. ap (λ b. b && matches_route config labels m) (none m h)))
+      ∙ ap (λ b. mark (is_open config labels n) (is_open config labels n && false) (is_open config labels n && b))
+      (any_none_below (closes config labels n) (n + 1) (λ m h. ap (λ b. (b && matches_route config labels m) && not (route_is (λ route. route.continues) config m)) (none m h)))
+      ∙ ap (λ b. mark (is_open config labels n) b b) (and-false (is_open config labels n))
+
+  -- marks that stay, and that of the route itself
+  more : (n : ℕ) (b : Bool) → is_open config labels n ≡ b → (marks : List Mark) → marks ≡ map (mark_of config labels (n + 1)) (range_with_len 0 n) → marks ++ mark b false false ∷ [] ≡ marks_at config labels (n + 1)
+  unfolding marks_at
+  more n b o marks e =
+      ap (λ ms. ms ++ mark b false false ∷ []) e
+      ∙ ap (λ m. map (mark_of config labels (n + 1)) (range_with_len 0 n) ++ m ∷ []) (ap (λ c. mark c false false) (sym o) ∙ sym (fresh n))
+      ∙ sym (map-range_with_len_more (mark_of config labels (n + 1)) 0 n n (omega arith))
+
+  all_stay : (n : ℕ) (b : Bool) → is_open config labels n ≡ b → ((q : ℕ) → q < n → mark_of config labels (n + 1) q ≡ mark_of config labels n q) → marks_at config labels n ++ mark b false false ∷ [] ≡ marks_at config labels (n + 1)
+  unfolding marks_at
+  all_stay n b o stay =
+      more n b o (map (mark_of config labels n) (range_with_len 0 n)) (sym (map_same (mark_of config labels (n + 1)) (mark_of config labels n) n stay))
+
+  -- a route without a parent
+  pub root_step : (n : ℕ) (b : Bool) → parent_of config n ≡ None → b ≡ matches_route config labels n → marks_at config labels n ++ mark b false false ∷ [] ≡ marks_at config labels (n + 1)
+  root_step n b e m =
+      all_stay n b (open_root n e ∙ sym m) (λ q h. not_child n q (child_of_parent n q None e (λ p s same. none-some p s)))
+
+  closed_is : (n parent : ℕ) (m : Mark) → m ≡ mark_of config labels n parent → m.is_open ≡ true → list_any (closes config labels parent) (range_with_len 0 n) ≡ m.is_closed
+  unfolding mark_of
+  closed_is n parent m same o =
+      let so : is_open config labels parent ≡ true = sym (ap (λ x. x.is_open) same) ∙ o in
+      sym (ap (λ x. x.is_closed) same ∙ ap (λ b. b && list_any (closes config labels parent) (range_with_len 0 n)) so)
+
+  parent_open : (n parent : ℕ) (m : Mark) (b : Bool) → m ≡ mark_of config labels n parent → m.is_open ≡ b → is_open config labels parent ≡ b
+  unfolding mark_of
+  parent_open n parent m b same o = sym (ap (λ x. x.is_open) same) ∙ o
+
+  -- a closed mark is an open one
+  closed_open : (n parent : ℕ) (m : Mark) → m ≡ mark_of config labels n parent → m.is_closed ≡ true → m.is_open ≡ true
+  unfolding mark_of
+  closed_open n parent m same c =
+      let parts = and_parts (is_open config labels parent) (list_any (closes config labels parent) (range_with_len 0 n)) (sym (ap (λ x. x.is_closed) same) ∙ c) in
+      ap (λ x. x.is_open) same ∙ parts.0
+
+  shut_open : (n parent : ℕ) → n ≤ length config.routes → parent_of config n ≡ Some parent → (m : Mark) → m ≡ mark_of config labels n parent → (m.is_open ≡ false) ⊎ (m.is_closed ≡ true) → is_open config labels n ≡ false
+  shut_open n parent le e m same (inl o) =
+      open_child n parent e ∙ ap (λ b. (matches_route config labels n && not (is_cut_off config labels n)) && b) (parent_open n parent m false same o)
+      ∙ and-false (matches_route config labels n && not (is_cut_off config labels n))
+  shut_open n parent le e m same (inr c) =
+      let cut : is_cut_off config labels n ≡ true =
+      cut_child n parent le e ∙ closed_is n parent m same (closed_open n parent m same c) ∙ c in
+      open_child n parent e ∙ ap (λ b. (matches_route config labels n && not b) && is_open config labels parent) cut
+      ∙ ap (λ b. b && is_open config labels parent) (and-false (matches_route config labels n))
+
+  -- a closed mark has nothing to learn
+  closed_stays : (n parent : ℕ) → is_open config labels parent ≡ true → list_any (closes config labels parent) (range_with_len 0 n) ≡ true → mark_of config labels (n + 1) parent ≡ mark_of config labels n parent
+  unfolding mark_of
+  closed_stays n parent o c =
+      let t : list_any (takes_from config labels parent) (range_with_len 0 n) ≡ true =
+      any_wider (closes config labels parent) (takes_from config labels parent) n (λ m h. (and_parts (takes_from config labels parent m) _ h).0) c in
+      let t' : list_any (takes_from config labels parent) (range_with_len 0 (n + 1)) ≡ true =
+      any_more (takes_from config labels parent) n ∙ ap (λ b. b || takes_from config labels parent n) t in
+      let c' : list_any (closes config labels parent) (range_with_len 0 (n + 1)) ≡ true =
+      any_more (closes config labels parent) n ∙ ap (λ b. b || closes config labels parent n) c in
+      rw (t, t', c, c') refl
+
+  shut_stays : (n parent : ℕ) → n ≤ length config.routes → parent_of config n ≡ Some parent → (m : Mark) → m ≡ mark_of config labels n parent → (m.is_open ≡ false) ⊎ (m.is_closed ≡ true) → (q : ℕ) → (parent ≡ q) ⊎ (parent ≡ q → ⊥) → mark_of config labels (n + 1) q ≡ mark_of config labels n q
+  shut_stays n parent le e m same (inl o) q (inl is) = rw (← is) (not_open (n + 1) n parent (parent_open n parent m false same o))
+  shut_stays n parent le e m same (inr c) q (inl is) =
+      let o = closed_open n parent m same c in
+      rw (← is) (closed_stays n parent (parent_open n parent m true same o) (closed_is n parent m same o ∙ c))
+  shut_stays n parent le e m same shut q (inr ne) = not_child n q (child_of_parent n q (Some parent) e (λ p s is. ne (same_Some parent p s ∙ is)))
+
+  taken_open : (n parent : ℕ) → n ≤ length config.routes → parent_of config n ≡ Some parent → (m : Mark) → m ≡ mark_of config labels n parent → m.is_open ≡ true → m.is_closed ≡ false → matches_route config labels n ≡ true → is_open config labels n ≡ true
+  taken_open n parent le e m same o cl mt =
+      let cut : is_cut_off config labels n ≡ false = cut_child n parent le e ∙ closed_is n parent m same o ∙ cl in
+      let po : is_open config labels parent ≡ true = parent_open n parent m true same o in
+      open_child n parent e ∙ ap (λ b. (b && not (is_cut_off config labels n)) && is_open config labels parent) mt
+      ∙ ap (λ b. not b && is_open config labels parent) cut ∙ po
+
+  is_parent : (n parent : ℕ) → parent_of config n ≡ Some parent → is_child config parent n ≡ true
+  is_parent n parent e = ap (λ o. option_map_or (λ p. p == parent) o false) e ∙ eq-eqb parent parent refl
+
+  taken_mark : (n parent : ℕ) → parent_of config n ≡ Some parent → is_open config labels parent ≡ true → list_any (closes config labels parent) (range_with_len 0 n) ≡ false → matches_route config labels n ≡ true → (c : Bool) → c ≡ route_is (λ route. route.continues) config n → mark true true (not c) ≡ mark_of config labels (n + 1) parent
+  unfolding mark_of
+  taken_mark n parent e o cl mt c cont =
+      let t : takes_from config labels parent n ≡ true = ap (λ b. b && matches_route config labels n) (is_parent n parent e) ∙ mt in
+      let t' : list_any (takes_from config labels parent) (range_with_len 0 (n + 1)) ≡ true =
+      any_more (takes_from config labels parent) n ∙ ap (λ b. list_any (takes_from config labels parent) (range_with_len 0 n) || b) t ∙ or_true _ in
+      let c' : list_any (closes config labels parent) (range_with_len 0 (n + 1)) ≡ not c =
+      any_more (closes config labels parent) n ∙ ap (λ b. b || closes config labels parent n) cl
+      ∙ ap (λ b. b && not (route_is (λ route. route.continues) config n)) t ∙ ap not (sym cont) in
+      rw (o, t', c') refl
+
+  taken_at : (n parent k : ℕ) → parent_of config n ≡ Some parent → is_open config labels parent ≡ true → list_any (closes config labels parent) (range_with_len 0 n) ≡ false → matches_route config labels n ≡ true → (c : Bool) → c ≡ route_is (λ route. route.continues) config n → (d : Mark) → (parent ≡ k) ⊎ (parent ≡ k → ⊥) → k < n → parent < length (map (mark_of config labels n) (range_with_len 0 n)) → get_or (set (map (mark_of config labels n) (range_with_len 0 n)) parent (mark true true (not c))) k d ≡ mark_of config labels (n + 1) k
+  taken_at n parent k e o cl mt c cont d (inl is) kn lt =
+      rw (← is) (get_or-set_same (map (mark_of config labels n) (range_with_len 0 n)) parent (mark true true (not c)) d lt ∙ taken_mark n parent e o cl mt c cont)
+  taken_at n parent k e o cl mt c cont d (inr ne) kn lt =
+      get_or-set_other (map (mark_of config labels n) (range_with_len 0 n)) parent k (mark true true (not c)) d (λ s. ne (sym s))
+      ∙ get_or-map-range_with_len (mark_of config labels n) 0 n k k d kn (omega arith)
+      ∙ sym (not_child n k (child_of_parent n k (Some parent) e (λ p s is. ne (same_Some parent p s ∙ is))))
+
+  taken_marks : (n parent : ℕ) → n ≤ length config.routes → parent_of config n ≡ Some parent → (m : Mark) → m ≡ mark_of config labels n parent → m.is_open ≡ true → m.is_closed ≡ false → matches_route config labels n ≡ true → (c : Bool) → c ≡ route_is (λ route. route.continues) config n → set (marks_at config labels n) parent (mark true true (not c)) ≡ map (mark_of config labels (n + 1)) (range_with_len 0 n)
+  unfolding marks_at
+  taken_marks n parent le e m same o cl mt c cont =
+      let old : List Mark = map (mark_of config labels n) (range_with_len 0 n) in
+      let v : Mark = mark true true (not c) in
+      let len : length old ≡ n = length-map-range_with_len (mark_of config labels n) 0 n in
+      let lt : parent < n = first n parent e in
+      same_lists (set old parent v) (map (mark_of config labels (n + 1)) (range_with_len 0 n))
+      (length-set old parent v ∙ len ∙ sym (length-map-range_with_len (mark_of config labels (n + 1)) 0 n))
+      (λ k d h.
+      let kn : k < n = omega (arith, h, length-set old parent v, len) in
+      taken_at n parent k e (parent_open n parent m true same o) (closed_is n parent m same o ∙ cl) mt c cont d (cases_eq parent k) kn (omega (arith, len, lt))
+      ∙ sym (get_or-map-range_with_len (mark_of config labels (n + 1)) 0 n k k d kn (omega arith)))
+
+  -- a route that isn't open changes no mark
+  pub shut_step : (n parent : ℕ) → n ≤ length config.routes → parent_of config n ≡ Some parent → (m : Mark) → m ≡ mark_of config labels n parent → (m.is_open ≡ false) ⊎ (m.is_closed ≡ true) → marks_at config labels n ++ mark false false false ∷ [] ≡ marks_at config labels (n + 1)
+  shut_step n parent le e m same shut =
+      all_stay n false (shut_open n parent le e m same shut) (λ q h. shut_stays n parent le e m same shut q (cases_eq parent q))
+
+  -- a route that doesn't match changes no mark
+  pub unmatched_step : (n parent : ℕ) → parent_of config n ≡ Some parent → matches_route config labels n ≡ false → marks_at config labels n ++ mark false false false ∷ [] ≡ marks_at config labels (n + 1)
+  unmatched_step n parent e m =
+      all_stay n false (open_child n parent e ∙ ap (λ b. (b && not (is_cut_off config labels n)) && is_open config labels parent) m) (λ q h. not_matching n q m)
+
+  -- a route that matches below an open one marks its parent
+  pub taken_step : (n parent : ℕ) → n ≤ length config.routes → parent_of config n ≡ Some parent → (m : Mark) → m ≡ mark_of config labels n parent → m.is_open ≡ true → m.is_closed ≡ false → matches_route config labels n ≡ true → (c : Bool) → c ≡ route_is (λ route. route.continues) config n → set (marks_at config labels n) parent (mark true true (not c)) ++ mark true false false ∷ [] ≡ marks_at config labels (n + 1)
+  taken_step n parent le e m same o cl mt c cont =
+      more n true (taken_open n parent le e m same o cl mt) (set (marks_at config labels n) parent (mark true true (not c)))
+      (taken_marks n parent le e m same o cl mt c cont)
+
+open_untaken : (o t : Bool) → (o && not (o && t)) ≡ (o && not t)
+open_untaken true t = refl
+open_untaken false t = refl
+
+module _ (config : Config) (labels : LabelSet) where
+  chosen_mark : (n : ℕ) → is_chosen_mark (mark_of config labels (length config.routes) n) ≡ is_chosen config labels n
+  unfolding mark_of is_open
+  chosen_mark n = open_untaken (is_open config labels n) _
+
+  -- the routes whose marks say so at the end are those that the rule chooses
+  pub chosen_from_marks : (marks : List Mark) → marks ≡ marks_at config labels (length config.routes) → chosen_numbers marks (length marks) ≡ chosen config labels
+  unfolding marks_at chosen
+  chosen_from_marks marks e =
+      let n : ℕ = length config.routes in
+      let len : length marks ≡ n = ap length e ∙ length-map-range_with_len (mark_of config labels n) 0 n in
+      rw (len) (filter_same (λ k. option_map_or is_chosen_mark (slice_get marks k) false) (is_chosen config labels) n (λ k h.
+      ap (λ o. option_map_or is_chosen_mark o false)
+      (slice_get-get_or marks k (mark_of config labels n k) (omega (arith, len, h)) ∙ ap (λ x. Some x) (ap (λ ms. get_or ms k (mark_of config labels n k)) e
+      ∙ get_or-map-range_with_len (mark_of config labels n) 0 n k k (mark_of config labels n k) h (omega arith)))
+      ∙ chosen_mark k))
+
+chosen_more_at : (marks : List Mark) (n : ℕ) (b : Bool) → option_map_or is_chosen_mark (slice_get marks n) false ≡ b → chosen_numbers marks (n + 1) ≡ chosen_numbers marks n ++ cond b (n ∷ []) []
+chosen_more_at marks n b e =
+    ap (filter (λ k. option_map_or is_chosen_mark (slice_get marks k) false)) (range_more n)
+    ∙ filter-append (λ k. option_map_or is_chosen_mark (slice_get marks k) false) (range_with_len 0 n) (n ∷ [])
+    ∙ ap (λ c. chosen_numbers marks n ++ cond c (n ∷ []) []) e
+
+-- one more mark
+pub chosen_more : (marks : List Mark) (n : ℕ) (d : Mark) (b : Bool) → n < length marks → b ≡ is_chosen_mark (get_or marks n d) → chosen_numbers marks (n + 1) ≡ chosen_numbers marks n ++ cond b (n ∷ []) []
+chosen_more marks n d b h e =
+    chosen_more_at marks n b (ap (λ o. option_map_or is_chosen_mark o false) (slice_get-get_or marks n d h) ∙ sym e)
+
+pub mark_found : (config : Config) (labels : LabelSet) (n parent : ℕ) (marks : List Mark) (m : Mark) → parent < n → marks ≡ marks_at config labels n → m ≡ get_or marks parent m → m ≡ mark_of config labels n parent
+unfolding marks_at
+mark_found config labels n parent marks m lt e is =
+    is ∙ ap (λ ms. get_or ms parent m) e ∙ get_or-map-range_with_len (mark_of config labels n) 0 n parent parent m lt (omega arith)
+
+route_matches : (config : Config) (labels : LabelSet) (n : ℕ) → n < length config.routes → ((x : Route) × (n < length config.routes) × (slice_get config.routes n ≡ Some x) × (get_or config.routes n x ≡ x)) ⊎ ((length config.routes ≤ n) × (slice_get config.routes n ≡ None)) → all_hold (settings_of config n).matchers labels ≡ matches_route config labels n
+unfolding settings_of
+route_matches config labels n h (inl (x, _, e, _)) = rw e refl
+route_matches config labels n h (inr (le, _)) = absurd (omega (arith, h, le))
+
+-- the matchers of a route's settings are its own
+pub matches_is : (config : Config) (labels : LabelSet) (n : ℕ) (b : Bool) (s : Settings) → n < length config.routes → s ≡ settings_of config n → b ≡ all_hold s.matchers labels → b ≡ matches_route config labels n
+matches_is config labels n b s h is e = e ∙ ap (λ x. all_hold x.matchers labels) is ∙ route_matches config labels n h (slice_get_cases config.routes n).1
+
+pub continues_is : (config : Config) (n : ℕ) (s : Settings) → s ≡ settings_of config n → s.continues ≡ route_is (λ route. route.continues) config n
+unfolding settings_of
+continues_is config n s is = ap (λ x. x.continues) is
+
+pub parent_is : (config : Config) (n : ℕ) (s : Settings) (o : Option ℕ) → s ≡ settings_of config n → s.parent ≡ o → parent_of config n ≡ o
+unfolding settings_of
+parent_is config n s o is e = sym (ap (λ x. x.parent) is) ∙ e
+
+pub length-marks_at : (config : Config) (labels : LabelSet) (n : ℕ) → length (marks_at config labels n) ≡ n
+unfolding marks_at
+length-marks_at config labels n = length-map-range_with_len (mark_of config labels n) 0 n

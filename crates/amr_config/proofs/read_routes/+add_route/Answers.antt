@@ -1,0 +1,23 @@
+use Rattle.std.proofs.lemmas.Result.{err_from_is_err_and}
+use Rattle.serde_json.specs.View.{view, items_view}
+use Rattle.amr_config.specs.Paths.{place_path}
+use Rattle.amr_config.proofs.Levels.{at_zero, own_fails, children_fail, begins}
+use Rattle.amr_config.proofs.read_routes.+add_route.Goals as goal
+
+pub returns-then-left-eq0 : goal.returns-then-left-eq0
+returns-then-left-eq0 t c = at_zero c.args.left (place_path c.args.place.now) c.args.parent (view c.args.value.now) c.args.tree.now c.if-left-eq0.true
+
+pub returns-in_err-add_own : goal.returns-in_err-add_own
+returns-in_err-add_own t c =
+    let p = err_from_is_err_and c.from_residual.result c.from_residual.ensures.1 in
+    rw (p.1, p.2) (own_fails c.in_err-add_own.field-0.0 c.args.left (place_path c.args.place.now) c.args.parent (view c.args.value.now) c.args.tree.now c.if-left-eq0.false c.in_err-add_own.ensures)
+
+pub returns-in_err-children : goal.returns-in_err-children
+returns-in_err-children t c =
+    let p = err_from_is_err_and c.from_residual-in_err-children.result c.from_residual-in_err-children.ensures.1 in
+    rw (p.1, p.2) (children_fail c.in_err-children.field-0.0 c.args.left (place_path c.args.place.now) c.args.parent (view c.args.value.now) c.args.tree.now c.add_own.new.tree c.if-left-eq0.false c.in_ok-add_own.ensures c.in_err-children.ensures)
+
+pub loop-i-init : goal.loop-i-init
+loop-i-init t c =
+    let one = begins c.args.left (place_path c.args.place.now) c.args.parent (view c.args.value.now) c.args.tree.now c.add_own.new.tree (items_view c.in_ok-children.children.now) c.if-left-eq0.false c.in_ok-add_own.ensures c.in_ok-children.ensures in
+    rw c.len-index.ensures one

@@ -1,0 +1,191 @@
+//! What is asked of a configuration whose shapes are right.
+ghost use Rattle.std.specs.Prelude.{◌≡◌, ◌||◌};
+ghost use Rattle.std.specs.List.{list_any};
+ghost use Rattle.std.specs.Ordering.{eq_by_cmp};
+ghost use Rattle.amr_labels.specs.Labels.{text_cmp};
+ghost use Rattle.amr_config.specs.Shape.{are_different};
+ghost use Rattle.amr_config.specs.Judging.{is_known as known_of, is_lost as lost_of, is_zero as zero_of, has_zero as zeros_of, is_bad_name as bad_of, has_bad_names as bad_names_of, is_badly_grouped as badly_of, is_bad_root as bad_root_of, root_is_bad, is_name_of as name_of, are_named_apart as apart_of, refusal_of};
+
+use crate::error::Refusal;
+use crate::members::same;
+use crate::read::Walked;
+use crate::receiver::Receiver;
+use crate::route::{Grouping, Route};
+use amr_labels::Text;
+use amr_time::Span;
+
+#[tactic(auto, unfolding(crate::specs::Judging::is_known))]
+fn is_known(receivers: &[Receiver], name: &str) -> bool
+    ensures { result ≡ known_of receivers.now name.now }
+{
+    receivers
+        .iter()
+        .any(|receiver| same(receiver.name.as_str(), name))
+}
+
+/// Whether the route names a receiver that isn't there.
+#[tactic(auto, unfolding(crate::specs::Judging::is_lost))]
+fn is_lost(receivers: &[Receiver], route: &Route) -> bool
+    ensures { result ≡ lost_of receivers.now route.now }
+{
+    match &route.receiver {
+        Some(name) => !is_known(receivers, name.as_str()),
+        None => false,
+    }
+}
+
+fn any_lost(receivers: &[Receiver], routes: &[Route]) -> bool
+    ensures { result ≡ list_any (lost_of receivers.now) routes.now }
+{
+    routes.iter().any(|route| is_lost(receivers, route))
+}
+
+fn is_zero(span: Option<Span>) -> bool
+    ensures { result ≡ zero_of span }
+{
+    match span {
+        Some(span) => span.nanoseconds() == 0,
+        None => false,
+    }
+}
+
+#[tactic(auto, unfolding(crate::specs::Judging::has_zero))]
+fn has_zero(route: &Route) -> bool
+    ensures { result ≡ zeros_of route.now }
+{
+    is_zero(route.group_interval) || is_zero(route.repeat_interval)
+}
+
+fn any_zero(routes: &[Route]) -> bool
+    ensures { result ≡ list_any zeros_of routes.now }
+{
+    routes.iter().any(|route| has_zero(route))
+}
+
+fn is_among(text: &Text, texts: &[Text]) -> bool
+    ensures { result ≡ list_any (eq_by_cmp text_cmp text.now) texts.now }
+{
+    texts
+        .iter()
+        .any(|other| same(text.as_str(), other.as_str()))
+}
+
+/// Whether no text stands twice.
+fn are_apart(texts: &[Text]) -> bool
+    ensures { result ≡ are_different texts.now }
+{
+    for (place, text) in texts.iter().enumerate() {
+        if is_among(text, &texts[place + 1..]) {
+            return false;
+        }
+    }
+    true
+}
+
+fn is_bad_name(name: &Text) -> bool
+    ensures { result ≡ bad_of name.now }
+{
+    name.is_empty() || same(name.as_str(), "...")
+}
+
+fn any_bad_name(names: &[Text]) -> bool
+    ensures { result ≡ list_any bad_of names.now }
+{
+    names.iter().any(|name| is_bad_name(name))
+}
+
+#[tactic(auto, unfolding(crate::specs::Judging::has_bad_names))]
+fn has_bad_names(names: &[Text]) -> bool
+    ensures { result ≡ bad_names_of names.now }
+{
+    any_bad_name(names) || !are_apart(names)
+}
+
+#[tactic(auto, unfolding(crate::specs::Judging::is_badly_grouped))]
+fn is_badly_grouped(route: &Route) -> bool
+    ensures { result ≡ badly_of route.now }
+{
+    match &route.group_by {
+        Some(Grouping::Named(names)) => has_bad_names(names.as_slice()),
+        Some(Grouping::AllLabels) => false,
+        None => false,
+    }
+}
+
+fn any_badly_grouped(routes: &[Route]) -> bool
+    ensures { result ≡ list_any badly_of routes.now }
+{
+    routes.iter().any(|route| is_badly_grouped(route))
+}
+
+#[tactic(auto, unfolding(crate::specs::Judging::is_bad_root))]
+fn is_bad_root(route: &Route) -> bool
+    ensures { result ≡ bad_root_of route.now }
+{
+    !route.matchers.is_empty() || route.continues || route.receiver.is_none()
+}
+
+/// Whether the root has matchers, `continue` or time intervals, or no receiver.
+fn is_root_bad(routes: &[Route], intervals: &[bool]) -> bool
+    ensures { result ≡ root_is_bad routes.now intervals.now }
+{
+    match (routes, intervals) {
+        ([], _) => true,
+        ([root, ..], []) => is_bad_root(root),
+        ([root, ..], [has_intervals, ..]) => is_bad_root(root) || *has_intervals,
+    }
+}
+
+fn is_name_of(name: &Text, receivers: &[Receiver]) -> bool
+    ensures { result ≡ name_of name.now receivers.now }
+{
+    receivers
+        .iter()
+        .any(|receiver| same(name.as_str(), receiver.name.as_str()))
+}
+
+/// Whether no name of a receiver stands twice.
+fn are_named_apart(receivers: &[Receiver]) -> bool
+    ensures { result ≡ apart_of receivers.now }
+{
+    for (place, receiver) in receivers.iter().enumerate() {
+        if is_name_of(&receiver.name, &receivers[place + 1..]) {
+            return false;
+        }
+    }
+    true
+}
+
+fn any_intervals(intervals: &[bool]) -> bool
+    ensures { result ≡ list_any (λ has. has) intervals.now }
+{
+    intervals.iter().any(|has| *has)
+}
+
+/// The refusal with the least number.
+#[tactic(auto, unfolding(crate::specs::Judging::refusal_of))]
+pub(crate) fn refusal(walked: &Walked) -> Option<Refusal>
+    ensures { result ≡ refusal_of walked.now }
+{
+    let routes = walked.stated.routes.as_slice();
+    let receivers = walked.stated.receivers.as_slice();
+    if any_lost(receivers, routes) {
+        return Some(Refusal::UnknownReceiver);
+    }
+    if !are_named_apart(receivers) {
+        return Some(Refusal::DuplicateReceiver);
+    }
+    if is_root_bad(routes, walked.intervals.as_slice()) {
+        return Some(Refusal::RootRoute);
+    }
+    if any_zero(routes) {
+        return Some(Refusal::ZeroInterval);
+    }
+    if any_badly_grouped(routes) {
+        return Some(Refusal::BadGroupBy);
+    }
+    if walked.top_intervals || any_intervals(walked.intervals.as_slice()) {
+        return Some(Refusal::TimeIntervals);
+    }
+    None
+}

@@ -1,0 +1,130 @@
+//! A configuration, read from a value.
+ghost use Rattle.std.specs.Prelude.{◌≡◌, ◌||◌, codes};
+ghost use Rattle.serde_json.specs.View.{view};
+ghost use Rattle.amr_config.specs.Answers.{Gives};
+ghost use Rattle.amr_config.specs.Members.{optional, member_of};
+ghost use Rattle.amr_config.specs.Reading.{timeout_in, timeout_stated, head_at, walked_at, config_of};
+
+use crate::config::Config;
+use crate::error::{ConfigError, Refusal};
+use crate::judge::refusal;
+use crate::members::{intervals_member, member, span_member, unserved_member};
+use crate::place::Place;
+use crate::read_receivers::read_receivers;
+use crate::read_routes::{is_too_deep, read_routes};
+use crate::stated::Stated;
+use amr_labels::Listing;
+use amr_time::Span;
+use serde_json::Value;
+use std::alloc::Global;
+
+/// What the walk through a value gives: what it states, and where there are time intervals.
+#[derive(Debug, Drop)]
+pub(crate) struct Walked {
+    pub(crate) stated: Stated,
+    pub(crate) intervals: Listing<bool>,
+    pub(crate) top_intervals: bool,
+}
+
+/// What the members up to `mute_time_intervals` state.
+#[derive(Clone, Copy)]
+struct Head {
+    resolve_timeout: Span,
+    has_mute: bool,
+}
+
+#[tactic(auto, unfolding(crate::specs::Reading::timeout_in))]
+fn timeout(alloc: Global, value: &Value) -> Result<Option<Span>, ConfigError>
+    ensures { Gives (λ o. o) result (timeout_in (view value.now)) }
+{
+    let here = Place::Member(&Place::Top, "global");
+    if !value.is_object() {
+        return Err(here.faulty(alloc));
+    }
+    span_member(alloc, &here, value, "resolve_timeout")
+}
+
+fn timeout_member(alloc: Global, value: &Value) -> Result<Option<Option<Span>>, ConfigError>
+    ensures { Gives (λ o. o) result (optional timeout_in (member_of (codes "global") (view value.now))) }
+{
+    match member(value, "global") {
+        Some(found) => Ok(Some(timeout(alloc, found)?)),
+        None => Ok(None),
+    }
+}
+
+/// The timeout that is stated, or 5 minutes.
+fn stated_timeout(timeout: Option<Option<Span>>) -> Span
+    ensures { result ≡ timeout_stated timeout }
+{
+    match timeout {
+        Some(Some(span)) => span,
+        Some(None) => Span::from_minutes(5),
+        None => Span::from_minutes(5),
+    }
+}
+
+#[tactic(auto, unfolding(crate::specs::Reading::head_at))]
+fn read_head(alloc: Global, value: &Value) -> Result<Head, ConfigError>
+    ensures { Gives (λ h. h) result (head_at (view value.now)) }
+{
+    let top = Place::Top;
+    if !value.is_object() {
+        return Err(top.faulty(alloc));
+    }
+    let timeout = timeout_member(alloc, value)?;
+    unserved_member(alloc, &top, value, "inhibit_rules")?;
+    let mute = intervals_member(alloc, &top, value, "mute_time_intervals")?;
+    Ok(Head {
+        resolve_timeout: stated_timeout(timeout),
+        has_mute: mute.unwrap_or(false),
+    })
+}
+
+fn either(one: bool, other: bool) -> bool
+    ensures { result ≡ (one || other) }
+{
+    one || other
+}
+
+#[tactic(auto, unfolding(crate::specs::Reading::walked_at))]
+fn walk(alloc: Global, value: &Value) -> Result<Walked, ConfigError>
+    ensures { Gives (λ w. w) result (walked_at (view value.now)) }
+{
+    let head = read_head(alloc, value)?;
+    let receivers = read_receivers(alloc, value)?;
+    let tree = read_routes(alloc, value)?;
+    let named = intervals_member(alloc, &Place::Top, value, "time_intervals")?;
+    let top_intervals = either(head.has_mute, named.unwrap_or(false));
+    Ok(Walked {
+        stated: Stated {
+            routes: tree.routes,
+            receivers,
+            rules: Listing::new(alloc),
+            resolve_timeout: head.resolve_timeout,
+        },
+        intervals: tree.intervals,
+        top_intervals,
+    })
+}
+
+impl Config {
+    /// Reads a configuration, the tree of Alertmanager's configuration file as JSON. `null` counts as absent as a member of an object;
+    /// keys that aren't known are passed over.
+    ///
+    /// Of several refusals `TooDeep` is answered first, then `BadConfig` with the first place in a walk that goes through members by key
+    /// in byte order and through lists in order, then the one with the least number.
+    #[tactic(auto, unfolding(crate::specs::Reading::config_of))]
+    pub fn read(alloc: Global, value: &Value) -> Result<Config, ConfigError>
+        ensures { Gives (λ config. config) result (config_of (view value.now)) }
+    {
+        if is_too_deep(value) {
+            return Err(ConfigError::Refused(Refusal::TooDeep));
+        }
+        let walked = walk(alloc, value)?;
+        if let Some(refusal) = refusal(&walked) {
+            return Err(ConfigError::Refused(refusal));
+        }
+        Ok(Config::from_stated(alloc, walked.stated)?)
+    }
+}

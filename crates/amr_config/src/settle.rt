@@ -1,0 +1,109 @@
+//! What holds at each route, from what the routes state.
+ghost use Rattle.std.specs.Prelude.{◌≡◌, ◌*◌, [], ◌∷◌, ◌++◌, None, IfOk, unwrap_or, option_and_then, slice_get};
+ghost use Rattle.std.specs.Option.{option_copied, option_map_or, option_or};
+ghost use Rattle.amr_config.specs.Routing.{sorted_matchers};
+ghost use Rattle.amr_config.specs.Settled.{stated_config, settled, settled_under, AreParentsFirst};
+
+use crate::route::{Grouping, Route};
+use crate::settings::Settings;
+use crate::sorted::sorted;
+use crate::stated::Stated;
+use amr_labels::{Listing, Matchers, Text};
+use amr_time::Span;
+use std::alloc::{AllocError, Global};
+
+fn receiver_under(
+    alloc: Global,
+    route: &Route,
+    above: Option<&Settings>,
+) -> Result<Text, AllocError>
+    ensures { IfOk result (λ name. name ≡ unwrap_or route.now.receiver (option_map_or (λ settings. settings.receiver) (option_copied above.entry) [])) }
+{
+    match (&route.receiver, above) {
+        (Some(name), _) => name.clone(),
+        (None, Some(settings)) => settings.receiver.clone(),
+        (None, None) => Text::from_str(alloc, ""),
+    }
+}
+
+fn grouping_under(route: &Route, above: Option<&Settings>) -> Result<Option<Grouping>, AllocError>
+    ensures { IfOk result (λ grouping. grouping ≡ option_or route.now.group_by (option_map_or (λ settings. settings.group_by) (option_copied above.entry) None)) }
+{
+    match (&route.group_by, above) {
+        (Some(grouping), _) => Ok(Some(grouping.clone()?)),
+        (None, Some(settings)) => settings.group_by.clone(),
+        (None, None) => Ok(None),
+    }
+}
+
+fn path_under(
+    alloc: Global,
+    route: &Route,
+    above: Option<&Settings>,
+) -> Result<Listing<Matchers>, AllocError>
+    ensures { IfOk result (λ path. path ≡ option_map_or (λ settings. settings.path) (option_copied above.entry) [] ++ sorted_matchers route.now.matchers ∷ []) }
+{
+    let mut path = match above {
+        Some(settings) => settings.path.clone()?,
+        None => Listing::new(alloc),
+    };
+    path.push(sorted(alloc, &route.matchers)?)?;
+    Ok(path)
+}
+
+/// The settings of a route below these.
+#[tactic(auto, unfolding(crate::specs::Settled::settled_under))]
+fn settings_under(
+    alloc: Global,
+    route: &Route,
+    above: Option<&Settings>,
+) -> Result<Settings, AllocError>
+    ensures { IfOk result (λ settings. settings ≡ settled_under route.now (option_copied above.entry)) }
+{
+    let group_wait = match above {
+        Some(settings) => settings.group_wait,
+        None => Span::from_seconds(30),
+    };
+    let group_interval = match above {
+        Some(settings) => settings.group_interval,
+        None => Span::from_minutes(5),
+    };
+    let repeat_interval = match above {
+        Some(settings) => settings.repeat_interval,
+        None => Span::from_hours(4),
+    };
+    Ok(Settings {
+        parent: route.parent,
+        matchers: route.matchers.clone()?,
+        continues: route.continues,
+        receiver: receiver_under(alloc, route, above)?,
+        group_by: grouping_under(route, above)?,
+        group_wait: route.group_wait.unwrap_or(group_wait),
+        group_interval: route.group_interval.unwrap_or(group_interval),
+        repeat_interval: route.repeat_interval.unwrap_or(repeat_interval),
+        path: path_under(alloc, route, above)?,
+    })
+}
+
+/// The settings of a parent.
+fn above<'a>(settings: &'a [Settings], parent: Option<usize>) -> Option<&'a Settings>
+    ensures { option_copied result ≡ option_and_then (slice_get settings.now) parent }
+{
+    match parent {
+        Some(parent) => settings.get(parent),
+        None => None,
+    }
+}
+
+/// The settings of all routes.
+pub(crate) fn settle(alloc: Global, stated: &Stated) -> Result<Listing<Settings>, AllocError>
+    requires { AreParentsFirst (stated_config stated.now) }
+    ensures { IfOk result (λ settings. settings ≡ settled (stated_config stated.now)) }
+{
+    let mut settings = Vec::new(alloc);
+    for route in stated.routes.as_slice() {
+        let made = settings_under(alloc, route, above(settings.as_slice(), route.parent))?;
+        settings.push(made)?;
+    }
+    Ok(Listing::from_vec(settings))
+}

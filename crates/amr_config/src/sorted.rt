@@ -1,0 +1,42 @@
+//! Matchers in order.
+ghost use Rattle.std.specs.Prelude.{◌≡◌, ◌≤◌, length, IfOk, OnOk};
+ghost use Rattle.amr_config.specs.Routing.{with_matcher, sorted_matchers};
+ghost use Rattle.amr_config.specs.Places.{place_in};
+
+use amr_labels::{Matcher, Matchers};
+use std::alloc::{AllocError, Global};
+use std::cmp::Ordering;
+
+/// The place of a matcher in a sorted list: before the first that is greater.
+fn place_of(matchers: &[Matcher], matcher: &Matcher) -> usize
+    ensures value { result ≡ place_in matchers.now matcher.now }
+    ensures bound { result ≤ length matchers.now }
+{
+    for (place, other) in matchers.iter().enumerate() {
+        if other.cmp(matcher) == Ordering::Greater {
+            return place;
+        }
+    }
+    matchers.len()
+}
+
+/// Puts a matcher in its place in a sorted list.
+fn insert(sorted: &mut Vec<Matcher>, matcher: &Matcher) -> Result<(), AllocError>
+    ensures { OnOk result (sorted.new.items ≡ with_matcher sorted.old.items matcher.now) }
+{
+    let place = place_of(sorted.as_slice(), matcher);
+    sorted.insert(place, matcher.clone()?)?;
+    Ok(())
+}
+
+/// The matchers by name, value and operator.
+pub(crate) fn sorted(alloc: Global, matchers: &Matchers) -> Result<Matchers, AllocError>
+    ensures { IfOk result (λ made. made ≡ sorted_matchers matchers.now) }
+{
+    let mut sorted = Vec::new(alloc);
+    let matchers = matchers.as_slice();
+    for place in (0..matchers.len()).rev() {
+        insert(&mut sorted, &matchers[place])?;
+    }
+    Matchers::from_vec(alloc, sorted)
+}

@@ -1,0 +1,130 @@
+//! The walk through the routing tree.
+ghost use Rattle.std.specs.Prelude.{◌≡◌, ◌+◌, ◌<◌, ◌≤◌, length, vec_len, IfOk, OnOk, Some, false};
+ghost use Rattle.amr_labels.specs.Matchers.{all_hold};
+ghost use Rattle.amr_config.specs.Routing.{chosen, parent_of, matches_route};
+ghost use Rattle.amr_config.specs.Marks.{marks_at, chosen_numbers, is_chosen_mark};
+
+use crate::config::Config;
+use amr_labels::Labels;
+use std::alloc::{AllocError, Global};
+
+/// What is known of a route, once some routes after it have been seen.
+#[derive(Clone, Copy, Debug)]
+pub(crate) struct Mark {
+    /// The alert comes to the route, and the route matches it.
+    is_open: bool,
+    /// A child takes the alert.
+    is_taken: bool,
+    /// A child takes the alert and doesn't let it go on to the children after it.
+    is_closed: bool,
+}
+
+impl Mark {
+    /// The mark of a route that was just seen.
+    fn seen(is_open: bool) -> Mark
+        ensures { result ≡ record { is_open = is_open; is_taken = false; is_closed = false } }
+    {
+        Mark {
+            is_open,
+            is_taken: false,
+            is_closed: false,
+        }
+    }
+
+    fn is_chosen(self) -> bool
+        ensures { result ≡ is_chosen_mark self }
+    {
+        self.is_open && !self.is_taken
+    }
+}
+
+/// Marks the next route, which has a parent.
+fn mark_child(
+    alloc: Global,
+    config: &Config,
+    labels: &Labels,
+    parent: usize,
+    marks: &mut Vec<Mark>,
+) -> Result<(), AllocError>
+    requires next { vec_len marks.old < length config.now.routes }
+    requires child { parent_of config.now (vec_len marks.old) ≡ Some parent }
+    requires so_far { marks.old.items ≡ marks_at config.now labels.now (vec_len marks.old) }
+    ensures { OnOk result (marks.new.items ≡ marks_at config.now labels.now (vec_len marks.old + 1)) }
+{
+    let settings = config.route(marks.len());
+    let above = marks[parent];
+    if !above.is_open || above.is_closed {
+        marks.push(Mark::seen(false))?;
+        return Ok(());
+    }
+    if !settings.matchers.matches_all(alloc, labels)? {
+        marks.push(Mark::seen(false))?;
+        return Ok(());
+    }
+    marks[parent] = Mark {
+        is_open: true,
+        is_taken: true,
+        is_closed: !settings.continues,
+    };
+    marks.push(Mark::seen(true))?;
+    Ok(())
+}
+
+/// Marks the next route.
+fn mark_next(
+    alloc: Global,
+    config: &Config,
+    labels: &Labels,
+    marks: &mut Vec<Mark>,
+) -> Result<(), AllocError>
+    requires next { vec_len marks.old < length config.now.routes }
+    requires so_far { marks.old.items ≡ marks_at config.now labels.now (vec_len marks.old) }
+    ensures { OnOk result (marks.new.items ≡ marks_at config.now labels.now (vec_len marks.old + 1)) }
+{
+    let settings = config.route(marks.len());
+    match settings.parent {
+        None => {
+            let is_open = settings.matchers.matches_all(alloc, labels)?;
+            marks.push(Mark::seen(is_open))?;
+            Ok(())
+        }
+        Some(parent) => mark_child(alloc, config, labels, parent, marks),
+    }
+}
+
+/// The marks of all routes.
+fn marks(alloc: Global, config: &Config, labels: &Labels) -> Result<Vec<Mark>, AllocError>
+    ensures { IfOk result (λ marks. marks.items ≡ marks_at config.now labels.now (length config.now.routes)) }
+{
+    let mut marks = Vec::new(alloc);
+    for _route in 0..config.route_count() {
+        mark_next(alloc, config, labels, &mut marks)?;
+    }
+    Ok(marks)
+}
+
+/// The places of the marks that are chosen.
+fn chosen_places(alloc: Global, marks: &[Mark]) -> Result<Vec<usize>, AllocError>
+    ensures { IfOk result (λ places. places.items ≡ chosen_numbers marks.now (length marks.now)) }
+{
+    let mut places = Vec::new(alloc);
+    for (place, mark) in marks.iter().enumerate() {
+        if mark.is_chosen() {
+            places.push(place)?;
+        }
+    }
+    Ok(places)
+}
+
+impl Config {
+    /// The numbers of the routes that take an alert with these labels, rising.
+    ///
+    /// An alert enters at the root and goes to the children in order. After the first child that matches it stops, unless that child
+    /// has `continue: true`. A route none of whose children match takes the alert itself (`route` of Alertmanager's configuration).
+    pub fn routes_of(&self, alloc: Global, labels: &Labels) -> Result<Vec<usize>, AllocError>
+        ensures { IfOk result (λ routes. routes.items ≡ chosen self.now labels.now) }
+    {
+        let marks = marks(alloc, self, labels)?;
+        chosen_places(alloc, marks.as_slice())
+    }
+}

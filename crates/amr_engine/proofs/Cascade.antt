@@ -1,0 +1,78 @@
+-- The moves of an event, counted one after another.
+use Rattle.std.proofs.Common.{◌≡◌, true, false, ℕ, suc, zero, ◌+◌, ◌-◌, ◌<◌, ◌≤◌, List, [], ◌∷◌, Option, None, Some, length, refl, sym, ap, ◌∙◌, arith}
+use Rattle.std.specs.Option.{option_map, option_map_or, is_some}
+use Rattle.std.proofs.lemmas.Bool.{true≢false}
+use Rattle.amr_time.specs.Time.{Moment}
+use Rattle.amr_engine.specs.declared.due.Due.{Due}
+use Rattle.amr_engine.specs.State.{State}
+use Rattle.amr_engine.specs.Runs.{after_step}
+use Rattle.amr_engine.specs.Events.{move_limit}
+use Rattle.amr_engine.specs.Moves.{next_due, move, advance, counted_run}
+
+-- so many moves more
+abbrev pub plus_moves : Option (ℕ × State) → ℕ → Option (ℕ × State)
+plus_moves run n = option_map (λ r. (r.0 + n, r.1)) run
+
+pub advance_none : (n : ℕ) (at : Moment) (s : State) → next_due at s ≡ None → counted_run (advance n at s) ≡ Some (0, s)
+advance_none zero at s e = ap (λ (o : Option Due). counted_run (option_map_or (λ d. None) o (Some ([], s)))) e
+advance_none (suc n) at s e = ap (λ (o : Option Due). counted_run (option_map_or (λ d. option_map (after_step (next_due at) move d) (advance n at (move d s))) o (Some ([], s)))) e
+
+pub advance_over : (at : Moment) (s : State) (d : Due) → next_due at s ≡ Some d → counted_run (advance 0 at s) ≡ None
+advance_over at s d e = ap (λ (o : Option Due). counted_run (option_map_or (λ d. None) o (Some ([], s)))) e
+
+one_longer : (d : Due) (r : Option (List Due × State)) (at : Moment) → counted_run (option_map (after_step (next_due at) move d) r) ≡ plus_moves (counted_run r) 1
+one_longer d None at = refl
+one_longer d (Some r) at = ap (λ k. Some (k, r.1)) (omega arith)
+
+pub advance_some : (n : ℕ) (at : Moment) (s : State) (d : Due) → next_due at s ≡ Some d → counted_run (advance (suc n) at s) ≡ plus_moves (counted_run (advance n at (move d s))) 1
+advance_some n at s d e =
+    ap (λ (o : Option Due). counted_run (option_map_or (λ d. option_map (after_step (next_due at) move d) (advance n at (move d s))) o (Some ([], s)))) e
+    ∙ one_longer d (advance n at (move d s)) at
+
+plus_twice : (r : Option (ℕ × State)) (n : ℕ) → plus_moves (plus_moves r 1) n ≡ plus_moves r (n + 1)
+plus_twice None n = refl
+plus_twice (Some r) n = ap (λ k. Some (k, r.1)) (omega arith)
+
+pub plus_none : (r : Option (ℕ × State)) → plus_moves r 0 ≡ r
+plus_none None = refl
+plus_none (Some r) = ap (λ k. Some (k, r.1)) (omega arith)
+
+-- one more move keeps the account
+pub goes_on : (limit made : ℕ) (at : Moment) (s before : State) (d : Due) → counted_run (advance limit at before) ≡ plus_moves (counted_run (advance (limit - made) at s)) made
+    → made < limit → Some d ≡ next_due at s → counted_run (advance limit at before) ≡ plus_moves (counted_run (advance (limit - (made + 1)) at (move d s))) (made + 1)
+goes_on limit made at s before d so_far less some =
+    let one : limit - made ≡ suc (limit - (made + 1)) = omega arith in
+    so_far ∙ ap (λ n. plus_moves (counted_run (advance n at s)) made) one
+    ∙ ap (λ r. plus_moves r made) (advance_some (limit - (made + 1)) at s d (sym some))
+    ∙ plus_twice (counted_run (advance (limit - (made + 1)) at (move d s))) made
+
+-- nothing more is due after so many moves
+pub stops : (limit made : ℕ) (at : Moment) (s before : State) → counted_run (advance limit at before) ≡ plus_moves (counted_run (advance (limit - made) at s)) made
+    → None ≡ next_due at s → Some (made, s) ≡ counted_run (advance limit at before)
+stops limit made at s before so_far none =
+    sym (so_far ∙ ap (λ r. plus_moves r made) (advance_none (limit - made) at s (sym none)) ∙ ap (λ k. Some (k, s)) (omega arith))
+
+-- the limit is reached, and something is due
+pub is_over : (limit made : ℕ) (at : Moment) (s before : State) (d : Due) → counted_run (advance limit at before) ≡ plus_moves (counted_run (advance (limit - made) at s)) made
+    → limit ≤ made → Some d ≡ next_due at s → None ≡ counted_run (advance limit at before)
+is_over limit made at s before d so_far all some =
+    let none_left : limit - made ≡ 0 = omega arith in
+    sym (so_far ∙ ap (λ n. plus_moves (counted_run (advance n at s)) made) none_left ∙ ap (λ r. plus_moves r made) (advance_over at s d (sym some)))
+
+pub no_value : {A : Type 0} (o r : Option A) → o ≡ r → false ≡ is_some o → None ≡ r
+no_value None r e h = e
+no_value (Some x) r e h = absurd (true≢false (sym h))
+
+pub some_value : {A : Type 0} (o r : Option A) → o ≡ r → true ≡ is_some o → (d : A) × (Some d ≡ r)
+some_value None r e h = absurd (true≢false h)
+some_value (Some x) r e h = (x, e)
+
+pub limit_is : move_limit ≡ 10_000
+unfolding move_limit
+limit_is = refl
+
+-- before the first move
+pub begins : (limit : ℕ) (at : Moment) (s : State) → counted_run (advance limit at s) ≡ plus_moves (counted_run (advance (limit - 0) at s)) 0
+begins limit at s =
+    let all : limit ≡ limit - 0 = omega arith in
+    ap (λ n. counted_run (advance n at s)) all ∙ sym (plus_none (counted_run (advance (limit - 0) at s)))

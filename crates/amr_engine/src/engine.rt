@@ -1,0 +1,112 @@
+//! The engine: a state, and the whole states before the events that it passed.
+ghost use Rattle.std.specs.Prelude.{◌≡◌, ◌<◌, List, [], ◌∷◌, ◌++◌, length, IfOk, OnOk, OnErr};
+ghost use Rattle.amr_engine.specs.State.{start};
+ghost use Rattle.amr_engine.specs.Events.{after_event, outcome_of};
+ghost use Rattle.amr_engine.specs.Outcomes.{outcome_view};
+ghost use Rattle.amr_engine.specs.Seen.{groups_of};
+ghost use Rattle.amr_labels.specs.Map.{entries};
+
+use crate::apply::after;
+use crate::note::{LogKey, Note};
+use crate::outcome::Outcome;
+use crate::store::Store;
+use crate::views::{self, Group};
+use amr_config::Config;
+use amr_events::Event;
+use amr_labels::{Labels, Shared};
+use amr_rules::{Alert, LogEntry};
+use amr_time::Moment;
+use std::alloc::{AllocError, Global};
+use std::marker::Model;
+use std::mem;
+
+/// A replayed instance, with what it takes to undo each event that it passed.
+#[derive(Drop)]
+pub struct Engine {
+    store: Store,
+    past: Vec<Store>,
+}
+
+impl Model for Engine {
+    ghost use Rattle.std.specs.Coded.{codes};
+    ghost use Rattle.amr_labels.specs.Map as map;
+    ghost use Rattle.amr_engine.specs.Steps.{Steps};
+
+    ghost Value = { Steps };
+
+    ghost coded = { Prim.hlevel (codes, map.code) };
+
+    ghost view = { λ engine. record { state = engine.store; past = engine.past.items } };
+}
+
+impl Engine {
+    /// The engine at the start, with nothing stored, at moment 0.
+    pub fn new(alloc: Global, config: Config) -> Engine
+        ensures state { result.state ≡ start config }
+        ensures past { result.past ≡ [] }
+    {
+        Engine {
+            store: Store::new(alloc, config),
+            past: Vec::new(alloc),
+        }
+    }
+
+    /// Applies an event, and keeps the state before it. A refused event changes nothing, and is kept alike.
+    pub fn apply(&mut self, event: &Event) -> Result<Outcome, AllocError>
+        ensures outcome { IfOk result (λ outcome. outcome_view outcome ≡ outcome_of self.old.state event.now) }
+        ensures state { OnOk result (self.new.state ≡ after_event self.old.state event.now) }
+        ensures past { OnOk result (self.new.past ≡ self.old.past ++ self.old.state ∷ []) }
+        ensures err { OnErr result (self.new ≡ self.old) }
+    {
+        self.past.reserve(1)?;
+        let (next, outcome) = after(&self.store, event)?;
+        let before = mem::replace(&mut self.store, next);
+        self.past.push_reserved(before);
+        Ok(outcome)
+    }
+
+    /// Undoes the last event. It takes no memory.
+    pub fn undo_last(&mut self)
+        requires { 0 < length self.old.past }
+        ensures { self.old.past ≡ self.new.past ++ self.new.state ∷ [] }
+    {
+        if let Some(before) = self.past.pop() {
+            self.store = before;
+        }
+    }
+
+    /// The stored alerts, by labels.
+    pub fn alerts(&self) -> Result<Vec<(Labels, Alert)>, AllocError>
+        ensures { IfOk result (λ found. found.items ≡ entries self.now.state.alerts) }
+    {
+        views::alerts(&self.store)
+    }
+
+    /// The groups, by route and labels.
+    pub fn groups(&self) -> Result<Vec<Group>, AllocError>
+        ensures { IfOk result (λ found. found.items ≡ groups_of self.now.state) }
+    {
+        views::groups(&self.store)
+    }
+
+    /// The notification log, by receiver, integration, place, group labels and path.
+    pub fn log(&self) -> Result<Vec<(LogKey, LogEntry)>, AllocError>
+        ensures { IfOk result (λ found. found.items ≡ entries self.now.state.log) }
+    {
+        views::log(&self.store)
+    }
+
+    /// All notes so far, in order.
+    pub fn notes(&self) -> &[Shared<Note>]
+        ensures { result.now ≡ self.now.state.notes }
+    {
+        self.store.notes()
+    }
+
+    /// The clock: the moment of the last event that was accepted.
+    pub fn now(&self) -> Moment
+        ensures { result ≡ self.now.state.moment }
+    {
+        self.store.moment()
+    }
+}

@@ -1,0 +1,59 @@
+//! The moves up to a moment.
+ghost use Rattle.std.specs.Prelude.{◌≡◌, ◌≤◌, OnOk, IfOk};
+ghost use Rattle.amr_time.specs.Time.{latest_read};
+ghost use Rattle.amr_engine.specs.Moves.{move, advance, counted_run, moves_to};
+ghost use Rattle.amr_engine.specs.Events.{move_limit};
+
+use crate::due::{Due, Kind, next_due};
+use crate::flush::flush;
+use crate::spot::Spot;
+use crate::store::Store;
+use amr_time::Moment;
+use std::alloc::AllocError;
+
+/// The most moves that an event may make.
+pub const MOST_MOVES: usize = 10_000;
+
+/// A move makes the change at its own moment.
+fn make(store: &mut Store, due: Due) -> Result<(), AllocError>
+    requires { due.moment ≤ latest_read }
+    ensures { OnOk result (store.new ≡ move due store.old) }
+{
+    let Due {
+        moment,
+        kind,
+        route,
+        labels,
+    } = due;
+    match kind {
+        Kind::AlertRemoval => {
+            store.remove_alert(&labels);
+            Ok(())
+        }
+        Kind::GroupRemoval => {
+            store.remove_clock(&Spot { route, labels });
+            Ok(())
+        }
+        Kind::GroupFlush => {
+            let at = Moment::from_nanoseconds(moment);
+            flush(store, at, &Spot { route, labels })
+        }
+    }
+}
+
+/// Makes all moves due at or before a moment, and counts them; none where there are more than an event may make.
+pub(crate) fn advance(store: &mut Store, at: Moment) -> Result<Option<usize>, AllocError>
+    requires { at ≤ latest_read }
+    ensures { IfOk result (λ made. moves_to store.new made ≡ counted_run (advance move_limit at store.old)) }
+{
+    for made in 0..MOST_MOVES {
+        match next_due(store, at)? {
+            None => return Ok(Some(made)),
+            Some(due) => make(store, due)?,
+        }
+    }
+    if next_due(store, at)?.is_some() {
+        return Ok(None);
+    }
+    Ok(Some(MOST_MOVES))
+}

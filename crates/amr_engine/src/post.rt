@@ -1,0 +1,53 @@
+//! A post of alerts: which are valid, and storing them.
+ghost use Rattle.std.specs.Prelude.{◌≡◌, ◌+◌, ◌<◌, OnOk, IfOk};
+ghost use Rattle.std.specs.List.{fold, filter_map};
+ghost use Rattle.amr_time.specs.Time.{before_year_10000};
+ghost use Rattle.amr_rules.specs.Alerts.{completed};
+ghost use Rattle.amr_engine.specs.Events.{put, skipped_from};
+
+use crate::placing::put;
+use crate::store::Store;
+use amr_events::PostedAlert;
+use amr_labels::{Labels, Listing};
+use amr_rules::{Alert, complete_alert};
+use amr_time::{Moment, Span};
+use std::alloc::{AllocError, Global};
+
+/// The alerts of a post that are valid, and the places of the others, from 1.
+#[derive(Drop)]
+pub(crate) struct Sifted {
+    pub(crate) valid: Vec<(Labels, Alert)>,
+    pub(crate) skipped: Listing<usize>,
+}
+
+/// Parts the alerts of a post into those that are valid at a moment, and the places of the others.
+pub(crate) fn sift(
+    alloc: Global,
+    now: Moment,
+    timeout: Span,
+    posted: &[PostedAlert],
+) -> Result<Sifted, AllocError>
+    requires { now + timeout < before_year_10000 }
+    ensures valid { IfOk result (λ sifted. sifted.valid.items ≡ filter_map (completed now timeout) posted.now) }
+    ensures skipped { IfOk result (λ sifted. sifted.skipped ≡ skipped_from 1 now timeout posted.now) }
+{
+    let mut valid = Vec::new(alloc);
+    let mut skipped = Listing::new(alloc);
+    for (index, alert) in posted.iter().enumerate() {
+        match complete_alert(alloc, now, timeout, alert)? {
+            Some(alert) => valid.push(alert)?,
+            None => skipped.push(index + 1)?,
+        }
+    }
+    Ok(Sifted { valid, skipped })
+}
+
+/// The valid alerts are stored, in order.
+pub(crate) fn put_all(store: &mut Store, valid: &[(Labels, Alert)]) -> Result<(), AllocError>
+    ensures { OnOk result (store.new ≡ fold put store.old valid.now) }
+{
+    for (labels, alert) in valid {
+        put(store, labels, alert.clone()?)?;
+    }
+    Ok(())
+}

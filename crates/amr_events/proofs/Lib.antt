@@ -1,0 +1,4 @@
+pub mod Steps
+pub mod LineSteps
+pub mod ScriptReading
+pub mod EventReading

@@ -1,0 +1,30 @@
+-- The moments of the events that are read.
+use Rattle.std.specs.Prelude.{◌≡◌, ℕ, ◌≤◌, List, All, Some, IfSome}
+use Rattle.amr_time.specs.Time.{Moment, latest_read}
+use Rattle.amr_events.specs.Events.{Act, Event}
+use Rattle.amr_events.specs.Events as events
+use Rattle.amr_events.specs.Lines.{event_of_line}
+use Rattle.amr_events.specs.declared.event.PostedAlert.{PostedAlert}
+
+-- the moment is one that a text may stand for
+abbrev pub IsStatable : Moment → Type 0
+IsStatable moment = moment ≤ latest_read
+
+pub record AlertIsStatable (alert : PostedAlert) : Type 0 where
+  pub starts_at : IfSome alert.starts_at IsStatable
+  pub ends_at : IfSome alert.ends_at IsStatable
+
+abbrev pub ActIsStatable : Act → Type 0
+ActIsStatable (events.Act.Post alerts) = All AlertIsStatable alerts
+ActIsStatable (events.Act.Silence silence) = IsStatable silence.starts_at × IsStatable silence.ends_at
+ActIsStatable (events.Act.Expire id) = Unit {0}
+ActIsStatable (events.Act.Reload config) = Unit {0}
+ActIsStatable events.Act.Tick = Unit {0}
+
+-- all the moments of the event
+pub record EventIsStatable (event : Event) : Type 0 where
+  pub at : IsStatable event.at
+  pub act : ActIsStatable event.act
+
+abbrev pub ReadEventsAreStatable : Type 0
+ReadEventsAreStatable = (line : List ℕ) (event : Event) → event_of_line line ≡ Some event → EventIsStatable event

@@ -1,0 +1,48 @@
+-- Shapes of JSON values. There is nothing where a value has another shape.
+use Rattle.std.specs.Prelude.{List, [], ◌∷◌, Option, Some, None}
+use Rattle.serde_json.specs.Data.{Data, null, boolean, number, string, array, object, Items, no_items, item, Members, no_members, member}
+use Rattle.serde_json.specs.Find.{as_str, as_object}
+use Rattle.amr_labels.specs.Labels.{Text}
+
+infixl 10 ◌>>=◌
+abbrev pub ◌>>=◌ : {A B : Type 0} → Option A → (A → Option B) → Option B
+None >>= f = None
+(Some x) >>= f = f x
+
+-- a member that may be absent or `null`
+abbrev pub present : Option Data → Option Data
+present None = None
+present (Some null) = None
+present (Some (boolean b)) = Some (boolean b)
+present (Some (number n)) = Some (number n)
+present (Some (string s)) = Some (string s)
+present (Some (array items)) = Some (array items)
+present (Some (object members)) = Some (object members)
+
+-- what each of the items is read as
+abbrev pub each_item : {A : Type 0} → (Data → Option A) → Items → Option (List A)
+each_item reads no_items = Some []
+each_item reads (item d items) = do
+  x ← reads d
+  xs ← each_item reads items
+  Some (x ∷ xs)
+
+-- what each of the members is read as
+abbrev pub each_member : {A : Type 0} → (Text → Data → Option A) → Members → Option (List A)
+each_member reads no_members = Some []
+each_member reads (member name d members) = do
+  x ← reads name d
+  xs ← each_member reads members
+  Some (x ∷ xs)
+
+-- a name with a text
+unfoldable pub named_text : Text → Data → Option (Text × Text)
+named_text name d = do
+  text ← as_str d
+  Some (name, text)
+
+-- an object of texts, in the order of the names
+unfoldable pub texts_in : Data → Option (List (Text × Text))
+texts_in d = do
+  members ← as_object d
+  each_member named_text members

@@ -1,0 +1,102 @@
+//! Why a text is no script.
+ghost use Rattle.std.specs.Prelude.{◌≡◌};
+ghost use Rattle.amr_events.specs.Faults.{fault_number};
+
+use amr_time::BadTime;
+use std::alloc::{AllocError, AllocFailed};
+
+/// The first fault of a script. Lines are counted from 1, blank ones too.
+#[derive(Clone, Copy, Debug, PartialEq, Eq)]
+pub enum Fault {
+    /// The line isn't an event.
+    BadLine { line: u64 },
+    /// The line has more than 1,048,576 bytes before its end.
+    LineTooLong { line: u64 },
+    /// There is an event after 1,000,000 others.
+    TooManyEvents,
+}
+
+impl Fault {
+    /// The number that is printed.
+    pub fn number(self) -> u64
+        ensures { result ≡ fault_number self }
+    {
+        match self {
+            Fault::BadLine { line: _ } => 13,
+            Fault::LineTooLong { line: _ } => 14,
+            Fault::TooManyEvents => 15,
+        }
+    }
+}
+
+/// Why no script is read.
+#[derive(Debug, Drop)]
+pub enum ScriptError {
+    /// There is no memory.
+    Memory,
+    Refused(Fault),
+}
+
+impl From<AllocError> for ScriptError {
+    ghost use Rattle.std.specs.Prelude.{◌≡◌};
+    ghost use Rattle.amr_events.specs.declared.error.ScriptError.TheVariants.{Memory};
+
+    ghost from_gives = { λ _ e. e ≡ Memory };
+
+    fn from(_e: AllocError) -> ScriptError {
+        ScriptError::Memory
+    }
+}
+
+impl<T: Drop> From<AllocFailed<T>> for ScriptError {
+    ghost use Rattle.std.specs.Prelude.{◌≡◌};
+    ghost use Rattle.amr_events.specs.declared.error.ScriptError.TheVariants.{Memory};
+
+    ghost from_gives = { λ _ e. e ≡ Memory };
+
+    fn from(_e: AllocFailed<T>) -> ScriptError {
+        ScriptError::Memory
+    }
+}
+
+/// Why no event is read from a line.
+#[derive(Debug, Drop)]
+pub(crate) enum LineError {
+    /// There is no memory.
+    Memory,
+    /// The line has another shape.
+    Faulty,
+}
+
+impl From<AllocError> for LineError {
+    ghost use Rattle.std.specs.Prelude.{◌≡◌};
+    ghost use Rattle.amr_events.specs.declared.error.LineError.TheVariants.{Memory};
+
+    ghost from_gives = { λ _ e. e ≡ Memory };
+
+    fn from(_e: AllocError) -> LineError {
+        LineError::Memory
+    }
+}
+
+impl<T: Drop> From<AllocFailed<T>> for LineError {
+    ghost use Rattle.std.specs.Prelude.{◌≡◌};
+    ghost use Rattle.amr_events.specs.declared.error.LineError.TheVariants.{Memory};
+
+    ghost from_gives = { λ _ e. e ≡ Memory };
+
+    fn from(_e: AllocFailed<T>) -> LineError {
+        LineError::Memory
+    }
+}
+
+impl From<BadTime> for LineError {
+    ghost use Rattle.std.specs.Prelude.{◌≡◌};
+    ghost use Rattle.amr_events.specs.declared.error.LineError.TheVariants.{Faulty};
+
+    ghost from_gives = { λ _ e. e ≡ Faulty };
+
+    fn from(_e: BadTime) -> LineError {
+        LineError::Faulty
+    }
+}

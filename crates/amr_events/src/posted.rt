@@ -1,0 +1,99 @@
+//! Posted alerts, as a line of a script has them.
+ghost use Rattle.std.specs.Prelude.{◌≡◌, option_map};
+ghost use Rattle.std.specs.Result.{result_ok};
+ghost use Rattle.serde_json.specs.View.{view};
+ghost use Rattle.amr_events.specs.Answers.{Reads};
+ghost use Rattle.amr_events.specs.Posted.{is_missing as is_missing_text, time_of, time_in, annotations_in, alert_of, alerts_of};
+
+use crate::error::LineError;
+use crate::event::PostedAlert;
+use crate::shapes::{member, texts};
+use amr_labels::{Listing, TextMap};
+use amr_time::{BadTime, Moment, read_moment};
+use serde_json::Value;
+use std::alloc::Global;
+
+/// The first moment of the year 1, as Alertmanager writes a time that is not given.
+const MISSING_MARKS: [&str; 10] = [
+    "0001-01-01T00:00:00Z",
+    "0001-01-01T00:00:00.0Z",
+    "0001-01-01T00:00:00.00Z",
+    "0001-01-01T00:00:00.000Z",
+    "0001-01-01T00:00:00.0000Z",
+    "0001-01-01T00:00:00.00000Z",
+    "0001-01-01T00:00:00.000000Z",
+    "0001-01-01T00:00:00.0000000Z",
+    "0001-01-01T00:00:00.00000000Z",
+    "0001-01-01T00:00:00.000000000Z",
+];
+
+/// Whether the text stands for a time that is not given.
+#[tactic(auto, unfolding(crate::specs::Posted::is_missing))]
+fn is_missing(text: &str) -> bool
+    ensures { result ≡ is_missing_text text.now }
+{
+    text.is_empty() || MISSING_MARKS.contains(&text)
+}
+
+#[tactic(auto, unfolding(crate::specs::Posted::time_of))]
+fn time_of(text: &str) -> Result<Option<Moment>, BadTime>
+    ensures { result_ok result ≡ time_of text.now }
+{
+    if is_missing(text) {
+        return Ok(None);
+    }
+    let moment = read_moment(text)?;
+    Ok(Some(moment))
+}
+
+/// The time under a key. It may be missing.
+#[tactic(auto, unfolding(crate::specs::Posted::time_in))]
+fn time(alert: &Value, key: &str) -> Result<Option<Moment>, BadTime>
+    ensures { result_ok result ≡ time_in key.now (view alert.now) }
+{
+    match member(alert, key) {
+        Some(value) => time_of(value.as_str().ok_or(BadTime)?),
+        None => Ok(None),
+    }
+}
+
+#[tactic(auto, unfolding(crate::specs::Posted::annotations_in))]
+fn annotations(alloc: Global, alert: &Value) -> Result<TextMap, LineError>
+    ensures { Reads (λ a. a) result (annotations_in (view alert.now)) }
+{
+    let texts = match member(alert, "annotations") {
+        Some(value) => texts(alloc, value)?,
+        None => Vec::new(alloc),
+    };
+    Ok(TextMap::from_pairs(alloc, &texts)?)
+}
+
+#[tactic(auto, unfolding(crate::specs::Posted::alert_of))]
+fn alert(alloc: Global, alert: &Value) -> Result<PostedAlert, LineError>
+    ensures { Reads (λ a. a) result (alert_of (view alert.now)) }
+{
+    let stated = alert.get("labels").ok_or(LineError::Faulty)?;
+    let labels = Listing::from_vec(texts(alloc, stated)?);
+    let annotations = annotations(alloc, alert)?;
+    let starts_at = time(alert, "startsAt")?;
+    let ends_at = time(alert, "endsAt")?;
+    Ok(PostedAlert {
+        labels,
+        annotations,
+        starts_at,
+        ends_at,
+    })
+}
+
+/// The alerts of a list, in order.
+#[tactic(auto, unfolding(crate::specs::Posted::alerts_of))]
+pub(crate) fn alerts(alloc: Global, value: &Value) -> Result<Listing<PostedAlert>, LineError>
+    ensures { Reads (λ alerts. alerts) result (alerts_of (view value.now)) }
+{
+    let items = value.as_array().ok_or(LineError::Faulty)?;
+    let mut alerts = Vec::new(alloc);
+    for item in items {
+        alerts.push(alert(alloc, item)?)?;
+    }
+    Ok(Listing::from_vec(alerts))
+}

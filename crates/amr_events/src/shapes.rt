@@ -1,0 +1,43 @@
+//! Shapes of JSON values.
+ghost use Rattle.std.specs.Prelude.{◌≡◌, option_map};
+ghost use Rattle.serde_json.specs.View.{view};
+ghost use Rattle.serde_json.specs.Find.{get};
+ghost use Rattle.amr_events.specs.Answers.{Reads};
+ghost use Rattle.amr_events.specs.Shapes.{present, named_text, texts_in};
+
+use crate::error::LineError;
+use amr_labels::Text;
+use serde_json::Value;
+use std::alloc::Global;
+
+/// The member of an object that isn't `null`.
+pub(crate) fn member<'v>(value: &'v Value, key: &str) -> Option<&'v Value>
+    ensures { option_map (λ v. view v.now) result ≡ present (get key.now (view value.now)) }
+{
+    match value.get(key) {
+        Some(Value::Null) => None,
+        found => found,
+    }
+}
+
+/// A name with the text under it.
+#[tactic(auto, unfolding(crate::specs::Shapes::named_text))]
+fn named_text(alloc: Global, name: &str, value: &Value) -> Result<(Text, Text), LineError>
+    ensures { Reads (λ pair. pair) result (named_text name.now (view value.now)) }
+{
+    let text = value.as_str().ok_or(LineError::Faulty)?;
+    Ok((Text::from_str(alloc, name)?, Text::from_str(alloc, text)?))
+}
+
+/// The names and texts of an object of texts, in the order of the names.
+#[tactic(auto, unfolding(crate::specs::Shapes::texts_in))]
+pub(crate) fn texts(alloc: Global, value: &Value) -> Result<Vec<(Text, Text)>, LineError>
+    ensures { Reads (λ v. v.items) result (texts_in (view value.now)) }
+{
+    let members = value.as_object().ok_or(LineError::Faulty)?;
+    let mut texts = Vec::new(alloc);
+    for (name, value) in members {
+        texts.push(named_text(alloc, name, value)?)?;
+    }
+    Ok(texts)
+}

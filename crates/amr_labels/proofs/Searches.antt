@@ -1,0 +1,81 @@
+-- What a binary search by key finds among entries whose keys rise.
+use Rattle.std.proofs.Common.{◌≡◌, ◌≢◌, ℕ, zero, suc, ◌<◌, ◌≤◌, cond, T, List, [], ◌∷◌, Some, None, Result, Ok, Err, MatchResult, length, get_or, refl, sym, ap, ◌∙◌, inl, inr, arith}
+use Rattle.std.specs.declared.cmp.Ordering.{Ordering}
+use Rattle.std.specs.declared.cmp.Ordering.TheVariants.{Less, Equal, Greater}
+use Rattle.std.specs.Cmp.{IsTotalOrder}
+use Rattle.std.specs.FinMap.{find, is_sorted}
+use Rattle.std.specs.FinMap.Entries.{below_all}
+use Rattle.std.specs.List.Sorted.{IsSearchInRange, IsBinarySearchResult}
+use Rattle.std.specs.Ordering.{is_eq, ordering_index, ordering_reverse}
+use Rattle.std.proofs.lemmas.Bool.Decides.{leb_tells}
+use Rattle.std.proofs.lemmas.Cmp.{alike_right}
+use Rattle.amr_labels.proofs.Sorted.{first, second, less}
+
+at_most_two : (o : Ordering) → ordering_index o ≤ 2
+at_most_two Less = omega arith
+at_most_two Equal = omega arith
+at_most_two Greater = omega arith
+
+same_index : (o p : Ordering) → o ≡ p → ordering_index o ≤ ordering_index p
+same_index o p e = rw e (omega arith)
+
+apart : (o : Ordering) → o ≡ Less → o ≡ Equal → ⊥
+apart o e f = cc
+
+apart_above : (o : Ordering) → o ≡ Greater → o ≡ Equal → ⊥
+apart_above o e f = cc
+
+module _ {K : Type 0} {R : K → K → Ordering} (o : IsTotalOrder R) where
+  index_rises : (x y q : K) → R x y ≡ Less → ordering_index (R x q) ≤ ordering_index (R y q)
+  index_rises x y q l =
+      elim (R y q) as (λ r. R y q ≡ r → ordering_index (R x q) ≤ ordering_index r) [
+        | Less ↦ λ e. same_index _ _ (o.trans x y q l e)
+        | Equal ↦ λ e. let low : ordering_index (R x q) ≤ 0 = same_index _ _ (sym (alike_right o y q x e) ∙ l) in omega arith
+        | Greater ↦ λ e. at_most_two (R x q)
+      ] refl
+
+module _ {K X : Type 0} {R : K → K → Ordering} (o : IsTotalOrder R) where
+  -- each of the entries has a greater key
+  above : (k : K) (es : List (K × X)) (i : ℕ) (d : K × X) → T (below_all R k es) → i < length es → R k (get_or es i d).0 ≡ Less
+  above k [] i d h within = absurd (omega arith)
+  above k (e ∷ es) zero d h within = less _ (first _ _ h)
+  above k (e ∷ es) (suc i) d h within = above k es i d (second _ _ h) (omega arith)
+
+  rises : (es : List (K × X)) → T (is_sorted R es) → (i j : ℕ) (d : K × X) → i < j → j < length es → R (get_or es i d).0 (get_or es j d).0 ≡ Less
+  rises [] h i j d lt within = absurd (omega arith)
+  rises (e ∷ es) h zero zero d lt within = absurd (omega arith)
+  rises (e ∷ es) h zero (suc j) d lt within = above e.0 es j d (first _ _ h) (omega arith)
+  rises (e ∷ es) h (suc i) zero d lt within = absurd (omega arith)
+  rises (e ∷ es) h (suc i) (suc j) d lt within = rises es (second _ _ h) i j d (omega arith) (omega arith)
+
+  found_at : (q : K) (es : List (K × X)) (i : ℕ) (d : K × X) → T (is_sorted R es) → i < length es → R (get_or es i d).0 q ≡ Equal → find R q es ≡ Some (get_or es i d).1
+  found_at q [] i d h within e = absurd (omega arith)
+  found_at q (f ∷ es) zero d h within e = ap (λ r. cond (is_eq r) (Some f.1) (find R q es)) (o.antisymm q f.0 ∙ ap ordering_reverse e)
+  found_at q (f ∷ es) (suc i) d h within e =
+      ap (λ r. cond (is_eq r) (Some f.1) (find R q es))
+      (sym (o.congr (get_or es i d).0 q f.0 e) ∙ o.antisymm (get_or es i d).0 f.0 ∙ ap ordering_reverse (above f.0 es i d (first _ _ h) (omega arith)))
+      ∙ found_at q es i d (second _ _ h) (omega arith) e
+
+  none_found : (q : K) (es : List (K × X)) → ((i : ℕ) (d : K × X) → i < length es → R (get_or es i d).0 q ≢ Equal) → find R q es ≡ None
+  none_found q [] h = refl
+  none_found q (e ∷ es) h =
+      let rest : find R q es ≡ None = none_found q es (λ i d within. h (suc i) d (omega arith)) in
+      elim (R q e.0) as (λ r. R q e.0 ≡ r → cond (is_eq r) (Some e.1) (find R q es) ≡ None) [
+        | Less ↦ λ t. rest
+        | Equal ↦ λ t. absurd (h zero e (omega arith) (o.antisymm e.0 q ∙ ap ordering_reverse t))
+        | Greater ↦ λ t. rest
+      ] refl
+
+  -- the answer of the search
+  pub searched : (q : K) (es : List (K × X)) (r : Result ℕ ℕ) → T (is_sorted R es) → IsSearchInRange r (length es) → IsBinarySearchResult (λ e. R e.0 q) es r
+      → MatchResult r (λ i. (d : K × X) → find R q es ≡ Some (get_or es i d).1) (λ i. find R q es ≡ None)
+  searched q es (Ok i) h within result = λ d. found_at q es i d h within (result d)
+  searched q es (Err i) h within result =
+      let parts = result (λ j k d le lt. elim (leb_tells k j) [
+        | inl p ↦ let same : j ≡ k = omega arith in same_index _ _ (ap (λ (n : ℕ). R (get_or es n d).0 q) same)
+        | inr p ↦ index_rises o _ _ q (rises es h j k d p.1 lt)
+      ]) in
+      none_found q es (λ k d lt e. elim (leb_tells i k) [
+        | inl p ↦ apart_above _ (parts.1 k d p.1 lt) e
+        | inr p ↦ apart _ (parts.0 k d (omega arith) p.1) e
+      ])

@@ -1,0 +1,11 @@
+use Rattle.std.proofs.Common.{◌≡◌}
+use Rattle.std.specs.List.{find}
+use Rattle.amr_labels.specs.Map.{entries}
+use Rattle.amr_rules.specs.Muting.{inhibits}
+use Rattle.amr_rules.proofs.muting.inhibitor_by.Given as goal
+
+-- the first of what is left is the first of all
+abbrev pub invariant-loop-source : goal.invariant-loop-source
+invariant-loop-source l =
+    find (λ source. inhibits l.now l.rule source l.target) l.source-iterator
+    ≡ find (λ source. inhibits l.now l.rule source l.target) (entries l.alerts)

@@ -1,0 +1,11 @@
+use Rattle.std.proofs.Common.{◌≡◌}
+use Rattle.std.specs.List.{find}
+use Rattle.amr_labels.specs.Map.{entries}
+use Rattle.amr_rules.specs.Muting.{silences_labels}
+use Rattle.amr_rules.proofs.muting.silenced_by.Given as goal
+
+-- the first of what is left is the first of all
+abbrev pub invariant-loop-id : goal.invariant-loop-id
+invariant-loop-id l =
+    find (λ stored. silences_labels l.now stored.1 l.labels) l.id-iterator
+    ≡ find (λ stored. silences_labels l.now stored.1 l.labels) (entries l.silences)

@@ -1,0 +1,157 @@
+//! What mutes an alert: inhibition rules with their sources, and silences.
+ghost use Rattle.std.specs.Prelude.{◌≡◌, ◌&&◌, IfOk, is_some};
+ghost use Rattle.std.specs.Option.{option_copied};
+ghost use Rattle.std.specs.Ordering.{eq_by_cmp};
+ghost use Rattle.amr_labels.specs.Labels.{text_cmp, value_of};
+ghost use Rattle.amr_labels.specs.Matchers.{all_hold};
+ghost use Rattle.amr_config.specs.Config.{Config};
+ghost use Rattle.amr_rules.specs.Muting.{agree_on, rule_mutes, inhibits, is_inhibited, inhibitor_by, inhibition_from, silences_labels, is_silenced, silencer_of};
+
+use crate::alert::Alert;
+use crate::silence::{Silence, SilenceId};
+use crate::silence_map::SilenceMap;
+use amr_config::InhibitRule;
+use amr_labels::{LabelMap, Labels, Text};
+use amr_time::Moment;
+use std::alloc::{AllocError, Global};
+use std::cmp::Ordering;
+
+/// Whether the label has one value in both sets, an absent label being empty.
+fn agree_at(name: &Text, a: &Labels, b: &Labels) -> bool
+    ensures { result ≡ eq_by_cmp text_cmp (value_of a.now name.now) (value_of b.now name.now) }
+{
+    let ours = a.value_of(name.as_str());
+    let theirs = b.value_of(name.as_str());
+    ours.cmp(theirs) == Ordering::Equal
+}
+
+/// Whether each of these labels has one value in both sets.
+fn agree_on(names: &[Text], a: &Labels, b: &Labels) -> bool
+    ensures { result ≡ agree_on names.now a.now b.now }
+{
+    names.iter().all(|name| agree_at(name, a, b))
+}
+
+/// Whether a rule's source matchers hold on some labels, and its target matchers on others.
+fn matches_both(
+    alloc: Global,
+    rule: &InhibitRule,
+    source: &Labels,
+    target: &Labels,
+) -> Result<bool, AllocError>
+    ensures { IfOk result (λ both. both ≡ (all_hold rule.now.target target.now && all_hold rule.now.source source.now)) }
+{
+    if rule.target.matches_all(alloc, target)? {
+        rule.source.matches_all(alloc, source)
+    } else {
+        Ok(false)
+    }
+}
+
+/// Whether a rule lets a source mute a target. Labels that match both sides are not muted by a source that matches
+/// both sides, itself included.
+fn rule_mutes(
+    alloc: Global,
+    rule: &InhibitRule,
+    source: &Labels,
+    target: &Labels,
+) -> Result<bool, AllocError>
+    ensures { IfOk result (λ mutes. mutes ≡ rule_mutes rule.now source.now target.now) }
+{
+    if !matches_both(alloc, rule, source, target)?
+        || !agree_on(rule.equal.as_slice(), source, target)
+    {
+        return Ok(false);
+    }
+    let both_ways = matches_both(alloc, rule, target, source)?;
+    Ok(!both_ways)
+}
+
+/// Whether a stored alert mutes a target by a rule.
+fn inhibits(
+    alloc: Global,
+    now: Moment,
+    rule: &InhibitRule,
+    source: &Labels,
+    alert: &Alert,
+    target: &Labels,
+) -> Result<bool, AllocError>
+    ensures { IfOk result (λ mutes. mutes ≡ inhibits now rule.now (source.now, alert.now) target.now) }
+{
+    if alert.is_resolved_at(now) {
+        return Ok(false);
+    }
+    rule_mutes(alloc, rule, source, target)
+}
+
+/// The least label set of a stored alert that mutes a target by a rule.
+fn inhibitor_by<'a>(
+    alloc: Global,
+    now: Moment,
+    target: &Labels,
+    alerts: &'a LabelMap<Alert>,
+    rule: &InhibitRule,
+) -> Result<Option<&'a Labels>, AllocError>
+    ensures { IfOk result (λ found. option_copied found ≡ inhibitor_by now target.now alerts.now rule.now) }
+{
+    for (source, alert) in alerts.iter() {
+        if inhibits(alloc, now, rule, source, alert, target)? {
+            return Ok(Some(source));
+        }
+    }
+    Ok(None)
+}
+
+/// What inhibits labels at a moment: the place of the least rule by which a stored alert mutes them, and the least
+/// label set of such an alert. None where nothing does (inhibition rules of Alertmanager's configuration).
+pub fn inhibited_by(
+    alloc: Global,
+    rules: &[InhibitRule],
+    alerts: &LabelMap<Alert>,
+    now: Moment,
+    target: &Labels,
+) -> Result<Option<(usize, Labels)>, AllocError>
+    ensures named { IfOk result (λ found. found ≡ inhibition_from 0 now target.now alerts.now rules.now) }
+    ensures exactly { IfOk result (λ found.
+        (config : Config) → config.rules ≡ rules.now → is_inhibited config alerts.now now target.now ≡ is_some found) }
+{
+    for (place, rule) in rules.iter().enumerate() {
+        if let Some(source) = inhibitor_by(alloc, now, target, alerts, rule)? {
+            return Ok(Some((place, source.clone()?)));
+        }
+    }
+    Ok(None)
+}
+
+/// Whether a silence mutes labels at a moment.
+fn silences_labels(
+    alloc: Global,
+    now: Moment,
+    silence: &Silence,
+    labels: &Labels,
+) -> Result<bool, AllocError>
+    ensures { IfOk result (λ mutes. mutes ≡ silences_labels now silence.now labels.now) }
+{
+    if !silence.is_active_at(now) {
+        return Ok(false);
+    }
+    silence.matchers.matches_all(alloc, labels)
+}
+
+/// The least id of a silence that mutes labels at a moment. None where no silence does.
+pub fn silenced_by(
+    alloc: Global,
+    silences: &SilenceMap,
+    now: Moment,
+    labels: &Labels,
+) -> Result<Option<SilenceId>, AllocError>
+    ensures named { IfOk result (λ found. found ≡ silencer_of now labels.now silences.now) }
+    ensures exactly { IfOk result (λ found. is_silenced silences.now now labels.now ≡ is_some found) }
+{
+    for (id, silence) in silences.iter() {
+        if silences_labels(alloc, now, silence, labels)? {
+            return Ok(Some(*id));
+        }
+    }
+    Ok(None)
+}
