@@ -4,17 +4,18 @@ use Rattle.std.proofs.KnownBytes.{Keeps-refl}
 use Rattle.amr_labels.specs.Labels.{Text}
 use Rattle.amr_config.specs.Config.{Config}
 use Rattle.amr_events.specs.Events.{Event}
-use Rattle.amreplay.specs.declared.stub.Refusal.{Refusal}
-use Rattle.amreplay.specs.declared.stub.ConfigError.{ConfigError}
-use Rattle.amreplay.specs.declared.stub.ConfigError.TheVariants as config_error
-use Rattle.amreplay.specs.declared.stub.ScriptFault.{ScriptFault}
-use Rattle.amreplay.specs.declared.stub.ScriptError.{ScriptError}
-use Rattle.amreplay.specs.declared.stub.ScriptError.TheVariants as script_error
+use Rattle.amr_config.specs.declared.error.Refusal.{Refusal}
+use Rattle.amr_config.specs.declared.error.ConfigError.{ConfigError}
+use Rattle.amr_config.specs.declared.error.ConfigError.TheVariants as config_error
+use Rattle.amr_events.specs.declared.error.Fault.{Fault as ScriptFault}
+use Rattle.amr_events.specs.declared.error.ScriptError.{ScriptError}
+use Rattle.amr_events.specs.declared.error.ScriptError.TheVariants as script_error
 use Rattle.amreplay.specs.declared.run.Stopped.{Stopped}
 use Rattle.amreplay.specs.declared.run.Stopped.TheVariants as stopped
 use Rattle.amreplay.specs.declared.fault.Fault.{Fault}
 use Rattle.amreplay.specs.declared.fault.Fault.TheVariants as fault
-use Rattle.amreplay.specs.StubRead.{Fails, IsRefused}
+use Rattle.amr_config.specs.Answers.{Fails}
+use Rattle.amr_events.specs.Answers.{IsRefused}
 use Rattle.amreplay.specs.Faults.{config_fault, script_fault, stop_fault}
 use Rattle.amreplay.specs.Files.{judged, FilesLeave}
 use Rattle.amreplay.specs.Runs.{RunLeavesAt}

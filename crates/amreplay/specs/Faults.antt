@@ -1,13 +1,13 @@
 -- The lines of the faults on standard error, and the statuses.
 use Rattle.std.specs.Prelude.{ℕ, List, [], ◌∷◌, ◌++◌, codes, decimal}
-use Rattle.amreplay.specs.declared.stub.Refusal.{Refusal}
-use Rattle.amreplay.specs.declared.stub.Refusal.TheVariants.{BadConfig, UnknownReceiver, DuplicateReceiver, RootRoute, ZeroInterval, BadGroupBy, TooDeep, TimeIntervals}
-use Rattle.amreplay.specs.declared.stub.ConfigError.{ConfigError}
-use Rattle.amreplay.specs.declared.stub.ConfigError.TheVariants as config_error
-use Rattle.amreplay.specs.declared.stub.ScriptFault.{ScriptFault}
-use Rattle.amreplay.specs.declared.stub.ScriptFault.TheVariants.{BadLine, LineTooLong, TooManyEvents}
-use Rattle.amreplay.specs.declared.stub.ScriptError.{ScriptError}
-use Rattle.amreplay.specs.declared.stub.ScriptError.TheVariants as script_error
+use Rattle.amr_config.specs.declared.error.Refusal.{Refusal}
+use Rattle.amr_config.specs.declared.error.Refusal.TheVariants.{BadConfig, UnknownReceiver, DuplicateReceiver, RootRoute, ZeroInterval, BadGroupBy, TooDeep, TimeIntervals}
+use Rattle.amr_config.specs.declared.error.ConfigError.{ConfigError}
+use Rattle.amr_config.specs.declared.error.ConfigError.TheVariants as config_error
+use Rattle.amr_events.specs.declared.error.Fault.{Fault as ScriptFault}
+use Rattle.amr_events.specs.declared.error.Fault.TheVariants.{BadLine, LineTooLong, TooManyEvents}
+use Rattle.amr_events.specs.declared.error.ScriptError.{ScriptError}
+use Rattle.amr_events.specs.declared.error.ScriptError.TheVariants as script_error
 use Rattle.amreplay.specs.declared.run.Stopped.{Stopped}
 use Rattle.amreplay.specs.declared.run.Stopped.TheVariants as stopped
 use Rattle.amreplay.specs.declared.fault.Fault.{Fault}

@@ -7,10 +7,11 @@ use Rattle.serde_json.specs.Read.{read}
 use Rattle.amr_labels.specs.Labels.{Text}
 use Rattle.amr_config.specs.Config as config
 use Rattle.amr_events.specs.Events.{Event}
-use Rattle.amreplay.specs.declared.stub.Refusal.{Refusal}
-use Rattle.amreplay.specs.declared.stub.Refusal.TheVariants.{BadConfig}
-use Rattle.amreplay.specs.declared.stub.ScriptFault.{ScriptFault}
-use Rattle.amreplay.specs.StubRead.{config_of, script_of}
+use Rattle.amr_config.specs.declared.error.Refusal.{Refusal}
+use Rattle.amr_config.specs.declared.error.Refusal.TheVariants.{BadConfig}
+use Rattle.amr_events.specs.declared.error.Fault.{Fault as ScriptFault}
+use Rattle.amr_config.specs.Reading.{config_of}
+use Rattle.amr_events.specs.Scripts.{script_of}
 use Rattle.amreplay.specs.declared.fault.Fault.{Fault}
 use Rattle.amreplay.specs.declared.fault.Fault.TheVariants.{Config, Script, CannotReadConfig, CannotReadScript, CannotWrite, OutOfMemory, Usage}
 use Rattle.amreplay.specs.Outlet.{AppendsBeginning}

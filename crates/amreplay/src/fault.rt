@@ -4,7 +4,8 @@ ghost use Rattle.amreplay.specs.Outlet.{WritesText};
 
 use crate::outlet::{WriteFailed, write_parts};
 use crate::run::Stopped;
-use crate::stub::{ConfigError, Refusal, ScriptError, ScriptFault};
+use amr_config::{ConfigError, Refusal};
+use amr_events::{Fault as ScriptFault, ScriptError};
 use itoa::Buffer;
 use std::alloc::AllocError;
 use std::io::Write;

@@ -2,11 +2,10 @@
 ghost use Rattle.std.specs.Prelude.{◌≡◌, [], option_map, IfOk};
 ghost use Rattle.serde_json.specs.View.{view};
 ghost use Rattle.amreplay.specs.Files.{json_of, config_of_file};
-ghost use Rattle.amreplay.specs.StubRead.{Gives};
-ghost use Rattle.amreplay.specs.declared.stub.Refusal.TheVariants.{BadConfig};
+ghost use Rattle.amr_config.specs.Answers.{Gives};
+ghost use Rattle.amr_config.specs.declared.error.Refusal.TheVariants.{BadConfig};
 
-use crate::stub::{ConfigError, Refusal, read_config_value};
-use amr_config::Config;
+use amr_config::{Config, ConfigError, Refusal};
 use amr_labels::Text;
 use serde_json::Value;
 use std::alloc::{AllocError, Global};
@@ -49,7 +48,7 @@ pub fn read_config(alloc: Global, bytes: &[u8]) -> Result<Config, ConfigError>
         return Err(ConfigError::Refused(whole_file(alloc)?));
     }
     match json(alloc, bytes)? {
-        Some(value) => read_config_value(alloc, &value),
+        Some(value) => Config::read(alloc, &value),
         None => Err(ConfigError::Refused(whole_file(alloc)?)),
     }
 }

@@ -7,7 +7,6 @@ mod lines;
 mod load;
 mod outlet;
 mod run;
-mod stub;
 #[cfg(test)]
 mod tests;
 mod values;

@@ -3,14 +3,16 @@ ghost use Rattle.std.specs.Prelude.{◌≡◌, ◌+◌, [], IfOk, length, ℕ, s
 ghost use Rattle.amreplay.specs.Printed.{event_lines};
 ghost use Rattle.amreplay.specs.Files.{FilesLeave, files_of};
 ghost use Rattle.amreplay.specs.Runs.{Leaves, RunLeaves, LeavesAt};
-ghost use Rattle.amreplay.specs.Stub.{outcome_view};
-ghost use Rattle.amreplay.specs.StubSession.{at_cursor};
+ghost use Rattle.amr_engine.specs.Outcomes.{outcome_view};
+ghost use Rattle.amr_replay.specs.Session.{at_cursor};
 
 use crate::fault::Fault;
 use crate::lines::{accepted_text, refused_text};
 use crate::load::read_config;
 use crate::outlet::{WriteFailed, flush, write_whole};
-use crate::stub::{Outcome, Session, SessionError, read_script};
+use amr_engine::Outcome;
+use amr_events::Script;
+use amr_replay::Session;
 use std::alloc::{AllocError, Global};
 use std::io::Write;
 
@@ -77,10 +79,9 @@ fn write_events<W: Write>(alloc: Global, session: &mut Session, out: &mut W) -> 
     ensures { RunLeaves (W.contents out.old) (W.contents out.new) session.old.config session.old.events result }
 {
     for number in 0..session.events() {
-        let outcome = match session.step() {
-            Ok(outcome) => outcome,
-            Err(SessionError::AtEnd) => break,
-            Err(SessionError::Memory) => return Err(Stopped::OutOfMemory),
+        // An event is left, so memory alone can stop the step.
+        let Ok(outcome) = session.step() else {
+            return Err(Stopped::OutOfMemory);
         };
         write_event(alloc, number as u64 + 1, &outcome, out)?;
     }
@@ -110,8 +111,10 @@ pub fn run_script<W: Write>(
     ensures { FilesLeave (W.contents out.old) (W.contents out.new) (files_of config.now script.now) result }
 {
     let config = read_config(alloc, config)?;
-    let events = read_script(alloc, script)?;
-    let mut session = Session::new(alloc, config, events)?;
+    let script = Script::read(alloc, script)?;
+    let Ok(mut session) = Session::new(alloc, config, script) else {
+        return Err(Fault::OutOfMemory);
+    };
     write_run(alloc, &mut session, out)?;
     Ok(())
 }

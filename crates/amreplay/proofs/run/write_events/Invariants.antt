@@ -1,7 +1,7 @@
 -- The session stands at the event, and the lines of the events before it are written.
 use Rattle.std.proofs.Common.{◌≡◌, take}
 use Rattle.std.specs.Io.KnownBytes.{Appends}
-use Rattle.amreplay.specs.StubSession.{at_cursor}
+use Rattle.amr_replay.specs.Session.{at_cursor}
 use Rattle.amreplay.specs.Runs.{run_lines}
 use Rattle.amreplay.proofs.run.write_events.Given as goal
 
