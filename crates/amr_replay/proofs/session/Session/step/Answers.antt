@@ -1,0 +1,18 @@
+use Rattle.std.proofs.Common.{ap, ◌∙◌, arith, ◌+◌}
+use Rattle.amr_replay.specs.Session.{at_cursor}
+use Rattle.amr_replay.proofs.Places.{at_next}
+use Rattle.amr_replay.proofs.session.Session.step.Goals as goal
+
+pub invariant_of-self-2 : goal.invariant_of-self-2
+invariant_of-self-2 c =
+    let a = c.self.inside in
+    record {
+      view = at_next a.config a.script a.cursor a.engine.state _ a.engine.past _ c.event.result.now c.self.invariant.view c.event.ensures c.in_ok-outcome.ensures.state c.in_ok-outcome.ensures.past;
+      within = omega arith;
+    }
+
+pub returns-clause-ok : goal.returns-clause-ok
+returns-clause-ok c =
+    let a = c.self.inside in
+    at_next a.config a.script a.cursor a.engine.state _ a.engine.past _ c.event.result.now c.self.invariant.view c.event.ensures c.in_ok-outcome.ensures.state c.in_ok-outcome.ensures.past
+    ∙ ap (λ v. at_cursor v.config v.events (v.cursor + 1)) c.self.view_is

@@ -1,0 +1,20 @@
+use Rattle.std.proofs.Common.{ap, ◌∙◌, arith, ◌-◌}
+use Rattle.amr_replay.specs.Session.{at_cursor}
+use Rattle.amr_replay.proofs.Places.{at_before}
+use Rattle.amr_replay.proofs.session.Session.unstep.Goals as goal
+
+pub invariant_of-self : goal.invariant_of-self
+invariant_of-self c =
+    let a = c.self.inside in
+    let some = ap (λ v. v.cursor) c.self.view_is in
+    record {
+      view = at_before a.config a.script a.cursor (a.cursor - 1) a.engine.state _ a.engine.past _ (omega arith) c.self.invariant.within c.self.invariant.view c.undo_last.ensures;
+      within = omega (arith, c.self.invariant.within);
+    }
+
+pub returns : goal.returns
+returns c =
+    let a = c.self.inside in
+    let some = ap (λ v. v.cursor) c.self.view_is in
+    at_before a.config a.script a.cursor (a.cursor - 1) a.engine.state _ a.engine.past _ (omega arith) c.self.invariant.within c.self.invariant.view c.undo_last.ensures
+    ∙ ap (λ v. at_cursor v.config v.events (v.cursor - 1)) c.self.view_is

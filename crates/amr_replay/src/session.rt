@@ -1,0 +1,168 @@
+//! A cursor over a script: what a session shows is the run of the events before it.
+ghost use Rattle.std.specs.Prelude.{◌≡◌, ◌+◌, ◌-◌, ◌<◌, ◌≤◌, Some, Err, IsOk, IfOk, IfErr, OnOk, OnErr, length, slice_get};
+ghost use Rattle.amr_labels.specs.Map.{entries};
+ghost use Rattle.amr_engine.specs.Seen.{groups_of};
+ghost use Rattle.amr_engine.specs.Events.{outcome_of};
+ghost use Rattle.amr_engine.specs.Outcomes.{outcome_view};
+ghost use Rattle.amr_replay.specs.Session.{at_cursor};
+
+use amr_config::Config;
+use amr_engine::{Engine, Group, LogKey, Note, Outcome};
+use amr_events::Script;
+use amr_labels::{Labels, Shared};
+use amr_rules::{Alert, LogEntry};
+use amr_time::Moment;
+use std::alloc::{AllocError, Global};
+use std::marker::Model;
+
+/// Why a call did nothing.
+#[derive(Clone, Copy, Debug, PartialEq, Eq)]
+pub enum SessionError {
+    /// An allocation failed.
+    Memory,
+    /// No event is left.
+    AtEnd,
+    /// No event was passed.
+    AtStart,
+}
+
+impl From<AllocError> for SessionError {
+    ghost use Rattle.std.specs.Prelude.{◌≡◌};
+    ghost use Rattle.amr_replay.specs.declared.session.SessionError.TheVariants.{Memory};
+
+    ghost from_gives = { λ _ e. e ≡ Memory };
+
+    fn from(_error: AllocError) -> SessionError {
+        SessionError::Memory
+    }
+}
+
+/// A session: a script with a cursor, which counts the events passed.
+#[derive(Drop)]
+pub struct Session {
+    config: Config,
+    script: Script,
+    cursor: usize,
+    engine: Engine,
+}
+
+impl Model for Session {
+    ghost use Rattle.std.specs.Coded.{codes};
+    ghost use Rattle.amr_labels.specs.Map as map;
+    ghost use Rattle.amr_replay.specs.Session.{View};
+
+    ghost Value = { View };
+
+    ghost coded = { Prim.hlevel (codes, map.code) };
+
+    ghost use Rattle.amr_replay.specs.Held.{view_of, IsAtCursor};
+
+    ghost view = { view_of };
+
+    ghost invariant = { IsAtCursor };
+}
+
+impl Session {
+    /// The session of a script under a configuration, with no event passed.
+    pub fn new(alloc: Global, config: Config, script: Script) -> Result<Session, SessionError>
+        ensures ok { IfOk result (λ session. session ≡ at_cursor config script 0) }
+        ensures memory { IfErr result (λ error. error ≡ SessionError.Memory) }
+    {
+        let engine = Engine::new(alloc, config.clone()?);
+        Ok(Session {
+            config,
+            script,
+            cursor: 0,
+            engine,
+        })
+    }
+
+    /// How many events are passed. What the session shows is the run of the events before its cursor.
+    pub fn cursor(&self) -> usize
+        ensures cursor { result ≡ self.now.cursor }
+        ensures within { self.now.cursor ≤ length self.now.events }
+        ensures view { self.now ≡ at_cursor self.now.config self.now.events self.now.cursor }
+    {
+        self.cursor
+    }
+
+    /// How many events the script has.
+    pub fn events(&self) -> usize
+        ensures { result ≡ length self.now.events }
+    {
+        self.script.len()
+    }
+
+    /// Passes the next event, also one that is refused, and answers what it comes to.
+    pub fn step(&mut self) -> Result<Outcome, SessionError>
+        ensures outcome { IfOk result (λ outcome. (event : _) → slice_get self.old.events self.old.cursor ≡ Some event → outcome_view outcome ≡ outcome_of self.old.state event) }
+        ensures inside { OnOk result (self.old.cursor < length self.old.events) }
+        ensures ok { OnOk result (self.new ≡ at_cursor self.old.config self.old.events (self.old.cursor + 1)) }
+        ensures err { OnErr result (self.new ≡ self.old) }
+        ensures at_end { self.old.cursor ≡ length self.old.events → result ≡ Err SessionError.AtEnd }
+        ensures memory { IfErr result (λ error. self.old.cursor < length self.old.events → error ≡ SessionError.Memory) }
+    {
+        if self.cursor == self.script.len() {
+            return Err(SessionError::AtEnd);
+        }
+        let outcome = self.engine.apply(self.script.event(self.cursor))?;
+        self.cursor += 1;
+        Ok(outcome)
+    }
+
+    /// Undoes the last event. It takes no memory.
+    pub fn back(&mut self) -> Result<(), SessionError>
+        ensures at_start { self.old.cursor ≡ 0 → (result ≡ Err SessionError.AtStart) × (self.new ≡ self.old) }
+        ensures back { 0 < self.old.cursor → IsOk result × (self.new ≡ at_cursor self.old.config self.old.events (self.old.cursor - 1)) }
+    {
+        if self.cursor == 0 {
+            return Err(SessionError::AtStart);
+        }
+        self.unstep();
+        Ok(())
+    }
+
+    // Goes back by one event.
+    fn unstep(&mut self)
+        requires { 0 < self.old.cursor }
+        ensures { self.new ≡ at_cursor self.old.config self.old.events (self.old.cursor - 1) }
+    {
+        self.engine.undo_last();
+        self.cursor -= 1;
+    }
+
+    /// The clock: the moment of the last event passed that was accepted.
+    pub fn now(&self) -> Moment
+        ensures { result ≡ self.now.state.moment }
+    {
+        self.engine.now()
+    }
+
+    /// The stored alerts, by labels.
+    pub fn alerts(&self) -> Result<Vec<(Labels, Alert)>, AllocError>
+        ensures { IfOk result (λ found. found.items ≡ entries self.now.state.alerts) }
+    {
+        self.engine.alerts()
+    }
+
+    /// The groups, by route and labels.
+    pub fn groups(&self) -> Result<Vec<Group>, AllocError>
+        ensures { IfOk result (λ found. found.items ≡ groups_of self.now.state) }
+    {
+        self.engine.groups()
+    }
+
+    /// The notification log, by receiver, integration, place, group labels and path.
+    pub fn log(&self) -> Result<Vec<(LogKey, LogEntry)>, AllocError>
+        ensures { IfOk result (λ found. found.items ≡ entries self.now.state.log) }
+    {
+        self.engine.log()
+    }
+
+    /// All notes so far, in order.
+    pub fn transcript(&self) -> &[Shared<Note>]
+        ensures { result.now ≡ self.now.state.notes }
+    {
+        self.engine.notes()
+    }
+}
