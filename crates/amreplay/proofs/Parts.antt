@@ -1,5 +1,5 @@
 -- Texts written one after the other.
-use Rattle.std.proofs.Common.{◌≡◌, ◌∷◌, [], ◌++◌, List, ℕ, ◌<◌, ◌+◌, length, take, drop, get_or, flat_map, append_assoc, sym, ap, ◌∙◌, Option, arith, add-one, drop-cons, take-append-drop}
+use Rattle.std.proofs.Common.{◌≡◌, ◌∷◌, ◌++◌, List, ℕ, ◌<◌, ◌+◌, length, take, drop, get_or, flat_map, sym, ap, ◌∙◌, Option, arith, add-one, drop-cons, take-append-drop}
 use Rattle.std.proofs.lemmas.Grind.{common_steps, flat_map-append}
 use Rattle.std.specs.Io.KnownBytes.{Appends}
 use Rattle.std.proofs.KnownBytes.{Appends-trans}
