@@ -1,0 +1,5 @@
+pub mod Parts
+pub mod Floats
+pub mod FirstPage
+pub mod RunLines
+pub mod FilesRead

@@ -1,0 +1,93 @@
+//! A replayer of Prometheus Alertmanager incidents.
+#![tactic(auto)]
+
+mod fault;
+mod input;
+mod lines;
+mod load;
+mod outlet;
+mod run;
+#[cfg(test)]
+mod tests;
+mod values;
+mod words;
+
+use fault::{Fault, status_of, write_fault};
+use input::{Unread, read_whole};
+use load::LONGEST_CONFIG;
+use run::run_script;
+use std::alloc::AllocError;
+use std::io::{BufWriter, Error, ErrorKind, Read};
+use std::process::ExitCode;
+use std::rt::{Env, Files};
+use std::{env, fs};
+use words::{Command, command_of};
+
+fn main(rt: HostRuntime) -> ExitCode {
+    match start(&rt) {
+        Ok(()) => ExitCode::SUCCESS,
+        Err(fault) => {
+            // There is nowhere to tell of a fault in telling of a fault.
+            let _ = write_fault(&fault, &mut rt.stderr());
+            ExitCode::from(status_of(&fault))
+        }
+    }
+}
+
+/// Does what the words ask for.
+fn start(rt: &HostRuntime) -> Result<(), Fault> {
+    let words = words_of(rt)?;
+    match command_of(words.as_slice()) {
+        Some(Command::Run { config, script }) => run_files(rt, config, script),
+        None => Err(Fault::Usage),
+    }
+}
+
+/// Runs the script of one file over the configuration of another.
+fn run_files(rt: &HostRuntime, config: &str, script: &str) -> Result<(), Fault> {
+    let config = read_file(rt, config, LONGEST_CONFIG as u64 + 1).map_err(|unread| fault_of(
+        unread,
+        Fault::CannotReadConfig,
+    ))?;
+    let script = read_file(rt, script, u64::MAX).map_err(|unread| fault_of(
+        unread,
+        Fault::CannotReadScript,
+    ))?;
+    let Ok(mut out) = BufWriter::new(rt.alloc(), rt.stdout()) else {
+        return Err(Fault::OutOfMemory);
+    };
+    run_script(rt.alloc(), config.as_slice(), script.as_slice(), &mut out)
+}
+
+/// The words after the program's name. A word that isn't UTF-8 is no word of a form.
+fn words_of(rt: &(impl Env + AllocGlobal)) -> Result<Vec<String>, Fault> {
+    match env::args(rt) {
+        Ok(args) => args
+            .skip(1)
+            .collect(rt.alloc())
+            .map_err(|_e: AllocError| Fault::OutOfMemory),
+        Err(e) if e.kind() == ErrorKind::OutOfMemory => Err(Fault::OutOfMemory),
+        Err(_) => Err(Fault::Usage),
+    }
+}
+
+/// The bytes of a file, and of a longer one so many.
+fn read_file(rt: &(impl Files + AllocGlobal), path: &str, most: u64) -> Result<Vec<u8>, Unread> {
+    let file = fs::open(rt, path).map_err(|e| unopened(&e))?;
+    read_whole(rt.alloc(), &mut file.take(most))
+}
+
+fn unopened(error: &Error) -> Unread {
+    if error.kind() == ErrorKind::OutOfMemory {
+        Unread::OutOfMemory
+    } else {
+        Unread::CannotRead
+    }
+}
+
+fn fault_of(unread: Unread, otherwise: Fault) -> Fault {
+    match unread {
+        Unread::OutOfMemory => Fault::OutOfMemory,
+        Unread::CannotRead => otherwise,
+    }
+}
