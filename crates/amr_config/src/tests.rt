@@ -39,72 +39,153 @@ fn nested(alloc: Global, levels: usize) -> Result<String, AllocError> {
     Ok(text)
 }
 
+const ONE_ROUTE: &str =
+    r#"{"route":{"receiver":"ops","group_by":["alertname"]},"receivers":[{"name":"ops","webhook_configs":[{}]}]}"#;
+
+const FIVE_ROUTES: &str =
+    r#"{"route":{"receiver":"ops","group_by":["alertname"],"group_wait":"10s","routes":[
+    {"match":{"team":"a"},"group_wait":"0s","routes":[{"match":{"sev":"p"},"group_by":[]}]},
+    {"match":{"team":"b"},"continue":true,"group_by":["..."]},{"match":{"team":"b"}}]},
+    "receivers":[{"name":"ops","email_configs":[{"send_resolved":true},{}],"a_b_configs":[],"webhook_configs":[{}]}],
+    "global":{"resolve_timeout":"1h"}}"#;
+
+fn config(alloc: Global, text: &str) -> Result<Config, Fail> {
+    let value = Value::from_str(alloc, text)?;
+    Ok(Config::read(alloc, &value)?)
+}
+
+/// The three times of a route, in seconds.
+fn times(config: &Config, route: usize) -> (u64, u64, u64) {
+    (
+        config.group_wait(route).nanoseconds() / 1_000_000_000,
+        config.group_interval(route).nanoseconds() / 1_000_000_000,
+        config.repeat_interval(route).nanoseconds() / 1_000_000_000,
+    )
+}
+
+/// The integrations of a route's receiver.
+fn told(alloc: Global, config: &Config, route: usize) -> Result<String, Fail> {
+    let mut text = String::new(alloc);
+    for integration in config.integrations(route) {
+        let kind = integration.kind.as_str();
+        let place = integration.place;
+        let resolved = integration.send_resolved;
+        write!(text, "{kind} {place} {resolved};")?;
+    }
+    Ok(text)
+}
+
+/// The routes that are chosen for labels.
+fn chosen(alloc: Global, config: &Config, pairs: &[(&str, &str)]) -> Result<Vec<usize>, Fail> {
+    let labels = labels(alloc, pairs)?;
+    Ok(config.routes_of(alloc, &labels)?)
+}
+
+/// The group labels that labels have at a route.
+fn grouped(
+    alloc: Global,
+    config: &Config,
+    route: usize,
+    pairs: &[(&str, &str)],
+) -> Result<String, Fail> {
+    let labels = labels(alloc, pairs)?;
+    let group = config.group_of(alloc, route, &labels)?;
+    let mut text = String::new(alloc);
+    for (name, value) in group.entries() {
+        let name = name.as_str();
+        let value = value.as_str();
+        write!(text, "{name}={value};")?;
+    }
+    Ok(text)
+}
+
 #[test]
-fn reads_one_route(rt: HostRuntime) -> Result<(), Fail> {
-    let alloc = rt.alloc();
-    let text =
-        r#"{"route":{"receiver":"ops","group_by":["alertname"]},"receivers":[{"name":"ops","webhook_configs":[{}]}]}"#;
-    let config = Config::read(alloc, &Value::from_str(alloc, text)?)?;
-    assert_eq!(rt; config.route_count(), 1);
-    assert_eq!(rt; config.receiver_count(), 1);
-    assert_eq!(rt; config.rules().len(), 0);
-    assert_eq!(rt; config.resolve_timeout().nanoseconds(), 300_000_000_000);
-    assert_eq!(rt; config.group_wait(0).nanoseconds(), 30_000_000_000);
-    assert_eq!(rt; config.group_interval(0).nanoseconds(), 300_000_000_000);
-    assert_eq!(rt; config.repeat_interval(0).nanoseconds(), 14_400_000_000_000);
-    assert_eq!(rt; config.receiver_name(alloc, 0)?.as_str(), "ops");
-    assert_eq!(rt; config.path(alloc, 0)?.len(), 1);
-    let integrations = config.integrations(0);
-    assert_eq!(rt; integrations.len(), 1);
-    assert_eq!(rt; integrations[0].kind.as_str(), "webhook");
-    assert_eq!(rt; integrations[0].place, 0);
-    assert!(rt; integrations[0].send_resolved);
-    assert!(rt; config.receiver("ops").is_some());
-    assert!(rt; config.receiver("dev").is_none());
-    let alert = labels(alloc, &[("alertname", "X"), ("team", "a")])?;
-    assert_eq!(rt; config.routes_of(alloc, &alert)?.as_slice(), [0].as_slice());
-    assert!(rt; config.group_of(alloc, 0, &alert)? == labels(alloc, &[("alertname", "X")])?);
-    assert_eq!(rt; config.clone()?.route_count(), 1);
+fn counts_routes_receivers_and_rules(rt: HostRuntime) -> Result<(), Fail> {
+    let config = config(rt.alloc(), FIVE_ROUTES)?;
+    let counts = (
+        config.route_count(),
+        config.receiver_count(),
+        config.rules().len(),
+    );
+    assert_eq!(rt; counts, (5, 1, 0));
     Ok(())
 }
 
 #[test]
-fn finds_routes(rt: HostRuntime) -> Result<(), Fail> {
-    let alloc = rt.alloc();
-    let text = r#"{"route":{"receiver":"ops","group_by":["alertname"],"group_wait":"10s","routes":[
-        {"match":{"team":"a"},"group_wait":"0s","routes":[{"match":{"sev":"p"},"group_by":[]}]},
-        {"match":{"team":"b"},"continue":true,"group_by":["..."]},{"match":{"team":"b"}}]},
-        "receivers":[{"name":"ops","email_configs":[{"send_resolved":true},{}],"a_b_configs":[],"webhook_configs":[{}]}],
-        "global":{"resolve_timeout":"1h"}}"#;
-    let config = Config::read(alloc, &Value::from_str(alloc, text)?)?;
-    assert_eq!(rt; config.route_count(), 5);
-    assert_eq!(rt; config.resolve_timeout().nanoseconds(), 3_600_000_000_000);
-    let below = labels(alloc, &[("alertname", "X"), ("sev", "p"), ("team", "a")])?;
-    let beside = labels(alloc, &[("alertname", "X"), ("team", "a")])?;
-    let above = labels(alloc, &[("alertname", "X")])?;
-    let twice = labels(alloc, &[("alertname", "X"), ("team", "b")])?;
-    assert_eq!(rt; config.routes_of(alloc, &below)?.as_slice(), [2].as_slice());
+fn has_default_times(rt: HostRuntime) -> Result<(), Fail> {
+    let config = config(rt.alloc(), ONE_ROUTE)?;
+    assert_eq!(rt; times(&config, 0), (30, 300, 14_400));
+    assert_eq!(rt; config.resolve_timeout().nanoseconds(), 300_000_000_000);
+    Ok(())
+}
+
+#[test]
+fn inherits_times(rt: HostRuntime) -> Result<(), Fail> {
+    let config = config(rt.alloc(), FIVE_ROUTES)?;
+    assert_eq!(rt; times(&config, 2), (0, 300, 14_400));
+    assert_eq!(rt; times(&config, 4), (10, 300, 14_400));
+    Ok(())
+}
+
+#[test]
+fn integrations_go_by_kind_and_place(rt: HostRuntime) -> Result<(), Fail> {
+    let config = config(rt.alloc(), FIVE_ROUTES)?;
     assert_eq!(rt;
-        config.routes_of(alloc, &beside)?.as_slice(),
-        [1].as_slice()
+        told(rt.alloc(), &config, 2)?.as_str(),
+        "email 0 true;email 1 false;webhook 0 true;"
     );
-    assert_eq!(rt; config.routes_of(alloc, &above)?.as_slice(), [0].as_slice());
+    Ok(())
+}
+
+#[test]
+fn names_receivers_and_paths(rt: HostRuntime) -> Result<(), Fail> {
+    let config = config(rt.alloc(), FIVE_ROUTES)?;
+    assert_eq!(rt; config.receiver_name(rt.alloc(), 2)?.as_str(), "ops");
+    assert_eq!(rt; config.path(rt.alloc(), 2)?.len(), 3);
+    Ok(())
+}
+
+#[test]
+fn finds_receivers_by_name(rt: HostRuntime) -> Result<(), Fail> {
+    let config = config(rt.alloc(), ONE_ROUTE)?.clone()?;
+    assert!(rt; config.receiver("ops").is_some());
+    assert!(rt; config.receiver("dev").is_none());
+    Ok(())
+}
+
+#[test]
+fn chooses_the_deepest_and_goes_on(rt: HostRuntime) -> Result<(), Fail> {
+    let config = config(rt.alloc(), FIVE_ROUTES)?;
+    let below = chosen(rt.alloc(), &config, &[("sev", "p"), ("team", "a")])?;
+    assert_eq!(rt; below.as_slice(), [2].as_slice());
+    let twice = chosen(rt.alloc(), &config, &[("team", "b")])?;
+    assert_eq!(rt; twice.as_slice(), [3, 4].as_slice());
+    Ok(())
+}
+
+#[test]
+fn takes_what_no_child_takes(rt: HostRuntime) -> Result<(), Fail> {
+    let config = config(rt.alloc(), FIVE_ROUTES)?;
+    let beside = chosen(rt.alloc(), &config, &[("team", "a")])?;
+    assert_eq!(rt; beside.as_slice(), [1].as_slice());
+    let above = chosen(rt.alloc(), &config, &[("alertname", "X")])?;
+    assert_eq!(rt; above.as_slice(), [0].as_slice());
+    Ok(())
+}
+
+#[test]
+fn groups_by_name_by_none_and_by_all(rt: HostRuntime) -> Result<(), Fail> {
+    let config = config(rt.alloc(), FIVE_ROUTES)?;
+    let pairs = [("alertname", "X"), ("team", "b")];
     assert_eq!(rt;
-        config.routes_of(alloc, &twice)?.as_slice(),
-        [3, 4].as_slice()
+        grouped(rt.alloc(), &config, 1, &pairs)?.as_str(),
+        "alertname=X;"
     );
-    assert!(rt; config.group_of(alloc, 1, &below)? == above);
-    assert_eq!(rt; config.group_of(alloc, 2, &below)?.len(), 0);
-    assert!(rt; config.group_of(alloc, 3, &twice)? == twice);
-    assert_eq!(rt; config.group_wait(2).nanoseconds(), 0);
-    assert_eq!(rt; config.group_wait(4).nanoseconds(), 10_000_000_000);
-    assert_eq!(rt; config.path(alloc, 2)?.len(), 3);
-    assert_eq!(rt; config.receiver_name(alloc, 2)?.as_str(), "ops");
-    let integrations = config.integrations(2);
-    assert_eq!(rt; integrations.len(), 3);
-    assert!(rt; integrations[0].send_resolved);
-    assert!(rt; !integrations[1].send_resolved);
-    assert_eq!(rt; integrations[2].kind.as_str(), "webhook");
+    assert_eq!(rt; grouped(rt.alloc(), &config, 2, &pairs)?.as_str(), "");
+    assert_eq!(rt;
+        grouped(rt.alloc(), &config, 3, &pairs)?.as_str(),
+        "alertname=X;team=b;"
+    );
     Ok(())
 }
 
@@ -200,9 +281,14 @@ fn refuses(rt: HostRuntime) -> Result<(), Fail> {
         assert_eq!(rt; found, number, "{text}");
         assert_eq!(rt; place.as_str(), path, "{text}");
     }
-    let deepest = nested(alloc, 32)?;
-    assert_eq!(rt; refused(alloc, deepest.as_str())?.0, 0);
-    let deeper = nested(alloc, 33)?;
-    assert_eq!(rt; refused(alloc, deeper.as_str())?.0, 11);
+    Ok(())
+}
+
+#[test]
+fn reads_32_levels_and_no_more(rt: HostRuntime) -> Result<(), Fail> {
+    for (levels, number) in [(32, 0), (33, 11)] {
+        let text = nested(rt.alloc(), levels)?;
+        assert_eq!(rt; refused(rt.alloc(), text.as_str())?.0, number);
+    }
     Ok(())
 }
