@@ -218,24 +218,41 @@ fn fault_lines(rt: HostRuntime) -> Result<(), Fail> {
     Ok(())
 }
 
-#[test]
-fn words(rt: HostRuntime) -> Result<(), Fail> {
-    let alloc = rt.alloc();
-    let run = String::from_str(alloc, "run")?;
+/// Whether the words ask for a run of these two files.
+fn asks_for(words: &[String], config: &str, script: &str) -> bool {
+    match command_of(words) {
+        Some(
+            Command::Run {
+                config: its_config,
+                script: its_script,
+            },
+        ) => its_config == config && its_script == script,
+        None => false,
+    }
+}
+
+/// Whether the words ask for nothing that is served.
+fn asks_for_nothing(words: &[String]) -> bool {
+    command_of(words).is_none()
+}
+
+fn three_words(alloc: Global, first: &str) -> Result<[String; 3], Fail> {
+    let first = String::from_str(alloc, first)?;
     let config = String::from_str(alloc, "a.json")?;
     let script = String::from_str(alloc, "b.jsonl")?;
-    let words = [run, config, script];
-    let asked = command_of(&words);
-    assert!(rt;
-        asked
-            == Some(Command::Run {
-                config: "a.json",
-                script: "b.jsonl"
-            })
-    );
-    assert!(rt; command_of(&words[..2]).is_none());
-    assert!(rt; command_of(&words[1..]).is_none());
-    assert!(rt; command_of(&[]).is_none());
+    Ok([first, config, script])
+}
+
+#[test]
+fn words(rt: HostRuntime) -> Result<(), Fail> {
+    let words = three_words(rt.alloc(), "run")?;
+    let whole = &words[..];
+    assert!(rt; asks_for(whole, "a.json", "b.jsonl"));
+    let (front, _) = whole.split_at(2);
+    assert!(rt; asks_for_nothing(front));
+    let (_, back) = whole.split_at(1);
+    assert!(rt; asks_for_nothing(back));
+    assert!(rt; asks_for_nothing(&[]));
     Ok(())
 }
 
