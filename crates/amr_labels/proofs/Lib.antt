@@ -5,3 +5,8 @@ pub mod Proper
 pub mod Searches
 pub mod Sorted
 pub mod Trees
+pub mod MatcherRuns
+pub mod MatcherKinds
+pub mod MatcherSpelled
+pub mod MatcherRead
+pub mod MatcherFaults
