@@ -2,9 +2,11 @@ pub mod Chosen
 pub mod Inherited
 pub mod Levels
 pub mod Lines
-pub mod Loops
 pub mod Names
 pub mod Parents
+pub mod PatternsMet
 pub mod Placing
 pub mod Ranges
+pub mod Readings
 pub mod Settling
+pub mod Turns

@@ -2,7 +2,7 @@
 use Rattle.std.proofs.Common.{◌≡◌, ◌≢◌, false, List, [], ◌∷◌, length, get_or, refl, sym, ap, arith, codes}
 use Rattle.std.specs.Ordering.{eq_by_cmp}
 use Rattle.amr_labels.specs.Labels.{Text, text_cmp}
-use Rattle.amr_config.specs.ReadRoutes.{is_all}
+use Rattle.amr_config.specs.RouteParts.{is_all}
 
 pub not_alone : (names : List Text) → length names ≢ 1 → is_all names ≡ false
 unfolding is_all

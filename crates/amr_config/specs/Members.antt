@@ -84,11 +84,3 @@ interval_into path i d any = item_present (item_path path i) (present (Some d))
 -- whether a list of time intervals has one; what they are isn't read
 unfoldable pub intervals_at : List ℕ → Data → Result Bool Refusal
 intervals_at path d = items_at path d >>= λ ds. each_item (interval_into path) 0 ds false
-
-abbrev pub only_empty : List ℕ → Items → Result (Unit {0}) Refusal
-only_empty path no_items = Ok tt
-only_empty path (item d ds) = Err (BadConfig path)
-
--- what isn't served may be an empty list
-unfoldable pub unserved_at : List ℕ → Data → Result (Unit {0}) Refusal
-unserved_at path d = items_at path d >>= only_empty path

@@ -5,7 +5,7 @@ ghost use Rattle.amr_labels.specs.Labels.{text_cmp};
 ghost use Rattle.serde_json.specs.View.{view, items_view};
 ghost use Rattle.amr_config.specs.Paths.{place_path, under};
 ghost use Rattle.amr_config.specs.Answers.{Gives, Changes};
-ghost use Rattle.amr_config.specs.Members.{member_of, optional, text_at, flag_at, items_at, span_at, text_into, texts_at, interval_into, intervals_at, unserved_at};
+ghost use Rattle.amr_config.specs.Members.{member_of, optional, text_at, flag_at, items_at, span_at, text_into, texts_at, interval_into, intervals_at};
 
 use crate::error::ConfigError;
 use crate::place::Place;
@@ -137,16 +137,6 @@ fn intervals(alloc: Global, place: &Place, value: &Value) -> Result<bool, Config
     Ok(any)
 }
 
-#[tactic(auto, unfolding(crate::specs::Members::unserved_at))]
-fn unserved(alloc: Global, place: &Place, value: &Value) -> Result<(), ConfigError>
-    ensures { Gives (λ u. u) result (unserved_at (place_path place.now) (view value.now)) }
-{
-    match items(alloc, place, value)? {
-        [] => Ok(()),
-        _ => Err(place.faulty(alloc)),
-    }
-}
-
 pub(crate) fn flag_member(
     alloc: Global,
     place: &Place,
@@ -216,20 +206,6 @@ pub(crate) fn intervals_member(
 {
     match member(value, key) {
         Some(found) => Ok(Some(intervals(alloc, &Place::Member(place, key), found)?)),
-        None => Ok(None),
-    }
-}
-
-pub(crate) fn unserved_member(
-    alloc: Global,
-    place: &Place,
-    value: &Value,
-    key: &str,
-) -> Result<Option<()>, ConfigError>
-    ensures { Gives (λ u. u) result (optional (unserved_at (under (place_path place.now) key.now)) (member_of key.now (view value.now))) }
-{
-    match member(value, key) {
-        Some(found) => Ok(Some(unserved(alloc, &Place::Member(place, key), found)?)),
         None => Ok(None),
     }
 }

@@ -1,17 +1,19 @@
 //! A configuration, read from a value.
 ghost use Rattle.std.specs.Prelude.{◌≡◌, ◌||◌, codes};
 ghost use Rattle.serde_json.specs.View.{view};
-ghost use Rattle.amr_config.specs.Answers.{Gives};
+ghost use Rattle.amr_config.specs.Answers.{Gives, Reads, Answers};
 ghost use Rattle.amr_config.specs.Members.{optional, member_of};
-ghost use Rattle.amr_config.specs.Reading.{timeout_in, timeout_stated, head_at, walked_at, config_of};
+ghost use Rattle.amr_config.specs.Timeout.{timeout_in, timeout_stated, timeout_at};
+ghost use Rattle.amr_config.specs.Reading.{walked_at, ConfigIs};
 
 use crate::config::Config;
 use crate::error::{ConfigError, Refusal};
 use crate::judge::refusal;
-use crate::members::{intervals_member, member, span_member, unserved_member};
+use crate::members::{intervals_member, member, span_member};
 use crate::place::Place;
 use crate::read_receivers::read_receivers;
 use crate::read_routes::{is_too_deep, read_routes};
+use crate::read_rules::read_rules;
 use crate::stated::Stated;
 use amr_labels::Listing;
 use amr_time::Span;
@@ -26,14 +28,7 @@ pub(crate) struct Walked {
     pub(crate) top_intervals: bool,
 }
 
-/// What the members up to `mute_time_intervals` state.
-#[derive(Clone, Copy)]
-struct Head {
-    resolve_timeout: Span,
-    has_mute: bool,
-}
-
-#[tactic(auto, unfolding(crate::specs::Reading::timeout_in))]
+#[tactic(auto, unfolding(crate::specs::Timeout::timeout_in))]
 fn timeout(alloc: Global, value: &Value) -> Result<Option<Span>, ConfigError>
     ensures { Gives (λ o. o) result (timeout_in (view value.now)) }
 {
@@ -64,21 +59,15 @@ fn stated_timeout(timeout: Option<Option<Span>>) -> Span
     }
 }
 
-#[tactic(auto, unfolding(crate::specs::Reading::head_at))]
-fn read_head(alloc: Global, value: &Value) -> Result<Head, ConfigError>
-    ensures { Gives (λ h. h) result (head_at (view value.now)) }
+#[tactic(auto, unfolding(crate::specs::Timeout::timeout_at))]
+fn read_timeout(alloc: Global, value: &Value) -> Result<Span, ConfigError>
+    ensures { Gives (λ span. span) result (timeout_at (view value.now)) }
 {
-    let top = Place::Top;
     if !value.is_object() {
-        return Err(top.faulty(alloc));
+        return Err(Place::Top.faulty(alloc));
     }
     let timeout = timeout_member(alloc, value)?;
-    unserved_member(alloc, &top, value, "inhibit_rules")?;
-    let mute = intervals_member(alloc, &top, value, "mute_time_intervals")?;
-    Ok(Head {
-        resolve_timeout: stated_timeout(timeout),
-        has_mute: mute.unwrap_or(false),
-    })
+    Ok(stated_timeout(timeout))
 }
 
 fn either(one: bool, other: bool) -> bool
@@ -87,21 +76,23 @@ fn either(one: bool, other: bool) -> bool
     one || other
 }
 
-#[tactic(auto, unfolding(crate::specs::Reading::walked_at))]
+#[tactic(auto, unfolding(crate::specs::Reading::walked_at, crate::specs::Readings::next))]
 fn walk(alloc: Global, value: &Value) -> Result<Walked, ConfigError>
-    ensures { Gives (λ w. w) result (walked_at (view value.now)) }
+    ensures { Reads (λ w. w) result (walked_at (view value.now)) }
 {
-    let head = read_head(alloc, value)?;
+    let resolve_timeout = read_timeout(alloc, value)?;
+    let rules = read_rules(alloc, value)?;
+    let mute = intervals_member(alloc, &Place::Top, value, "mute_time_intervals")?;
     let receivers = read_receivers(alloc, value)?;
     let tree = read_routes(alloc, value)?;
     let named = intervals_member(alloc, &Place::Top, value, "time_intervals")?;
-    let top_intervals = either(head.has_mute, named.unwrap_or(false));
+    let top_intervals = either(mute.unwrap_or(false), named.unwrap_or(false));
     Ok(Walked {
         stated: Stated {
             routes: tree.routes,
             receivers,
-            rules: Listing::new(alloc),
-            resolve_timeout: head.resolve_timeout,
+            rules,
+            resolve_timeout,
         },
         intervals: tree.intervals,
         top_intervals,
@@ -110,13 +101,13 @@ fn walk(alloc: Global, value: &Value) -> Result<Walked, ConfigError>
 
 impl Config {
     /// Reads a configuration, the tree of Alertmanager's configuration file as JSON. `null` counts as absent as a member of an object;
-    /// keys that aren't known are passed over.
+    /// keys that aren't known are passed over. Each pattern is built once, as it is met; where `regex` refuses one, its place is faulty.
     ///
     /// Of several refusals `TooDeep` is answered first, then `BadConfig` with the first place in a walk that goes through members by key
     /// in byte order and through lists in order, then the one with the least number.
-    #[tactic(auto, unfolding(crate::specs::Reading::config_of))]
+    #[tactic(auto, unfolding(crate::specs::Reading::reading_of, crate::specs::Readings::next))]
     pub fn read(alloc: Global, value: &Value) -> Result<Config, ConfigError>
-        ensures { Gives (λ config. config) result (config_of (view value.now)) }
+        ensures { Answers (λ config. config) result (ConfigIs (view value.now)) }
     {
         if is_too_deep(value) {
             return Err(ConfigError::Refused(Refusal::TooDeep));

@@ -1,20 +1,19 @@
 //! Routes, read from a value.
-ghost use Rattle.std.specs.Prelude.{◌≡◌, List, option_map, unwrap_or};
-ghost use Rattle.amr_labels.specs.Matchers.{Matcher as MatcherSpec};
+ghost use Rattle.std.specs.Prelude.{◌≡◌};
 ghost use Rattle.serde_json.specs.View.{view, items_view};
 ghost use Rattle.amr_config.specs.Paths.{place_path, under};
-ghost use Rattle.amr_config.specs.Answers.{Gives, Changes};
-ghost use Rattle.amr_config.specs.Members.{optional, member_of};
-ghost use Rattle.amr_config.specs.ReadRoutes.{is_all as all_of, grouping_of, grouping_stated, matcher_into, matchers_at, front_at, back_at, own_into, children_at, add_route, is_deeper as deeper_of, is_too_deep as too_deep_of, routes_at};
+ghost use Rattle.amr_config.specs.Answers.{Gives, Reads, ReadsInto};
+ghost use Rattle.amr_config.specs.RouteParts.{is_all as all_of, grouping_of, grouping_stated, front_at, back_at, children_at, is_deeper as deeper_of, is_too_deep as too_deep_of};
+ghost use Rattle.amr_config.specs.ReadRoutes.{own_into, add_route, routes_at};
 
 use crate::error::{ConfigError, Refusal};
 use crate::members::{
-    flag_member, intervals_member, items, member, same, span_member, text, text_member,
-    texts_member, unserved_member,
+    flag_member, intervals_member, items, member, same, span_member, text_member, texts_member,
 };
 use crate::place::Place;
+use crate::read_matchers::read_matchers;
 use crate::route::{Grouping, Route};
-use amr_labels::{Listing, Matcher, MatcherError, Matchers, Operator, Text};
+use amr_labels::{Listing, Text};
 use amr_time::Span;
 use serde_json::Value;
 use std::alloc::Global;
@@ -36,10 +35,9 @@ struct Front {
     group_wait: Option<Span>,
 }
 
-/// What the members of a route from `match` on state.
+/// What the members of a route from `mute_time_intervals` on state.
 #[derive(Drop)]
 struct Back {
-    matchers: Matchers,
     has_mute: bool,
     receiver: Option<Text>,
     repeat_interval: Option<Span>,
@@ -67,65 +65,6 @@ fn grouping(names: Listing<Text>) -> Grouping
     }
 }
 
-#[tactic(auto, unfolding(crate::specs::ReadRoutes::matcher_into))]
-fn matcher_member(
-    alloc: Global,
-    place: &Place,
-    name: &str,
-    value: &Value,
-    matchers: &mut Vec<Matcher>,
-) -> Result<(), ConfigError>
-    ensures { Changes (λ ms. ms.items) result matchers.new (matcher_into (place_path place.now) name.now (view value.now) matchers.old.items) }
-{
-    if value.is_null() {
-        return Ok(());
-    }
-    let here = Place::Member(place, name);
-    let value = text(alloc, &here, value)?;
-    if name.is_empty() {
-        return Err(here.faulty(alloc));
-    }
-    let name = Text::from_str(alloc, name)?;
-    let value = Text::from_str(alloc, value)?;
-    match Matcher::new(alloc, name, Operator::Equal, value) {
-        Ok(matcher) => {
-            matchers.push(matcher)?;
-            Ok(())
-        }
-        Err(MatcherError::Memory) => Err(ConfigError::Memory),
-        Err(MatcherError::BadPattern) => unreachable!(),
-    }
-}
-
-/// The matchers of an object of texts.
-#[tactic(auto, unfolding(crate::specs::ReadRoutes::matchers_at))]
-fn matchers(alloc: Global, place: &Place, value: &Value) -> Result<Vec<Matcher>, ConfigError>
-    ensures { Gives (λ ms. ms.items) result (matchers_at (place_path place.now) (view value.now)) }
-{
-    let Some(members) = value.as_object() else {
-        return Err(place.faulty(alloc));
-    };
-    let mut matchers = Vec::new(alloc);
-    for (key, value) in members {
-        matcher_member(alloc, place, key.as_str(), value, &mut matchers)?;
-    }
-    Ok(matchers)
-}
-
-fn matchers_member(
-    alloc: Global,
-    place: &Place,
-    value: &Value,
-    key: &str,
-) -> Result<Option<Vec<Matcher>>, ConfigError>
-    ensures { Gives (λ s. option_map (λ ms. ms.items) s) result (optional (matchers_at (under (place_path place.now) key.now)) (member_of key.now (view value.now))) }
-{
-    match member(value, key) {
-        Some(found) => Ok(Some(matchers(alloc, &Place::Member(place, key), found)?)),
-        None => Ok(None),
-    }
-}
-
 fn stated_grouping(names: Option<Listing<Text>>) -> Option<Grouping>
     ensures { result ≡ grouping_stated names }
 {
@@ -135,7 +74,7 @@ fn stated_grouping(names: Option<Listing<Text>>) -> Option<Grouping>
     }
 }
 
-#[tactic(auto, unfolding(crate::specs::ReadRoutes::front_at))]
+#[tactic(auto, unfolding(crate::specs::RouteParts::front_at))]
 fn read_front(alloc: Global, place: &Place, value: &Value) -> Result<Front, ConfigError>
     ensures { Gives (λ front. front) result (front_at (place_path place.now) (view value.now)) }
 {
@@ -153,18 +92,14 @@ fn read_front(alloc: Global, place: &Place, value: &Value) -> Result<Front, Conf
     })
 }
 
-#[tactic(auto, unfolding(crate::specs::ReadRoutes::back_at))]
+#[tactic(auto, unfolding(crate::specs::RouteParts::back_at))]
 fn read_back(alloc: Global, place: &Place, value: &Value) -> Result<Back, ConfigError>
     ensures { Gives (λ back. back) result (back_at (place_path place.now) (view value.now)) }
 {
-    let equal = matchers_member(alloc, place, value, "match")?;
-    unserved_member(alloc, place, value, "match_re")?;
-    unserved_member(alloc, place, value, "matchers")?;
     let mute = intervals_member(alloc, place, value, "mute_time_intervals")?;
     let receiver = text_member(alloc, place, value, "receiver")?;
     let repeat_interval = span_member(alloc, place, value, "repeat_interval")?;
     Ok(Back {
-        matchers: Matchers::from_vec(alloc, equal.unwrap_or(Vec::new(alloc)))?,
         has_mute: mute.unwrap_or(false),
         receiver,
         repeat_interval,
@@ -172,7 +107,7 @@ fn read_back(alloc: Global, place: &Place, value: &Value) -> Result<Back, Config
 }
 
 /// Adds what a route states itself.
-#[tactic(auto, unfolding(crate::specs::ReadRoutes::own_into))]
+#[tactic(auto, unfolding(crate::specs::ReadRoutes::own_into, crate::specs::Readings::next))]
 fn add_own(
     alloc: Global,
     place: &Place,
@@ -180,17 +115,18 @@ fn add_own(
     value: &Value,
     tree: &mut Tree,
 ) -> Result<(), ConfigError>
-    ensures { Changes (λ t. t) result tree.new (own_into (place_path place.now) parent (view value.now) tree.old) }
+    ensures { ReadsInto (λ t. t) result tree.new (own_into (place_path place.now) parent (view value.now) tree.old) }
 {
     if !value.is_object() {
         return Err(place.faulty(alloc));
     }
     let front = read_front(alloc, place, value)?;
+    let matchers = read_matchers(alloc, place, "match", "match_re", "matchers", value)?;
     let back = read_back(alloc, place, value)?;
     tree.intervals.push(front.has_active || back.has_mute)?;
     tree.routes.push(Route {
         parent,
-        matchers: back.matchers,
+        matchers,
         continues: front.continues,
         receiver: back.receiver,
         group_by: front.group_by,
@@ -202,7 +138,7 @@ fn add_own(
 }
 
 /// The routes below a route.
-#[tactic(auto, unfolding(crate::specs::ReadRoutes::children_at))]
+#[tactic(auto, unfolding(crate::specs::RouteParts::children_at))]
 fn children<'v>(alloc: Global, place: &Place, value: &'v Value) -> Result<&'v [Value], ConfigError>
     ensures { Gives (λ s. items_view s.now) result (children_at (place_path place.now) (view value.now)) }
 {
@@ -221,7 +157,7 @@ fn add_route(
     value: &Value,
     tree: &mut Tree,
 ) -> Result<(), ConfigError>
-    ensures { Changes (λ t. t) result tree.new (add_route left (place_path place.now) parent (view value.now) tree.old) }
+    ensures { ReadsInto (λ t. t) result tree.new (add_route left (place_path place.now) parent (view value.now) tree.old) }
 {
     if left == 0 {
         return Err(ConfigError::Refused(Refusal::TooDeep));
@@ -244,7 +180,7 @@ fn add_route(
 }
 
 /// Whether a route has more levels of routes than are left, itself one.
-#[tactic(auto, unfolding(crate::specs::ReadRoutes::is_deeper))]
+#[tactic(auto, unfolding(crate::specs::RouteParts::is_deeper))]
 fn is_deeper(left: u32, value: &Value) -> bool
     ensures { result ≡ deeper_of left (view value.now) }
 {
@@ -264,7 +200,7 @@ fn is_deeper(left: u32, value: &Value) -> bool
 }
 
 /// Whether the routes of a whole configuration have more than 32 levels.
-#[tactic(auto, unfolding(crate::specs::ReadRoutes::is_too_deep))]
+#[tactic(auto, unfolding(crate::specs::RouteParts::is_too_deep))]
 pub(crate) fn is_too_deep(value: &Value) -> bool
     ensures { result ≡ too_deep_of (view value.now) }
 {
@@ -277,7 +213,7 @@ pub(crate) fn is_too_deep(value: &Value) -> bool
 /// The routes of a whole configuration, parents first.
 #[tactic(auto, unfolding(crate::specs::ReadRoutes::routes_at))]
 pub(crate) fn read_routes(alloc: Global, value: &Value) -> Result<Tree, ConfigError>
-    ensures { Gives (λ t. t) result (routes_at (view value.now)) }
+    ensures { Reads (λ t. t) result (routes_at (view value.now)) }
 {
     let top = Place::Top;
     let here = Place::Member(&top, "route");

@@ -1,6 +1,6 @@
 use crate::config::Config;
 use crate::error::ConfigError;
-use amr_labels::{Labels, Text};
+use amr_labels::{Labels, Matchers, Operator, Text};
 use serde_json::Value;
 use std::alloc::{AllocError, Global};
 use std::test::Fail;
@@ -38,6 +38,14 @@ fn nested(alloc: Global, levels: usize) -> Result<String, AllocError> {
     text.push_str("},\"receivers\":[{\"name\":\"ops\"}]}")?;
     Ok(text)
 }
+
+const PATTERNS: &str =
+    r#"{"route":{"receiver":"ops","routes":[{"matchers":["team=~\"a|b\""],"continue":true},
+    {"matchers":["team=a"]},{"matchers":["severity=x"]}]},"receivers":[{"name":"ops"}]}"#;
+
+const ONE_RULE: &str = r#"{"route":{"receiver":"ops"},"receivers":[{"name":"ops"}],"inhibit_rules":[
+    {"source_match":{"a":"1"},"source_match_re":{"b":"2|3"},"source_matchers":["c=4,d!=5"],
+    "target_match_re":{"e":"6"},"target_matchers":["f!~7"],"equal":["g"]}]}"#;
 
 const ONE_ROUTE: &str =
     r#"{"route":{"receiver":"ops","group_by":["alertname"]},"receivers":[{"name":"ops","webhook_configs":[{}]}]}"#;
@@ -97,6 +105,78 @@ fn grouped(
         write!(text, "{name}={value};")?;
     }
     Ok(text)
+}
+
+/// Matchers, each with its operator.
+fn spelled(alloc: Global, matchers: &Matchers) -> Result<String, Fail> {
+    let mut text = String::new(alloc);
+    for matcher in matchers.as_slice() {
+        let name = matcher.name().as_str();
+        let value = matcher.value().as_str();
+        let operator = match matcher.operator() {
+            Operator::Equal => "=",
+            Operator::NotEqual => "!=",
+            Operator::Matches => "=~",
+            Operator::NotMatches => "!~",
+        };
+        write!(text, "{name}{operator}{value};")?;
+    }
+    Ok(text)
+}
+
+#[test]
+fn reads_rules(rt: HostRuntime) -> Result<(), Fail> {
+    let config = config(rt.alloc(), ONE_RULE)?;
+    assert_eq!(rt; config.rules().len(), 1);
+    for rule in config.rules() {
+        assert_eq!(rt;
+            spelled(rt.alloc(), &rule.source)?.as_str(),
+            "a=1;b=~2|3;c=4;d!=5;"
+        );
+        assert_eq!(rt; spelled(rt.alloc(), &rule.target)?.as_str(), "e=~6;f!~7;");
+        assert_eq!(rt; rule.equal.len(), 1);
+    }
+    Ok(())
+}
+
+#[test]
+fn chooses_by_patterns(rt: HostRuntime) -> Result<(), Fail> {
+    let config = config(rt.alloc(), PATTERNS)?;
+    let first = chosen(rt.alloc(), &config, &[("severity", "x"), ("team", "a")])?;
+    assert_eq!(rt; first.as_slice(), [1, 2].as_slice());
+    let second = chosen(rt.alloc(), &config, &[("severity", "x"), ("team", "b")])?;
+    assert_eq!(rt; second.as_slice(), [1, 3].as_slice());
+    let other = chosen(rt.alloc(), &config, &[("team", "c")])?;
+    assert_eq!(rt; other.as_slice(), [0].as_slice());
+    Ok(())
+}
+
+#[test]
+fn refuses_patterns_and_matcher_texts(rt: HostRuntime) -> Result<(), Fail> {
+    let alloc = rt.alloc();
+    for (text, path) in [
+        (
+            r#"{"route":{"receiver":"ops","routes":[{"matchers":["a=~\"(\""]}]}}"#,
+            "route.routes[0].matchers[0]",
+        ),
+        (
+            r#"{"route":{"receiver":"ops","routes":[{"match_re":{"a":"("},"receiver":1}]}}"#,
+            "route.routes[0].match_re.a",
+        ),
+        (
+            r#"{"route":{"receiver":"ops"},"inhibit_rules":[{"source_matchers":["a=~("]}]}"#,
+            "inhibit_rules[0].source_matchers[0]",
+        ),
+        (
+            r#"{"route":{"receiver":"ops"},"inhibit_rules":[{"target_matchers":["{}","a b=c"]}]}"#,
+            "inhibit_rules[0].target_matchers[1]",
+        ),
+    ] {
+        let (number, place) = refused(alloc, text)?;
+        assert_eq!(rt; number, 5, "{text}");
+        assert_eq!(rt; place.as_str(), path, "{text}");
+    }
+    Ok(())
 }
 
 #[test]
@@ -210,7 +290,7 @@ fn refuses(rt: HostRuntime) -> Result<(), Fail> {
         ),
         (r#"{"route":{},"receivers":[{"name":"ops"}]}"#, 8, ""),
         (
-            r#"{"route":{"receiver":"ops","match":{"a":"b"}},"receivers":[{"name":"ops"}]}"#,
+            r#"{"route":{"receiver":"ops","matchers":["a=b"]},"receivers":[{"name":"ops"}]}"#,
             8,
             "",
         ),
@@ -220,7 +300,7 @@ fn refuses(rt: HostRuntime) -> Result<(), Fail> {
             "",
         ),
         (
-            r#"{"route":{"receiver":"ops","continue":false,"match":{},"matchers":[]},"receivers":[{"name":"ops"}]}"#,
+            r#"{"route":{"receiver":"ops","continue":false,"match":{},"match_re":{},"matchers":["{}"]},"receivers":[{"name":"ops"}]}"#,
             0,
             "",
         ),

@@ -1,6 +1,6 @@
 use Rattle.std.proofs.Common.{◌≡◌, ◌-◌, drop}
 use Rattle.serde_json.specs.View.{view, items_view}
-use Rattle.amr_config.specs.ReadRoutes.{is_deeper, any_item}
+use Rattle.amr_config.specs.RouteParts.{is_deeper, any_item}
 use Rattle.amr_config.proofs.read_routes.+is_deeper.Given as goal
 
 abbrev pub decreases-is_deeper : goal.decreases-is_deeper
