@@ -1,5 +1,5 @@
 -- The moments of an event that is read lie in the range of those that a text may stand for.
-use Rattle.std.proofs.Common.{◌≡◌, ℕ, ◌≤◌, Bool, true, false, List, [], ◌∷◌, Option, Some, None, refl, subst, cond, ℤ, pos, negsuc, leb, ltb, eqb, length, ◌+◌, ◌*◌}
+use Rattle.std.proofs.Common.{◌≡◌, ℕ, ◌≤◌, Bool, true, false, List, [], ◌∷◌, Option, Some, None, refl, sym, subst, cond, ℤ, pos, negsuc, leb, ltb, eqb, length, ◌+◌, ◌*◌}
 use Rattle.std.specs.Prelude.{◌+ℤ◌, ◌-ℤ◌, ◌*ℤ◌, All, IfSome, option_map, codes}
 use Rattle.std.proofs.lemmas.Bool.{leb-true}
 use Rattle.std.proofs.lemmas.List.Elements.{All-nil, All-cons}
@@ -10,11 +10,14 @@ use Rattle.amr_time.specs.MomentRead as moments
 use Rattle.amr_time.specs.MomentRead.{moment_at, in_range}
 use Rattle.amr_events.specs.Events.{Act, Event}
 use Rattle.amr_events.specs.Events as events
-use Rattle.amr_events.specs.Shapes.{◌>>=◌, present, each_item, texts_in}
+use Rattle.amr_events.specs.Shapes.{◌>>=◌, present, each_item, texts_in, moment_under}
 use Rattle.amr_events.specs.Posted.{is_missing, time_of, time_at, time_in, annotations_in, alert_of, alerts_of}
-use Rattle.amr_events.specs.Lines.{json_of, moment_in, act_count, post_of, tick_if, tick_of, act_of_stated, act_in, event_in, event_of_line}
-use Rattle.amr_events.specs.EventLaws.{IsStatable, AlertIsStatable, ActIsStatable, EventIsStatable, ReadEventsAreStatable}
+use Rattle.amr_events.specs.PostedSilences.{id_at, named_id_in, new_id_in, if_named, matchers_of, silence_of}
+use Rattle.amr_events.specs.Lines.{act_count, post_of, silencing_of, expiry_of, reload_of, tick_if, tick_of, act_of_stated, act_in}
+use Rattle.amr_events.specs.Refused.{ActIs}
+use Rattle.amr_events.specs.EventLaws.{IsStatable, AlertIsStatable, ActIsStatable, ReadEventsAreStatable}
 use Rattle.amr_events.specs.declared.event.PostedAlert.{PostedAlert}
+use Rattle.amr_events.specs.declared.event.PostedSilence.{PostedSilence}
 
 -- a step that gave something
 record Step {A B : Type 0} (o : Option A) (f : A → Option B) (y : B) : Type 0 where
@@ -79,6 +82,13 @@ time_at-bound None None e = tt
 time_at-bound None (Some m) e = absurd (let no : ⊥ = cc in no)
 time_at-bound (Some d) o e = let text = step (as_str d) time_of o e in time_of-bound text.value o text.gives
 
+moment_under-bound : (key : List ℕ) (d : Data) (m : Moment) → moment_under key d ≡ Some m → IsStatable m
+unfolding moment_under
+moment_under-bound key d m e =
+    let stated = step (get key d) _ m e in
+    let text = step (as_str stated.value) _ m stated.gives in
+    moment_at-bound text.value m text.gives
+
 time_in-bound : (key : List ℕ) (d : Data) (o : Option Moment) → time_in key d ≡ Some o → IfSome o IsStatable
 unfolding time_in
 time_in-bound key d o e = time_at-bound (present (get key d)) o e
@@ -124,30 +134,58 @@ tick_of-bound : (d : Data) (act : Act) → tick_of d ≡ Some act → ActIsStata
 unfolding tick_of
 tick_of-bound d act e = let flag = step (as_bool d) tick_if act e in tick_if-bound flag.value act flag.gives
 
-stated-bound : (posted tick : Option Data) (act : Act) → act_of_stated posted tick ≡ Some act → ActIsStatable act
-stated-bound (Some d) tick act e = post_of-bound d act e
-stated-bound None (Some d) act e = tick_of-bound d act e
-stated-bound None None act e = none_is_some act e
+silence_of-bound : (line d : Data) (silence : PostedSilence) → silence_of line d ≡ Some silence → IsStatable silence.starts_at × IsStatable silence.ends_at
+unfolding silence_of
+silence_of-bound line d silence e =
+    let new_id = step (new_id_in line) _ silence e in
+    let id = step (named_id_in d) _ silence new_id.gives in
+    let stated = step (get (codes "matchers") d) _ silence id.gives in
+    let matchers = step (matchers_of stated.value) _ silence stated.gives in
+    let starts_at = step (moment_under (codes "startsAt") d) _ silence matchers.gives in
+    let ends_at = step (moment_under (codes "endsAt") d) _ silence starts_at.gives in
+    let same : record { id = id.value; new_id = new_id.value; matchers = if_named matchers.value; starts_at = starts_at.value; ends_at = ends_at.value } ≡ silence = cc in
+    subst (λ (s : PostedSilence). IsStatable s.starts_at × IsStatable s.ends_at) same
+    (moment_under-bound (codes "startsAt") d starts_at.value starts_at.is, moment_under-bound (codes "endsAt") d ends_at.value ends_at.is)
+
+silencing_of-bound : (line d : Data) (act : Act) → silencing_of line d ≡ Some act → ActIsStatable act
+unfolding silencing_of
+silencing_of-bound line d act e =
+    let silence = step (silence_of line d) _ act e in
+    let same : events.Act.Silence silence.value ≡ act = cc in
+    subst ActIsStatable same (silence_of-bound line d silence.value silence.is)
+
+expiry_of-bound : (d : Data) (act : Act) → expiry_of d ≡ Some act → ActIsStatable act
+unfolding expiry_of
+expiry_of-bound d act e =
+    let id = step (id_at d) _ act e in
+    let same : events.Act.Expire id.value ≡ act = cc in
+    subst ActIsStatable same tt
+
+stated-bound : (line : Data) (alerts silence id config tick : Option Data) (act : Act) → act_of_stated line alerts silence id config tick ≡ Some act → ActIsStatable act
+stated-bound line (Some d) silence id config tick act e = post_of-bound d act e
+stated-bound line None (Some d) id config tick act e = silencing_of-bound line d act e
+stated-bound line None None (Some d) config tick act e = expiry_of-bound d act e
+stated-bound line None None None (Some d) tick act e = let same : reload_of d ≡ act = cc in subst ActIsStatable same tt
+stated-bound line None None None None (Some d) act e = tick_of-bound d act e
+stated-bound line None None None None None act e = none_is_some act e
 
 act_in-bound : (d : Data) (act : Act) → act_in d ≡ Some act → ActIsStatable act
 unfolding act_in
-act_in-bound d act e = stated-bound (get (codes "alerts") d) (get (codes "tick") d) act (passed (eqb (act_count d) 1) _ act e)
+act_in-bound d act e =
+    stated-bound d (get (codes "alerts") d) (get (codes "silence") d) (get (codes "expire") d) (get (codes "reload") d) (get (codes "tick") d) act
+    (passed (eqb (act_count d) 1) _ act e)
 
-moment_in-bound : (d : Data) (m : Moment) → moment_in d ≡ Some m → IsStatable m
-unfolding moment_in
-moment_in-bound d m e =
-    let stated = step (get (codes "at") d) _ m e in
-    let text = step (as_str stated.value) _ m stated.gives in
-    moment_at-bound text.value m text.gives
-
-event_in-bound : (d : Data) (event : Event) → event_in d ≡ Some event → EventIsStatable event
-unfolding event_in
-event_in-bound d event e =
-    let at = step (moment_in d) _ event e in
-    let act = step (act_in d) _ event at.gives in
-    let same : record { at = at.value; act = act.value } ≡ event = cc in
-    subst EventIsStatable same (record { at = moment_in-bound d at.value at.is; act = act_in-bound d act.value act.is })
+act-bound : (d : Data) (act : Act) → ActIs d act → ActIsStatable act
+act-bound d (events.Act.Post alerts) is = act_in-bound d (events.Act.Post alerts) is
+act-bound d (events.Act.Silence silence) (stated, is, so) =
+    let bounds = act_in-bound d (events.Act.Silence stated) is in
+    (subst IsStatable (sym so.starts_at) bounds.0, subst IsStatable (sym so.ends_at) bounds.1)
+act-bound d (events.Act.Expire id) is = tt
+act-bound d (events.Act.Reload config) is = tt
+act-bound d events.Act.Tick is = tt
 
 pub read_events_are_statable : ReadEventsAreStatable
-unfolding event_of_line
-read_events_are_statable line event e = let d = step (json_of line) event_in event e in event_in-bound d.value event d.gives
+read_events_are_statable line event is = record {
+  at = moment_under-bound (codes "at") is.stated event.at is.reads.at;
+  act = act-bound is.stated event.act is.reads.act;
+}

@@ -16,15 +16,30 @@ abbrev pub Reads : {X Y : Type 0} → (X → Y) → Result X LineError → Optio
 Reads view (Ok x) read = read ≡ Some (view x)
 Reads view (Err e) read = IsFaulty e read
 
-abbrev pub IsRefused : {Y : Type 0} → ScriptError → Result Y Fault → Type 0
-IsRefused script.Memory read = Unit {0}
-IsRefused (script.Refused fault) read = read ≡ Err fault
+-- what is read is such; nothing is where the definition gives nothing
+abbrev pub ReadsSuch : {X Y : Type 0} → (X → Type 0) → Result X LineError → Option Y → Type 0
+ReadsSuch IsSuch (Ok x) read = IsSuch x
+ReadsSuch IsSuch (Err e) read = IsFaulty e read
 
-abbrev pub Gives : {X Y : Type 0} → (X → Y) → Result X ScriptError → Result Y Fault → Type 0
-Gives view (Ok x) read = read ≡ Ok (view x)
-Gives view (Err e) read = IsRefused e read
+-- what is read stands so to what the definition gives
+abbrev pub ReadsBut : {X Y : Type 0} → (Y → X → Type 0) → Result X LineError → Option Y → Type 0
+ReadsBut Is (Ok x) read = (y : _) × (read ≡ Some y) × Is y x
+ReadsBut Is (Err e) read = IsFaulty e read
 
--- the same of a function that changes what it is lent
-abbrev pub Changes : {X Y : Type 0} → (X → Y) → Result (Unit {0}) ScriptError → X → Result Y Fault → Type 0
-Changes view (Ok u) new read = read ≡ Ok (view new)
-Changes view (Err e) new read = IsRefused e read
+abbrev pub IsStop : (Fault → Type 0) → ScriptError → Type 0
+IsStop Is script.Memory = Unit {0}
+IsStop Is (script.Refused fault) = Is fault
+
+abbrev pub IsRefused : {Y : Type 0} → (Result Y Fault → Type 0) → ScriptError → Type 0
+IsRefused Is script.Memory = Unit {0}
+IsRefused Is (script.Refused fault) = Is (Err fault)
+
+-- what is answered holds of the text, want of memory aside
+abbrev pub Answers : {Y : Type 0} → (Result Y Fault → Type 0) → Result Y ScriptError → Type 0
+Answers Is (Ok y) = Is (Ok y)
+Answers Is (Err e) = IsRefused Is e
+
+-- a fault that is answered is such, want of memory aside
+abbrev pub Stops : {X : Type 0} → (Fault → Type 0) → Result X ScriptError → Type 0
+Stops Is (Ok x) = Unit {0}
+Stops Is (Err e) = IsStop Is e

@@ -1,9 +1,9 @@
 -- The moments of the events that are read.
-use Rattle.std.specs.Prelude.{◌≡◌, ℕ, ◌≤◌, List, All, Some, IfSome}
+use Rattle.std.specs.Prelude.{ℕ, ◌≤◌, List, All, IfSome}
 use Rattle.amr_time.specs.Time.{Moment, latest_read}
 use Rattle.amr_events.specs.Events.{Act, Event}
 use Rattle.amr_events.specs.Events as events
-use Rattle.amr_events.specs.Lines.{event_of_line}
+use Rattle.amr_events.specs.Refused.{LineIs}
 use Rattle.amr_events.specs.declared.event.PostedAlert.{PostedAlert}
 
 -- the moment is one that a text may stand for
@@ -27,4 +27,4 @@ pub record EventIsStatable (event : Event) : Type 0 where
   pub act : ActIsStatable event.act
 
 abbrev pub ReadEventsAreStatable : Type 0
-ReadEventsAreStatable = (line : List ℕ) (event : Event) → event_of_line line ≡ Some event → EventIsStatable event
+ReadEventsAreStatable = (line : List ℕ) (event : Event) → LineIs line event → EventIsStatable event

@@ -1,27 +1,23 @@
 -- A line of a script: an object with a moment and one act.
-use Rattle.std.specs.Prelude.{ℕ, ◌+◌, ◌==◌, List, Bool, true, false, codes, Option, Some, None, is_some, if◌then◌else◌}
+use Rattle.std.specs.Prelude.{ℕ, ◌+◌, ◌==◌, List, Bool, true, false, codes, Option, Some, None, Result, Ok, Err, is_some, if◌then◌else◌}
 use Rattle.std.specs.Str.{is_utf8}
 use Rattle.serde_json.specs.Data.{Data}
 use Rattle.serde_json.specs.Read.{read}
-use Rattle.serde_json.specs.Find.{get, as_str, as_bool}
+use Rattle.serde_json.specs.Find.{get, as_bool}
 use Rattle.amr_labels.specs.Labels.{Text}
-use Rattle.amr_time.specs.Time.{Moment}
-use Rattle.amr_time.specs.MomentRead.{moment_at}
-use Rattle.amr_events.specs.Events.{Act, Event}
+use Rattle.amr_config.specs.Config.{Config}
+use Rattle.amr_config.specs.Numbers.{number_of}
+use Rattle.amr_config.specs.Reading.{config_of}
+use Rattle.amr_config.specs.declared.error.Refusal.{Refusal}
+use Rattle.amr_events.specs.Events.{Act, Event, Reason}
 use Rattle.amr_events.specs.Events as events
-use Rattle.amr_events.specs.Shapes.{◌>>=◌}
+use Rattle.amr_events.specs.Shapes.{◌>>=◌, moment_under}
 use Rattle.amr_events.specs.Posted.{alerts_of}
+use Rattle.amr_events.specs.PostedSilences.{id_at, silence_of}
 
 -- the value that a text of JSON stands for
 unfoldable pub json_of : List ℕ → Option Data
 json_of line = if is_utf8 line then read line else None
-
--- the moment under `at`
-unfoldable pub moment_in : Data → Option Moment
-moment_in d = do
-  stated ← get (codes "at") d
-  text ← as_str stated
-  moment_at text
 
 -- 1 where the key stands in the object, whatever its value
 abbrev pub stands : Text → Data → ℕ
@@ -37,6 +33,27 @@ post_of d = do
   alerts ← alerts_of d
   Some (events.Act.Post alerts)
 
+-- a silence is posted
+unfoldable pub silencing_of : Data → Data → Option Act
+silencing_of line d = do
+  silence ← silence_of line d
+  Some (events.Act.Silence silence)
+
+-- a silence is expired
+unfoldable pub expiry_of : Data → Option Act
+expiry_of d = do
+  id ← id_at d
+  Some (events.Act.Expire id)
+
+-- a refusal as its number
+abbrev pub numbered : Result Config Refusal → Result Config Reason
+numbered (Ok config) = Ok config
+numbered (Err refusal) = Err (number_of refusal)
+
+-- the configuration is changed, or there is the number of what refuses it
+abbrev pub reload_of : Data → Act
+reload_of d = events.Act.Reload (numbered (config_of d))
+
 abbrev pub tick_if : Bool → Option Act
 tick_if true = Some events.Act.Tick
 tick_if false = None
@@ -45,21 +62,28 @@ tick_if false = None
 unfoldable pub tick_of : Data → Option Act
 tick_of d = as_bool d >>= tick_if
 
-abbrev pub act_of_stated : Option Data → Option Data → Option Act
-act_of_stated (Some posted) tick = post_of posted
-act_of_stated None (Some tick) = tick_of tick
-act_of_stated None None = None
+-- what stands in a line under `alerts`, `silence`, `expire`, `reload` and `tick`
+abbrev pub act_of_stated : Data → Option Data → Option Data → Option Data → Option Data → Option Data → Option Act
+act_of_stated line (Some alerts) silence id config tick = post_of alerts
+act_of_stated line None (Some silence) id config tick = silencing_of line silence
+act_of_stated line None None (Some id) config tick = expiry_of id
+act_of_stated line None None None (Some config) tick = Some (reload_of config)
+act_of_stated line None None None None (Some tick) = tick_of tick
+act_of_stated line None None None None None = None
 
--- the act that the object states; silences, expiries and reloads are not read
+-- the act that the object states
 unfoldable pub act_in : Data → Option Act
-act_in d = if act_count d == 1 then act_of_stated (get (codes "alerts") d) (get (codes "tick") d) else None
+act_in d =
+    if act_count d == 1
+    then act_of_stated d (get (codes "alerts") d) (get (codes "silence") d) (get (codes "expire") d) (get (codes "reload") d) (get (codes "tick") d)
+    else None
 
 unfoldable pub event_in : Data → Option Event
 event_in d = do
-  at ← moment_in d
+  at ← moment_under (codes "at") d
   act ← act_in d
   Some (record { at = at; act = act })
 
--- the event that a line stands for
+-- the event that a line stands for, all patterns taken as good
 unfoldable pub event_of_line : List ℕ → Option Event
 event_of_line line = json_of line >>= event_in

@@ -1,8 +1,9 @@
 -- A script: a line for each event. The first fault decides.
-use Rattle.std.specs.Prelude.{ℕ, ◌+◌, ◌||◌, ◌==◌, List, [], ◌∷◌, ◌++◌, length, Bool, Option, Some, None, Result, Ok, Err, nat_lt, nat_le, if◌then◌else◌}
-use Rattle.std.specs.List.{slice_split, list_all}
+use Rattle.std.specs.Prelude.{◌≡◌, ℕ, ◌+◌, ◌<◌, ◌≤◌, ◌||◌, ◌==◌, List, [], ◌∷◌, ◌++◌, length, filter, Bool, true, false, not, All, None, Result, Ok, Err}
+use Rattle.std.specs.List.{slice_split, list_all, AllZip}
 use Rattle.amr_events.specs.Events.{Event}
 use Rattle.amr_events.specs.Lines.{event_of_line}
+use Rattle.amr_events.specs.Refused.{LineIs}
 use Rattle.amr_events.specs.declared.error.Fault.{Fault}
 use Rattle.amr_events.specs.declared.error.Fault.TheVariants.{BadLine, LineTooLong, TooManyEvents}
 
@@ -23,33 +24,46 @@ longest_line = 1_048_576
 abbrev pub most_events : ℕ
 most_events = 1_000_000
 
-abbrev pub one_more : ℕ → Option Event → List Event → Result (List Event) Fault
-one_more n None events = Err (BadLine n)
-one_more n (Some event) events = Ok (events ++ event ∷ [])
+-- the lines that are to hold an event
+abbrev pub event_lines : List (List ℕ) → List (List ℕ)
+event_lines lines = filter (λ line. not (is_blank line)) lines
 
--- the events with that of line n
-unfoldable pub line_into : ℕ → List ℕ → List Event → Result (List Event) Fault
-line_into n line events =
-    if nat_lt longest_line (length line) then Err (LineTooLong n)
-    else (if is_blank line then Ok events
-    else (if nat_le most_events (length events) then Err TooManyEvents
-    else one_more n (event_of_line line) events))
+-- The lines read as the events: each line that isn't blank as one of them, in order.
+pub record ReadAs (lines : List (List ℕ)) (events : List Event) : Type 0 where
+  pub short : All (λ line. length line ≤ longest_line) lines
+  pub read : AllZip LineIs (event_lines lines) events
+  pub few : length events ≤ most_events
 
-infixl 10 ◌>>=◌
-abbrev pub ◌>>=◌ : {A B : Type 0} → Result A Fault → (A → Result B Fault) → Result B Fault
-(Ok x) >>= f = f x
-(Err e) >>= f = Err e
+-- Line n, after these events, has the fault. A long line is told first, then an event too many.
+abbrev pub HasFault : ℕ → List ℕ → List Event → Fault → Type 0
+HasFault n line events (LineTooLong m) = (m ≡ n) × (longest_line < length line)
+HasFault n line events TooManyEvents = (length line ≤ longest_line) × (is_blank line ≡ false) × (most_events ≤ length events)
+HasFault n line events (BadLine m) =
+    (m ≡ n) × (length line ≤ longest_line) × (is_blank line ≡ false) × (length events < most_events) × (event_of_line line ≡ None)
 
--- the events with those of the lines from line n on
-abbrev pub lines_from : ℕ → List (List ℕ) → List Event → Result (List Event) Fault
-lines_from n [] events = Ok events
-lines_from n (line ∷ lines) events = line_into n line events >>= lines_from (n + 1) lines
+-- The fault is that of some line, and the lines before it read as events. Lines are counted from 1.
+pub record HasFirstFault (lines : List (List ℕ)) (fault : Fault) : Type 0 where
+  pub before : List (List ℕ)
+  pub line : List ℕ
+  pub after : List (List ℕ)
+  pub events : List Event
+  pub parts : lines ≡ before ++ line ∷ after
+  pub read : ReadAs before events
+  pub here : HasFault (length before + 1) line events fault
 
--- the events of a script; lines are counted from 1
-unfoldable pub script_of : List ℕ → Result (List Event) Fault
-script_of bytes = lines_from 1 (lines_of bytes) []
+-- the events of a script, or its first fault
+abbrev pub ScriptIs : List ℕ → Result (List Event) Fault → Type 0
+ScriptIs bytes (Ok events) = ReadAs (lines_of bytes) events
+ScriptIs bytes (Err fault) = HasFirstFault (lines_of bytes) fault
 
--- the only line
-abbrev pub or_bad_line : Option Event → Result Event Fault
-or_bad_line None = Err (BadLine 1)
-or_bad_line (Some event) = Ok event
+-- the event of a line that stands alone, or its fault
+abbrev pub OnlyLineIs : List ℕ → Result Event Fault → Type 0
+OnlyLineIs line (Ok event) = LineIs line event
+OnlyLineIs line (Err fault) = (fault ≡ BadLine 1) × (event_of_line line ≡ None)
+
+-- What a line without a fault adds to the events before it.
+pub data Adds (line : List ℕ) (old new : List Event) : Type 0 where
+  NoEvent : length line ≤ longest_line → is_blank line ≡ true → new ≡ old → Adds line old new
+  OneEvent :
+      (event : Event) → length line ≤ longest_line → is_blank line ≡ false → length old < most_events → LineIs line event
+      → new ≡ old ++ event ∷ [] → Adds line old new

@@ -1,8 +1,10 @@
 -- Shapes of JSON values. There is nothing where a value has another shape.
-use Rattle.std.specs.Prelude.{List, [], ◌∷◌, Option, Some, None}
+use Rattle.std.specs.Prelude.{List, [], ◌∷◌, Bool, Option, Some, None}
 use Rattle.serde_json.specs.Data.{Data, null, boolean, number, string, array, object, Items, no_items, item, Members, no_members, member}
-use Rattle.serde_json.specs.Find.{as_str, as_object}
+use Rattle.serde_json.specs.Find.{get, as_bool, as_str, as_object}
 use Rattle.amr_labels.specs.Labels.{Text}
+use Rattle.amr_time.specs.Time.{Moment}
+use Rattle.amr_time.specs.MomentRead.{moment_at}
 
 infixl 10 ◌>>=◌
 abbrev pub ◌>>=◌ : {A B : Type 0} → Option A → (A → Option B) → Option B
@@ -46,3 +48,22 @@ unfoldable pub texts_in : Data → Option (List (Text × Text))
 texts_in d = do
   members ← as_object d
   each_member named_text members
+
+-- the text under a key
+unfoldable pub text_under : Text → Data → Option Text
+text_under key d = get key d >>= as_str
+
+abbrev pub flag_at : Bool → Option Data → Option Bool
+flag_at default None = Some default
+flag_at default (Some d) = as_bool d
+
+-- the boolean under a key; where the key is absent there is a default
+unfoldable pub flag_under : Text → Bool → Data → Option Bool
+flag_under key default d = flag_at default (get key d)
+
+-- the moment under a key
+unfoldable pub moment_under : Text → Data → Option Moment
+moment_under key d = do
+  stated ← get key d
+  text ← as_str stated
+  moment_at text

@@ -2,7 +2,10 @@
 ghost use Rattle.std.specs.Prelude.{◌≡◌, ◌≤◌};
 ghost use Rattle.amr_time.specs.Time.{latest_read};
 
-use amr_labels::{Listing, Text, TextMap};
+use crate::reason::Reason;
+use crate::silence_id::SilenceId;
+use amr_config::Config;
+use amr_labels::{Listing, Matchers, Text, TextMap};
 use amr_time::Moment;
 use std::marker::Model;
 
@@ -18,11 +21,31 @@ pub struct PostedAlert {
     pub ends_at: Option<Moment>,
 }
 
+/// A silence as it is posted (a postable silence of Alertmanager's API v2).
+#[derive(Debug, Drop)]
+pub struct PostedSilence {
+    /// The stored silence that the post is to change.
+    pub id: Option<SilenceId>,
+    /// The id of the silence where it is a new one.
+    pub new_id: SilenceId,
+    /// None where a name is empty, or `regex` refused a pattern.
+    pub matchers: Option<Matchers>,
+    pub starts_at: Moment,
+    /// The silence is over at this moment and from then on.
+    pub ends_at: Moment,
+}
+
 /// What happens at an event.
 #[derive(Debug, Drop)]
 pub enum Act {
     /// Alerts are posted.
     Post(Listing<PostedAlert>),
+    /// A silence is posted.
+    Silence(PostedSilence),
+    /// The silence with the id is expired.
+    Expire(SilenceId),
+    /// The configuration is changed for this one. There is the reason where it can't be loaded.
+    Reload(Result<Config, Reason>),
     /// Time passes.
     Tick,
 }

@@ -1,17 +1,21 @@
 //! A line of a script: an object with a moment and one act.
-ghost use Rattle.std.specs.Prelude.{◌≡◌, ◌≤◌, codes, option_map, IfOk};
+ghost use Rattle.std.specs.Prelude.{◌≡◌, codes, option_map, IfOk};
 ghost use Rattle.serde_json.specs.View.{view};
-ghost use Rattle.amr_time.specs.Time.{latest_read};
-ghost use Rattle.amr_events.specs.Answers.{Reads};
-ghost use Rattle.amr_events.specs.Acts.{act_of};
-ghost use Rattle.amr_events.specs.Lines.{json_of, moment_in, stands as stands_in, act_count as count_of_acts, post_of, tick_of, act_in, event_in, event_of_line};
+ghost use Rattle.amr_events.specs.Answers.{Reads, ReadsSuch};
+ghost use Rattle.amr_events.specs.Acts.{by_number, act_of};
+ghost use Rattle.amr_events.specs.Events as events;
+ghost use Rattle.amr_events.specs.Lines.{json_of, stands as stands_in, act_count as count_of_acts, tick_of, act_in, event_in, event_of_line};
+ghost use Rattle.amr_events.specs.Refused.{ReloadIs, ActIs, EventIs, LineIs};
 
 use crate::error::LineError;
 use crate::event::{Act, Event};
 use crate::posted::alerts;
-use amr_time::{Moment, read_moment};
+use crate::posted_silence::{id, silence};
+use crate::reason::Reason;
+use crate::shapes::moment;
+use amr_config::{Config, ConfigError};
 use serde_json::Value;
-use std::alloc::Global;
+use std::alloc::{AllocError, Global};
 
 /// The value that a text of JSON stands for.
 #[tactic(auto, unfolding(crate::specs::Lines::json_of))]
@@ -28,18 +32,6 @@ fn json(alloc: Global, line: &[u8]) -> Result<Value, LineError>
             }
         }
     }
-}
-
-/// The moment under `at`.
-#[tactic(auto, unfolding(crate::specs::Lines::moment_in))]
-fn moment(value: &Value) -> Result<Moment, LineError>
-    ensures value { Reads (λ m. m) result (moment_in (view value.now)) }
-    ensures bound { IfOk result (λ m. m ≤ latest_read) }
-{
-    let stated = value.get("at").ok_or(LineError::Faulty)?;
-    let text = stated.as_str().ok_or(LineError::Faulty)?;
-    let moment = read_moment(text)?;
-    Ok(moment)
 }
 
 /// 1 where the key stands in the object, whatever its value.
@@ -61,57 +53,67 @@ fn act_count(value: &Value) -> u64
         + stands(value, "tick")
 }
 
-/// Alerts are posted.
-#[tactic(auto, unfolding(crate::specs::Lines::post_of))]
-fn post(alloc: Global, value: &Value) -> Result<Act, LineError>
-    ensures { Reads act_of result (post_of (view value.now)) }
-{
-    let alerts = alerts(alloc, value)?;
-    Ok(Act::Post(alerts))
-}
-
 /// Time passes.
 #[tactic(auto, unfolding(crate::specs::Lines::tick_of))]
-fn tick(value: &Value) -> Result<Act, LineError>
-    ensures { Reads act_of result (tick_of (view value.now)) }
+fn tick(value: &Value) -> Result<(), LineError>
+    ensures { Reads (λ _. events.Act.Tick) result (tick_of (view value.now)) }
 {
     match value.as_bool() {
-        Some(true) => Ok(Act::Tick),
+        Some(true) => Ok(()),
         _ => Err(LineError::Faulty),
     }
 }
 
-/// The act that the object states.
-#[tactic(auto, unfolding(crate::specs::Lines::act_in))]
-fn act(alloc: Global, value: &Value) -> Result<Act, LineError>
-    ensures { Reads act_of result (act_in (view value.now)) }
+/// The configuration that a reload states, or why it can't be loaded.
+fn reload(alloc: Global, value: &Value) -> Result<Result<Config, Reason>, AllocError>
+    ensures { IfOk result (λ read. ReloadIs (view value.now) (by_number read)) }
 {
-    if act_count(value) != 1 {
-        return Err(LineError::Faulty);
-    }
-    if let Some(posted) = value.get("alerts") {
-        return post(alloc, posted);
-    }
-    match value.get("tick") {
-        Some(passes) => tick(passes),
-        None => Err(LineError::Faulty),
+    match Config::read(alloc, value) {
+        Ok(config) => Ok(Ok(config)),
+        Err(ConfigError::Refused(refusal)) => Ok(Err(Reason::of_refusal(&refusal))),
+        Err(ConfigError::Memory) => Err(AllocError),
     }
 }
 
-#[tactic(auto, unfolding(crate::specs::Lines::event_in))]
-fn event(alloc: Global, value: &Value) -> Result<Event, LineError>
-    ensures { Reads (λ event. event) result (event_in (view value.now)) }
+/// The act that the object states.
+#[tactic(auto, unfolding(crate::specs::Lines::act_in, crate::specs::Lines::post_of, crate::specs::Lines::silencing_of, crate::specs::Lines::expiry_of))]
+fn act(alloc: Global, line: &Value) -> Result<Act, LineError>
+    ensures { ReadsSuch (λ act. ActIs (view line.now) (act_of act)) result (act_in (view line.now)) }
 {
-    let at = moment(value)?;
-    let act = act(alloc, value)?;
+    if act_count(line) != 1 {
+        return Err(LineError::Faulty);
+    }
+    if let Some(stated) = line.get("alerts") {
+        return Ok(Act::Post(alerts(alloc, stated)?));
+    }
+    if let Some(stated) = line.get("silence") {
+        return Ok(Act::Silence(silence(alloc, line, stated)?));
+    }
+    if let Some(stated) = line.get("expire") {
+        return Ok(Act::Expire(id(stated)?));
+    }
+    if let Some(stated) = line.get("reload") {
+        return Ok(Act::Reload(reload(alloc, stated)?));
+    }
+    let passes = line.get("tick").ok_or(LineError::Faulty)?;
+    tick(passes)?;
+    Ok(Act::Tick)
+}
+
+#[tactic(auto, unfolding(crate::specs::Lines::event_in))]
+fn event(alloc: Global, line: &Value) -> Result<Event, LineError>
+    ensures { ReadsSuch (λ event. EventIs (view line.now) event) result (event_in (view line.now)) }
+{
+    let at = moment(line, "at")?;
+    let act = act(alloc, line)?;
     Ok(Event::new(at, act))
 }
 
 /// The event that a line stands for.
 #[tactic(auto, unfolding(crate::specs::Lines::event_of_line))]
 pub(crate) fn read_line(alloc: Global, line: &[u8]) -> Result<Event, LineError>
-    ensures { Reads (λ event. event) result (event_of_line line.now) }
+    ensures { ReadsSuch (λ event. LineIs line.now event) result (event_of_line line.now) }
 {
-    let value = json(alloc, line)?;
-    event(alloc, &value)
+    let stated = json(alloc, line)?;
+    event(alloc, &stated)
 }

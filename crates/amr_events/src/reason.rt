@@ -1,6 +1,9 @@
 //! Why an event is refused.
 ghost use Rattle.std.specs.Prelude.{◌≡◌};
+ghost use Rattle.amr_config.specs.Numbers.{number_of};
 ghost use Rattle.amr_events.specs.Reasons.{reason_number};
+
+use amr_config::Refusal;
 
 /// Why an event is refused. A refused event changes nothing.
 #[derive(Clone, Copy, Debug, PartialEq, Eq)]
@@ -36,6 +39,22 @@ pub enum Reason {
 }
 
 impl Reason {
+    /// The reason that refuses the reload of a configuration.
+    pub(crate) fn of_refusal(refusal: &Refusal) -> Reason
+        ensures { reason_number result ≡ number_of refusal.now }
+    {
+        match refusal {
+            Refusal::BadConfig { path: _ } => Reason::BadConfig,
+            Refusal::UnknownReceiver => Reason::UnknownReceiver,
+            Refusal::DuplicateReceiver => Reason::DuplicateReceiver,
+            Refusal::RootRoute => Reason::RootRoute,
+            Refusal::ZeroInterval => Reason::ZeroInterval,
+            Refusal::BadGroupBy => Reason::BadGroupBy,
+            Refusal::TooDeep => Reason::TooDeep,
+            Refusal::TimeIntervals => Reason::TimeIntervals,
+        }
+    }
+
     /// The number that is printed.
     pub fn number(self) -> u64
         ensures { result ≡ reason_number self }

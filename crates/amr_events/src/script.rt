@@ -1,11 +1,10 @@
 //! Scripts: events, a line each.
-ghost use Rattle.std.specs.Prelude.{◌≡◌, ◌<◌, ◌==◌, length, Some};
+ghost use Rattle.std.specs.Prelude.{◌≡◌, ◌<◌, ◌==◌, length, Some, OnOk, Err};
 ghost use Rattle.std.specs.List.{slice_get};
 ghost use Rattle.std.specs.Global.{Vec};
 ghost use Rattle.amr_events.specs.Events.{Event};
-ghost use Rattle.amr_events.specs.Lines.{event_of_line};
-ghost use Rattle.amr_events.specs.Answers.{Gives, Changes};
-ghost use Rattle.amr_events.specs.Scripts.{is_blank as is_blank_line, line_into, script_of, or_bad_line};
+ghost use Rattle.amr_events.specs.Answers.{Answers, Stops};
+ghost use Rattle.amr_events.specs.Scripts.{is_blank as is_blank_line, HasFault, Adds, ScriptIs, OnlyLineIs};
 
 use crate::error::{Fault, LineError, ScriptError};
 use crate::event::Event;
@@ -48,14 +47,14 @@ fn is_blank(line: &[u8]) -> bool
 }
 
 /// Takes one line more.
-#[tactic(auto, unfolding(crate::specs::Scripts::line_into))]
 fn add_line(
     alloc: Global,
     number: u64,
     line: &[u8],
     events: &mut Vec<Event>,
 ) -> Result<(), ScriptError>
-    ensures { Changes (λ (v : Vec Event). v.items) result events.new (line_into number line.now events.old.items) }
+    ensures ok { OnOk result (Adds line.now events.old.items events.new.items) }
+    ensures err { Stops (HasFault number line.now events.old.items) result }
 {
     if line.len() > LONGEST_LINE {
         return Err(ScriptError::Refused(Fault::LineTooLong { line: number }));
@@ -79,13 +78,22 @@ fn add_line(
 impl Event {
     /// Reads one line of a script; the line's number in a fault is 1.
     ///
-    /// A line is an object with a moment (RFC 3339) under `at` and exactly one act: `alerts`, a list of postable
-    /// alerts (Alertmanager's API v2), or `tick`, which is `true`. An alert has `labels`, an object of texts, and may
-    /// have `annotations`, an object of texts, `startsAt` and `endsAt`. A time is missing where it is absent, `null`,
-    /// empty, or `0001-01-01T00:00:00Z`, also with a fraction of 1 to 9 zeros. Other keys are ignored. A line with
-    /// `silence`, `expire` or `reload` is no event. Of members of one name the last counts.
+    /// A line is an object with a moment (RFC 3339) under `at` and exactly one act:
+    ///
+    /// - `alerts`, a list of postable alerts (Alertmanager's API v2). An alert has `labels`, an object of texts, and may
+    ///   have `annotations`, an object of texts, `startsAt` and `endsAt`. A time is missing where it is absent, `null`,
+    ///   empty, or `0001-01-01T00:00:00Z`, also with a fraction of 1 to 9 zeros.
+    /// - `silence`, a postable silence, with `newId`, a UUID, beside it in the line. A silence has `startsAt`, `endsAt`,
+    ///   a list of `matchers`, each with the texts `name` and `value` and the booleans `isRegex` (false where it is
+    ///   absent) and `isEqual` (true where it is absent), and may have an `id`, a UUID. Its patterns are read here, once:
+    ///   there are no matchers where a name is empty or a pattern can't be read.
+    /// - `expire`, a UUID.
+    /// - `reload`, a configuration of any shape. It is judged here, once.
+    /// - `tick`, which is `true`.
+    ///
+    /// Other keys are ignored. Of members of one name the last counts.
     pub fn read(alloc: Global, line: &[u8]) -> Result<Event, ScriptError>
-        ensures { Gives (λ event. event) result (or_bad_line (event_of_line line.now)) }
+        ensures { Answers (OnlyLineIs line.now) result }
     {
         match read_line(alloc, line) {
             Ok(event) => Ok(event),
@@ -102,7 +110,7 @@ impl Script {
     /// counted in line numbers. A line has at most 1,048,576 bytes, and a script at most 1,000,000 events. The first
     /// faulty line decides: one that is too long, then an event too many, then a line that is no event.
     pub fn read(alloc: Global, bytes: &[u8]) -> Result<Script, ScriptError>
-        ensures { Gives (λ script. script) result (script_of bytes.now) }
+        ensures { Answers (ScriptIs bytes.now) result }
     {
         let mut events = Vec::new(alloc);
         let mut number = 1;

@@ -1,12 +1,14 @@
 //! Shapes of JSON values.
-ghost use Rattle.std.specs.Prelude.{◌≡◌, option_map};
+ghost use Rattle.std.specs.Prelude.{◌≡◌, ◌≤◌, option_map, IfOk};
 ghost use Rattle.serde_json.specs.View.{view};
 ghost use Rattle.serde_json.specs.Find.{get};
 ghost use Rattle.amr_events.specs.Answers.{Reads};
-ghost use Rattle.amr_events.specs.Shapes.{present, named_text, texts_in};
+ghost use Rattle.amr_time.specs.Time.{latest_read};
+ghost use Rattle.amr_events.specs.Shapes.{present, named_text, texts_in, text_under, flag_under, moment_under};
 
 use crate::error::LineError;
 use amr_labels::Text;
+use amr_time::{Moment, read_moment};
 use serde_json::Value;
 use std::alloc::Global;
 
@@ -40,4 +42,37 @@ pub(crate) fn texts(alloc: Global, value: &Value) -> Result<Vec<(Text, Text)>, L
         texts.push(named_text(alloc, name, value)?)?;
     }
     Ok(texts)
+}
+
+/// The text under a key.
+#[tactic(auto, unfolding(crate::specs::Shapes::text_under))]
+pub(crate) fn text(alloc: Global, value: &Value, key: &str) -> Result<Text, LineError>
+    ensures { Reads (λ text. text) result (text_under key.now (view value.now)) }
+{
+    let stated = value.get(key).ok_or(LineError::Faulty)?;
+    let text = stated.as_str().ok_or(LineError::Faulty)?;
+    Ok(Text::from_str(alloc, text)?)
+}
+
+/// The boolean under a key, or the default where the key is absent.
+#[tactic(auto, unfolding(crate::specs::Shapes::flag_under))]
+pub(crate) fn flag(value: &Value, key: &str, default: bool) -> Result<bool, LineError>
+    ensures { Reads (λ flag. flag) result (flag_under key.now default (view value.now)) }
+{
+    match value.get(key) {
+        Some(stated) => stated.as_bool().ok_or(LineError::Faulty),
+        None => Ok(default),
+    }
+}
+
+/// The moment under a key.
+#[tactic(auto, unfolding(crate::specs::Shapes::moment_under))]
+pub(crate) fn moment(value: &Value, key: &str) -> Result<Moment, LineError>
+    ensures value { Reads (λ m. m) result (moment_under key.now (view value.now)) }
+    ensures bound { IfOk result (λ m. m ≤ latest_read) }
+{
+    let stated = value.get(key).ok_or(LineError::Faulty)?;
+    let text = stated.as_str().ok_or(LineError::Faulty)?;
+    let moment = read_moment(text)?;
+    Ok(moment)
 }

@@ -8,9 +8,10 @@ ghost use Rattle.amr_config.specs.Config.{Config};
 ghost use Rattle.amr_rules.specs.Muting.{agree_on, rule_mutes, inhibits, is_inhibited, inhibitor_by, inhibition_from, silences_labels, is_silenced, silencer_of};
 
 use crate::alert::Alert;
-use crate::silence::{Silence, SilenceId};
+use crate::silence::Silence;
 use crate::silence_map::SilenceMap;
 use amr_config::InhibitRule;
+use amr_events::SilenceId;
 use amr_labels::{LabelMap, Labels, Text};
 use amr_time::Moment;
 use std::alloc::{AllocError, Global};

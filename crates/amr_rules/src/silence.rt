@@ -1,86 +1,9 @@
 //! Silences: when they act, and how they are expired.
-ghost use Rattle.std.specs.Prelude.{◌≡◌, ℕ};
-ghost use Rattle.std.proofs.Common.{rules};
-ghost use Rattle.std.specs.Cmp.{partial_order_from_own_ties};
-ghost use Rattle.std.specs.Cmp.Rules.{comparing};
-ghost use Rattle.std.specs.Ordering.{as_partial_cmp, nat_cmp, eq_by_cmp};
+ghost use Rattle.std.specs.Prelude.{◌≡◌};
 
 use amr_labels::{Exact, Matchers};
 use amr_time::Moment;
 use std::alloc::AllocError;
-use std::cmp::Ordering;
-use std::marker::Model;
-
-/// The id of a silence, as a number: the 128 bits of its UUID.
-#[derive(Clone, Copy, Debug)]
-pub struct SilenceId {
-    bits: u128,
-}
-
-impl Model for SilenceId {
-    ghost use Rattle.std.specs.Prelude.{ℕ};
-
-    ghost Value = { ℕ };
-
-    ghost view = { λ id. id.bits };
-
-    ghost inverse = { λ n. record { bits = n } };
-}
-
-impl SilenceId {
-    /// The id with these bits.
-    pub fn from_bits(bits: u128) -> SilenceId
-        ensures { result ≡ bits }
-    {
-        SilenceId { bits }
-    }
-
-    /// The bits of the id.
-    pub fn bits(self) -> u128
-        ensures { result ≡ self }
-    {
-        self.bits
-    }
-}
-
-impl PartialEq for SilenceId {
-    ghost eq = { eq_by_cmp nat_cmp };
-
-    ghost laws = { Prim.search (comparing, rules) };
-
-    fn eq(&self, other: &SilenceId) -> bool {
-        self.cmp(other) == Ordering::Equal
-    }
-}
-
-impl Eq for SilenceId {
-    ghost laws = { Prim.search (comparing, rules) };
-}
-
-impl Ord for SilenceId {
-    ghost cmp = { nat_cmp };
-
-    ghost total = { Prim.search (comparing, rules) };
-
-    ghost matches_partial_cmp = { Prim.search (comparing, rules) };
-
-    ghost matches_eq = { Prim.search (comparing, rules) };
-
-    fn cmp(&self, other: &SilenceId) -> Ordering {
-        let ours = self.bits;
-        ours.cmp(&other.bits)
-    }
-}
-
-impl PartialOrd for SilenceId {
-    ghost partial_cmp = { as_partial_cmp nat_cmp };
-
-    ghost laws = { partial_order_from_own_ties (Prim.search (comparing, rules)) (Prim.search (comparing, rules)) };
-
-    fn partial_cmp(&self, other: &SilenceId) -> Option<Ordering> {
-        Some(self.cmp(other))
-    }
-}
 
 /// A silence without its id.
 #[derive(Debug, Drop)]

@@ -3,7 +3,8 @@ ghost use Rattle.std.specs.Prelude.{◌≡◌, ◌==◌, OnOk, OnErr};
 ghost use Rattle.std.specs.Option.{option_copied};
 ghost use Rattle.amr_labels.specs.Map as map;
 
-use crate::silence::{Silence, SilenceId};
+use crate::silence::Silence;
+use amr_events::SilenceId;
 use amr_labels::Exact;
 use std::alloc::{AllocError, Global};
 use std::collections::BTreeMap;

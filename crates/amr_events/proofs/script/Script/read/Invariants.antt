@@ -1,9 +1,10 @@
-use Rattle.std.proofs.Common.{◌≡◌, ◌+◌, length, drop}
-use Rattle.amr_events.specs.Scripts.{lines_of, lines_from, script_of}
+use Rattle.std.proofs.Common.{◌≡◌, ◌+◌, length, take}
+use Rattle.amr_events.specs.Scripts.{lines_of, ReadAs}
 use Rattle.amr_events.proofs.script.Script.read.Given as goal
 
+-- the lines so far read as the events so far
 abbrev pub invariant-loop-line : goal.invariant-loop-line
 invariant-loop-line l = record {
   counted : l.number ≡ length l.yielded + 1;
-  read : lines_from l.number (drop (length l.yielded) (lines_of l.bytes)) l.events.items ≡ script_of l.bytes;
+  read : ReadAs (take (length l.yielded) (lines_of l.bytes)) l.events.items;
 }

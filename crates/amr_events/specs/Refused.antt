@@ -1,0 +1,57 @@
+-- What a line reads as where `regex` refuses a pattern in it.
+use Rattle.std.specs.Prelude.{◌≡◌, ◌⊎◌, ℕ, List, codes, Option, Some, None, Result, Any}
+use Rattle.serde_json.specs.Data.{Data}
+use Rattle.serde_json.specs.Find.{get}
+use Rattle.amr_labels.specs.Matchers.{Matcher}
+use Rattle.amr_labels.specs.MatcherRefusals.{MayBeRefused}
+use Rattle.amr_config.specs.Config.{Config}
+use Rattle.amr_config.specs.Reading.{ConfigIs}
+use Rattle.amr_config.specs.declared.error.Refusal.{Refusal}
+use Rattle.amr_events.specs.Events.{Act, Event, Reason}
+use Rattle.amr_events.specs.Events as events
+use Rattle.amr_events.specs.Shapes.{moment_under}
+use Rattle.amr_events.specs.Lines.{json_of, numbered, reload_of, act_in}
+use Rattle.amr_events.specs.declared.event.PostedSilence.{PostedSilence}
+
+-- there are matchers, and `regex` may refuse one of them
+pub record MayLack (stated : Option (List Matcher)) : Type 0 where
+  pub matchers : List Matcher
+  pub stated_as : stated ≡ Some matchers
+  pub refused : Any MayBeRefused matchers
+
+-- the matchers that are read are the stated ones, or none where one is refused
+abbrev pub MatchersAre : Option (List Matcher) → Option (List Matcher) → Type 0
+MatchersAre stated read = (read ≡ stated) ⊎ ((read ≡ None) × MayLack stated)
+
+-- a silence is the stated one but for its matchers
+pub record SilenceIs (stated read : PostedSilence) : Type 0 where
+  pub id : read.id ≡ stated.id
+  pub new_id : read.new_id ≡ stated.new_id
+  pub matchers : MatchersAre stated.matchers read.matchers
+  pub starts_at : read.starts_at ≡ stated.starts_at
+  pub ends_at : read.ends_at ≡ stated.ends_at
+
+-- a reload holds what reading its value gives, a refusal as its number
+abbrev pub ReloadIs : Data → Result Config Reason → Type 0
+ReloadIs d reload = (read : Result Config Refusal) × ConfigIs d read × (reload ≡ numbered read)
+
+-- the act that is read of an object is the one that it states, but for what `regex` refuses
+abbrev pub ActIs : Data → Act → Type 0
+ActIs d (events.Act.Post alerts) = act_in d ≡ Some (events.Act.Post alerts)
+ActIs d (events.Act.Silence silence) = (stated : PostedSilence) × (act_in d ≡ Some (events.Act.Silence stated)) × SilenceIs stated silence
+ActIs d (events.Act.Expire id) = act_in d ≡ Some (events.Act.Expire id)
+ActIs d (events.Act.Reload reload) =
+    (config : Data) × (get (codes "reload") d ≡ Some config) × (act_in d ≡ Some (reload_of config)) × ReloadIs config reload
+ActIs d events.Act.Tick = act_in d ≡ Some events.Act.Tick
+
+-- the event that is read of an object
+pub record EventIs (d : Data) (event : Event) : Type 0 where
+  pub at : moment_under (codes "at") d ≡ Some event.at
+  pub act : ActIs d event.act
+
+-- The event that is read of a line. It is `event_of_line` of the line, but that a silence has no matchers where `regex`
+-- may refuse one of its patterns, and a reload is refused where its configuration may be refused at a pattern.
+pub record LineIs (line : List ℕ) (event : Event) : Type 0 where
+  pub stated : Data
+  pub json : json_of line ≡ Some stated
+  pub reads : EventIs stated event

@@ -1,0 +1,189 @@
+//! Posted silences, as a line of a script has them.
+ghost use Rattle.std.specs.Prelude.{◌≡◌, codes, option_map, IfOk, IsErrOf, Any};
+ghost use Rattle.std.specs.List.{list_any};
+ghost use Rattle.serde_json.specs.View.{view};
+ghost use Rattle.serde_json.specs.Find.{get};
+ghost use Rattle.amr_labels.specs.Labels.{is_empty};
+ghost use Rattle.amr_labels.specs.MatcherRefusals.{MayBeRefused};
+ghost use Rattle.amr_labels.specs.declared.pattern.MatcherError.TheVariants.{BadPattern};
+ghost use Rattle.amr_events.specs.Shapes.{present};
+ghost use Rattle.amr_events.specs.Answers.{Reads, ReadsBut};
+ghost use Rattle.amr_events.specs.PostedSilences.{operator_by, matcher_of, matchers_of, if_named, id_at, named_id as named_id_of, named_id_at, named_id_in, new_id_in, silence_of};
+ghost use Rattle.amr_events.specs.Refused.{MatchersAre, SilenceIs};
+
+use crate::error::LineError;
+use crate::event::PostedSilence;
+use crate::shapes::{flag, member, moment, text};
+use crate::silence_id::SilenceId;
+use amr_labels::{Matcher, MatcherError, Matchers, Operator, Text};
+use serde_json::Value;
+use std::alloc::{AllocError, Global};
+use std::marker::Model;
+
+/// A matcher as it is stated; its pattern is not read yet.
+#[derive(Debug, Drop)]
+struct StatedMatcher {
+    name: Text,
+    operator: Operator,
+    value: Text,
+}
+
+impl Model for StatedMatcher {
+    ghost use Rattle.amr_labels.specs.Matchers.{Matcher};
+
+    ghost Value = { Matcher };
+
+    ghost view = { λ stated. record { name = stated.name; operator = stated.operator; value = stated.value } };
+}
+
+/// The operator by `isRegex` and `isEqual`.
+fn operator(is_regex: bool, is_equal: bool) -> Operator
+    ensures { result ≡ operator_by is_regex is_equal }
+{
+    match (is_regex, is_equal) {
+        (false, true) => Operator::Equal,
+        (false, false) => Operator::NotEqual,
+        (true, true) => Operator::Matches,
+        (true, false) => Operator::NotMatches,
+    }
+}
+
+#[tactic(auto, unfolding(crate::specs::PostedSilences::matcher_of))]
+fn matcher(alloc: Global, value: &Value) -> Result<StatedMatcher, LineError>
+    ensures { Reads (λ matcher. matcher) result (matcher_of (view value.now)) }
+{
+    let name = text(alloc, value, "name")?;
+    let own = text(alloc, value, "value")?;
+    let is_regex = flag(value, "isRegex", false)?;
+    let is_equal = flag(value, "isEqual", true)?;
+    Ok(StatedMatcher {
+        name,
+        operator: operator(is_regex, is_equal),
+        value: own,
+    })
+}
+
+/// The matchers of a list, in order.
+#[tactic(auto, unfolding(crate::specs::PostedSilences::matchers_of))]
+fn matchers(alloc: Global, value: &Value) -> Result<Vec<StatedMatcher>, LineError>
+    ensures { Reads (λ matchers. matchers.items) result (matchers_of (view value.now)) }
+{
+    let items = value.as_array().ok_or(LineError::Faulty)?;
+    let mut matchers = Vec::new(alloc);
+    for item in items {
+        matchers.push(matcher(alloc, item)?)?;
+    }
+    Ok(matchers)
+}
+
+impl StatedMatcher {
+    /// Reads the pattern.
+    fn build(&self, alloc: Global) -> Result<Matcher, MatcherError>
+        ensures made { IfOk result (λ matcher. matcher ≡ self.now) }
+        ensures refused { IsErrOf result BadPattern → MayBeRefused self.now }
+    {
+        Matcher::new(
+            alloc,
+            self.name.clone()?,
+            self.operator,
+            self.value.clone()?,
+        )
+    }
+}
+
+/// Reads the patterns, each once.
+fn build(alloc: Global, stated: &[StatedMatcher]) -> Result<Matchers, MatcherError>
+    ensures made { IfOk result (λ matchers. matchers ≡ stated.now) }
+    ensures refused { IsErrOf result BadPattern → Any MayBeRefused stated.now }
+{
+    let mut matchers = Vec::new(alloc);
+    for matcher in stated {
+        matchers.push(matcher.build(alloc)?)?;
+    }
+    Ok(Matchers::from_vec(alloc, matchers)?)
+}
+
+/// Whether a matcher has no name.
+fn some_nameless(stated: &[StatedMatcher]) -> bool
+    ensures { result ≡ list_any (λ matcher. is_empty matcher.name) stated.now }
+{
+    stated.iter().any(|matcher| matcher.name.is_empty())
+}
+
+/// The matchers; none where a name is empty, or `regex` refuses a pattern.
+fn built_matchers(alloc: Global, stated: &[StatedMatcher]) -> Result<Option<Matchers>, AllocError>
+    ensures { IfOk result (λ matchers. MatchersAre (if_named stated.now) matchers) }
+{
+    if some_nameless(stated) {
+        return Ok(None);
+    }
+    match build(alloc, stated) {
+        Ok(matchers) => Ok(Some(matchers)),
+        Err(MatcherError::BadPattern) => Ok(None),
+        Err(MatcherError::Memory) => Err(AllocError),
+    }
+}
+
+/// An id.
+#[tactic(auto, unfolding(crate::specs::PostedSilences::id_at))]
+pub(crate) fn id(value: &Value) -> Result<SilenceId, LineError>
+    ensures { Reads (λ id. id) result (id_at (view value.now)) }
+{
+    let text = value.as_str().ok_or(LineError::Faulty)?;
+    SilenceId::read(text).ok_or(LineError::Faulty)
+}
+
+/// An id as a text; the empty one names none.
+#[tactic(auto, unfolding(crate::specs::PostedSilences::named_id))]
+fn named_id(text: &str) -> Result<Option<SilenceId>, LineError>
+    ensures { Reads (λ id. id) result (named_id_of text.now) }
+{
+    if text.is_empty() {
+        return Ok(None);
+    }
+    let id = SilenceId::read(text).ok_or(LineError::Faulty)?;
+    Ok(Some(id))
+}
+
+/// The silence that the post is to change. None may be named.
+#[tactic(auto, unfolding(crate::specs::PostedSilences::named_id_in))]
+fn changed_id(silence: &Value) -> Result<Option<SilenceId>, LineError>
+    ensures { Reads (λ id. id) result (named_id_in (view silence.now)) }
+{
+    match member(silence, "id") {
+        Some(value) => named_id(value.as_str().ok_or(LineError::Faulty)?),
+        None => Ok(None),
+    }
+}
+
+/// The id of the silence where it is a new one.
+#[tactic(auto, unfolding(crate::specs::PostedSilences::new_id_in))]
+fn new_id(line: &Value) -> Result<SilenceId, LineError>
+    ensures { Reads (λ id. id) result (new_id_in (view line.now)) }
+{
+    id(line.get("newId").ok_or(LineError::Faulty)?)
+}
+
+/// The silence that a line posts. The line has the new id beside it.
+#[tactic(auto, unfolding(crate::specs::PostedSilences::silence_of))]
+pub(crate) fn silence(
+    alloc: Global,
+    line: &Value,
+    silence: &Value,
+) -> Result<PostedSilence, LineError>
+    ensures { ReadsBut SilenceIs result (silence_of (view line.now) (view silence.now)) }
+{
+    let new_id = new_id(line)?;
+    let id = changed_id(silence)?;
+    let stated = matchers(alloc, silence.get("matchers").ok_or(LineError::Faulty)?)?;
+    let starts_at = moment(silence, "startsAt")?;
+    let ends_at = moment(silence, "endsAt")?;
+    let matchers = built_matchers(alloc, stated.as_slice())?;
+    Ok(PostedSilence {
+        id,
+        new_id,
+        matchers,
+        starts_at,
+        ends_at,
+    })
+}
