@@ -1,7 +1,6 @@
 -- What an event comes to, from what was found of it.
-use Rattle.std.proofs.Common.{◌≡◌, ◌≢◌, Bool, true, false, ℕ, List, [], ◌∷◌, Option, None, Some, Result, Ok, Err, length, drop, refl, sym, ap, ◌∙◌, arith}
+use Rattle.std.proofs.Common.{◌≡◌, true, false, ℕ, List, [], ◌∷◌, Option, None, Some, Result, Ok, Err, length, drop, refl, sym, ap, ◌∙◌, arith}
 use Rattle.std.specs.Prelude.{if◌then◌else◌, nat_lt, ◌==◌, IfOk}
-use Rattle.std.specs.Option.{option_map}
 use Rattle.std.proofs.lemmas.Bool.{false≢true}
 use Rattle.std.proofs.lemmas.Bool.Decides.{nat_tests}
 use Rattle.std.specs.List.{fold, filter_map}
@@ -46,12 +45,12 @@ pub past : (s : State) (event : Event) → nat_lt event.at s.moment ≡ true →
 unfolding do_within
 past s event h = ap (λ b. if b then Err 20 else judge move_limit s event (after_act (at_moment event.at s) event.act)) h
 
-not_past : (s : State) (event : Event) → nat_lt event.at s.moment ≡ false → do_event s event ≡ judge move_limit s event (after_act (at_moment event.at s) event.act)
+pub not_past : (s : State) (event : Event) → nat_lt event.at s.moment ≡ false → do_event s event ≡ judge move_limit s event (after_act (at_moment event.at s) event.act)
 unfolding do_within
 not_past s event h = ap (λ b. if b then Err 20 else judge move_limit s event (after_act (at_moment event.at s) event.act)) h
 
 -- the moves of a run, where there is one
-none_run : (at : Moment) (o : Option (List Due × State)) → None ≡ run_moved at o → o ≡ None
+pub none_run : (at : Moment) (o : Option (List Due × State)) → None ≡ run_moved at o → o ≡ None
 none_run at None e = refl
 none_run at (Some r) e = absurd (cc)
 

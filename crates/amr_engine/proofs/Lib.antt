@@ -5,3 +5,5 @@ pub mod RefusalLaws
 pub mod Least
 pub mod Cascade
 pub mod Endings
+pub mod Acting
+pub mod Deciding

@@ -1,5 +1,5 @@
 -- What is next, and what an event comes to, said by relations.
-use Rattle.std.specs.Prelude.{◌≡◌, ℕ, suc, is_ok, Bool, true, false, List, [], ◌∷◌, Ok, Err, length, ◌≤◌, nat_lt, ◌⊎◌}
+use Rattle.std.specs.Prelude.{◌≡◌, ℕ, suc, is_ok, true, false, List, [], ◌∷◌, Ok, Err, length, ◌≤◌, nat_lt, ◌⊎◌}
 use Rattle.std.specs.Ordering.{is_gt}
 use Rattle.amr_events.specs.Events.{Event, Reason}
 use Rattle.amr_engine.specs.declared.due.Due.{Due}

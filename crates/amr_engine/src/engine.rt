@@ -4,17 +4,19 @@ ghost use Rattle.amr_engine.specs.State.{start};
 ghost use Rattle.amr_engine.specs.Events.{after_event, outcome_of};
 ghost use Rattle.amr_engine.specs.Outcomes.{outcome_view};
 ghost use Rattle.amr_engine.specs.Seen.{groups_of};
+ghost use Rattle.amr_engine.specs.Explain.{verdicts};
 ghost use Rattle.amr_labels.specs.Map.{entries};
 
 use crate::apply::after;
+use crate::explain::{self, Verdict};
 use crate::note::{LogKey, Note};
 use crate::outcome::Outcome;
 use crate::store::Store;
 use crate::views::{self, Group};
 use amr_config::Config;
-use amr_events::Event;
+use amr_events::{Event, SilenceId};
 use amr_labels::{Labels, Shared};
-use amr_rules::{Alert, LogEntry};
+use amr_rules::{Alert, LogEntry, Silence};
 use amr_time::Moment;
 use std::alloc::{AllocError, Global};
 use std::marker::Model;
@@ -82,6 +84,13 @@ impl Engine {
         views::alerts(&self.store)
     }
 
+    /// The silences with their ids, in the order of the ids.
+    pub fn silences(&self) -> Result<Vec<(SilenceId, Silence)>, AllocError>
+        ensures { IfOk result (λ found. found.items ≡ entries self.now.state.silences) }
+    {
+        views::silences(&self.store)
+    }
+
     /// The groups, by route and labels.
     pub fn groups(&self) -> Result<Vec<Group>, AllocError>
         ensures { IfOk result (λ found. found.items ≡ groups_of self.now.state) }
@@ -103,10 +112,25 @@ impl Engine {
         self.store.notes()
     }
 
+    /// The configuration in force.
+    pub fn config(&self) -> &Config
+        ensures { result.now ≡ self.now.state.config }
+    {
+        self.store.config()
+    }
+
     /// The clock: the moment of the last event that was accepted.
     pub fn now(&self) -> Moment
         ensures { result ≡ self.now.state.moment }
     {
         self.store.moment()
+    }
+
+    /// Why an alert with these labels was told of, or not, as it stands now: one answer where none is stored or the
+    /// stored one is resolved, and else one for each route that takes it and each integration of the route's receiver.
+    pub fn explain(&self, labels: &Labels) -> Result<Vec<Verdict>, AllocError>
+        ensures { IfOk result (λ found. found.items ≡ verdicts self.now.state labels.now) }
+    {
+        explain::verdicts(&self.store, labels)
     }
 }

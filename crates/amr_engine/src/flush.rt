@@ -110,7 +110,7 @@ fn labels_of(alloc: Global, members: &[Member]) -> Result<LabelMap<()>, AllocErr
 }
 
 /// The key of the notification log for a group and an integration of its receiver.
-fn log_key(
+pub(crate) fn log_key(
     alloc: Global,
     config: &Config,
     group: &Spot,

@@ -9,8 +9,9 @@ use crate::note::{Clock, LogKey, Note};
 use crate::spot::Spot;
 use crate::spot_map::SpotMap;
 use amr_config::Config;
+use amr_events::SilenceId;
 use amr_labels::{LabelMap, Labels, Listing, Shared};
-use amr_rules::{Alert, LogEntry, SilenceMap};
+use amr_rules::{Alert, LogEntry, Silence, SilenceMap};
 use amr_time::Moment;
 use std::alloc::{AllocError, Global};
 use std::marker::Model;
@@ -189,6 +190,26 @@ impl Store {
         ensures { self.new ≡ record self.old { clocks = map.remove self.old.clocks group.now } }
     {
         self.clocks.remove(group)
+    }
+
+    /// A silence is stored.
+    pub(crate) fn insert_silence(
+        &mut self,
+        id: SilenceId,
+        silence: Silence,
+    ) -> Result<(), AllocError>
+        ensures { OnOk result (self.new ≡ record self.old { silences = map.insert self.old.silences id silence }) }
+    {
+        self.silences.insert(id, silence)
+    }
+
+    /// The configuration is another one, and all groups go with the old one.
+    pub(crate) fn replace_config(&mut self, config: Config)
+        ensures { self.new ≡ record self.old { config = config; placements = map.empty; clocks = map.empty } }
+    {
+        self.config = config;
+        self.placements = SpotMap::new(self.alloc);
+        self.clocks = SpotMap::new(self.alloc);
     }
 
     /// An entry of the notification log is written.

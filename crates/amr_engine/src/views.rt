@@ -7,8 +7,9 @@ use crate::flush::members_of;
 use crate::note::{Clock, LogKey};
 use crate::spot::Spot;
 use crate::store::Store;
+use amr_events::SilenceId;
 use amr_labels::{Labels, Listing};
-use amr_rules::{Alert, LogEntry};
+use amr_rules::{Alert, LogEntry, Silence};
 use amr_time::Moment;
 use std::alloc::AllocError;
 
@@ -36,6 +37,17 @@ pub(crate) fn alerts(store: &Store) -> Result<Vec<(Labels, Alert)>, AllocError>
     let mut found = Vec::new(store.alloc());
     for (labels, alert) in store.alerts().iter() {
         found.push((labels.clone()?, alert.clone()?))?;
+    }
+    Ok(found)
+}
+
+/// The silences, by their ids.
+pub(crate) fn silences(store: &Store) -> Result<Vec<(SilenceId, Silence)>, AllocError>
+    ensures { IfOk result (λ found. found.items ≡ entries store.now.silences) }
+{
+    let mut found = Vec::new(store.alloc());
+    for (id, silence) in store.silences().iter() {
+        found.push((*id, silence.clone()?))?;
     }
     Ok(found)
 }

@@ -1,4 +1,4 @@
-use Rattle.std.proofs.Common.{ap, sym, ◌∙◌}
+use Rattle.std.proofs.Common.{ap, ◌∙◌}
 use Rattle.amr_engine.specs.Events.{move_limit}
 use Rattle.amr_engine.specs.Moves.{advance, counted_run}
 use Rattle.amr_engine.proofs.Endings.{moved_none, moved_some}

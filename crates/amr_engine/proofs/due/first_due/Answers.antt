@@ -1,5 +1,4 @@
 use Rattle.std.proofs.Common.{map, sym, ap, ◌∙◌, ◌++◌}
-use Rattle.std.specs.Option.{option_map}
 use Rattle.std.specs.List.{filter_map}
 use Rattle.amr_labels.specs.Map.{entries}
 use Rattle.amr_engine.specs.Moves.{alert_removal_of, group_removal_of, flush_of, least_due, dues}

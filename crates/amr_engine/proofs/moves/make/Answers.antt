@@ -1,5 +1,5 @@
-use Rattle.std.proofs.Common.{rules, ap, ◌∙◌}
-use Rattle.amr_engine.specs.Moves.{move, move_of_kind}
+use Rattle.std.proofs.Common.{rules}
+use Rattle.amr_engine.specs.Moves.{move}
 use Rattle.amr_engine.proofs.moves.make.Goals as goal
 
 pub returns-in-AlertRemoval : goal.returns-in-AlertRemoval

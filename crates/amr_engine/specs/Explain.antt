@@ -1,0 +1,74 @@
+-- Why an alert was told of, or not.
+use Rattle.std.specs.Prelude.{ℕ, false, List, [], ◌∷◌, Option, Some, None, if◌then◌else◌, map, option_map, unwrap_or}
+use Rattle.std.specs.Option.{option_or}
+use Rattle.std.specs.List.{flat_map}
+use Rattle.amr_labels.specs.Map.{get}
+use Rattle.amr_labels.specs.Set.{contains}
+use Rattle.amr_labels.specs.Labels.{Text, LabelSet}
+use Rattle.amr_time.specs.Time.{Moment}
+use Rattle.amr_config.specs.declared.receiver.Integration.{Integration}
+use Rattle.amr_config.specs.Routing.{chosen, group_of, receiver_name_of, integrations_of}
+use Rattle.amr_rules.specs.declared.alert.Alert.{Alert}
+use Rattle.amr_rules.specs.Alerts.{is_resolved_at}
+use Rattle.amr_rules.specs.Muting.{inhibition_from, silencer_of}
+use Rattle.amr_rules.specs.declared.update.LogEntry.{LogEntry}
+use Rattle.amr_engine.specs.declared.note.Clock.{Clock}
+use Rattle.amr_engine.specs.declared.spot.Spot.{Spot}
+use Rattle.amr_engine.specs.declared.explain.Finding.{Finding}
+use Rattle.amr_engine.specs.declared.explain.Finding.TheVariants.{Waiting, Inhibited, Silenced, Nowhere, Told, Due}
+use Rattle.amr_engine.specs.declared.explain.Verdict.{Verdict}
+use Rattle.amr_engine.specs.declared.explain.Verdict.TheVariants.{Unknown, Ended, AtRoute}
+use Rattle.amr_engine.specs.State.{State, spot_at}
+use Rattle.amr_engine.specs.Flush.{log_key_of}
+
+abbrev pub waiting : Clock → Option Finding
+waiting clock = if clock.flushed then None else Some (Waiting clock.next_flush)
+
+-- what the log says at the integration: it was told of the alert, or it is due
+abbrev pub logged : LabelSet → Clock → Option LogEntry → Finding
+logged labels clock None = Due clock.next_flush
+logged labels clock (Some entry) = if contains entry.firing labels then Told entry.time else Due clock.next_flush
+
+abbrev pub heard : State → Spot → LabelSet → Clock → Option Integration → Finding
+heard s group labels clock None = Nowhere
+heard s group labels clock (Some integration) = logged labels clock (get s.log (log_key_of s.config group integration))
+
+abbrev pub inhibited_or_silenced : State → LabelSet → Option Finding
+inhibited_or_silenced s labels =
+    option_or (option_map (λ found. Inhibited found.0 found.1) (inhibition_from 0 s.moment labels s.alerts s.config.rules))
+    (option_map Silenced (silencer_of s.moment labels s.silences))
+
+-- the first that holds: the group waits for its first flush; a rule inhibits; a silence silences; what the log says
+abbrev pub finding : State → Spot → LabelSet → Option Integration → Clock → Finding
+finding s group labels integration clock =
+    unwrap_or (option_or (waiting clock) (inhibited_or_silenced s labels)) (heard s group labels clock integration)
+
+-- each integration of a receiver, or the receiver once where it has none
+abbrev pub asked : List Integration → List (Option Integration)
+asked [] = None ∷ []
+asked (integration ∷ integrations) = map Some (integration ∷ integrations)
+
+-- the clock of a group; a group with a member has one
+abbrev pub clock_of : State → Spot → Clock
+clock_of s group = unwrap_or (get s.clocks group) (record { next_flush = 0; flushed = false; empty_since = None })
+
+abbrev pub kind_and_place : Integration → Text × ℕ
+kind_and_place integration = (integration.kind, integration.place)
+
+abbrev pub verdict_at : State → Spot → LabelSet → Clock → Option Integration → Verdict
+verdict_at s group labels clock integration =
+    AtRoute group.route (receiver_name_of s.config group.route) (option_map kind_and_place integration) (finding s group labels integration clock)
+
+abbrev pub verdicts_at : State → LabelSet → ℕ → List Verdict
+verdicts_at s labels route =
+    let group : Spot = spot_at route (group_of s.config route labels) in
+    map (verdict_at s group labels (clock_of s group)) (asked (integrations_of s.config route))
+
+abbrev pub verdicts_of_stored : State → LabelSet → Option Alert → List Verdict
+verdicts_of_stored s labels None = Unknown ∷ []
+verdicts_of_stored s labels (Some alert) =
+    if is_resolved_at s.moment alert then Ended ∷ [] else flat_map (verdicts_at s labels) (chosen s.config labels)
+
+-- the answers to the question why, asked at the state's moment
+unfoldable pub verdicts : State → LabelSet → List Verdict
+verdicts s labels = verdicts_of_stored s labels (get s.alerts labels)

@@ -1,0 +1,234 @@
+//! Why an alert was told of, or not.
+ghost use Rattle.std.specs.Prelude.{◌≡◌, ◌++◌, IfOk, OnOk, option_map};
+ghost use Rattle.std.specs.Option.{option_copied};
+ghost use Rattle.std.specs.List.{flat_map};
+ghost use Rattle.amr_config.specs.Routing.{chosen};
+ghost use Rattle.amr_engine.specs.Explain.{waiting, inhibited_or_silenced, logged, heard, finding, clock_of, kind_and_place, verdict_at, verdicts_at, verdicts_of_stored, verdicts};
+
+use crate::flush::log_key;
+use crate::note::Clock;
+use crate::placing::group_spot;
+use crate::spot::Spot;
+use crate::store::Store;
+use amr_config::Integration;
+use amr_events::SilenceId;
+use amr_labels::{Labels, Text};
+use amr_rules::{Alert, LogEntry, inhibited_by, silenced_by};
+use amr_time::Moment;
+use std::alloc::AllocError;
+
+/// What is found of a stored alert at an integration: the first of these, in this order, that holds.
+#[derive(Debug, Drop)]
+pub enum Finding {
+    /// The alert's group waits for its first flush.
+    Waiting { due: Moment },
+    /// A rule inhibits the alert: the least one, counted from 0, with the least label set of an alert by which it does.
+    Inhibited { rule: usize, source: Labels },
+    /// A silence silences the alert: the one with the least id.
+    Silenced { id: SilenceId },
+    /// The receiver has no integration.
+    Nowhere,
+    /// The notification log has the alert among those that fire, by a note of this moment.
+    Told { at: Moment },
+    /// The integration is asked at the next flush of the alert's group.
+    Due { at: Moment },
+}
+
+/// One answer to the question why an alert was told of, or not.
+#[derive(Debug, Drop)]
+pub enum Verdict {
+    /// No alert with these labels is stored.
+    Unknown,
+    /// The stored alert is resolved.
+    Ended,
+    /// What is found at a route that takes the alert.
+    AtRoute {
+        /// The route's number in preorder.
+        route: usize,
+        /// The name of the route's receiver.
+        receiver: Text,
+        /// The integration's kind and its place among those of its kind; none where the receiver has no integration.
+        integration: Option<(Text, usize)>,
+        finding: Finding,
+    },
+}
+
+/// The group waits for its first flush.
+fn waiting(clock: &Clock) -> Option<Finding>
+    ensures { result ≡ waiting clock.now }
+{
+    if clock.flushed {
+        None
+    } else {
+        Some(Finding::Waiting {
+            due: clock.next_flush,
+        })
+    }
+}
+
+/// A rule inhibits the alert, or else a silence silences it.
+fn inhibited_or_silenced(store: &Store, labels: &Labels) -> Result<Option<Finding>, AllocError>
+    ensures { IfOk result (λ found. found ≡ inhibited_or_silenced store.now labels.now) }
+{
+    let alloc = store.alloc();
+    let now = store.moment();
+    let rules = store.config().rules();
+    if let Some((rule, source)) = inhibited_by(alloc, rules, store.alerts(), now, labels)? {
+        return Ok(Some(Finding::Inhibited { rule, source }));
+    }
+    match silenced_by(alloc, store.silences(), now, labels)? {
+        Some(id) => Ok(Some(Finding::Silenced { id })),
+        None => Ok(None),
+    }
+}
+
+/// What the log's entry says: the integration was told that the alert fires, or it is asked at the next flush.
+fn logged(labels: &Labels, clock: &Clock, entry: Option<&LogEntry>) -> Finding
+    ensures { result ≡ logged labels.now clock.now (option_copied entry.entry) }
+{
+    match entry {
+        Some(entry) if entry.firing.get(labels).is_some() => Finding::Told { at: entry.time },
+        _ => Finding::Due {
+            at: clock.next_flush,
+        },
+    }
+}
+
+/// What the log says at the integration, where there is one.
+fn heard(
+    store: &Store,
+    group: &Spot,
+    labels: &Labels,
+    clock: &Clock,
+    integration: Option<&Integration>,
+) -> Result<Finding, AllocError>
+    ensures { IfOk result (λ found. found ≡ heard store.now group.now labels.now clock.now (option_copied integration.entry)) }
+{
+    match integration {
+        None => Ok(Finding::Nowhere),
+        Some(integration) => {
+            let key = log_key(store.alloc(), store.config(), group, integration)?;
+            Ok(logged(labels, clock, store.log().get(&key)))
+        }
+    }
+}
+
+/// The first that holds.
+fn first_finding(
+    store: &Store,
+    group: &Spot,
+    labels: &Labels,
+    integration: Option<&Integration>,
+    clock: &Clock,
+) -> Result<Finding, AllocError>
+    ensures { IfOk result (λ found. found ≡ finding store.now group.now labels.now (option_copied integration.entry) clock.now) }
+{
+    if let Some(found) = waiting(clock) {
+        return Ok(found);
+    }
+    if let Some(found) = inhibited_or_silenced(store, labels)? {
+        return Ok(found);
+    }
+    heard(store, group, labels, clock, integration)
+}
+
+/// The kind and the place of an integration, where there is one.
+fn kind_and_place(integration: Option<&Integration>) -> Result<Option<(Text, usize)>, AllocError>
+    ensures { IfOk result (λ named. named ≡ option_map kind_and_place (option_copied integration.entry)) }
+{
+    match integration {
+        None => Ok(None),
+        Some(integration) => Ok(Some((integration.kind.clone()?, integration.place))),
+    }
+}
+
+/// The answer for an integration, or for a receiver without one.
+fn verdict_at(
+    store: &Store,
+    group: &Spot,
+    labels: &Labels,
+    clock: &Clock,
+    integration: Option<&Integration>,
+) -> Result<Verdict, AllocError>
+    ensures { IfOk result (λ verdict. verdict ≡ verdict_at store.now group.now labels.now clock.now (option_copied integration.entry)) }
+{
+    Ok(Verdict::AtRoute {
+        route: group.route,
+        receiver: store.config().receiver_name(store.alloc(), group.route)?,
+        integration: kind_and_place(integration)?,
+        finding: first_finding(store, group, labels, integration, clock)?,
+    })
+}
+
+/// The clock of a group.
+fn clock_of(store: &Store, group: &Spot) -> Clock
+    ensures { result ≡ clock_of store.now group.now }
+{
+    match store.clocks().get(group) {
+        Some(clock) => *clock,
+        None => Clock {
+            next_flush: Moment::START,
+            flushed: false,
+            empty_since: None,
+        },
+    }
+}
+
+/// The answers for a route.
+fn add_verdicts(
+    store: &Store,
+    labels: &Labels,
+    route: usize,
+    found: &mut Vec<Verdict>,
+) -> Result<(), AllocError>
+    ensures { OnOk result (found.new.items ≡ found.old.items ++ verdicts_at store.now labels.now route) }
+{
+    let group = group_spot(store.alloc(), store.config(), route, labels)?;
+    let clock = clock_of(store, &group);
+    let integrations = store.config().integrations(route);
+    if integrations.is_empty() {
+        found.push(verdict_at(store, &group, labels, &clock, None)?)?;
+        return Ok(());
+    }
+    for integration in integrations {
+        found.push(verdict_at(store, &group, labels, &clock, Some(integration))?)?;
+    }
+    Ok(())
+}
+
+/// The answers for each route that takes the alert.
+fn verdicts_of_routes(store: &Store, labels: &Labels) -> Result<Vec<Verdict>, AllocError>
+    ensures { IfOk result (λ found. found.items ≡ flat_map (verdicts_at store.now labels.now) (chosen store.now.config labels.now)) }
+{
+    let routes = store.config().routes_of(store.alloc(), labels)?;
+    let mut found = Vec::new(store.alloc());
+    for route in &routes {
+        add_verdicts(store, labels, *route, &mut found)?;
+    }
+    Ok(found)
+}
+
+/// The answers for a stored alert, or for none.
+fn verdicts_of_stored(
+    store: &Store,
+    labels: &Labels,
+    alert: Option<&Alert>,
+) -> Result<Vec<Verdict>, AllocError>
+    ensures { IfOk result (λ found. found.items ≡ verdicts_of_stored store.now labels.now (option_copied alert.entry)) }
+{
+    match alert {
+        None => Ok(vec![in store.alloc(); Verdict::Unknown]?),
+        Some(alert) if alert.is_resolved_at(store.moment()) => {
+            Ok(vec![in store.alloc(); Verdict::Ended]?)
+        }
+        Some(_) => verdicts_of_routes(store, labels),
+    }
+}
+
+/// The answers to the question why, asked at the state's moment.
+#[tactic(auto, unfolding(crate::specs::Explain::verdicts))]
+pub(crate) fn verdicts(store: &Store, labels: &Labels) -> Result<Vec<Verdict>, AllocError>
+    ensures { IfOk result (λ found. found.items ≡ verdicts store.now labels.now) }
+{
+    verdicts_of_stored(store, labels, store.alerts().get(labels))
+}
