@@ -27,7 +27,7 @@ before_push s (d ∷ es) e = ap (λ t. s ∷ t) (before_push (after_event s d) e
 front : (es : List Event) (n : ℕ) (e : Event) → slice_get es n ≡ Some e → take (n + 1) es ≡ take n es ++ e ∷ []
 front es n e at = take_more es n e (slice_get_within es n e at) ∙ ap (λ x. take n es ++ x ∷ []) (get_or_from_slice_get es n e e at)
 
-run_more : (c : Config) (es : List Event) (n : ℕ) (e : Event) → slice_get es n ≡ Some e → run_of c (take (n + 1) es) ≡ after_event (run_of c (take n es)) e
+pub run_more : (c : Config) (es : List Event) (n : ℕ) (e : Event) → slice_get es n ≡ Some e → run_of c (take (n + 1) es) ≡ after_event (run_of c (take n es)) e
 run_more c es n e at = ap (run_of c) (front es n e at) ∙ fold-append after_event (start c) (take n es) (e ∷ [])
 
 before_more : (c : Config) (es : List Event) (n : ℕ) (e : Event) → slice_get es n ≡ Some e → states_before (start c) (take (n + 1) es) ≡ states_before (start c) (take n es) ++ run_of c (take n es) ∷ []
@@ -51,7 +51,7 @@ at_last c es n s s' past past' e v at popped =
     let both = same_push past' (states_before (start c) (take n es)) s' (run_of c (take n es)) (sym popped ∙ ap (λ (w : View). w.past) v ∙ before_more c es n e at) in
     λ i. view_at c es n (both.1 i) (both.0 i)
 
-item : (es : List Event) (n : ℕ) → n < length es → (e : Event) × (slice_get es n ≡ Some e)
+pub item : (es : List Event) (n : ℕ) → n < length es → (e : Event) × (slice_get es n ≡ Some e)
 item es n h = ⊎_elim (λ w. (w.0, w.2)) (λ w. absurd (omega (arith, w.0))) (slice_get_cases es n).1
 
 pub at_before : (c : Config) (es : List Event) (m n : ℕ) (s s' : State) (past past' : List State) → m ≡ n + 1 → m ≤ length es → view_at c es m s past ≡ at_cursor c es m → past ≡ past' ++ s' ∷ [] → view_at c es n s' past' ≡ at_cursor c es n

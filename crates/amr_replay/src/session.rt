@@ -1,16 +1,17 @@
 //! A cursor over a script: what a session shows is the run of the events before it.
-ghost use Rattle.std.specs.Prelude.{◌≡◌, ◌+◌, ◌-◌, ◌<◌, ◌≤◌, Some, Err, IsOk, IfOk, IfErr, OnOk, OnErr, length, slice_get};
+ghost use Rattle.std.specs.Prelude.{◌≡◌, ◌+◌, ◌-◌, ◌<◌, ◌≤◌, [], Some, Err, IsOk, IsOkAnd, IfOk, IfErr, OnOk, OnErr, length, map, slice_get};
 ghost use Rattle.amr_labels.specs.Map.{entries};
 ghost use Rattle.amr_engine.specs.Seen.{groups_of};
 ghost use Rattle.amr_engine.specs.Events.{outcome_of};
 ghost use Rattle.amr_engine.specs.Outcomes.{outcome_view};
-ghost use Rattle.amr_replay.specs.Session.{at_cursor};
+ghost use Rattle.amr_engine.specs.Explain.{verdicts};
+ghost use Rattle.amr_replay.specs.Session.{at_cursor, outcomes_passed, events_until};
 
 use amr_config::Config;
-use amr_engine::{Engine, Group, LogKey, Note, Outcome};
-use amr_events::Script;
+use amr_engine::{Engine, Group, LogKey, Note, Outcome, Verdict};
+use amr_events::{Event, Script, SilenceId};
 use amr_labels::{Labels, Shared};
-use amr_rules::{Alert, LogEntry};
+use amr_rules::{Alert, LogEntry, Silence};
 use amr_time::Moment;
 use std::alloc::{AllocError, Global};
 use std::marker::Model;
@@ -24,6 +25,8 @@ pub enum SessionError {
     AtEnd,
     /// No event was passed.
     AtStart,
+    /// The script has fewer events.
+    OutOfRange,
 }
 
 impl From<AllocError> for SessionError {
@@ -40,6 +43,7 @@ impl From<AllocError> for SessionError {
 /// A session: a script with a cursor, which counts the events passed.
 #[derive(Drop)]
 pub struct Session {
+    alloc: Global,
     config: Config,
     script: Script,
     cursor: usize,
@@ -70,6 +74,7 @@ impl Session {
     {
         let engine = Engine::new(alloc, config.clone()?);
         Ok(Session {
+            alloc,
             config,
             script,
             cursor: 0,
@@ -131,6 +136,105 @@ impl Session {
         self.cursor -= 1;
     }
 
+    /// Moves the cursor to a place, whole or not at all, and answers what the events come to that are passed forward.
+    /// To the cursor or below it takes no memory.
+    pub fn seek(&mut self, to: usize) -> Result<Vec<Outcome>, SessionError>
+        ensures outcomes { IfOk result (λ outcomes. map outcome_view outcomes.items ≡ outcomes_passed self.old.config self.old.events self.old.cursor to) }
+        ensures inside { OnOk result (to ≤ length self.old.events) }
+        ensures ok { OnOk result (self.new ≡ at_cursor self.old.config self.old.events to) }
+        ensures err { OnErr result (self.new ≡ self.old) }
+        ensures back { to ≤ self.old.cursor → IsOkAnd result (λ outcomes. outcomes.items ≡ []) }
+        ensures out_of_range { length self.old.events < to → result ≡ Err SessionError.OutOfRange }
+        ensures memory { IfErr result (λ error. to ≤ length self.old.events → error ≡ SessionError.Memory) }
+    {
+        if self.script.len() < to {
+            return Err(SessionError::OutOfRange);
+        }
+        Ok(self.move_to(to)?)
+    }
+
+    /// Moves the cursor behind the last of the events at the front that are all at or before a moment, as `seek` does.
+    /// The clock isn't moved to the moment.
+    pub fn seek_time(&mut self, at: Moment) -> Result<Vec<Outcome>, AllocError>
+        ensures outcomes { IfOk result (λ outcomes. map outcome_view outcomes.items ≡ outcomes_passed self.old.config self.old.events self.old.cursor (events_until at self.old.events)) }
+        ensures ok { OnOk result (self.new ≡ at_cursor self.old.config self.old.events (events_until at self.old.events)) }
+        ensures err { OnErr result (self.new ≡ self.old) }
+        ensures back { events_until at self.old.events ≤ self.old.cursor → IsOkAnd result (λ outcomes. outcomes.items ≡ []) }
+    {
+        let to = events_until(&self.script, at);
+        self.move_to(to)
+    }
+
+    // Moves the cursor to a place that there is.
+    fn move_to(&mut self, to: usize) -> Result<Vec<Outcome>, AllocError>
+        requires { to ≤ length self.old.events }
+        ensures outcomes { IfOk result (λ outcomes. map outcome_view outcomes.items ≡ outcomes_passed self.old.config self.old.events self.old.cursor to) }
+        ensures ok { OnOk result (self.new ≡ at_cursor self.old.config self.old.events to) }
+        ensures err { OnErr result (self.new ≡ self.old) }
+        ensures back { to ≤ self.old.cursor → IsOkAnd result (λ outcomes. outcomes.items ≡ []) }
+    {
+        let from = self.cursor();
+        if to <= from {
+            self.rewind(to);
+            return Ok(Vec::new(self.alloc));
+        }
+        match self.forward(to) {
+            Ok(outcomes) => Ok(outcomes),
+            Err(error) => {
+                self.rewind(from);
+                Err(error)
+            }
+        }
+    }
+
+    // Goes back to an earlier place.
+    fn rewind(&mut self, to: usize)
+        requires { to ≤ self.old.cursor }
+        ensures { self.new ≡ at_cursor self.old.config self.old.events to }
+    {
+        while to < self.cursor() {
+            self.unstep();
+        }
+    }
+
+    // Passes the events up to a place, as far as memory lasts.
+    fn forward(&mut self, to: usize) -> Result<Vec<Outcome>, AllocError>
+        requires from { self.old.cursor ≤ to }
+        requires inside { to ≤ length self.old.events }
+        ensures outcomes { IfOk result (λ outcomes. map outcome_view outcomes.items ≡ outcomes_passed self.old.config self.old.events self.old.cursor to) }
+        ensures ok { OnOk result (self.new ≡ at_cursor self.old.config self.old.events to) }
+        ensures config { self.new.config ≡ self.old.config }
+        ensures events { self.new.events ≡ self.old.events }
+        ensures cursor { self.old.cursor ≤ self.new.cursor }
+    {
+        let mut outcomes = Vec::new(self.alloc);
+        while self.cursor() < to {
+            match self.step() {
+                Ok(outcome) => outcomes.push(outcome)?,
+                // There is an event, so it was memory.
+                Err(_) => return Err(AllocError),
+            }
+        }
+        Ok(outcomes)
+    }
+
+    /// What an event comes to in the present state, in which all stays as it is.
+    pub fn trial(&mut self, event: &Event) -> Result<Outcome, AllocError>
+        ensures outcome { IfOk result (λ outcome. outcome_view outcome ≡ outcome_of self.old.state event.now) }
+        ensures same { self.new ≡ self.old }
+    {
+        let outcome = self.engine.apply(event)?;
+        self.engine.undo_last();
+        Ok(outcome)
+    }
+
+    /// Why an alert with these labels was told of, or not, as it stands now.
+    pub fn explain(&self, labels: &Labels) -> Result<Vec<Verdict>, AllocError>
+        ensures { IfOk result (λ found. found.items ≡ verdicts self.now.state labels.now) }
+    {
+        self.engine.explain(labels)
+    }
+
     /// The clock: the moment of the last event passed that was accepted.
     pub fn now(&self) -> Moment
         ensures { result ≡ self.now.state.moment }
@@ -138,11 +242,25 @@ impl Session {
         self.engine.now()
     }
 
+    /// The configuration in force: that of the session, or of the last reload that was accepted.
+    pub fn config(&self) -> &Config
+        ensures { result.now ≡ self.now.state.config }
+    {
+        self.engine.config()
+    }
+
     /// The stored alerts, by labels.
     pub fn alerts(&self) -> Result<Vec<(Labels, Alert)>, AllocError>
         ensures { IfOk result (λ found. found.items ≡ entries self.now.state.alerts) }
     {
         self.engine.alerts()
+    }
+
+    /// The silences with their ids, by id.
+    pub fn silences(&self) -> Result<Vec<(SilenceId, Silence)>, AllocError>
+        ensures { IfOk result (λ found. found.items ≡ entries self.now.state.silences) }
+    {
+        self.engine.silences()
     }
 
     /// The groups, by route and labels.
@@ -165,4 +283,17 @@ impl Session {
     {
         self.engine.notes()
     }
+}
+
+/// How many events at the front of a script are all at or before a moment.
+fn events_until(script: &Script, at: Moment) -> usize
+    ensures count { result ≡ events_until at script.now }
+    ensures within { result ≤ length script.now }
+{
+    for n in 0..script.len() {
+        if at.nanoseconds() < script.event(n).at().nanoseconds() {
+            return n;
+        }
+    }
+    script.len()
 }

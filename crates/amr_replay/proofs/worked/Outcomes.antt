@@ -12,7 +12,9 @@ use Rattle.amr_events.specs.Events.{Event}
 use Rattle.amr_engine.specs.State.{start}
 use Rattle.amr_engine.specs.Events.{Outcome, outcome_of, run_of, replaying}
 use Rattle.amr_replay.specs.Session.{outcomes_passed}
-use Rattle.amr_replay.specs.Explain.{Verdict, Finding, verdicts}
+use Rattle.amr_engine.specs.declared.explain.Finding.TheVariants as finding
+use Rattle.amr_engine.specs.declared.explain.Verdict.TheVariants as verdict
+use Rattle.amr_engine.specs.Explain.{verdicts}
 use Rattle.amr_replay.proofs.worked.Setting.{ten, config_ops, alert, posts, ticks}
 
 abbrev x : List (Text × Text)
@@ -52,7 +54,7 @@ abbrev config_silent : Config
 config_silent = record config_ops { receivers = record { name = codes "ops"; integrations = [] } ∷ [] }
 
 pub explained_as_nowhere : verdicts (run_of config_silent (posts ten (long x ∷ []) ∷ ticks (ten + 30 * second) ∷ [])) (from_entries x)
-    ≡ Verdict.AtRoute 0 (codes "ops") None Finding.Nowhere ∷ []
+    ≡ verdict.AtRoute 0 (codes "ops") None finding.Nowhere ∷ []
 unfolding replaying verdicts
 explained_as_nowhere = refl
 

@@ -12,7 +12,9 @@ use Rattle.amr_events.specs.Events.{Event, Act}
 use Rattle.amr_engine.specs.declared.note.Clock.{Clock}
 use Rattle.amr_engine.specs.declared.spot.Spot.{Spot}
 use Rattle.amr_engine.specs.Events.{run_of, replaying}
-use Rattle.amr_replay.specs.Explain.{Verdict, Finding, verdicts}
+use Rattle.amr_engine.specs.declared.explain.Finding.TheVariants as finding
+use Rattle.amr_engine.specs.declared.explain.Verdict.TheVariants as verdict
+use Rattle.amr_engine.specs.Explain.{verdicts}
 use Rattle.amr_replay.proofs.worked.Setting.{ten, root, config_ops, alert, posts, ticks}
 
 abbrev is : Text → Text → Matcher
@@ -44,15 +46,15 @@ lat_and_down =
     ∷ ticks (ten + 20 * minute)
     ∷ []
 
-pub explained_as_waiting : verdicts (run_of config_by_severity (take 2 lat_and_down)) (from_entries lat) ≡ Verdict.AtRoute 0 (codes "ops") (Some (codes "webhook", 0)) (Finding.Waiting (ten + 30 * second)) ∷ []
+pub explained_as_waiting : verdicts (run_of config_by_severity (take 2 lat_and_down)) (from_entries lat) ≡ verdict.AtRoute 0 (codes "ops") (Some (codes "webhook", 0)) (finding.Waiting (ten + 30 * second)) ∷ []
 unfolding replaying verdicts
 explained_as_waiting = refl
 
-pub explained_as_inhibited : verdicts (run_of config_by_severity (take 3 lat_and_down)) (from_entries lat) ≡ Verdict.AtRoute 0 (codes "ops") (Some (codes "webhook", 0)) (Finding.Inhibited 0 (from_entries down)) ∷ []
+pub explained_as_inhibited : verdicts (run_of config_by_severity (take 3 lat_and_down)) (from_entries lat) ≡ verdict.AtRoute 0 (codes "ops") (Some (codes "webhook", 0)) (finding.Inhibited 0 (from_entries down)) ∷ []
 unfolding replaying verdicts
 explained_as_inhibited = refl
 
-pub explained_as_silenced : verdicts (run_of config_by_severity lat_and_down) (from_entries lat) ≡ Verdict.AtRoute 0 (codes "ops") (Some (codes "webhook", 0)) (Finding.Silenced 7) ∷ []
+pub explained_as_silenced : verdicts (run_of config_by_severity lat_and_down) (from_entries lat) ≡ verdict.AtRoute 0 (codes "ops") (Some (codes "webhook", 0)) (finding.Silenced 7) ∷ []
 unfolding replaying verdicts
 explained_as_silenced = refl
 
@@ -62,11 +64,11 @@ x = (codes "alertname", codes "X") ∷ []
 abbrev short_alert : List Event
 short_alert = posts ten (alert x (Some ten) (Some (ten + 20 * second)) ∷ []) ∷ ticks (ten + minute) ∷ ticks (ten + 30 * minute) ∷ []
 
-pub a_short_alert_is_explained_as_ended : verdicts (run_of config_ops (take 2 short_alert)) (from_entries x) ≡ Verdict.Ended ∷ []
+pub a_short_alert_is_explained_as_ended : verdicts (run_of config_ops (take 2 short_alert)) (from_entries x) ≡ verdict.Ended ∷ []
 unfolding replaying verdicts
 a_short_alert_is_explained_as_ended = refl
 
-pub a_removed_alert_is_unknown : verdicts (run_of config_ops short_alert) (from_entries x) ≡ Verdict.Unknown ∷ []
+pub a_removed_alert_is_unknown : verdicts (run_of config_ops short_alert) (from_entries x) ≡ verdict.Unknown ∷ []
 unfolding replaying verdicts
 a_removed_alert_is_unknown = refl
 
