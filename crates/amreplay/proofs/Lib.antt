@@ -1,5 +1,4 @@
-pub mod Parts
-pub mod Floats
+mod Unflushed
+pub mod FilesRead
 pub mod FirstPage
 pub mod RunLines
-pub mod FilesRead

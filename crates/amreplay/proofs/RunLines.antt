@@ -10,12 +10,12 @@ use Rattle.amr_config.specs.Config.{Config}
 use Rattle.amr_events.specs.Events.{Event}
 use Rattle.amr_engine.specs.State.{State, start}
 use Rattle.amr_engine.specs.Events.{Outcome, outcome_of, after_event, after_events, run_of}
-use Rattle.amreplay.specs.Printed.{event_lines}
+use Rattle.amr_lines.specs.Printed.{event_lines}
 use Rattle.amreplay.specs.Runs.{lines_from, run_lines, LeavesAt, RunLeavesAt, RunLeaves}
-use Rattle.amreplay.specs.Outlet.{AppendsBeginning}
+use Rattle.amr_lines.specs.Outlet.{AppendsBeginning}
 use Rattle.amreplay.specs.declared.run.Stopped.{Stopped}
 use Rattle.amreplay.specs.declared.run.Stopped.TheVariants.{OutOfMemory, CannotWrite}
-use Rattle.amreplay.proofs.Parts.{AppendsBeginning-after}
+use Rattle.amr_lines.proofs.Parts.{AppendsBeginning-after}
 
 lines_from-append : (n : ℕ) (s : State) (events more : List Event)
     → lines_from n s (events ++ more) ≡ lines_from n s events ++ lines_from (n + length events) (after_events s events) more

@@ -8,10 +8,12 @@ use Rattle.amr_events.specs.declared.error.Fault.{Fault as ScriptFault}
 use Rattle.amr_events.specs.declared.error.Fault.TheVariants.{BadLine, LineTooLong, TooManyEvents}
 use Rattle.amr_events.specs.declared.error.ScriptError.{ScriptError}
 use Rattle.amr_events.specs.declared.error.ScriptError.TheVariants as script_error
+use Rattle.amr_commands.specs.declared.conversation.Broken.{Broken}
+use Rattle.amr_commands.specs.declared.conversation.Broken.TheVariants as broken
 use Rattle.amreplay.specs.declared.run.Stopped.{Stopped}
 use Rattle.amreplay.specs.declared.run.Stopped.TheVariants as stopped
 use Rattle.amreplay.specs.declared.fault.Fault.{Fault}
-use Rattle.amreplay.specs.declared.fault.Fault.TheVariants.{Config, Script, CannotReadConfig, CannotReadScript, CannotWrite, OutOfMemory, Usage}
+use Rattle.amreplay.specs.declared.fault.Fault.TheVariants.{Config, Script, CannotReadConfig, CannotReadScript, CannotReadCommands, CannotWrite, OutOfMemory, Usage}
 use Rattle.amreplay.specs.declared.fault.Place.{Place}
 use Rattle.amreplay.specs.declared.fault.Place.TheVariants as place
 
@@ -27,6 +29,10 @@ script_fault (script_error.Refused fault) = Script fault
 abbrev pub stop_fault : Stopped → Fault
 stop_fault stopped.OutOfMemory = OutOfMemory
 stop_fault stopped.CannotWrite = CannotWrite
+
+abbrev pub broken_fault : Broken → Fault
+broken_fault broken.Reading = CannotReadCommands
+broken_fault broken.Writing = CannotWrite
 
 abbrev pub config_name : Refusal → List ℕ
 config_name (BadConfig path) = codes "amreplay: config: 5 BadConfig"
@@ -48,6 +54,7 @@ fault_name (Config refusal) = config_name refusal
 fault_name (Script fault) = script_name fault
 fault_name CannotReadConfig = codes "amreplay: cannot read config"
 fault_name CannotReadScript = codes "amreplay: cannot read script"
+fault_name CannotReadCommands = codes "amreplay: cannot read commands"
 fault_name CannotWrite = codes "amreplay: cannot write"
 fault_name OutOfMemory = codes "amreplay: out of memory"
 fault_name Usage = codes "amreplay: usage"
@@ -87,6 +94,7 @@ fault_place (Config refusal) = config_place refusal
 fault_place (Script fault) = script_place fault
 fault_place CannotReadConfig = Nowhere
 fault_place CannotReadScript = Nowhere
+fault_place CannotReadCommands = Nowhere
 fault_place CannotWrite = Nowhere
 fault_place OutOfMemory = Nowhere
 fault_place Usage = Nowhere
@@ -104,6 +112,7 @@ status_of (Config refusal) = 1
 status_of (Script fault) = 1
 status_of CannotReadConfig = 1
 status_of CannotReadScript = 1
+status_of CannotReadCommands = 1
 status_of CannotWrite = 1
 status_of OutOfMemory = 1
 status_of Usage = 2

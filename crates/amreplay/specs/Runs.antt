@@ -8,8 +8,8 @@ use Rattle.amr_engine.specs.State.{State, start}
 use Rattle.amr_engine.specs.Events.{outcome_of, after_event}
 use Rattle.amreplay.specs.declared.run.Stopped.{Stopped}
 use Rattle.amreplay.specs.declared.run.Stopped.TheVariants.{OutOfMemory, CannotWrite}
-use Rattle.amreplay.specs.Outlet.{AppendsBeginning}
-use Rattle.amreplay.specs.Printed.{event_lines}
+use Rattle.amr_lines.specs.Outlet.{AppendsBeginning}
+use Rattle.amr_lines.specs.Printed.{event_lines}
 
 -- the lines of events one after another from a state, the first of them being event n
 abbrev pub lines_from : ℕ → State → List Event → Text

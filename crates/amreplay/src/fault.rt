@@ -1,11 +1,12 @@
 //! What stops the program, and its line on standard error.
 ghost use Rattle.std.specs.Prelude.{◌≡◌};
-ghost use Rattle.amreplay.specs.Outlet.{WritesText};
+ghost use Rattle.amr_lines.specs.Outlet.{WritesText};
 
-use crate::outlet::{WriteFailed, write_parts};
 use crate::run::Stopped;
+use amr_commands::Broken;
 use amr_config::{ConfigError, Refusal};
 use amr_events::{Fault as ScriptFault, ScriptError};
+use amr_lines::{WriteFailed, write_parts};
 use itoa::Buffer;
 use std::alloc::AllocError;
 use std::io::Write;
@@ -19,6 +20,7 @@ pub enum Fault {
     Script(ScriptFault),
     CannotReadConfig,
     CannotReadScript,
+    CannotReadCommands,
     CannotWrite,
     OutOfMemory,
     /// The words are no form of the program.
@@ -78,6 +80,31 @@ impl From<Stopped> for Fault {
     }
 }
 
+impl From<WriteFailed> for Fault {
+    ghost use Rattle.std.specs.Prelude.{◌≡◌};
+    ghost use Rattle.amreplay.specs.declared.fault.Fault.TheVariants.{CannotWrite};
+
+    ghost from_gives = { λ _ fault. fault ≡ CannotWrite };
+
+    fn from(_error: WriteFailed) -> Fault {
+        Fault::CannotWrite
+    }
+}
+
+impl From<Broken> for Fault {
+    ghost use Rattle.std.specs.Prelude.{◌≡◌};
+    ghost use Rattle.amreplay.specs.Faults.{broken_fault};
+
+    ghost from_gives = { λ broken fault. fault ≡ broken_fault broken };
+
+    fn from(broken: Broken) -> Fault {
+        match broken {
+            Broken::Reading => Fault::CannotReadCommands,
+            Broken::Writing => Fault::CannotWrite,
+        }
+    }
+}
+
 /// What a fault's line has after its name.
 #[derive(Clone, Copy, Debug)]
 enum Place<'a> {
@@ -122,6 +149,7 @@ fn name_of(fault: &Fault) -> &'static str
         Fault::Script(fault) => script_name(*fault),
         Fault::CannotReadConfig => "amreplay: cannot read config",
         Fault::CannotReadScript => "amreplay: cannot read script",
+        Fault::CannotReadCommands => "amreplay: cannot read commands",
         Fault::CannotWrite => "amreplay: cannot write",
         Fault::OutOfMemory => "amreplay: out of memory",
         Fault::Usage => "amreplay: usage",

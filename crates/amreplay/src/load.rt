@@ -1,12 +1,14 @@
 //! What the bytes of a file say.
 ghost use Rattle.std.specs.Prelude.{◌≡◌, [], option_map, IfOk};
 ghost use Rattle.serde_json.specs.View.{view};
-ghost use Rattle.amreplay.specs.Files.{json_of, config_of_file};
-ghost use Rattle.amr_config.specs.Answers.{Gives};
+ghost use Rattle.amreplay.specs.Files.{json_of, ReadsAs, Opens};
 ghost use Rattle.amr_config.specs.declared.error.Refusal.TheVariants.{BadConfig};
 
+use crate::fault::Fault;
 use amr_config::{Config, ConfigError, Refusal};
+use amr_events::Script;
 use amr_labels::Text;
+use amr_replay::Session;
 use serde_json::Value;
 use std::alloc::{AllocError, Global};
 
@@ -40,9 +42,9 @@ fn whole_file(alloc: Global) -> Result<Refusal, AllocError>
 }
 
 /// The configuration of a file: a text of JSON of at most 1 MiB.
-#[tactic(auto, unfolding(crate::specs::Files::config_of_file))]
+#[tactic(auto, unfolding(crate::specs::Files::ConfigFileIs))]
 pub fn read_config(alloc: Global, bytes: &[u8]) -> Result<Config, ConfigError>
-    ensures { Gives (λ config. config) result (config_of_file bytes.now) }
+    ensures { ReadsAs bytes.now result }
 {
     if bytes.len() > LONGEST_CONFIG {
         return Err(ConfigError::Refused(whole_file(alloc)?));
@@ -50,5 +52,17 @@ pub fn read_config(alloc: Global, bytes: &[u8]) -> Result<Config, ConfigError>
     match json(alloc, bytes)? {
         Some(value) => Config::read(alloc, &value),
         None => Err(ConfigError::Refused(whole_file(alloc)?)),
+    }
+}
+
+/// The session of a script under a configuration, at its start. The configuration is judged before the script.
+pub fn open_session(alloc: Global, config: &[u8], script: &[u8]) -> Result<Session, Fault>
+    ensures { Opens config.now script.now result }
+{
+    let config = read_config(alloc, config)?;
+    let script = Script::read(alloc, script)?;
+    match Session::new(alloc, config, script) {
+        Ok(session) => Ok(session),
+        Err(_) => Err(Fault::OutOfMemory),
     }
 }

@@ -1,21 +1,22 @@
 //! A replayer of Prometheus Alertmanager incidents.
 #![tactic(auto)]
 
+mod check;
 mod fault;
 mod input;
-mod lines;
 mod load;
-mod outlet;
 mod run;
+mod session;
 #[cfg(test)]
 mod tests;
-mod values;
 mod words;
 
+use check::check_config;
 use fault::{Fault, status_of, write_fault};
 use input::{Unread, read_whole};
 use load::LONGEST_CONFIG;
 use run::run_script;
+use session::run_session;
 use std::alloc::AllocError;
 use std::io::{BufWriter, Error, ErrorKind, Read};
 use std::process::ExitCode;
@@ -38,25 +39,55 @@ fn main(rt: HostRuntime) -> ExitCode {
 fn start(rt: &HostRuntime) -> Result<(), Fault> {
     let words = words_of(rt)?;
     match command_of(words.as_slice()) {
+        Some(Command::Check { config }) => check_file(rt, config),
         Some(Command::Run { config, script }) => run_files(rt, config, script),
+        Some(Command::Session { config, script }) => session_over(rt, config, script),
         None => Err(Fault::Usage),
     }
 }
 
+/// The bytes of a configuration's file, and of a longer one so many that it is known to be too long.
+fn config_bytes(rt: &HostRuntime, path: &str) -> Result<Vec<u8>, Fault> {
+    let bytes = read_file(rt, path, LONGEST_CONFIG as u64 + 1);
+    bytes.map_err(|unread| fault_of(unread, Fault::CannotReadConfig))
+}
+
+/// The bytes of a script's file.
+fn script_bytes(rt: &HostRuntime, path: &str) -> Result<Vec<u8>, Fault> {
+    let bytes = read_file(rt, path, u64::MAX);
+    bytes.map_err(|unread| fault_of(unread, Fault::CannotReadScript))
+}
+
+/// Checks the configuration of a file.
+fn check_file(rt: &HostRuntime, config: &str) -> Result<(), Fault> {
+    let config = config_bytes(rt, config)?;
+    check_config(rt.alloc(), config.as_slice(), &mut rt.stdout())
+}
+
 /// Runs the script of one file over the configuration of another.
 fn run_files(rt: &HostRuntime, config: &str, script: &str) -> Result<(), Fault> {
-    let config = read_file(rt, config, LONGEST_CONFIG as u64 + 1).map_err(|unread| fault_of(
-        unread,
-        Fault::CannotReadConfig,
-    ))?;
-    let script = read_file(rt, script, u64::MAX).map_err(|unread| fault_of(
-        unread,
-        Fault::CannotReadScript,
-    ))?;
+    let config = config_bytes(rt, config)?;
+    let script = script_bytes(rt, script)?;
     let Ok(mut out) = BufWriter::new(rt.alloc(), rt.stdout()) else {
         return Err(Fault::OutOfMemory);
     };
     run_script(rt.alloc(), config.as_slice(), script.as_slice(), &mut out)
+}
+
+/// Answers the commands of standard input over two files.
+fn session_over(rt: &HostRuntime, config: &str, script: &str) -> Result<(), Fault> {
+    let config = config_bytes(rt, config)?;
+    let script = script_bytes(rt, script)?;
+    let Ok(mut out) = BufWriter::new(rt.alloc(), rt.stdout()) else {
+        return Err(Fault::OutOfMemory);
+    };
+    run_session(
+        rt.alloc(),
+        config.as_slice(),
+        script.as_slice(),
+        &mut rt.stdin(),
+        &mut out,
+    )
 }
 
 /// The words after the program's name. A word that isn't UTF-8 is no word of a form.

@@ -1,17 +1,15 @@
 //! A run: all events of a script are passed, and their lines written.
 ghost use Rattle.std.specs.Prelude.{◌≡◌, ◌+◌, [], IfOk, length, ℕ, string_bytes};
-ghost use Rattle.amreplay.specs.Printed.{event_lines};
-ghost use Rattle.amreplay.specs.Files.{FilesLeave, files_of};
+ghost use Rattle.amr_lines.specs.Printed.{event_lines};
+ghost use Rattle.amreplay.specs.Files.{FilesLeave};
 ghost use Rattle.amreplay.specs.Runs.{Leaves, RunLeaves, LeavesAt};
 ghost use Rattle.amr_engine.specs.Outcomes.{outcome_view};
 ghost use Rattle.amr_replay.specs.Session.{at_cursor};
 
 use crate::fault::Fault;
-use crate::lines::{accepted_text, refused_text};
-use crate::load::read_config;
-use crate::outlet::{WriteFailed, flush, write_whole};
+use crate::load::open_session;
 use amr_engine::Outcome;
-use amr_events::Script;
+use amr_lines::{WriteFailed, event_text, flush, write_whole};
 use amr_replay::Session;
 use std::alloc::{AllocError, Global};
 use std::io::Write;
@@ -42,20 +40,6 @@ impl From<WriteFailed> for Stopped {
 
     fn from(_e: WriteFailed) -> Stopped {
         Stopped::CannotWrite
-    }
-}
-
-/// The lines of an event's outcome. Events are counted from 1.
-pub fn event_text(alloc: Global, event: u64, outcome: &Outcome) -> Result<String, AllocError>
-    ensures { IfOk result (λ text. string_bytes text ≡ event_lines event (outcome_view outcome.now)) }
-{
-    match outcome {
-        Outcome::Accepted {
-            moves: _,
-            notes,
-            skipped,
-        } => accepted_text(alloc, event, notes.as_slice(), skipped.as_slice()),
-        Outcome::Refused(reason) => refused_text(alloc, event, reason.number()),
     }
 }
 
@@ -108,13 +92,9 @@ pub fn run_script<W: Write>(
     script: &[u8],
     out: &mut W,
 ) -> Result<(), Fault>
-    ensures { FilesLeave (W.contents out.old) (W.contents out.new) (files_of config.now script.now) result }
+    ensures { FilesLeave (W.contents out.old) (W.contents out.new) config.now script.now result }
 {
-    let config = read_config(alloc, config)?;
-    let script = Script::read(alloc, script)?;
-    let Ok(mut session) = Session::new(alloc, config, script) else {
-        return Err(Fault::OutOfMemory);
-    };
+    let mut session = open_session(alloc, config, script)?;
     write_run(alloc, &mut session, out)?;
     Ok(())
 }

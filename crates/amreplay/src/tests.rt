@@ -1,6 +1,6 @@
+use crate::check::check_config;
 use crate::fault::{Fault, status_of, write_fault};
 use crate::input::{Unread, read_whole};
-use crate::outlet::{WriteFailed, write_whole};
 use crate::run::run_script;
 use crate::words::{Command, command_of};
 use amr_config::Refusal;
@@ -207,6 +207,11 @@ fn fault_lines(rt: HostRuntime) -> Result<(), Fail> {
         ),
         (Fault::CannotReadConfig, "amreplay: cannot read config\n", 1),
         (Fault::CannotReadScript, "amreplay: cannot read script\n", 1),
+        (
+            Fault::CannotReadCommands,
+            "amreplay: cannot read commands\n",
+            1,
+        ),
         (Fault::CannotWrite, "amreplay: cannot write\n", 1),
         (Fault::OutOfMemory, "amreplay: out of memory\n", 1),
         (Fault::Usage, "amreplay: usage\n", 2),
@@ -218,22 +223,14 @@ fn fault_lines(rt: HostRuntime) -> Result<(), Fail> {
     Ok(())
 }
 
-/// Whether the words ask for a run of these two files.
-fn asks_for(words: &[String], config: &str, script: &str) -> bool {
+/// The form that the words ask for, with its paths.
+fn form_of<'a>(words: &'a [String]) -> (&'a str, &'a str, &'a str) {
     match command_of(words) {
-        Some(
-            Command::Run {
-                config: its_config,
-                script: its_script,
-            },
-        ) => its_config == config && its_script == script,
-        None => false,
+        Some(Command::Check { config }) => ("check", config, ""),
+        Some(Command::Run { config, script }) => ("run", config, script),
+        Some(Command::Session { config, script }) => ("session", config, script),
+        None => ("", "", ""),
     }
-}
-
-/// Whether the words ask for nothing that is served.
-fn asks_for_nothing(words: &[String]) -> bool {
-    command_of(words).is_none()
 }
 
 fn three_words(alloc: Global, first: &str) -> Result<[String; 3], Fail> {
@@ -244,15 +241,49 @@ fn three_words(alloc: Global, first: &str) -> Result<[String; 3], Fail> {
 }
 
 #[test]
-fn words(rt: HostRuntime) -> Result<(), Fail> {
-    let words = three_words(rt.alloc(), "run")?;
+fn forms_with_two_files(rt: HostRuntime) -> Result<(), Fail> {
+    for form in ["run", "session"] {
+        let words = three_words(rt.alloc(), form)?;
+        assert_eq!(rt; form_of(&words), (form, "a.json", "b.jsonl"));
+    }
+    let words = three_words(rt.alloc(), "check")?;
+    assert_eq!(rt; form_of(&words), ("", "", ""));
+    Ok(())
+}
+
+#[test]
+fn forms_with_fewer_words(rt: HostRuntime) -> Result<(), Fail> {
+    let words = three_words(rt.alloc(), "check")?;
     let whole = &words[..];
-    assert!(rt; asks_for(whole, "a.json", "b.jsonl"));
-    let (front, _) = whole.split_at(2);
-    assert!(rt; asks_for_nothing(front));
-    let (_, back) = whole.split_at(1);
-    assert!(rt; asks_for_nothing(back));
-    assert!(rt; asks_for_nothing(&[]));
+    let (front, back) = whole.split_at(2);
+    assert_eq!(rt; form_of(front), ("check", "a.json", ""));
+    assert_eq!(rt; form_of(back), ("", "", ""));
+    Ok(())
+}
+
+/// Configurations, and what a check of each prints: its numbers, or the line of its fault.
+const CHECKED: [(&str, &str); 4] = [
+    (OPS, "{\"receivers\":1,\"routes\":1,\"rules\":0}\n"),
+    (
+        r#"{"route":{"receiver":"a","routes":[{"match":{"team":"a"}},{"match":{"team":"b"},"receiver":"b","routes":[{}]}]},"receivers":[{"name":"a"},{"name":"b"}]}"#,
+        "{\"receivers\":2,\"routes\":4,\"rules\":0}\n",
+    ),
+    (
+        r#"{"route":{"receiver":"ops","group_interval":"0s"},"receivers":[{"name":"ops"}]}"#,
+        "amreplay: config: 9 ZeroInterval\n",
+    ),
+    ("", "amreplay: config: 5 BadConfig\n"),
+];
+
+#[test]
+fn checks(rt: HostRuntime) -> Result<(), Fail> {
+    let alloc = rt.alloc();
+    for (config, expected) in CHECKED {
+        let mut printed = Vec::new(alloc);
+        let line = line_of(alloc, check_config(alloc, config.as_bytes(), &mut printed))?;
+        printed.extend_from_slice(line.as_slice())?;
+        assert_eq!(rt; printed.as_slice(), expected.as_bytes());
+    }
     Ok(())
 }
 
@@ -400,24 +431,4 @@ fn readers(rt: HostRuntime) -> Result<(), Fail> {
         );
     }
     Ok(())
-}
-
-/// A writer that takes no byte.
-#[derive(Drop)]
-struct Shut;
-
-impl Write for Shut {
-    fn write(&mut self, _bytes: &[u8]) -> io::Result<usize> {
-        Ok(0)
-    }
-
-    fn flush(&mut self) -> io::Result<()> {
-        Ok(())
-    }
-}
-
-#[test]
-fn shut_writer(rt: HostRuntime) {
-    assert_eq!(rt; write_whole(&mut Shut, b"a"), Err(WriteFailed));
-    assert_eq!(rt; write_whole(&mut Shut, b""), Ok(()));
 }

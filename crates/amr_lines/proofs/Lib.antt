@@ -1,0 +1,4 @@
+pub mod Parts
+pub mod Floats
+pub mod LineParts
+pub mod ObjectMembers

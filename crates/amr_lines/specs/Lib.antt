@@ -1,0 +1,4 @@
+pub mod Outlet
+pub mod Printed
+pub mod LastLines
+pub mod Verdicts

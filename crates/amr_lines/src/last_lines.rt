@@ -1,0 +1,136 @@
+//! The last lines of commands.
+ghost use Rattle.std.specs.Prelude.{◌≡◌, IfOk, string_bytes};
+ghost use Rattle.serde_json.specs.View.{view};
+ghost use Rattle.amr_lines.specs.LastLines.{moves_data, moves_line, cursor_data, cursor_line, place_data, place_line, refused_line};
+ghost use Rattle.amr_lines.specs.Outlet.{WritesText};
+ghost use Rattle.amr_lines.specs.declared.word.Word.TheVariants.{Back};
+
+use crate::lines::line_text;
+use crate::outlet::{WriteFailed, write_parts};
+use crate::values::moment_value;
+use crate::word::{Word, word_text};
+use amr_time::Moment;
+use itoa::Buffer;
+use serde_json::{Value, json};
+use std::alloc::{AllocError, Global};
+use std::io::Write;
+
+fn moves_value(alloc: Global, word: Word, cursor: usize, moves: usize) -> Result<Value, AllocError>
+    ensures { IfOk result (λ v. view v ≡ moves_data word cursor moves) }
+{
+    json!(in alloc; {"command": word_text(word), "cursor": cursor, "moves": moves})
+}
+
+/// The last line of a command that passes events, with the number of moves that they made.
+pub fn moves_text(
+    alloc: Global,
+    word: Word,
+    cursor: usize,
+    moves: usize,
+) -> Result<String, AllocError>
+    ensures { IfOk result (λ text. string_bytes text ≡ moves_line word cursor moves) }
+{
+    let value = moves_value(alloc, word, cursor, moves)?;
+    line_text(alloc, &value)
+}
+
+fn cursor_value(alloc: Global, word: Word, cursor: usize) -> Result<Value, AllocError>
+    ensures { IfOk result (λ v. view v ≡ cursor_data word cursor) }
+{
+    json!(in alloc; {"command": word_text(word), "cursor": cursor})
+}
+
+/// The last line of a command that has nothing more to say.
+pub fn cursor_text(alloc: Global, word: Word, cursor: usize) -> Result<String, AllocError>
+    ensures { IfOk result (λ text. string_bytes text ≡ cursor_line word cursor) }
+{
+    let value = cursor_value(alloc, word, cursor)?;
+    line_text(alloc, &value)
+}
+
+#[tactic(auto, unfolding(crate::specs::LastLines::place_data))]
+fn place_value(
+    alloc: Global,
+    cursor: usize,
+    events: usize,
+    now: Moment,
+) -> Result<Value, AllocError>
+    ensures { IfOk result (λ v. view v ≡ place_data cursor events now) }
+{
+    let now = moment_value(alloc, now)?;
+    json!(in alloc; {"command": "cursor", "cursor": cursor, "events": events, "now": now})
+}
+
+/// The last line of the command that asks where the session stands.
+pub fn place_text(
+    alloc: Global,
+    cursor: usize,
+    events: usize,
+    now: Moment,
+) -> Result<String, AllocError>
+    ensures { IfOk result (λ text. string_bytes text ≡ place_line cursor events now) }
+{
+    let value = place_value(alloc, cursor, events, now)?;
+    line_text(alloc, &value)
+}
+
+/// Writes the line of a refused command, with the number of the reason. It takes no memory.
+pub fn write_refused<W: Write>(
+    out: &mut W,
+    word: Word,
+    cursor: usize,
+    reason: u64,
+) -> Result<(), WriteFailed>
+    ensures { WritesText (W.contents out.old) (W.contents out.new) result (refused_line word cursor reason) }
+{
+    let mut cursor_digits = Buffer::new();
+    let mut reason_digits = Buffer::new();
+    write_parts(
+        out,
+        &[
+            b"{\"command\":\"",
+            word_text(word).as_bytes(),
+            b"\",\"cursor\":",
+            cursor_digits.format(cursor).as_bytes(),
+            b",\"refused\":",
+            reason_digits.format(reason).as_bytes(),
+            b"}\n",
+        ],
+    )
+}
+
+/// Writes the line of a step back. It takes no memory.
+pub fn write_back<W: Write>(out: &mut W, cursor: usize) -> Result<(), WriteFailed>
+    ensures { WritesText (W.contents out.old) (W.contents out.new) result (cursor_line Back cursor) }
+{
+    let mut digits = Buffer::new();
+    write_parts(
+        out,
+        &[
+            b"{\"command\":\"back\",\"cursor\":",
+            digits.format(cursor).as_bytes(),
+            b"}\n",
+        ],
+    )
+}
+
+/// Writes the line of a seek that passes no event, which is one to the cursor or below it. It takes no memory.
+pub fn write_backward_seek<W: Write>(
+    out: &mut W,
+    word: Word,
+    cursor: usize,
+) -> Result<(), WriteFailed>
+    ensures { WritesText (W.contents out.old) (W.contents out.new) result (moves_line word cursor 0) }
+{
+    let mut digits = Buffer::new();
+    write_parts(
+        out,
+        &[
+            b"{\"command\":\"",
+            word_text(word).as_bytes(),
+            b"\",\"cursor\":",
+            digits.format(cursor).as_bytes(),
+            b",\"moves\":0}\n",
+        ],
+    )
+}

@@ -1,0 +1,141 @@
+//! The lines of the answers to the question why an alert was told of, or not.
+ghost use Rattle.std.specs.Prelude.{◌≡◌, IfOk, OnOk, string_bytes};
+ghost use Rattle.std.specs.List.{flat_map};
+ghost use Rattle.serde_json.specs.View.{view, members_view};
+ghost use Rattle.amr_lines.specs.Printed.{with_members};
+ghost use Rattle.amr_engine.specs.declared.explain.Verdict.TheVariants.{AtRoute};
+ghost use Rattle.amr_lines.specs.Verdicts.{finding_name as name_of_finding, finding_members, integration_members, verdict_data, verdict_line};
+
+use crate::lines::line_text;
+use crate::values::{moment_value, texts_value};
+use amr_engine::{Finding, Verdict};
+use amr_labels::Text;
+use serde_json::{Map, Value, json, put};
+use std::alloc::{AllocError, Global};
+
+/// The name of what is found.
+fn finding_name(finding: &Finding) -> &'static str
+    ensures { result.now ≡ name_of_finding finding.now }
+{
+    match finding {
+        Finding::Waiting { due: _ } => "Waiting",
+        Finding::Inhibited { rule: _, source: _ } => "Inhibited",
+        Finding::Silenced { id: _ } => "Silenced",
+        Finding::Nowhere => "Nowhere",
+        Finding::Told { at: _ } => "Told",
+        Finding::Due { at: _ } => "Due",
+    }
+}
+
+/// Puts what is found into an object, but for its name.
+fn put_finding(
+    alloc: Global,
+    members: &mut Map<String, Value>,
+    finding: &Finding,
+) -> Result<(), AllocError>
+    ensures { OnOk result (members_view members.new.entries ≡ with_members (finding_members finding.now) (members_view members.old.entries)) }
+{
+    match finding {
+        Finding::Waiting { due } => put(members, alloc, "due", moment_value(alloc, *due)?),
+        Finding::Inhibited { rule, source } => {
+            put(
+                members,
+                alloc,
+                "source",
+                texts_value(alloc, source.entries())?,
+            )?;
+            put(members, alloc, "rule", Value::from(*rule))
+        }
+        Finding::Silenced { id } => put(members, alloc, "id", Value::String(id.text(alloc)?)),
+        Finding::Nowhere => Ok(()),
+        Finding::Told { at } => put(members, alloc, "at", moment_value(alloc, *at)?),
+        Finding::Due { at } => put(members, alloc, "at", moment_value(alloc, *at)?),
+    }
+}
+
+/// Puts an integration, where there is one, into an object, by its kind and place.
+fn put_integration(
+    alloc: Global,
+    members: &mut Map<String, Value>,
+    integration: &Option<(Text, usize)>,
+) -> Result<(), AllocError>
+    ensures { OnOk result (members_view members.new.entries ≡ with_members (integration_members integration.now) (members_view members.old.entries)) }
+{
+    match integration {
+        None => Ok(()),
+        Some(integration) => {
+            put(members, alloc, "place", Value::from(integration.1))?;
+            put(
+                members,
+                alloc,
+                "integration",
+                Value::try_from_str(alloc, integration.0.as_str())?,
+            )
+        }
+    }
+}
+
+/// What is found at a route.
+fn at_route_value(
+    alloc: Global,
+    route: usize,
+    receiver: &str,
+    integration: &Option<(Text, usize)>,
+    finding: &Finding,
+) -> Result<Value, AllocError>
+    ensures { IfOk result (λ v. view v ≡ verdict_data (AtRoute route receiver.now integration.now finding.now)) }
+{
+    let mut members = Map::new(alloc);
+    put(
+        &mut members,
+        alloc,
+        "verdict",
+        Value::try_from_str(alloc, finding_name(finding))?,
+    )?;
+    put(&mut members, alloc, "route", Value::from(route))?;
+    put(
+        &mut members,
+        alloc,
+        "receiver",
+        Value::try_from_str(alloc, receiver)?,
+    )?;
+    put_integration(alloc, &mut members, integration)?;
+    put_finding(alloc, &mut members, finding)?;
+    Ok(Value::Object(members))
+}
+
+/// An answer.
+#[tactic(auto, unfolding(crate::specs::Verdicts::verdict_data))]
+fn verdict_value(alloc: Global, verdict: &Verdict) -> Result<Value, AllocError>
+    ensures { IfOk result (λ v. view v ≡ verdict_data verdict.now) }
+{
+    match verdict {
+        Verdict::Unknown => json!(in alloc; {"verdict": "Unknown"}),
+        Verdict::Ended => json!(in alloc; {"verdict": "Ended"}),
+        Verdict::AtRoute {
+            route,
+            receiver,
+            integration,
+            finding,
+        } => at_route_value(alloc, *route, receiver.as_str(), integration, finding),
+    }
+}
+
+/// An answer's line.
+fn verdict_text(alloc: Global, verdict: &Verdict) -> Result<String, AllocError>
+    ensures { IfOk result (λ text. string_bytes text ≡ verdict_line verdict.now) }
+{
+    let value = verdict_value(alloc, verdict)?;
+    line_text(alloc, &value)
+}
+
+/// The lines of answers.
+pub fn verdicts_text(alloc: Global, verdicts: &[Verdict]) -> Result<String, AllocError>
+    ensures { IfOk result (λ text. string_bytes text ≡ flat_map verdict_line verdicts.now) }
+{
+    let mut text = String::new(alloc);
+    for verdict in verdicts {
+        text.push_str(verdict_text(alloc, verdict)?.as_str())?;
+    }
+    Ok(text)
+}

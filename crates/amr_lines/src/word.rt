@@ -1,0 +1,43 @@
+//! The words of commands.
+ghost use Rattle.std.specs.Prelude.{◌≡◌};
+ghost use Rattle.amr_lines.specs.LastLines.{word_text as text_of_word};
+
+/// A command's word, as its last line gives it.
+#[derive(Clone, Copy, Debug, PartialEq, Eq)]
+pub enum Word {
+    Step,
+    Back,
+    Seek,
+    SeekTime,
+    Trial,
+    Explain,
+    Alerts,
+    Silences,
+    Groups,
+    Log,
+    Transcript,
+    Cursor,
+    /// Any other word, which is printed as a question mark.
+    Unknown,
+}
+
+/// The word as it is printed.
+pub fn word_text(word: Word) -> &'static str
+    ensures { result.now ≡ text_of_word word }
+{
+    match word {
+        Word::Step => "step",
+        Word::Back => "back",
+        Word::Seek => "seek",
+        Word::SeekTime => "seek-time",
+        Word::Trial => "trial",
+        Word::Explain => "explain",
+        Word::Alerts => "alerts",
+        Word::Silences => "silences",
+        Word::Groups => "groups",
+        Word::Log => "log",
+        Word::Transcript => "transcript",
+        Word::Cursor => "cursor",
+        Word::Unknown => "?",
+    }
+}
