@@ -1,0 +1,10 @@
+-- What is known of a line.
+use Rattle.std.specs.Prelude.{◌≡◌, ℕ, ◌<◌, ◌≤◌, List, length}
+use Rattle.amr_command_lines.specs.Line.{longest}
+use Rattle.amr_command_lines.specs.declared.line.Content.{Content}
+use Rattle.amr_command_lines.specs.declared.line.Content.TheVariants.{TooLong, Unheld, Held}
+
+abbrev pub IsContent : List ℕ → Content → Type 0
+IsContent bytes TooLong = longest < length bytes
+IsContent bytes Unheld = length bytes ≤ longest
+IsContent bytes (Held held) = (length bytes ≤ longest) × (held.now ≡ bytes)

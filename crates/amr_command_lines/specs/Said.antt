@@ -1,0 +1,90 @@
+-- What reading a command line gives.
+use Rattle.std.specs.Prelude.{◌≡◌, ◌⊎◌, ⊤, true, Result, MatchResult}
+use Rattle.std.specs.Str.{is_utf8}
+use Rattle.amr_labels.specs.Labels.{Text}
+use Rattle.amr_events.specs.Events.{Event}
+use Rattle.amr_events.specs.Refused.{LineIs}
+use Rattle.amr_lines.specs.declared.word.Word.{Word}
+use Rattle.amr_lines.specs.declared.word.Word.TheVariants as word
+use Rattle.amr_command_lines.specs.declared.command.Command.{Command}
+use Rattle.amr_command_lines.specs.declared.command.Command.TheVariants as command
+use Rattle.amr_command_lines.specs.declared.command.Said.{Said}
+use Rattle.amr_command_lines.specs.declared.command.Said.TheVariants.{Nothing, Asks, Malformed, BadMoment, Unfit}
+use Rattle.amr_command_lines.specs.declared.command.Unread.{Unread}
+use Rattle.amr_command_lines.specs.Parts.{trimmed, word_in, argument_in}
+use Rattle.amr_command_lines.specs.Command.{word_named, said_by, said_in, said_of}
+
+-- the event of a trial is one that its text is read as, by what `regex` refuses in it
+abbrev pub Tries : Text → Said → Type 0
+Tries argument said = (event : Event) × (said ≡ Asks (command.Trial event)) × LineIs argument event
+
+-- a word says this with what follows it
+abbrev pub WordSays : Word → Text → Said → Type 0
+WordSays name argument said = (said ≡ said_by name argument) ⊎ ((name ≡ word.Trial) × Tries argument said)
+
+-- a text says this, which has no white space at its ends
+abbrev pub TextSays : Text → Said → Type 0
+TextSays text said = (said ≡ said_in text) ⊎ ((word_named (word_in text) ≡ word.Trial) × Tries (argument_in text) said)
+
+-- The line says this. It is `said_of` of the line, but that the event of a trial is any that its text is read as.
+abbrev pub LineSays : Text → Said → Type 0
+LineSays line said = (said ≡ said_of line) ⊎ ((is_utf8 line ≡ true) × (word_named (word_in (trimmed line)) ≡ word.Trial) × Tries (argument_in (trimmed line)) said)
+
+abbrev pub word_of_command : Command → Word
+word_of_command command.Step = word.Step
+word_of_command command.Back = word.Back
+word_of_command (command.Seek n) = word.Seek
+word_of_command (command.SeekTime moment) = word.SeekTime
+word_of_command (command.Trial event) = word.Trial
+word_of_command (command.Explain labels) = word.Explain
+word_of_command command.Alerts = word.Alerts
+word_of_command command.Silences = word.Silences
+word_of_command command.Groups = word.Groups
+word_of_command command.Log = word.Log
+word_of_command command.Transcript = word.Transcript
+word_of_command command.Cursor = word.Cursor
+
+-- the word that a refusal names
+abbrev pub word_of : Said → Word
+word_of Nothing = word.Unknown
+word_of (Asks command) = word_of_command command
+word_of (Malformed word) = word
+word_of BadMoment = word.SeekTime
+word_of (Unfit word) = word
+
+abbrev pub ArgumentTakesMemory : Command → Type 0
+ArgumentTakesMemory command.Step = ⊥
+ArgumentTakesMemory command.Back = ⊥
+ArgumentTakesMemory (command.Seek n) = ⊥
+ArgumentTakesMemory (command.SeekTime moment) = ⊥
+ArgumentTakesMemory (command.Trial event) = ⊤
+ArgumentTakesMemory (command.Explain labels) = ⊤
+ArgumentTakesMemory command.Alerts = ⊥
+ArgumentTakesMemory command.Silences = ⊥
+ArgumentTakesMemory command.Groups = ⊥
+ArgumentTakesMemory command.Log = ⊥
+ArgumentTakesMemory command.Transcript = ⊥
+ArgumentTakesMemory command.Cursor = ⊥
+
+-- reading it takes memory: the argument is JSON
+abbrev pub ReadingTakesMemory : Said → Type 0
+ReadingTakesMemory Nothing = ⊥
+ReadingTakesMemory (Asks command) = ArgumentTakesMemory command
+ReadingTakesMemory (Malformed word) = ⊥
+ReadingTakesMemory BadMoment = ⊥
+ReadingTakesMemory (Unfit word) = ⊤
+
+-- this was read, or there was no memory to read it
+abbrev pub Reads : Said → Result Said Unread → Type 0
+Reads said result = MatchResult result (λ read. read ≡ said) (λ unread. ReadingTakesMemory said × (word_of said ≡ unread.word))
+
+-- what was read is such, or there was no memory to read it
+abbrev pub ReadsSuch : (Said → Type 0) → Said → Result Said Unread → Type 0
+ReadsSuch IsSuch said result = MatchResult result IsSuch (λ unread. ReadingTakesMemory said × (word_of said ≡ unread.word))
+
+-- the line has this word, and an argument whose reading may find no memory
+pub record FailsToRead (line : Text) (word : Word) : Type 0 where
+  pub said : Said
+  pub says : LineSays line said
+  pub takes : ReadingTakesMemory said
+  pub named : word_of said ≡ word

@@ -1,0 +1,209 @@
+//! What a command line says.
+ghost use Rattle.std.specs.Prelude.{◌≡◌, MatchResult};
+ghost use Rattle.std.specs.Str.{is_utf8};
+ghost use Rattle.amr_command_lines.specs.Command.{word_named, said_alone, seek_said, seek_time_said, trial_said, explain_said, with_argument, said_by, said_in, said_of, moment_in};
+ghost use Rattle.amr_command_lines.specs.Said.{FailsToRead, LineSays, Reads, ReadsSuch, TextSays, WordSays};
+
+use crate::digits::{all_digits, number};
+use crate::labels::{LabelsError, labels};
+use crate::parts::{argument, trimmed, word};
+use amr_events::{Event, ScriptError};
+use amr_labels::Labels;
+use amr_lines::{Word, word_text};
+use amr_time::{Moment, read_moment};
+use std::alloc::Global;
+use std::str::from_utf8;
+
+/// A command, with its argument.
+#[derive(Drop)]
+pub enum Command {
+    Step,
+    Back,
+    /// To so many events from the start; the greatest number stands for all that are greater.
+    Seek(usize),
+    SeekTime(Moment),
+    Trial(Event),
+    Explain(Labels),
+    Alerts,
+    Silences,
+    Groups,
+    Log,
+    Transcript,
+    Cursor,
+}
+
+/// What a line says.
+#[derive(Drop)]
+pub enum Said {
+    /// There is nothing but white space.
+    Nothing,
+    Asks(Command),
+    /// The word isn't known, or its argument is absent, one too many, or no number.
+    Malformed(Word),
+    /// The argument is no moment.
+    BadMoment,
+    /// The argument is no event, or no label set.
+    Unfit(Word),
+}
+
+/// There is no memory for the argument of this word.
+#[derive(Clone, Copy, Debug, PartialEq, Eq)]
+pub struct Unread {
+    pub word: Word,
+}
+
+const KNOWN_WORDS: [Word; 12] = [
+    Word::Step,
+    Word::Back,
+    Word::Seek,
+    Word::SeekTime,
+    Word::Trial,
+    Word::Explain,
+    Word::Alerts,
+    Word::Silences,
+    Word::Groups,
+    Word::Log,
+    Word::Transcript,
+    Word::Cursor,
+];
+
+/// The word that a text is.
+#[tactic(auto, unfolding(crate::specs::Command::word_named))]
+fn word_of(text: &[u8]) -> Word
+    ensures { result ≡ word_named text.now }
+{
+    for word in &KNOWN_WORDS {
+        if text == word_text(*word).as_bytes() {
+            return *word;
+        }
+    }
+    Word::Unknown
+}
+
+/// A command that takes no argument.
+fn alone(word: Word, command: Command, argument: &[u8]) -> Said
+    ensures { result ≡ said_alone word command argument.now }
+{
+    if argument.is_empty() {
+        Said::Asks(command)
+    } else {
+        Said::Malformed(word)
+    }
+}
+
+fn seek(argument: &[u8]) -> Said
+    ensures { result ≡ with_argument Word.Seek seek_said argument.now }
+{
+    if argument.is_empty() || !all_digits(argument) {
+        return Said::Malformed(Word::Seek);
+    }
+    Said::Asks(Command::Seek(number(argument)))
+}
+
+#[tactic(auto, unfolding(crate::specs::Command::moment_in))]
+fn moment(text: &[u8]) -> Option<Moment>
+    ensures { result ≡ moment_in text.now }
+{
+    match from_utf8(text) {
+        Ok(text) => read_moment(text).ok(),
+        Err(_) => None,
+    }
+}
+
+fn seek_time(argument: &[u8]) -> Said
+    ensures { result ≡ with_argument Word.SeekTime seek_time_said argument.now }
+{
+    if argument.is_empty() {
+        return Said::Malformed(Word::SeekTime);
+    }
+    match moment(argument) {
+        Some(moment) => Said::Asks(Command::SeekTime(moment)),
+        None => Said::BadMoment,
+    }
+}
+
+/// A trial, with the event of a script's line.
+#[tactic(auto, unfolding(crate::specs::Command::said_by))]
+fn trial(alloc: Global, argument: &[u8]) -> Result<Said, Unread>
+    ensures { ReadsSuch (WordSays Word.Trial argument.now) (said_by Word.Trial argument.now) result }
+{
+    if argument.is_empty() {
+        return Ok(Said::Malformed(Word::Trial));
+    }
+    match Event::read(alloc, argument) {
+        Ok(event) => Ok(Said::Asks(Command::Trial(event))),
+        Err(ScriptError::Refused(_)) => Ok(Said::Unfit(Word::Trial)),
+        Err(ScriptError::Memory) => Err(Unread { word: Word::Trial }),
+    }
+}
+
+fn explain(alloc: Global, argument: &[u8]) -> Result<Said, Unread>
+    ensures { Reads (with_argument Word.Explain explain_said argument.now) result }
+{
+    if argument.is_empty() {
+        return Ok(Said::Malformed(Word::Explain));
+    }
+    match labels(alloc, argument) {
+        Ok(labels) => Ok(Said::Asks(Command::Explain(labels))),
+        Err(LabelsError::Faulty) => Ok(Said::Unfit(Word::Explain)),
+        Err(LabelsError::Memory) => Err(Unread {
+            word: Word::Explain,
+        }),
+    }
+}
+
+/// What a word says with what follows it.
+#[tactic(auto, unfolding(crate::specs::Command::said_by))]
+fn read_argument(alloc: Global, word: Word, argument: &[u8]) -> Result<Said, Unread>
+    ensures { ReadsSuch (WordSays word argument.now) (said_by word argument.now) result }
+{
+    match word {
+        Word::Step => Ok(alone(word, Command::Step, argument)),
+        Word::Back => Ok(alone(word, Command::Back, argument)),
+        Word::Seek => Ok(seek(argument)),
+        Word::SeekTime => Ok(seek_time(argument)),
+        Word::Trial => trial(alloc, argument),
+        Word::Explain => explain(alloc, argument),
+        Word::Alerts => Ok(alone(word, Command::Alerts, argument)),
+        Word::Silences => Ok(alone(word, Command::Silences, argument)),
+        Word::Groups => Ok(alone(word, Command::Groups, argument)),
+        Word::Log => Ok(alone(word, Command::Log, argument)),
+        Word::Transcript => Ok(alone(word, Command::Transcript, argument)),
+        Word::Cursor => Ok(alone(word, Command::Cursor, argument)),
+        Word::Unknown => Ok(Said::Malformed(word)),
+    }
+}
+
+/// Whether the bytes are a text in UTF-8.
+fn is_text(line: &[u8]) -> bool
+    ensures { result ≡ is_utf8 line.now }
+{
+    match from_utf8(line) {
+        Ok(_) => true,
+        Err(_) => false,
+    }
+}
+
+/// What a text says, which has no white space at its ends.
+#[tactic(auto, unfolding(crate::specs::Command::said_in))]
+fn read_text(alloc: Global, text: &[u8]) -> Result<Said, Unread>
+    ensures { ReadsSuch (TextSays text.now) (said_in text.now) result }
+{
+    if text.is_empty() {
+        return Ok(Said::Nothing);
+    }
+    read_argument(alloc, word_of(word(text)), argument(text))
+}
+
+impl Said {
+    /// What the bytes of a line say. Memory is taken for the argument of `trial` and of `explain` alone.
+    #[tactic(auto, unfolding(crate::specs::Command::said_of))]
+    pub fn read(alloc: Global, line: &[u8]) -> Result<Said, Unread>
+        ensures { MatchResult result (LineSays line.now) (λ unread. FailsToRead line.now unread.word) }
+    {
+        if !is_text(line) {
+            return Ok(Said::Malformed(Word::Unknown));
+        }
+        read_text(alloc, trimmed(line))
+    }
+}

@@ -1,0 +1,13 @@
+//! Command lines: the bytes of a line, and what it says.
+#![tactic(auto)]
+
+mod command;
+mod digits;
+mod labels;
+mod line;
+mod parts;
+#[cfg(test)]
+mod tests;
+
+pub use command::{Command, Said, Unread};
+pub use line::{Content, LONGEST, Line};

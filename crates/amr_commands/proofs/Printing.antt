@@ -1,0 +1,83 @@
+-- A session's last line.
+use Rattle.std.proofs.Common.{◌≡◌, ℕ, List, [], ◌∷◌, ◌++◌, take, append-nil, sym, ap, ◌∙◌, subst, Ok, Err, Option, Result, MatchResult}
+use Rattle.std.specs.Io.KnownBytes.{Appends, Consumes}
+use Rattle.std.proofs.KnownBytes.{Appends-trans, Consumes-trans}
+use Rattle.std.proofs.lemmas.Result.{MatchResult-at_ok, MatchResult-at_err}
+use Rattle.amr_command_lines.specs.declared.line.Line.{Line}
+use Rattle.amr_commands.specs.Replies.{Incident}
+use Rattle.amr_commands.specs.declared.conversation.Turn.{Turn}
+use Rattle.amr_commands.specs.declared.conversation.Broken.{Broken}
+use Rattle.amr_command_lines.specs.Line.{Holds}
+use Rattle.amr_commands.specs.Talk.{Heard, reply, MayBe, out, Answers, Told, StopsShort, StopsInside, Hears}
+use Rattle.amr_commands.specs.Converse.{Printed, Stands, PrintedAt, Turned, Turns}
+use Rattle.amr_commands.proofs.Talks.{out-append, AllMayBe-append, Told-ended, Told-nil}
+
+-- the same outcome on the left, the other one's on the right
+either : {X E : Type 0} (P Q : X → Type 0) (S T : E → Type 0) (r : Result X E) → MatchResult r P S → MatchResult r Q T → MatchResult r P T
+either P Q S T (Ok x) p q = p
+either P Q S T (Err e) p q = q
+
+on_ok : {X E : Type 0} (P Q : X → Type 0) (S : E → Type 0) (r : Result X E) → ((x : X) → P x → Q x) → MatchResult r P S → MatchResult r Q S
+on_ok P Q S (Ok x) f p = f x p
+on_ok P Q S (Err e) f p = p
+
+-- the last line was answered
+pub Printed-last : {E : Type 0} (incident : Incident) (start mid now : Option (List ℕ)) (bytes : List ℕ) (cursor cursor' : ℕ) (line : Line) (r : Result Unit E)
+    → ((rest : List ℕ) → Holds line rest → Answers incident cursor cursor' rest mid now r) → Stands incident start mid bytes cursor line
+    → MatchResult r (λ _. Printed incident start now bytes) (λ _. StopsShort incident start now bytes [])
+Printed-last incident start mid now bytes cursor cursor' line r answered (rest, t, holds) =
+    let a = answered rest holds in
+    let h : Heard = record { line = rest; fate = a.fate } in
+    let all : out incident 0 (t.heard ++ h ∷ []) ≡ out incident 0 t.heard ++ (reply incident cursor h.fate).text =
+    out-append incident 0 t.heard h ∙ ap (λ c. out incident 0 t.heard ++ (reply incident c h.fate).text) (sym t.place) in
+    either (λ _. Printed incident start now bytes) _ _ _ r
+    (on_ok _ (λ _. Printed incident start now bytes) _ r (λ _ d. record {
+      heard = t.heard;
+      last = h;
+      cut = t.cut;
+      may_be = AllMayBe-append incident 0 t.heard h t.may_be (subst (λ c. MayBe incident c rest a.fate) t.place a.may_be);
+      written = subst (Appends start now) (sym all) (Appends-trans start mid now _ _ t.written d.1);
+    }) a.did)
+    (Told-ended incident start mid now bytes cursor cursor' rest r t a)
+
+-- a read that gave nothing
+pub Consumes-nothing : (a b c : Option (List ℕ)) (bs chunk : List ℕ) (n : ℕ) → n ≡ 0 → Consumes a b bs → Consumes b c (take n chunk) → Consumes a c bs
+Consumes-nothing a b c bs chunk n e p q =
+    let none : take n chunk ≡ [] = ap (λ k. take k chunk) e in
+    subst (Consumes a c) (append-nil bs) (subst (λ l. Consumes a c (bs ++ l)) none (Consumes-trans a b c bs (take n chunk) p q))
+
+module _ {E : Type 0} (incident : Incident) (source left left' start mid now : Option (List ℕ)) (bytes : List ℕ) (cursor cursor' : ℕ) (line line' : Line) (r : Result Unit E) (xs ys : List ℕ) where
+  -- a read whose bytes were heard
+  pub Stands-heard : (x : Unit) → xs ≡ ys → Hears incident mid cursor line now cursor' line' r xs → r ≡ Ok x → Consumes left left' ys → Consumes source left bytes → Stands incident start mid bytes cursor line
+      → (bytes' : List ℕ) × Consumes source left' bytes' × Stands incident start now bytes' cursor' line'
+  Stands-heard x same hears e consumes consumed (rest, t, holds) =
+      (bytes ++ xs, subst (λ l. Consumes source left' (bytes ++ l)) (sym same) (Consumes-trans source left left' bytes ys consumed consumes), MatchResult-at_ok _ _ x e (hears start bytes rest t holds))
+
+  -- a read at whose bytes the writer failed
+  pub StopsInside-heard : (x : E) → xs ≡ ys → Hears incident mid cursor line now cursor' line' r xs → r ≡ Err x → Consumes left left' ys → Consumes source left bytes → Stands incident start mid bytes cursor line
+      → (bytes' : List ℕ) × Consumes source left' bytes' × StopsInside incident start now bytes'
+  StopsInside-heard x same hears e consumes consumed (rest, t, holds) =
+      (bytes ++ xs, subst (λ l. Consumes source left' (bytes ++ l)) (sym same) (Consumes-trans source left left' bytes ys consumed consumes), MatchResult-at_err _ _ x e (hears start bytes rest t holds))
+
+module _ (incident incident' : Incident) (source left left' start now now' : Option (List ℕ)) (bytes : List ℕ) (cursor cursor' : ℕ) (line line' : Line) (r : Result Turn Broken) where
+  turned : incident' ≡ incident → Turns incident' left left' now now' cursor cursor' line line' r → Consumes source left bytes → Stands incident start now bytes cursor line
+      → (bytes' : List ℕ) × Consumes source left' bytes' × MatchResult r (λ turn. Turned turn incident left' start now' bytes' cursor' line') (λ broken. PrintedAt broken incident start now' bytes')
+  turned same turns consumed stands = subst (λ es. Turns es left left' now now' cursor cursor' line line' r) same turns source start bytes consumed stands
+
+  -- a turn that went well
+  pub Turned-at_ok : (turn : Turn) → incident' ≡ incident → Turns incident' left left' now now' cursor cursor' line line' r → r ≡ Ok turn → Consumes source left bytes → Stands incident start now bytes cursor line
+      → (bytes' : List ℕ) × Consumes source left' bytes' × Turned turn incident left' start now' bytes' cursor' line'
+  Turned-at_ok turn same turns e consumed stands =
+      let (bytes', consumed', did) = turned same turns consumed stands in
+      (bytes', consumed', MatchResult-at_ok _ _ turn e did)
+
+  -- a turn at which an end broke
+  pub PrintedAt-at_err : (broken : Broken) → incident' ≡ incident → Turns incident' left left' now now' cursor cursor' line line' r → r ≡ Err broken → Consumes source left bytes → Stands incident start now bytes cursor line
+      → (bytes' : List ℕ) × Consumes source left' bytes' × PrintedAt broken incident start now' bytes'
+  PrintedAt-at_err broken same turns e consumed stands =
+      let (bytes', consumed', did) = turned same turns consumed stands in
+      (bytes', consumed', MatchResult-at_err _ _ broken e did)
+
+-- nothing was read yet
+pub Stands-new : (incident : Incident) (w : Option (List ℕ)) (cursor : ℕ) (line : Line) → cursor ≡ 0 → Holds line [] → Stands incident w w [] cursor line
+Stands-new incident w cursor line e holds = ([], subst (λ n. Told incident w w [] n []) (sym e) (Told-nil incident w), holds)

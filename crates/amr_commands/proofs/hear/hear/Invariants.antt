@@ -1,0 +1,13 @@
+use Rattle.std.proofs.Common.{◌≡◌, List, ℕ, Option, ◌++◌, take}
+use Rattle.amr_commands.specs.Replies.{incident_of}
+use Rattle.amr_commands.specs.Talk.{Told}
+use Rattle.amr_command_lines.specs.Line.{Holds}
+use Rattle.amr_commands.specs.Converse.{Stands}
+use Rattle.amr_commands.proofs.hear.hear.Given as goal
+
+abbrev pub invariant-loop-b : goal.invariant-loop-b
+invariant-loop-b g l =
+    ((incident_of l.session) ≡ (incident_of l.initial.session))
+    × ((start : Option (List ℕ)) (before rest : List ℕ)
+    → Told (incident_of l.initial.session) start (g.W.Write.contents l.initial.out) before l.initial.session.cursor rest → Holds l.initial.line rest
+    → Stands (incident_of l.initial.session) start (g.W.Write.contents l.out) (before ++ take l.b-index l.bytes) l.session.cursor l.line)

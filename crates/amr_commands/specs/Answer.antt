@@ -1,0 +1,61 @@
+-- What is to be written for a line, and what was done for it.
+use Rattle.std.specs.Prelude.{◌≡◌, ℕ, ◌<◌, [], ◌⊎◌, Result, IsOkAnd, String, string_bytes}
+use Rattle.std.specs.declared.alloc.Global.{Global}
+use Rattle.std.specs.declared.alloc.AllocError.{AllocError}
+use Rattle.amr_labels.specs.Labels.{Text}
+use Rattle.amr_lines.specs.declared.word.Word.{Word}
+use Rattle.amr_lines.specs.declared.word.Word.TheVariants as word
+use Rattle.amr_lines.specs.LastLines.{moves_line, cursor_line, refused_line}
+use Rattle.amr_command_lines.specs.declared.command.Said.{Said}
+use Rattle.amr_command_lines.specs.Said.{word_of}
+use Rattle.amr_commands.specs.Replies.{Incident, Reply, reply_of, moved, listed, MayFindNoMemory}
+use Rattle.amr_commands.specs.Talk.{Fate, reply, MayBe}
+use Rattle.amr_commands.specs.declared.answer.Refusal.{Refusal}
+use Rattle.amr_commands.specs.declared.answer.Refusal.TheVariants.{Memory, BadTime, BadLine, LineTooLong, AtEnd, AtStart, OutOfRange}
+use Rattle.amr_commands.specs.declared.answer.Answer.{Answer}
+use Rattle.amr_commands.specs.declared.answer.Answer.TheVariants.{Nothing, Built, WentBack, SoughtBack, Refused}
+
+abbrev pub refusal_number : Refusal → ℕ
+refusal_number Memory = 0
+refusal_number BadTime = 3
+refusal_number BadLine = 13
+refusal_number LineTooLong = 14
+refusal_number AtEnd = 22
+refusal_number AtStart = 23
+refusal_number OutOfRange = 24
+
+-- what is written at the cursor
+abbrev pub answer_text : ℕ → Answer → Text
+answer_text cursor Nothing = []
+answer_text cursor (Built text) = string_bytes text
+answer_text cursor WentBack = cursor_line word.Back cursor
+answer_text cursor (SoughtBack word) = moves_line word cursor 0
+answer_text cursor (Refused word refusal) = refused_line word cursor (refusal_number refusal)
+
+-- this is left: the cursor, and what is to be written
+abbrev pub left : ℕ → Answer → Reply
+left cursor answer = record { cursor = cursor; text = answer_text cursor answer }
+
+-- it was done, or it found no memory and was undone
+abbrev pub Answered : Incident → ℕ → ℕ → Said → Answer → Type 0
+Answered incident cursor cursor' said answer =
+    (reply_of incident cursor said ≡ left cursor' answer)
+    ⊎ (MayFindNoMemory incident cursor said × (left cursor' answer ≡ left cursor (Refused (word_of said) Memory)))
+
+-- the line had a fate
+pub record Fated (incident : Incident) (cursor cursor' : ℕ) (line : Text) (answer : Answer) : Type 0 where
+  pub fate : Fate
+  pub may_be : MayBe incident cursor line fate
+  pub replied : reply incident cursor fate ≡ left cursor' answer
+
+-- the cursor was moved to a place and this is to be written, or it found no memory on the way forward and was undone
+abbrev pub Moves : Incident → ℕ → Word → ℕ → ℕ → Answer → Type 0
+Moves incident from word to cursor' answer =
+    (moved incident from word to ≡ left cursor' answer)
+    ⊎ ((from < to) × (left cursor' answer ≡ left from (Refused word Memory)))
+
+-- lines are listed, or they found no memory
+abbrev pub Lists : ℕ → Word → Result (String Global) AllocError → Answer → Type 0
+Lists cursor word lines answer =
+    IsOkAnd lines (λ text. listed cursor word (string_bytes text) ≡ left cursor answer)
+    ⊎ (left cursor answer ≡ left cursor (Refused word Memory))

@@ -1,0 +1,48 @@
+-- A whole session: what is printed for what was read.
+use Rattle.std.specs.Prelude.{ℕ, List, [], ◌∷◌, ◌++◌, map, Option, Result, MatchResult, ◌⊎◌}
+use Rattle.std.specs.Io.KnownBytes.{Appends, Consumes, IsAtEnd}
+use Rattle.amr_labels.specs.Labels.{Text}
+use Rattle.amr_command_lines.specs.declared.line.Line.{Line}
+use Rattle.amr_command_lines.specs.Line.{Holds}
+use Rattle.amr_commands.specs.Lines.{Cuts}
+use Rattle.amr_commands.specs.Replies.{Incident}
+use Rattle.amr_commands.specs.Talk.{Heard, AllMayBe, out, Told, StopsShort, StopsInside}
+use Rattle.amr_commands.specs.declared.conversation.Broken.{Broken}
+use Rattle.amr_commands.specs.declared.conversation.Broken.TheVariants.{Reading, Writing}
+use Rattle.amr_commands.specs.declared.conversation.Turn.{Turn}
+use Rattle.amr_commands.specs.declared.conversation.Turn.TheVariants.{More, Ended}
+
+-- the bytes are these lines and a last one without a line feed, and the whole text of them all was printed
+pub record Printed (incident : Incident) (start now : Option Text) (bytes : Text) : Type 0 where
+  pub heard : List Heard
+  pub last : Heard
+  pub cut : Cuts bytes (map (λ h. h.line) heard) last.line
+  pub may_be : AllMayBe incident 0 (heard ++ last ∷ [])
+  pub written : Appends start now (out incident 0 (heard ++ last ∷ []))
+
+-- the conversation stands at this line
+abbrev pub Stands : Incident → Option Text → Option Text → Text → ℕ → Line → Type 0
+Stands incident start now bytes cursor line = (rest : Text) × Told incident start now bytes cursor rest × Holds line rest
+
+-- what is printed where an end broke: the text of the whole lines that were read, or a beginning of the text
+abbrev pub PrintedAt : Broken → Incident → Option Text → Option Text → Text → Type 0
+PrintedAt Reading incident start now bytes = (cursor : ℕ) × (rest : Text) × Told incident start now bytes cursor rest
+PrintedAt Writing incident start now bytes = StopsInside incident start now bytes ⊎ StopsShort incident start now bytes []
+
+-- a session from the start to its end, or to the end that broke
+abbrev pub Converses : Incident → Option Text → Option Text → Option Text → Option Text → Result Unit Broken → Type 0
+Converses incident source left start now r = (bytes : Text) × Consumes source left bytes × MatchResult r
+    (λ _. IsAtEnd left × Printed incident start now bytes)
+    (λ broken. PrintedAt broken incident start now bytes)
+
+-- one read, and what it brought heard
+abbrev pub Turned : Turn → Incident → Option Text → Option Text → Option Text → Text → ℕ → Line → Type 0
+Turned More incident left start now bytes cursor line = Stands incident start now bytes cursor line
+Turned Ended incident left start now bytes cursor line = IsAtEnd left × Printed incident start now bytes
+
+abbrev pub Turns : Incident → Option Text → Option Text → Option Text → Option Text → ℕ → ℕ → Line → Line → Result Turn Broken → Type 0
+Turns incident left left' now now' cursor cursor' line line' r = (source start : Option Text) (bytes : Text)
+    → Consumes source left bytes → Stands incident start now bytes cursor line
+    → (bytes' : Text) × Consumes source left' bytes' × MatchResult r
+    (λ turn. Turned turn incident left' start now' bytes' cursor' line')
+    (λ broken. PrintedAt broken incident start now' bytes')

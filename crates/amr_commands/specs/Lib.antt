@@ -1,0 +1,5 @@
+pub mod Lines
+pub mod Replies
+pub mod Talk
+pub mod Answer
+pub mod Converse

@@ -1,0 +1,111 @@
+-- What a command leaves: the cursor, and what is printed.
+use Rattle.std.specs.Prelude.{ℕ, ◌+◌, ◌-◌, ◌<◌, ◌≤◌, nat_lt, nat_le, List, [], ◌∷◌, ◌++◌, length, if◌then◌else◌, ⊤}
+use Rattle.std.specs.List.{flat_map, sum_by}
+use Rattle.amr_labels.specs.Map.{entries}
+use Rattle.amr_labels.specs.Labels.{Text}
+use Rattle.amr_config.specs.Config.{Config}
+use Rattle.amr_events.specs.Events.{Event}
+use Rattle.amr_engine.specs.State.{State}
+use Rattle.amr_engine.specs.Events.{Outcome, Accepted, Refused, outcome_of}
+use Rattle.amr_engine.specs.Seen.{groups_of}
+use Rattle.amr_engine.specs.Explain.{verdicts}
+use Rattle.amr_replay.specs.Session.{View, state_at, outcomes_passed, events_until}
+use Rattle.amr_lines.specs.declared.word.Word.{Word}
+use Rattle.amr_lines.specs.declared.word.Word.TheVariants as word
+use Rattle.amr_lines.specs.Printed.{event_lines, note_line, alert_line, silence_line, group_seen_line, log_line}
+use Rattle.amr_lines.specs.Verdicts.{verdict_line}
+use Rattle.amr_lines.specs.LastLines.{moves_line, cursor_line, place_line, refused_line}
+use Rattle.amr_command_lines.specs.declared.command.Command.{Command}
+use Rattle.amr_command_lines.specs.declared.command.Command.TheVariants.{Step, Back, Seek, SeekTime, Trial, Explain, Alerts, Silences, Groups, Log, Transcript, Cursor}
+use Rattle.amr_command_lines.specs.declared.command.Said.{Said}
+use Rattle.amr_command_lines.specs.declared.command.Said.TheVariants.{Nothing, Asks, Malformed, BadMoment, Unfit}
+
+-- a configuration, and the events of a script
+pub record Incident : Type 0 where
+  pub config : Config
+  pub events : List Event
+
+abbrev pub incident_of : View → Incident
+incident_of session = record { config = session.config; events = session.events }
+
+-- the state after the first n events
+abbrev pub state_in : Incident → ℕ → State
+state_in incident n = state_at incident.config incident.events n
+
+pub record Reply : Type 0 where
+  pub cursor : ℕ
+  pub text : Text
+
+abbrev pub refused : ℕ → Word → ℕ → Reply
+refused cursor word reason = record { cursor = cursor; text = refused_line word cursor reason }
+
+-- the lines of events, the first of them being event n
+abbrev pub numbered_lines : ℕ → List Outcome → Text
+numbered_lines n [] = []
+numbered_lines n (outcome ∷ outcomes) = event_lines n outcome ++ numbered_lines (n + 1) outcomes
+
+-- the moves of an event; a refused one has none
+abbrev pub moves_in : Outcome → ℕ
+moves_in (Accepted moves notes skipped) = moves
+moves_in (Refused reason) = 0
+
+abbrev pub passing_text : ℕ → Word → ℕ → List Outcome → Text
+passing_text cursor word to passed = numbered_lines (cursor + 1) passed ++ moves_line word to (sum_by moves_in passed)
+
+-- to another place: the lines of the events that are passed forward, and the sum of their moves
+unfoldable pub moved : Incident → ℕ → Word → ℕ → Reply
+moved incident cursor word to =
+    record { cursor = to; text = passing_text cursor word to (outcomes_passed incident.config incident.events cursor to) }
+
+abbrev pub listed : ℕ → Word → Text → Reply
+listed cursor word lines = record { cursor = cursor; text = lines ++ cursor_line word cursor }
+
+-- an event that is tried is event 0
+abbrev pub tried_lines : ℕ → Outcome → Text
+tried_lines cursor outcome = event_lines 0 outcome ++ moves_line word.Trial cursor (moves_in outcome)
+
+-- what a command leaves where memory is found
+unfoldable pub reply_to : Incident → ℕ → Command → Reply
+reply_to incident n Step = if nat_lt n (length incident.events) then moved incident n word.Step (n + 1) else refused n word.Step 22
+reply_to incident n Back = if nat_lt 0 n then record { cursor = n - 1; text = cursor_line word.Back (n - 1) } else refused n word.Back 23
+reply_to incident n (Seek to) = if nat_le to (length incident.events) then moved incident n word.Seek to else refused n word.Seek 24
+reply_to incident n (SeekTime at) = moved incident n word.SeekTime (events_until at incident.events)
+reply_to incident n (Trial event) = record { cursor = n; text = tried_lines n (outcome_of (state_in incident n) event) }
+reply_to incident n (Explain labels) = listed n word.Explain (flat_map verdict_line (verdicts (state_in incident n) labels))
+reply_to incident n Alerts = listed n word.Alerts (flat_map alert_line (entries (state_in incident n).alerts))
+reply_to incident n Silences = listed n word.Silences (flat_map silence_line (entries (state_in incident n).silences))
+reply_to incident n Groups = listed n word.Groups (flat_map group_seen_line (groups_of (state_in incident n)))
+reply_to incident n Log = listed n word.Log (flat_map log_line (entries (state_in incident n).log))
+reply_to incident n Transcript = listed n word.Transcript (flat_map note_line (state_in incident n).notes)
+reply_to incident n Cursor = record { cursor = n; text = place_line n (length incident.events) (state_in incident n).moment }
+
+-- the command takes memory there, so it may find none
+abbrev pub TakesMemory : Incident → ℕ → Command → Type 0
+TakesMemory incident n Step = n < length incident.events
+TakesMemory incident n Back = ⊥
+TakesMemory incident n (Seek to) = (n < to) × (to ≤ length incident.events)
+TakesMemory incident n (SeekTime at) = n < events_until at incident.events
+TakesMemory incident n (Trial event) = ⊤
+TakesMemory incident n (Explain labels) = ⊤
+TakesMemory incident n Alerts = ⊤
+TakesMemory incident n Silences = ⊤
+TakesMemory incident n Groups = ⊤
+TakesMemory incident n Log = ⊤
+TakesMemory incident n Transcript = ⊤
+TakesMemory incident n Cursor = ⊤
+
+-- what a line leaves that says this
+abbrev pub reply_of : Incident → ℕ → Said → Reply
+reply_of incident n Nothing = record { cursor = n; text = [] }
+reply_of incident n (Asks command) = reply_to incident n command
+reply_of incident n (Malformed word) = refused n word 13
+reply_of incident n BadMoment = refused n word.SeekTime 3
+reply_of incident n (Unfit word) = refused n word 13
+
+-- reading it takes memory, or doing it
+abbrev pub MayFindNoMemory : Incident → ℕ → Said → Type 0
+MayFindNoMemory incident n Nothing = ⊥
+MayFindNoMemory incident n (Asks command) = TakesMemory incident n command
+MayFindNoMemory incident n (Malformed word) = ⊥
+MayFindNoMemory incident n BadMoment = ⊥
+MayFindNoMemory incident n (Unfit word) = ⊤

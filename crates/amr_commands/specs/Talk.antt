@@ -1,0 +1,91 @@
+-- What a session prints: for each line that was read, a text, and the cursor after it.
+use Rattle.std.specs.Prelude.{◌≡◌, ℕ, ◌<◌, ◌≤◌, All, List, [], ◌∷◌, ◌++◌, length, map, flat_map, Option, Result, MatchResult, ⊤}
+use Rattle.std.specs.Io.KnownBytes.{Appends}
+use Rattle.amr_labels.specs.Labels.{Text}
+use Rattle.amr_lines.specs.Outlet.{AppendsBeginning}
+use Rattle.amr_lines.specs.declared.word.Word.TheVariants as word
+use Rattle.amr_command_lines.specs.declared.command.Said.{Said}
+use Rattle.amr_command_lines.specs.declared.line.Line.{Line}
+use Rattle.amr_command_lines.specs.Line.{longest, Holds}
+use Rattle.amr_command_lines.specs.Said.{LineSays, word_of}
+use Rattle.amr_commands.specs.Lines.{Cuts, ended, IsOneLine}
+use Rattle.amr_commands.specs.Replies.{Incident, Reply, refused, reply_of, MayFindNoMemory}
+
+-- what becomes of a line: it is too long; there is no memory to hold it, or for what it says; it is done
+pub data Fate : Type 0 where
+  TooLong : Fate
+  Unheld : Fate
+  Undone : Said → Fate
+  Done : Said → Fate
+
+-- a line that was read, and what became of it
+pub record Heard : Type 0 where
+  pub line : Text
+  pub fate : Fate
+
+-- what a line leaves
+abbrev pub reply : Incident → ℕ → Fate → Reply
+reply incident cursor TooLong = refused cursor word.Unknown 14
+reply incident cursor Unheld = refused cursor word.Unknown 0
+reply incident cursor (Undone said) = refused cursor (word_of said) 0
+reply incident cursor (Done said) = reply_of incident cursor said
+
+-- this may become of a line: it is undone only where it takes memory
+abbrev pub MayBe : Incident → ℕ → Text → Fate → Type 0
+MayBe incident cursor line TooLong = longest < length line
+MayBe incident cursor line Unheld = length line ≤ longest
+MayBe incident cursor line (Undone said) = (length line ≤ longest) × LineSays line said × MayFindNoMemory incident cursor said
+MayBe incident cursor line (Done said) = (length line ≤ longest) × LineSays line said
+
+-- the cursor after these lines
+abbrev pub after : Incident → ℕ → List Heard → ℕ
+after incident cursor [] = cursor
+after incident cursor (h ∷ hs) = after incident ((reply incident cursor h.fate).cursor) hs
+
+-- all that these lines print
+abbrev pub out : Incident → ℕ → List Heard → Text
+out incident cursor [] = []
+out incident cursor (h ∷ hs) = (reply incident cursor h.fate).text ++ out incident ((reply incident cursor h.fate).cursor) hs
+
+-- each may have become what it became
+abbrev pub AllMayBe : Incident → ℕ → List Heard → Type 0
+AllMayBe incident cursor [] = ⊤
+AllMayBe incident cursor (h ∷ hs) = MayBe incident cursor h.line h.fate × AllMayBe incident ((reply incident cursor h.fate).cursor) hs
+
+-- one line was answered: whole at `Ok`, and by a beginning of its text at `Err`
+pub record Answers {E : Type 0} (incident : Incident) (cursor cursor' : ℕ) (line : Text) (old new : Option Text) (r : Result Unit E) : Type 0 where
+  pub fate : Fate
+  pub may_be : MayBe incident cursor line fate
+  pub did : MatchResult r
+      (λ _. (cursor' ≡ (reply incident cursor fate).cursor) × Appends old new ((reply incident cursor fate).text))
+      (λ _. AppendsBeginning old new ((reply incident cursor fate).text))
+
+-- what was read so far: whole lines, which were answered, and the rest
+pub record Told (incident : Incident) (start now : Option Text) (bytes : Text) (cursor : ℕ) (rest : Text) : Type 0 where
+  pub heard : List Heard
+  pub cut : Cuts bytes (map (λ h. h.line) heard) rest
+  pub may_be : AllMayBe incident 0 heard
+  pub place : cursor ≡ after incident 0 heard
+  pub written : Appends start now (out incident 0 heard)
+
+-- the writer failed at a line: it has a beginning of the text up to that line, after which this stands
+pub record StopsShort (incident : Incident) (start now : Option Text) (bytes after_line : Text) : Type 0 where
+  pub heard : List Heard
+  pub last : Heard
+  pub whole : bytes ≡ flat_map ended (map (λ h. h.line) heard) ++ (last.line ++ after_line)
+  pub each : All IsOneLine (map (λ h. h.line) heard)
+  pub one_line : IsOneLine last.line
+  pub may_be : AllMayBe incident 0 (heard ++ last ∷ [])
+  pub written : AppendsBeginning start now (out incident 0 (heard ++ last ∷ []))
+
+-- the writer failed at a line with its line feed
+abbrev pub StopsInside : Incident → Option Text → Option Text → Text → Type 0
+StopsInside incident start now bytes = (more : Text) × StopsShort incident start now bytes (10 ∷ more)
+
+-- what bytes that go on a conversation do to it
+abbrev pub Hears : {E : Type 0} → Incident → Option Text → ℕ → Line → Option Text → ℕ → Line → Result Unit E → Text → Type 0
+Hears incident w c line w' c' line' r bytes = (start : Option Text) (before rest : Text)
+    → Told incident start w before c rest → Holds line rest
+    → MatchResult r
+    (λ _. (rest' : Text) × Told incident start w' (before ++ bytes) c' rest' × Holds line' rest')
+    (λ _. StopsInside incident start w' (before ++ bytes))

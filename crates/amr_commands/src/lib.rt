@@ -1,0 +1,13 @@
+//! The commands of a session over any reader and any writer.
+#![tactic(auto)]
+
+mod answer;
+mod conversation;
+mod hear;
+mod look;
+mod passing;
+mod respond;
+#[cfg(test)]
+mod tests;
+
+pub use conversation::{Broken, converse};

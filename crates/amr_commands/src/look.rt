@@ -1,0 +1,134 @@
+//! The commands that leave the session as it is.
+ghost use Rattle.std.specs.Prelude.{◌≡◌, ◌++◌, IfOk, IsOkAnd, string_bytes};
+ghost use Rattle.std.specs.List.{flat_map};
+ghost use Rattle.amr_labels.specs.Map.{entries};
+ghost use Rattle.amr_engine.specs.Seen.{groups_of};
+ghost use Rattle.amr_engine.specs.Explain.{verdicts};
+ghost use Rattle.amr_lines.specs.Printed.{alert_line, silence_line, group_seen_line, log_line};
+ghost use Rattle.amr_lines.specs.Verdicts.{verdict_line};
+ghost use Rattle.amr_lines.specs.LastLines.{cursor_line};
+ghost use Rattle.amr_command_lines.specs.declared.command.Said.TheVariants.{Asks};
+ghost use Rattle.amr_command_lines.specs.declared.command.Command.TheVariants as command;
+ghost use Rattle.amr_commands.specs.Replies.{incident_of};
+ghost use Rattle.amr_commands.specs.Answer.{Answered, Lists};
+
+use crate::answer::{Answer, Refusal};
+use amr_labels::Labels;
+use amr_lines::{
+    Word, alerts_text, cursor_text, groups_text, log_text, notes_text, place_text, silences_text,
+    verdicts_text,
+};
+use amr_replay::Session;
+use std::alloc::{AllocError, Global};
+
+/// Lines, and the last line of their command.
+fn ended(
+    alloc: Global,
+    word: Word,
+    cursor: usize,
+    lines: Result<String, AllocError>,
+) -> Result<String, AllocError>
+    ensures { IfOk result (λ text. IsOkAnd lines (λ lines. string_bytes text ≡ string_bytes lines ++ cursor_line word cursor)) }
+{
+    let mut text = lines?;
+    text.push_str(cursor_text(alloc, word, cursor)?.as_str())?;
+    Ok(text)
+}
+
+/// Answers a command with lines.
+fn listed(alloc: Global, word: Word, cursor: usize, lines: Result<String, AllocError>) -> Answer
+    ensures { Lists cursor word lines result }
+{
+    match ended(alloc, word, cursor, lines) {
+        Ok(text) => Answer::Built(text),
+        Err(_) => Answer::Refused(word, Refusal::Memory),
+    }
+}
+
+fn verdict_lines(alloc: Global, session: &Session, labels: &Labels) -> Result<String, AllocError>
+    ensures { IfOk result (λ text. string_bytes text ≡ flat_map verdict_line (verdicts session.now.state labels.now)) }
+{
+    let found = session.explain(labels)?;
+    verdicts_text(alloc, found.as_slice())
+}
+
+/// Why an alert was told of, or not.
+pub(crate) fn explain(alloc: Global, session: &Session, labels: &Labels) -> Answer
+    ensures { Answered (incident_of session.now) session.now.cursor session.now.cursor (Asks (command.Explain labels.now)) result }
+{
+    let lines = verdict_lines(alloc, session, labels);
+    listed(alloc, Word::Explain, session.cursor(), lines)
+}
+
+fn alert_lines(alloc: Global, session: &Session) -> Result<String, AllocError>
+    ensures { IfOk result (λ text. string_bytes text ≡ flat_map alert_line (entries session.now.state.alerts)) }
+{
+    let found = session.alerts()?;
+    alerts_text(alloc, found.as_slice())
+}
+
+pub(crate) fn alerts(alloc: Global, session: &Session) -> Answer
+    ensures { Answered (incident_of session.now) session.now.cursor session.now.cursor (Asks command.Alerts) result }
+{
+    let lines = alert_lines(alloc, session);
+    listed(alloc, Word::Alerts, session.cursor(), lines)
+}
+
+fn silence_lines(alloc: Global, session: &Session) -> Result<String, AllocError>
+    ensures { IfOk result (λ text. string_bytes text ≡ flat_map silence_line (entries session.now.state.silences)) }
+{
+    let found = session.silences()?;
+    silences_text(alloc, found.as_slice())
+}
+
+pub(crate) fn silences(alloc: Global, session: &Session) -> Answer
+    ensures { Answered (incident_of session.now) session.now.cursor session.now.cursor (Asks command.Silences) result }
+{
+    let lines = silence_lines(alloc, session);
+    listed(alloc, Word::Silences, session.cursor(), lines)
+}
+
+fn group_lines(alloc: Global, session: &Session) -> Result<String, AllocError>
+    ensures { IfOk result (λ text. string_bytes text ≡ flat_map group_seen_line (groups_of session.now.state)) }
+{
+    let found = session.groups()?;
+    groups_text(alloc, found.as_slice())
+}
+
+pub(crate) fn groups(alloc: Global, session: &Session) -> Answer
+    ensures { Answered (incident_of session.now) session.now.cursor session.now.cursor (Asks command.Groups) result }
+{
+    let lines = group_lines(alloc, session);
+    listed(alloc, Word::Groups, session.cursor(), lines)
+}
+
+fn log_lines(alloc: Global, session: &Session) -> Result<String, AllocError>
+    ensures { IfOk result (λ text. string_bytes text ≡ flat_map log_line (entries session.now.state.log)) }
+{
+    let found = session.log()?;
+    log_text(alloc, found.as_slice())
+}
+
+pub(crate) fn log(alloc: Global, session: &Session) -> Answer
+    ensures { Answered (incident_of session.now) session.now.cursor session.now.cursor (Asks command.Log) result }
+{
+    let lines = log_lines(alloc, session);
+    listed(alloc, Word::Log, session.cursor(), lines)
+}
+
+pub(crate) fn transcript(alloc: Global, session: &Session) -> Answer
+    ensures { Answered (incident_of session.now) session.now.cursor session.now.cursor (Asks command.Transcript) result }
+{
+    let lines = notes_text(alloc, session.transcript());
+    listed(alloc, Word::Transcript, session.cursor(), lines)
+}
+
+/// Where the session stands.
+pub(crate) fn place(alloc: Global, session: &Session) -> Answer
+    ensures { Answered (incident_of session.now) session.now.cursor session.now.cursor (Asks command.Cursor) result }
+{
+    match place_text(alloc, session.cursor(), session.events(), session.now()) {
+        Ok(text) => Answer::Built(text),
+        Err(_) => Answer::Refused(Word::Cursor, Refusal::Memory),
+    }
+}

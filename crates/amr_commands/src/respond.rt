@@ -1,0 +1,107 @@
+//! One line answered.
+ghost use Rattle.std.specs.Prelude.{◌≡◌, ◌≤◌, List, ℕ, length};
+ghost use Rattle.amr_command_lines.specs.declared.command.Said.TheVariants.{Asks};
+ghost use Rattle.amr_command_lines.specs.Line.{longest, Holds};
+ghost use Rattle.amr_commands.specs.Replies.{incident_of};
+ghost use Rattle.amr_commands.specs.Answer.{Answered, Fated};
+ghost use Rattle.amr_commands.specs.Talk.{Answers};
+
+use crate::answer::{Answer, Refusal, write_answer};
+use crate::look::{alerts, explain, groups, log, place, silences, transcript};
+use crate::passing::{back, seek, seek_time, step, trial};
+use amr_command_lines::{Command, Content, Line, Said};
+use amr_lines::{Word, WriteFailed, flush};
+use amr_replay::Session;
+use std::alloc::Global;
+use std::io::Write;
+
+/// Does a command. One that finds no memory is undone.
+fn answer_command(alloc: Global, session: &mut Session, command: Command) -> Answer
+    ensures kept { incident_of session.new ≡ incident_of session.old }
+    ensures answered { Answered (incident_of session.old) session.old.cursor session.new.cursor (Asks command) result }
+{
+    match command {
+        Command::Step => step(alloc, session),
+        Command::Back => back(session),
+        Command::Seek(to) => seek(alloc, session, to),
+        Command::SeekTime(at) => seek_time(alloc, session, at),
+        Command::Trial(event) => trial(alloc, session, &event),
+        Command::Explain(labels) => explain(alloc, session, &labels),
+        Command::Alerts => alerts(alloc, session),
+        Command::Silences => silences(alloc, session),
+        Command::Groups => groups(alloc, session),
+        Command::Log => log(alloc, session),
+        Command::Transcript => transcript(alloc, session),
+        Command::Cursor => place(alloc, session),
+    }
+}
+
+/// Does what a line says.
+fn answer_said(alloc: Global, session: &mut Session, said: Said) -> Answer
+    ensures kept { incident_of session.new ≡ incident_of session.old }
+    ensures answered { Answered (incident_of session.old) session.old.cursor session.new.cursor said result }
+{
+    match said {
+        Said::Nothing => Answer::Nothing,
+        Said::Asks(command) => answer_command(alloc, session, command),
+        Said::Malformed(word) => Answer::Refused(word, Refusal::BadLine),
+        Said::BadMoment => Answer::Refused(Word::SeekTime, Refusal::BadTime),
+        Said::Unfit(word) => Answer::Refused(word, Refusal::BadLine),
+    }
+}
+
+/// Does what the bytes of a line say.
+fn answer_bytes(alloc: Global, session: &mut Session, bytes: &[u8]) -> Answer
+    ensures kept { incident_of session.new ≡ incident_of session.old }
+    ensures fated { length bytes.now ≤ longest → Fated (incident_of session.old) session.old.cursor session.new.cursor bytes.now result }
+{
+    match Said::read(alloc, bytes) {
+        Ok(said) => answer_said(alloc, session, said),
+        Err(unread) => Answer::Refused(unread.word, Refusal::Memory),
+    }
+}
+
+/// Answers a line.
+fn answer(alloc: Global, session: &mut Session, line: &Line) -> Answer
+    ensures kept { incident_of session.new ≡ incident_of session.old }
+    ensures fated { (bytes : List ℕ) → Holds line.now bytes
+        → Fated (incident_of session.old) session.old.cursor session.new.cursor bytes result }
+{
+    match line.content() {
+        Content::TooLong => Answer::Refused(Word::Unknown, Refusal::LineTooLong),
+        Content::Unheld => Answer::Refused(Word::Unknown, Refusal::Memory),
+        Content::Held(bytes) => answer_bytes(alloc, session, bytes),
+    }
+}
+
+/// Answers a line, and writes what is to be written.
+fn write_line<W: Write>(
+    alloc: Global,
+    session: &mut Session,
+    line: &Line,
+    out: &mut W,
+) -> Result<(), WriteFailed>
+    ensures kept { incident_of session.new ≡ incident_of session.old }
+    ensures answered { (bytes : List ℕ) → Holds line.now bytes
+        → Answers (incident_of session.old) session.old.cursor session.new.cursor bytes
+        (W.contents out.old) (W.contents out.new) result }
+{
+    let answer = answer(alloc, session, line);
+    write_answer(out, session.cursor(), &answer)
+}
+
+/// The same, and hands on what the writer holds back.
+pub(crate) fn answer_line<W: Write>(
+    alloc: Global,
+    session: &mut Session,
+    line: &Line,
+    out: &mut W,
+) -> Result<(), WriteFailed>
+    ensures kept { incident_of session.new ≡ incident_of session.old }
+    ensures answered { (bytes : List ℕ) → Holds line.now bytes
+        → Answers (incident_of session.old) session.old.cursor session.new.cursor bytes
+        (W.contents out.old) (W.contents out.new) result }
+{
+    write_line(alloc, session, line, out)?;
+    flush(out)
+}
