@@ -10,7 +10,7 @@ use Rattle.std.proofs.lemmas.List.{same_lists, length-set, get_or-set_same, get_
 use Rattle.std.proofs.lemmas.List.Elements.{filter-append}
 use Rattle.std.proofs.lemmas.List.FromFn.{length-map-range_with_len, get_or-map-range_with_len, map-range_with_len_more}
 use Rattle.amr_labels.specs.Labels.{LabelSet}
-use Rattle.amr_labels.specs.Matchers.{all_hold}
+use Rattle.amr_matchers.specs.Matchers.{all_hold}
 use Rattle.amr_config.specs.declared.walk.Mark.{Mark}
 use Rattle.amr_config.specs.Config.{Config}
 use Rattle.amr_config.specs.Routing.{parent_of, matches_route, is_child, is_cut_off, is_chosen, route_is, chosen}

@@ -2,8 +2,8 @@
 use Rattle.std.proofs.Common.{◌≡◌, ℕ, Bool, true, false, cond, List, [], ◌∷◌, ◌++◌, map, Err, refl, inr, arith}
 use Rattle.std.specs.List.{Contains, filter}
 use Rattle.std.proofs.lemmas.List.Elements.{Contains-append_right}
-use Rattle.amr_labels.specs.Matchers.{Matcher, takes_pattern}
-use Rattle.amr_labels.specs.MatcherRefusals.{OneMayBeRefused}
+use Rattle.amr_matchers.specs.Matchers.{Matcher, takes_pattern}
+use Rattle.amr_matchers.specs.MatcherRefusals.{OneMayBeRefused}
 use Rattle.amr_config.specs.declared.error.Refusal.TheVariants.{BadConfig}
 use Rattle.amr_config.specs.declared.error.ConfigError.{ConfigError}
 use Rattle.amr_config.specs.declared.error.ConfigError.TheVariants.{Memory, Refused}

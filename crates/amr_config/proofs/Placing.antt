@@ -2,7 +2,7 @@
 use Rattle.std.proofs.Common.{◌≡◌, ℕ, ◌+◌, Bool, true, false, cond, List, [], ◌∷◌, refl, ap, ◌∙◌, add-one}
 use Rattle.std.specs.List.{insert}
 use Rattle.std.specs.Ordering.{is_gt}
-use Rattle.amr_labels.specs.Matchers.{Matcher, matcher_cmp}
+use Rattle.amr_matchers.specs.Matchers.{Matcher, matcher_cmp}
 use Rattle.amr_config.specs.Routing.{with_matcher}
 use Rattle.amr_labels.specs.Labels.{text_cmp}
 use Rattle.amr_config.specs.declared.read_receivers.Kind.{Kind}

@@ -1,7 +1,7 @@
 -- Places in sorted lists.
 use Rattle.std.specs.Prelude.{ℕ, ◌+◌, List, [], ◌∷◌, if◌then◌else◌}
 use Rattle.std.specs.Ordering.{is_gt}
-use Rattle.amr_labels.specs.Matchers.{Matcher, matcher_cmp}
+use Rattle.amr_matchers.specs.Matchers.{Matcher, matcher_cmp}
 
 -- before the first matcher that is greater
 abbrev pub place_in : List Matcher → Matcher → ℕ

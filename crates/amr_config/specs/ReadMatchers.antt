@@ -2,10 +2,10 @@
 use Rattle.std.specs.Prelude.{ℕ, List, [], ◌∷◌, ◌++◌, length, Option, Some, None, Ok, Err, if◌then◌else◌, ◌==◌}
 use Rattle.serde_json.specs.Data.{Data}
 use Rattle.amr_labels.specs.Labels.{Text}
-use Rattle.amr_labels.specs.Matchers.{Matcher}
-use Rattle.amr_labels.specs.MatcherReading.{matchers_of}
-use Rattle.amr_labels.specs.declared.Operator.{Operator}
-use Rattle.amr_labels.specs.declared.Operator.TheVariants.{Equal, Matches}
+use Rattle.amr_matchers.specs.Matchers.{Matcher}
+use Rattle.amr_matchers.specs.MatcherReading.{matchers_of}
+use Rattle.amr_matchers.specs.declared.Operator.{Operator}
+use Rattle.amr_matchers.specs.declared.Operator.TheVariants.{Equal, Matches}
 use Rattle.amr_config.specs.declared.error.Refusal.TheVariants.{BadConfig}
 use Rattle.amr_config.specs.Paths.{under, item_path}
 use Rattle.amr_config.specs.Members.{present, member_of, text_at, items_at, members_at}

@@ -1,7 +1,7 @@
 -- The routes of a configuration, by the walk through their members in the order of the keys.
 use Rattle.std.specs.Prelude.{ℕ, zero, suc, List, [], ◌∷◌, ◌++◌, length, Option, Some, None, Ok, Err, codes, ◌||◌}
 use Rattle.serde_json.specs.Data.{Data}
-use Rattle.amr_labels.specs.Matchers.{Matcher}
+use Rattle.amr_matchers.specs.Matchers.{Matcher}
 use Rattle.amr_config.specs.declared.error.Refusal.TheVariants.{BadConfig, TooDeep}
 use Rattle.amr_config.specs.declared.route.Route.{Route}
 use Rattle.amr_config.specs.declared.read_routes.Tree.{Tree}

@@ -3,8 +3,8 @@ use Rattle.std.specs.Prelude.{◌≡◌, ◌⊎◌, ℕ, ◌+◌, List, [], ◌+
 use Rattle.std.specs.List.{Contains, filter}
 use Rattle.serde_json.specs.Data.{Data, Items, no_items, item, Members, no_members, member}
 use Rattle.amr_labels.specs.Labels.{Text}
-use Rattle.amr_labels.specs.Matchers.{Matcher, takes_pattern}
-use Rattle.amr_labels.specs.Patterns.{MayRefuse}
+use Rattle.amr_matchers.specs.Matchers.{Matcher, takes_pattern}
+use Rattle.amr_matchers.specs.Patterns.{MayRefuse}
 use Rattle.amr_config.specs.declared.error.Refusal.{Refusal}
 use Rattle.amr_config.specs.declared.error.Refusal.TheVariants.{BadConfig}
 

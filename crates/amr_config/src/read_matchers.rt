@@ -1,7 +1,7 @@
 //! Lists of matchers, read from a value.
 ghost use Rattle.std.specs.Prelude.{◌≡◌, [], ◌∷◌, ◌++◌, OnOk};
 ghost use Rattle.serde_json.specs.View.{view};
-ghost use Rattle.amr_labels.specs.MatcherReading.{matchers_of};
+ghost use Rattle.amr_matchers.specs.MatcherReading.{matchers_of};
 ghost use Rattle.amr_config.specs.Paths.{place_path};
 ghost use Rattle.amr_config.specs.Answers.{Reads, ReadsInto};
 ghost use Rattle.amr_config.specs.ReadMatchers.{matcher_at, matcher_into, members_into, stated_into, object_into, spelled_at, spelled_into, texts_into, list_into, matchers_at};
@@ -9,7 +9,8 @@ ghost use Rattle.amr_config.specs.ReadMatchers.{matcher_at, matcher_into, member
 use crate::error::ConfigError;
 use crate::members::{items, member, text};
 use crate::place::Place;
-use amr_labels::{Matcher, MatcherError, Matchers, Operator, ParseError, Text};
+use amr_labels::Text;
+use amr_matchers::{Matcher, MatcherError, Matchers, Operator, ParseError};
 use serde_json::Value;
 use std::alloc::{AllocError, Global};
 

@@ -1,7 +1,8 @@
 //! Routes as they are stated.
 ghost use Rattle.std.specs.Prelude.{◌≡◌};
 
-use amr_labels::{Exact, Listing, Matchers, Text};
+use amr_labels::{Exact, Listing, Text};
+use amr_matchers::Matchers;
 use amr_time::Span;
 use std::alloc::AllocError;
 

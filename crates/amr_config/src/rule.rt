@@ -1,6 +1,7 @@
 //! Inhibition rules.
 
-use amr_labels::{Listing, Matchers, Text};
+use amr_labels::{Listing, Text};
+use amr_matchers::Matchers;
 
 /// A rule by which alerts mute others (`inhibit_rules` of Alertmanager's configuration).
 #[derive(Debug, Drop)]

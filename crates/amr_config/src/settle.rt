@@ -8,7 +8,8 @@ use crate::route::{Grouping, Route};
 use crate::settings::Settings;
 use crate::sorted::sorted;
 use crate::stated::Stated;
-use amr_labels::{Listing, Matchers, Text};
+use amr_labels::{Listing, Text};
+use amr_matchers::Matchers;
 use amr_time::Span;
 use std::alloc::{AllocError, Global};
 

@@ -3,7 +3,7 @@ ghost use Rattle.std.specs.Prelude.{◌≡◌, ◌≤◌, length, IfOk, OnOk};
 ghost use Rattle.amr_config.specs.Routing.{with_matcher, sorted_matchers};
 ghost use Rattle.amr_config.specs.Places.{place_in};
 
-use amr_labels::{Matcher, Matchers};
+use amr_matchers::{Matcher, Matchers};
 use std::alloc::{AllocError, Global};
 use std::cmp::Ordering;
 

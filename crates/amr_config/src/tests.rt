@@ -1,6 +1,7 @@
 use crate::config::Config;
 use crate::error::ConfigError;
-use amr_labels::{Labels, Matchers, Operator, Text};
+use amr_labels::{Labels, Text};
+use amr_matchers::{Matchers, Operator};
 use serde_json::Value;
 use std::alloc::{AllocError, Global};
 use std::test::Fail;

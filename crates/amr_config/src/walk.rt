@@ -1,6 +1,6 @@
 //! The walk through the routing tree.
 ghost use Rattle.std.specs.Prelude.{◌≡◌, ◌+◌, ◌<◌, ◌≤◌, length, vec_len, IfOk, OnOk, Some, false};
-ghost use Rattle.amr_labels.specs.Matchers.{all_hold};
+ghost use Rattle.amr_matchers.specs.Matchers.{all_hold};
 ghost use Rattle.amr_config.specs.Routing.{chosen, parent_of, matches_route};
 ghost use Rattle.amr_config.specs.Marks.{marks_at, chosen_numbers, is_chosen_mark};
 

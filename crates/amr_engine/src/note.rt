@@ -2,7 +2,8 @@
 ghost use Rattle.std.specs.Prelude.{◌≡◌};
 ghost use Rattle.std.proofs.Common.{rules};
 
-use amr_labels::{Exact, Labels, Listing, Matchers, Text, TextMap};
+use amr_labels::{Exact, Labels, Listing, Text, TextMap};
+use amr_matchers::Matchers;
 use amr_time::Moment;
 use std::alloc::AllocError;
 use std::cmp::Ordering;

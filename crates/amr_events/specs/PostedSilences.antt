@@ -4,9 +4,9 @@ use Rattle.std.specs.List.{list_any}
 use Rattle.serde_json.specs.Data.{Data}
 use Rattle.serde_json.specs.Find.{get, as_str, as_array}
 use Rattle.amr_labels.specs.Labels.{Text, is_empty}
-use Rattle.amr_labels.specs.Matchers.{Matcher}
-use Rattle.amr_labels.specs.declared.Operator.{Operator}
-use Rattle.amr_labels.specs.declared.Operator.TheVariants.{Equal, NotEqual, Matches, NotMatches}
+use Rattle.amr_matchers.specs.Matchers.{Matcher}
+use Rattle.amr_matchers.specs.declared.Operator.{Operator}
+use Rattle.amr_matchers.specs.declared.Operator.TheVariants.{Equal, NotEqual, Matches, NotMatches}
 use Rattle.amr_events.specs.Ids.{id_of}
 use Rattle.amr_events.specs.Shapes.{◌>>=◌, present, each_item, text_under, flag_under, moment_under}
 use Rattle.amr_events.specs.declared.event.PostedSilence.{PostedSilence}

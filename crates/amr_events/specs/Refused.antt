@@ -2,8 +2,8 @@
 use Rattle.std.specs.Prelude.{◌≡◌, ◌⊎◌, ℕ, List, codes, Option, Some, None, Result, Any}
 use Rattle.serde_json.specs.Data.{Data}
 use Rattle.serde_json.specs.Find.{get}
-use Rattle.amr_labels.specs.Matchers.{Matcher}
-use Rattle.amr_labels.specs.MatcherRefusals.{MayBeRefused}
+use Rattle.amr_matchers.specs.Matchers.{Matcher}
+use Rattle.amr_matchers.specs.MatcherRefusals.{MayBeRefused}
 use Rattle.amr_config.specs.Config.{Config}
 use Rattle.amr_config.specs.Reading.{ConfigIs}
 use Rattle.amr_config.specs.declared.error.Refusal.{Refusal}

@@ -5,7 +5,8 @@ ghost use Rattle.amr_time.specs.Time.{latest_read};
 use crate::reason::Reason;
 use crate::silence_id::SilenceId;
 use amr_config::Config;
-use amr_labels::{Listing, Matchers, Text, TextMap};
+use amr_labels::{Listing, Text, TextMap};
+use amr_matchers::Matchers;
 use amr_time::Moment;
 use std::marker::Model;
 

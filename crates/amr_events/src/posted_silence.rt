@@ -4,8 +4,8 @@ ghost use Rattle.std.specs.List.{list_any};
 ghost use Rattle.serde_json.specs.View.{view};
 ghost use Rattle.serde_json.specs.Find.{get};
 ghost use Rattle.amr_labels.specs.Labels.{is_empty};
-ghost use Rattle.amr_labels.specs.MatcherRefusals.{MayBeRefused};
-ghost use Rattle.amr_labels.specs.declared.pattern.MatcherError.TheVariants.{BadPattern};
+ghost use Rattle.amr_matchers.specs.MatcherRefusals.{MayBeRefused};
+ghost use Rattle.amr_matchers.specs.declared.pattern.MatcherError.TheVariants.{BadPattern};
 ghost use Rattle.amr_events.specs.Shapes.{present};
 ghost use Rattle.amr_events.specs.Answers.{Reads, ReadsBut};
 ghost use Rattle.amr_events.specs.PostedSilences.{operator_by, matcher_of, matchers_of, if_named, id_at, named_id as named_id_of, named_id_at, named_id_in, new_id_in, silence_of};
@@ -15,7 +15,8 @@ use crate::error::LineError;
 use crate::event::PostedSilence;
 use crate::shapes::{flag, member, moment, text};
 use crate::silence_id::SilenceId;
-use amr_labels::{Matcher, MatcherError, Matchers, Operator, Text};
+use amr_labels::Text;
+use amr_matchers::{Matcher, MatcherError, Matchers, Operator};
 use serde_json::Value;
 use std::alloc::{AllocError, Global};
 use std::marker::Model;
@@ -29,7 +30,7 @@ struct StatedMatcher {
 }
 
 impl Model for StatedMatcher {
-    ghost use Rattle.amr_labels.specs.Matchers.{Matcher};
+    ghost use Rattle.amr_matchers.specs.Matchers.{Matcher};
 
     ghost Value = { Matcher };
 

@@ -1,5 +1,5 @@
 use super::*;
-use amr_labels::{Matcher, Operator};
+use amr_matchers::{Matcher, Operator};
 use amr_time::Moment;
 use std::alloc::Global;
 use std::test::Fail;

@@ -1,12 +1,6 @@
-pub mod Finds
 pub mod Numbers
 pub mod Pairs
 pub mod Proper
 pub mod Searches
 pub mod Sorted
 pub mod Trees
-pub mod MatcherRuns
-pub mod MatcherKinds
-pub mod MatcherSpelled
-pub mod MatcherRead
-pub mod MatcherFaults

@@ -6,7 +6,6 @@ use crate::interner::Interner;
 use crate::label_map::LabelMap;
 use crate::labels::Labels;
 use crate::listing::Listing;
-use crate::matcher::Matcher;
 use crate::shared::Shared;
 use crate::text::Text;
 use crate::text_map::TextMap;
@@ -29,10 +28,6 @@ impl Exact for TextMap {
 }
 
 impl Exact for Labels {
-    ghost exact = { λ x y same. same };
-}
-
-impl Exact for Matcher {
     ghost exact = { λ x y same. same };
 }
 

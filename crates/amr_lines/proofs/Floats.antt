@@ -8,7 +8,7 @@ use Rattle.serde_json.specs.Data.{Data, Members, no_members, member, put}
 use Rattle.serde_json.specs.View.{items_of}
 use Rattle.serde_json.specs.Written.{has_float, items_have_float, members_have_float}
 use Rattle.amr_labels.specs.Labels.{Text, LabelSet}
-use Rattle.amr_labels.specs.Matchers.{Matcher}
+use Rattle.amr_matchers.specs.Matchers.{Matcher}
 use Rattle.amr_labels.specs.Set.{items}
 use Rattle.amr_time.specs.Time.{Moment}
 use Rattle.amr_rules.specs.declared.alert.Alert.{Alert}

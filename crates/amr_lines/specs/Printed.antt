@@ -5,12 +5,12 @@ use Rattle.serde_json.specs.Data.{Data, Members, unsigned, null, boolean, number
 use Rattle.serde_json.specs.View.{items_of}
 use Rattle.serde_json.specs.Written.{compact_text}
 use Rattle.amr_events.specs.Ids.{id_text}
-use Rattle.amr_labels.specs.declared.Operator.{Operator}
-use Rattle.amr_labels.specs.declared.Operator.TheVariants as operator
+use Rattle.amr_matchers.specs.declared.Operator.{Operator}
+use Rattle.amr_matchers.specs.declared.Operator.TheVariants as operator
 use Rattle.amr_labels.specs.Map.{entries}
 use Rattle.amr_labels.specs.Set.{items}
 use Rattle.amr_labels.specs.Labels.{Text, LabelSet}
-use Rattle.amr_labels.specs.Matchers.{Matcher}
+use Rattle.amr_matchers.specs.Matchers.{Matcher}
 use Rattle.amr_time.specs.Time.{Moment}
 use Rattle.amr_rules.specs.declared.alert.Alert.{Alert}
 use Rattle.amr_rules.specs.declared.silence.Silence.{Silence}

@@ -8,7 +8,8 @@ ghost use Rattle.amr_lines.specs.Printed.{label_sets_data, since_data, is_equal 
 use crate::values::{moment_value, texts_value};
 use amr_engine::{Group, LogKey};
 use amr_events::SilenceId;
-use amr_labels::{LabelMap, Labels, Matcher, Matchers, Operator};
+use amr_labels::{LabelMap, Labels};
+use amr_matchers::{Matcher, Matchers, Operator};
 use amr_rules::{Alert, LogEntry, Silence};
 use amr_time::Moment;
 use serde_json::{Map, Value, json, put};

@@ -6,7 +6,8 @@ use crate::{
 use amr_config::Config;
 use amr_engine::{Engine, Finding, Verdict};
 use amr_events::{Script, SilenceId};
-use amr_labels::{Matcher, Matchers, Operator, Text};
+use amr_labels::Text;
+use amr_matchers::{Matcher, Matchers, Operator};
 use amr_rules::Silence;
 use amr_time::read_moment;
 use serde_json::Value;

@@ -3,7 +3,7 @@ ghost use Rattle.std.specs.Prelude.{◌≡◌, ◌&&◌, IfOk, is_some};
 ghost use Rattle.std.specs.Option.{option_copied};
 ghost use Rattle.std.specs.Ordering.{eq_by_cmp};
 ghost use Rattle.amr_labels.specs.Labels.{text_cmp, value_of};
-ghost use Rattle.amr_labels.specs.Matchers.{all_hold};
+ghost use Rattle.amr_matchers.specs.Matchers.{all_hold};
 ghost use Rattle.amr_config.specs.Config.{Config};
 ghost use Rattle.amr_rules.specs.Muting.{agree_on, rule_mutes, inhibits, is_inhibited, inhibitor_by, inhibition_from, silences_labels, is_silenced, silencer_of};
 

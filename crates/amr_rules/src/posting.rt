@@ -5,7 +5,8 @@ ghost use Rattle.std.specs.Option.{option_map_or};
 ghost use Rattle.amr_labels.specs.Map as map;
 
 use crate::silence::{Silence, silence_expire};
-use amr_labels::{Labels, Matcher, Matchers, Operator};
+use amr_labels::Labels;
+use amr_matchers::{Matcher, Matchers, Operator};
 use amr_time::Moment;
 use std::alloc::{AllocError, Global};
 

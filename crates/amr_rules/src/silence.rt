@@ -1,7 +1,8 @@
 //! Silences: when they act, and how they are expired.
 ghost use Rattle.std.specs.Prelude.{◌≡◌};
 
-use amr_labels::{Exact, Matchers};
+use amr_labels::Exact;
+use amr_matchers::Matchers;
 use amr_time::Moment;
 use std::alloc::AllocError;
 

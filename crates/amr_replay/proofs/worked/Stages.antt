@@ -4,8 +4,8 @@ use Rattle.std.proofs.Common.{refl}
 use Rattle.amr_labels.specs.Map.{entries, from_entries}
 use Rattle.amr_labels.specs.Map.{computing}
 use Rattle.amr_labels.specs.Labels.{Text}
-use Rattle.amr_labels.specs.Matchers.{Matcher}
-use Rattle.amr_labels.specs.declared.Operator.TheVariants as operator
+use Rattle.amr_matchers.specs.Matchers.{Matcher}
+use Rattle.amr_matchers.specs.declared.Operator.TheVariants as operator
 use Rattle.amr_time.specs.Time.{Moment, second, minute, hour}
 use Rattle.amr_config.specs.declared.route.Route.{Route}
 use Rattle.amr_config.specs.Config.{Config}

@@ -3,8 +3,8 @@ use Rattle.std.specs.Prelude.{◌≡◌, Bool, true, false, List, [], ◌∷◌,
 use Rattle.std.proofs.Common.{refl}
 use Rattle.amr_labels.specs.Map.{entries, from_entries}
 use Rattle.amr_labels.specs.Labels.{Text}
-use Rattle.amr_labels.specs.Matchers.{Matcher}
-use Rattle.amr_labels.specs.declared.Operator.TheVariants as operator
+use Rattle.amr_matchers.specs.Matchers.{Matcher}
+use Rattle.amr_matchers.specs.declared.Operator.TheVariants as operator
 use Rattle.amr_time.specs.Time.{Moment, second, minute, hour}
 use Rattle.amr_config.specs.declared.route.Grouping.TheVariants.{Named}
 use Rattle.amr_config.specs.Config.{Config}

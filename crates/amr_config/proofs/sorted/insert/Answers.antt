@@ -1,6 +1,6 @@
 use Rattle.std.proofs.Common.{ℕ, sym, ap, ◌∙◌}
 use Rattle.std.specs.List.{insert}
-use Rattle.amr_labels.specs.Matchers.{Matcher}
+use Rattle.amr_matchers.specs.Matchers.{Matcher}
 use Rattle.amr_config.specs.Places.{place_in}
 use Rattle.amr_config.proofs.Placing.{with_matcher_is}
 use Rattle.amr_config.proofs.sorted.insert.Goals as goal

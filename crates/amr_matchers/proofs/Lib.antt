@@ -1,0 +1,6 @@
+pub mod Finds
+pub mod MatcherRuns
+pub mod MatcherKinds
+pub mod MatcherSpelled
+pub mod MatcherRead
+pub mod MatcherFaults

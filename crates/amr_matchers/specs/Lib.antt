@@ -1,0 +1,7 @@
+pub mod Patterns
+pub mod Matchers
+pub mod Comparisons
+pub mod MatcherText
+pub mod MatcherReading
+pub mod MatcherRefusals
+pub mod MatcherLaws

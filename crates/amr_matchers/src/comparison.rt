@@ -1,0 +1,100 @@
+//! How a label's value is compared with a matcher's own.
+ghost use Rattle.std.specs.Prelude.{◌≡◌, IfOk, IsErrOf, IsOk, false, true};
+ghost use Rattle.amr_matchers.specs.Matchers.{compares, takes_pattern};
+ghost use Rattle.amr_matchers.specs.Comparisons.{operator_of, own_value};
+ghost use Rattle.amr_matchers.specs.Patterns.{MayRefuse};
+ghost use Rattle.amr_matchers.specs.declared.pattern.MatcherError.TheVariants.{BadPattern};
+
+use crate::Operator;
+use crate::pattern::{MatcherError, Pattern};
+use amr_labels::{Shared, Text};
+use std::alloc::{AllocError, Global};
+use std::cmp::Ordering;
+
+/// A comparison with a value of one's own. Clones share the pattern.
+#[derive(Debug, Drop)]
+pub(crate) enum Comparison {
+    Is(Text),
+    IsNot(Text),
+    Matches(Shared<Pattern>),
+    MatchesNot(Shared<Pattern>),
+}
+
+/// Reads the pattern, and shares it.
+fn shared_pattern(alloc: Global, text: Text) -> Result<Shared<Pattern>, MatcherError>
+    ensures read { IfOk result (λ shared. shared ≡ text) }
+    ensures refused { IsErrOf result BadPattern → MayRefuse text }
+{
+    let pattern = Pattern::new(alloc, text)?;
+    Ok(Shared::new(alloc, pattern)?)
+}
+
+impl Comparison {
+    /// The comparison by an operator with a value.
+    pub(crate) fn new(
+        alloc: Global,
+        operator: Operator,
+        own: Text,
+    ) -> Result<Comparison, MatcherError>
+        ensures operator { IfOk result (λ comparison. operator_of comparison ≡ operator) }
+        ensures own { IfOk result (λ comparison. own_value comparison ≡ own) }
+        ensures refused { IsErrOf result BadPattern → (takes_pattern operator ≡ true) × MayRefuse own }
+    {
+        match operator {
+            Operator::Equal => Ok(Comparison::Is(own)),
+            Operator::NotEqual => Ok(Comparison::IsNot(own)),
+            Operator::Matches => Ok(Comparison::Matches(shared_pattern(alloc, own)?)),
+            Operator::NotMatches => Ok(Comparison::MatchesNot(shared_pattern(alloc, own)?)),
+        }
+    }
+
+    /// The operator.
+    pub(crate) fn operator(&self) -> Operator
+        ensures { result ≡ operator_of self.now }
+    {
+        match self {
+            Comparison::Is(_) => Operator::Equal,
+            Comparison::IsNot(_) => Operator::NotEqual,
+            Comparison::Matches(_) => Operator::Matches,
+            Comparison::MatchesNot(_) => Operator::NotMatches,
+        }
+    }
+
+    /// The value of one's own.
+    pub(crate) fn own(&self) -> &Text
+        ensures { result.now ≡ own_value self.now }
+    {
+        match self {
+            Comparison::Is(own) => own,
+            Comparison::IsNot(own) => own,
+            Comparison::Matches(pattern) => pattern.get().text(),
+            Comparison::MatchesNot(pattern) => pattern.get().text(),
+        }
+    }
+
+    /// What the comparison with the value says.
+    pub(crate) fn compares(&self, alloc: Global, value: &str) -> Result<bool, AllocError>
+        ensures answer { IfOk result (λ found. found ≡ compares (operator_of self.now) (own_value self.now) value.now) }
+        ensures plain { takes_pattern (operator_of self.now) ≡ false → IsOk result }
+    {
+        match self {
+            Comparison::Is(own) => Ok(value.cmp(own.as_str()) == Ordering::Equal),
+            Comparison::IsNot(own) => Ok(value.cmp(own.as_str()) != Ordering::Equal),
+            Comparison::Matches(pattern) => Ok(pattern.get().matches(alloc, value)?),
+            Comparison::MatchesNot(pattern) => Ok(!pattern.get().matches(alloc, value)?),
+        }
+    }
+}
+
+impl Clone for Comparison {
+    ghost is_clone = { λ a b. b ≡ a };
+
+    fn clone(&self) -> Result<Comparison, AllocError> {
+        match self {
+            Comparison::Is(own) => Ok(Comparison::Is(own.clone()?)),
+            Comparison::IsNot(own) => Ok(Comparison::IsNot(own.clone()?)),
+            Comparison::Matches(pattern) => Ok(Comparison::Matches(pattern.clone()?)),
+            Comparison::MatchesNot(pattern) => Ok(Comparison::MatchesNot(pattern.clone()?)),
+        }
+    }
+}

@@ -1,0 +1,25 @@
+//! Matchers of labels: what they hold on, and how they are read from texts.
+#![tactic(auto)]
+
+mod comparison;
+pub mod laws;
+mod matcher;
+mod matcher_reader;
+mod matcher_steps;
+mod matchers;
+mod parse;
+mod pattern;
+
+pub use matcher::{Matcher, all_match};
+pub use matchers::Matchers;
+pub use parse::ParseError;
+pub use pattern::{MatcherError, Pattern};
+
+/// How a matcher compares a label's value with its own.
+#[derive(Clone, Copy, Debug, PartialEq, Eq)]
+pub enum Operator {
+    Equal,
+    NotEqual,
+    Matches,
+    NotMatches,
+}

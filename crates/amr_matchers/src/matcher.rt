@@ -1,0 +1,160 @@
+//! Matchers of labels.
+ghost use Rattle.std.specs.Prelude.{◌≡◌, IfOk, IsErrOf, IsOk, false, true};
+ghost use Rattle.std.proofs.Common.{rules};
+ghost use Rattle.std.specs.Cmp.{partial_order_from_own_ties};
+ghost use Rattle.std.specs.Cmp.Rules.{comparing};
+ghost use Rattle.std.specs.Ordering.{as_partial_cmp, eq_by_cmp};
+ghost use Rattle.amr_matchers.specs.Matchers.{holds, all_hold, takes_pattern, operator_place, matcher_cmp, matcher_cmp_total};
+ghost use Rattle.amr_matchers.specs.Patterns.{MayRefuse};
+ghost use Rattle.amr_matchers.specs.declared.pattern.MatcherError.TheVariants.{BadPattern};
+
+use crate::Operator;
+use crate::comparison::Comparison;
+use crate::pattern::MatcherError;
+use amr_labels::{Exact, Labels, Text};
+use std::alloc::{AllocError, Global};
+use std::cmp::Ordering;
+use std::marker::Model;
+
+/// A matcher: the name of a label, an operator, and a value, as in Alertmanager's `alertname="X"`, `team!="a"`, `zone=~"a|b"`, `zone!~"a|b"`.
+/// A label that is absent has the empty value, and a pattern has to match the whole value. Clones share the pattern, which is built once.
+#[derive(Debug, Drop)]
+pub struct Matcher {
+    name: Text,
+    comparison: Comparison,
+}
+
+impl Model for Matcher {
+    ghost use Rattle.amr_matchers.specs.Matchers as matchers;
+    ghost use Rattle.amr_matchers.specs.Comparisons.{operator_of, own_value};
+
+    ghost Value = { matchers.Matcher };
+
+    ghost view = { λ matcher. record { name = matcher.name; operator = operator_of matcher.comparison; value = own_value matcher.comparison } };
+}
+
+impl Matcher {
+    /// The matcher of a name, an operator and a value. `BadPattern` is answered only where `regex` refuses the value of `=~` or `!~`.
+    pub fn new(
+        alloc: Global,
+        name: Text,
+        operator: Operator,
+        value: Text,
+    ) -> Result<Matcher, MatcherError>
+        ensures made { IfOk result (λ matcher. matcher ≡ record { name = name; operator = operator; value = value }) }
+        ensures refused { IsErrOf result BadPattern → (takes_pattern operator ≡ true) × MayRefuse value }
+    {
+        let comparison = Comparison::new(alloc, operator, value)?;
+        Ok(Matcher { name, comparison })
+    }
+
+    /// The name of the label.
+    pub fn name(&self) -> &Text
+        ensures { result.now ≡ self.now.name }
+    {
+        &self.name
+    }
+
+    /// How the label's value is compared.
+    pub fn operator(&self) -> Operator
+        ensures { result ≡ self.now.operator }
+    {
+        self.comparison.operator()
+    }
+
+    /// The matcher's own value, for `=~` and `!~` the text of the pattern.
+    pub fn value(&self) -> &Text
+        ensures { result.now ≡ self.now.value }
+    {
+        self.comparison.own()
+    }
+
+    /// Whether the matcher holds on the labels.
+    pub fn matches(&self, alloc: Global, labels: &Labels) -> Result<bool, AllocError>
+        ensures answer { IfOk result (λ found. found ≡ holds self.now labels.now) }
+        ensures plain { takes_pattern self.now.operator ≡ false → IsOk result }
+    {
+        self.comparison
+            .compares(alloc, labels.value_of(self.name.as_str()))
+    }
+}
+
+/// Whether all the matchers of a list hold on the labels.
+pub fn all_match(alloc: Global, matchers: &[Matcher], labels: &Labels) -> Result<bool, AllocError>
+    ensures { IfOk result (λ all. all ≡ all_hold matchers.now labels.now) }
+{
+    for matcher in matchers {
+        if !matcher.matches(alloc, labels)? {
+            return Ok(false);
+        }
+    }
+    Ok(true)
+}
+
+/// The place of an operator in the order of matchers.
+fn place(operator: Operator) -> u8
+    ensures { result ≡ operator_place operator }
+{
+    match operator {
+        Operator::Equal => 0,
+        Operator::NotEqual => 1,
+        Operator::Matches => 2,
+        Operator::NotMatches => 3,
+    }
+}
+
+impl Clone for Matcher {
+    ghost is_clone = { λ a b. b ≡ a };
+
+    fn clone(&self) -> Result<Matcher, AllocError> {
+        Ok(Matcher {
+            name: self.name.clone()?,
+            comparison: self.comparison.clone()?,
+        })
+    }
+}
+
+impl Exact for Matcher {
+    ghost exact = { λ x y same. same };
+}
+
+impl PartialEq for Matcher {
+    ghost eq = { eq_by_cmp matcher_cmp };
+
+    ghost laws = { Prim.search (comparing, rules, matcher_cmp_total) };
+
+    fn eq(&self, other: &Matcher) -> bool {
+        self.cmp(other) == Ordering::Equal
+    }
+}
+
+impl Eq for Matcher {
+    ghost laws = { Prim.search (comparing, rules, matcher_cmp_total) };
+}
+
+impl Ord for Matcher {
+    ghost cmp = { matcher_cmp };
+
+    ghost total = { matcher_cmp_total };
+
+    ghost matches_partial_cmp = { Prim.search (comparing, rules) };
+
+    ghost matches_eq = { Prim.search (comparing, rules) };
+
+    fn cmp(&self, other: &Matcher) -> Ordering {
+        let by_operator = place(self.operator()).cmp(&place(other.operator()));
+        self.name
+            .cmp(&other.name)
+            .then(self.value().cmp(other.value()).then(by_operator))
+    }
+}
+
+impl PartialOrd for Matcher {
+    ghost partial_cmp = { as_partial_cmp matcher_cmp };
+
+    ghost laws = { partial_order_from_own_ties (Prim.search (comparing, rules, matcher_cmp_total)) (Prim.search (comparing, rules)) };
+
+    fn partial_cmp(&self, other: &Matcher) -> Option<Ordering> {
+        Some(self.cmp(other))
+    }
+}

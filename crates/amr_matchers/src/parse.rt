@@ -1,0 +1,115 @@
+//! Lists of matchers read from a text.
+ghost use Rattle.std.specs.Prelude.{◌≡◌, Some, IfOk, IfErr, IsErrOf};
+ghost use Rattle.amr_matchers.specs.declared.pattern.MatcherError.TheVariants.{BadPattern as RefusedPattern};
+ghost use Rattle.amr_matchers.specs.MatcherReading.{matchers_of};
+ghost use Rattle.amr_matchers.specs.MatcherRefusals.{MayBeRefused, OneMayBeRefused, Explains};
+
+use crate::matcher::Matcher;
+use crate::matcher_reader::{Draft, Reader};
+use crate::matchers::Matchers;
+use crate::pattern::MatcherError;
+use std::alloc::{AllocError, AllocFailed, Global};
+
+/// Why a text isn't a list of matchers.
+#[derive(Debug, Drop)]
+pub enum ParseError {
+    /// An allocation failed.
+    Memory,
+    /// The text isn't a matcher text. `at` is the length in bytes of its longest beginning that some matcher text begins with.
+    BadMatcher { at: usize },
+    /// `regex` cannot read the value of a `=~` or `!~` as a pattern.
+    BadPattern,
+}
+
+impl From<AllocError> for ParseError {
+    ghost use Rattle.std.specs.Prelude.{◌≡◌};
+    ghost use Rattle.amr_matchers.specs.declared.parse.ParseError.TheVariants.{Memory};
+
+    ghost from_gives = { λ _ e. e ≡ Memory };
+
+    fn from(_error: AllocError) -> ParseError {
+        ParseError::Memory
+    }
+}
+
+impl<T: Drop> From<AllocFailed<T>> for ParseError {
+    ghost use Rattle.std.specs.Prelude.{◌≡◌};
+    ghost use Rattle.amr_matchers.specs.declared.parse.ParseError.TheVariants.{Memory};
+
+    ghost from_gives = { λ _ e. e ≡ Memory };
+
+    fn from(_error: AllocFailed<T>) -> ParseError {
+        ParseError::Memory
+    }
+}
+
+impl From<MatcherError> for ParseError {
+    ghost use Rattle.std.specs.Prelude.{◌≡◌};
+    ghost use Rattle.amr_matchers.specs.MatcherRefusals.{as_parse_error};
+
+    ghost from_gives = { λ error e. e ≡ as_parse_error error };
+
+    fn from(error: MatcherError) -> ParseError {
+        match error {
+            MatcherError::Memory => ParseError::Memory,
+            MatcherError::BadPattern => ParseError::BadPattern,
+        }
+    }
+}
+
+/// The matchers that a text spells, whose patterns aren't built yet.
+fn drafts_of(alloc: Global, text: &str) -> Result<Vec<Draft>, ParseError>
+    ensures read { IfOk result (λ drafts. matchers_of text.now ≡ Some drafts.items) }
+    ensures refused { IfErr result (Explains text.now) }
+{
+    let mut reader = Reader::new(alloc);
+    let mut at = 0;
+    for c in text.chars() {
+        let goes_on = reader.read(alloc, c)?;
+        if !goes_on {
+            return Err(ParseError::BadMatcher { at });
+        }
+        at += c.len_utf8();
+    }
+    match reader.finish(alloc)? {
+        Some(drafts) => Ok(drafts),
+        None => Err(ParseError::BadMatcher { at: text.len() }),
+    }
+}
+
+/// The matcher with its pattern.
+fn matcher_of(alloc: Global, draft: &Draft) -> Result<Matcher, MatcherError>
+    ensures built { IfOk result (λ matcher. matcher ≡ draft.now) }
+    ensures refused { IsErrOf result RefusedPattern → MayBeRefused draft.now }
+{
+    let name = draft.name.clone()?;
+    let value = draft.value.clone()?;
+    Matcher::new(alloc, name, draft.operator, value)
+}
+
+/// The matchers with their patterns, each built once.
+fn build(alloc: Global, drafts: &[Draft]) -> Result<Vec<Matcher>, MatcherError>
+    ensures built { IfOk result (λ matchers. matchers.items ≡ drafts.now) }
+    ensures refused { IsErrOf result RefusedPattern → OneMayBeRefused drafts.now }
+{
+    let mut built = Vec::new(alloc);
+    for draft in drafts {
+        let matcher = matcher_of(alloc, draft)?;
+        built.push(matcher)?;
+    }
+    Ok(built)
+}
+
+impl Matchers {
+    /// The matchers of a text in the matcher syntax of Alertmanager's configuration reference, as `{alertname="X", team=~"a|b"}` or `severity!=info`:
+    /// matchers separated by commas, in braces or not, with names and values unquoted or in double quotes. A text that isn't of this form is refused
+    /// as `BadMatcher`, also where a pattern in it can't be read. `BadPattern` is answered only where `regex` refuses a pattern.
+    pub fn parse(alloc: Global, text: &str) -> Result<Matchers, ParseError>
+        ensures read { IfOk result (λ matchers. matchers_of text.now ≡ Some matchers) }
+        ensures refused { IfErr result (Explains text.now) }
+    {
+        let drafts = drafts_of(alloc, text)?;
+        let built = build(alloc, drafts.as_slice())?;
+        Ok(Matchers::from_vec(alloc, built)?)
+    }
+}
