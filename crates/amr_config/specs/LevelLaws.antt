@@ -1,11 +1,11 @@
 -- When the routes of a configuration have too many levels.
 use Rattle.std.specs.Prelude.{◌≡◌, ◌↔◌, Result, Err}
 use Rattle.serde_json.specs.Data.{Data}
-use Rattle.amr_config.specs.declared.error.Refusal.{Refusal}
-use Rattle.amr_config.specs.declared.error.Refusal.TheVariants.{TooDeep}
+use Rattle.amr_stated.specs.declared.error.Refusal.{Refusal}
+use Rattle.amr_stated.specs.declared.error.Refusal.TheVariants.{TooDeep}
 use Rattle.amr_config.specs.Config.{Config}
 use Rattle.amr_config.specs.Reading.{config_of, ConfigIs}
-use Rattle.amr_config.specs.Levels.{HasDeepRoute}
+use Rattle.amr_stated.specs.Levels.{HasDeepRoute}
 
 -- a configuration is refused as too deep exactly where a route stands at level 33 or deeper
 abbrev pub DeepIsRefused : Type 0

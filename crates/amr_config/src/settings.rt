@@ -1,6 +1,6 @@
 //! A route's settings, stated there or inherited.
 
-use crate::route::Grouping;
+use amr_stated::Grouping;
 use amr_labels::{Listing, Matchers, Text};
 use amr_time::Span;
 

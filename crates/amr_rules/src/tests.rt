@@ -1,7 +1,7 @@
 ghost use Rattle.std.specs.Prelude.{◌<◌};
 
 use super::*;
-use amr_config::InhibitRule;
+use amr_stated::InhibitRule;
 use amr_events::{PostedAlert, SilenceId};
 use amr_labels::{LabelMap, Labels, Listing, Matcher, Matchers, Operator, Text, TextMap};
 use amr_time::{Moment, Span};

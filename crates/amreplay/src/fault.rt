@@ -4,7 +4,7 @@ ghost use Rattle.amr_lines.specs.Outlet.{WritesText};
 
 use crate::run::Stopped;
 use amr_commands::Broken;
-use amr_config::{ConfigError, Refusal};
+use amr_stated::{ConfigError, Refusal};
 use amr_events::{Fault as ScriptFault, ScriptError};
 use amr_lines::{WriteFailed, write_parts};
 use itoa::Buffer;

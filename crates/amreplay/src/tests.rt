@@ -3,7 +3,7 @@ use crate::fault::{Fault, status_of, write_fault};
 use crate::input::{Unread, read_whole};
 use crate::run::run_script;
 use crate::words::{Command, command_of};
-use amr_config::Refusal;
+use amr_stated::Refusal;
 use amr_events::Fault as ScriptFault;
 use amr_labels::Text;
 use std::alloc::Global;

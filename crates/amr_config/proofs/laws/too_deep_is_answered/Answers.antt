@@ -1,4 +1,4 @@
-use Rattle.amr_config.proofs.FlatRoutes.{deep_is_answered}
+use Rattle.amr_config.proofs.Refused.{deep_is_answered}
 use Rattle.amr_config.proofs.laws.too_deep_is_answered.Goals as goal
 
 pub returns : goal.returns
