@@ -7,13 +7,10 @@ ghost use Rattle.amr_labels.specs.Labels.{text_cmp};
 ghost use Rattle.amr_config.specs.Routing.{group_wait_of, group_interval_of, repeat_interval_of, receiver_name_of, integrations_of, path_of, group_of, grouped_by};
 ghost use Rattle.amr_config.specs.Settled.{settings_of, stated_config, AreParentsFirst};
 
-use amr_stated::{Integration, Receiver};
-use amr_stated::Grouping;
-use amr_stated::InhibitRule;
 use crate::settings::Settings;
 use crate::settle::settle;
-use amr_stated::Stated;
 use amr_labels::{Exact, Labels, Listing, Matchers, Text};
+use amr_stated::{Grouping, InhibitRule, Integration, Receiver, Stated};
 use amr_time::Span;
 use std::alloc::{AllocError, Global};
 use std::cmp::Ordering;

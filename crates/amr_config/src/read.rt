@@ -5,7 +5,7 @@ ghost use Rattle.amr_config.specs.Reading.{ConfigIs};
 
 use crate::config::Config;
 use crate::judge::refusal;
-use amr_stated::{is_too_deep, walk, ConfigError, Refusal};
+use amr_stated::{ConfigError, Refusal, is_too_deep, walk};
 use serde_json::Value;
 use std::alloc::Global;
 

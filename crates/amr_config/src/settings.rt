@@ -1,7 +1,7 @@
 //! A route's settings, stated there or inherited.
 
-use amr_stated::Grouping;
 use amr_labels::{Listing, Matchers, Text};
+use amr_stated::Grouping;
 use amr_time::Span;
 
 /// What holds at a route, stated by it or by the nearest route above that states it, or by default.

@@ -4,11 +4,10 @@ ghost use Rattle.std.specs.Option.{option_copied, option_map_or, option_or};
 ghost use Rattle.amr_config.specs.Routing.{sorted_matchers};
 ghost use Rattle.amr_config.specs.Settled.{stated_config, settled, settled_under, AreParentsFirst};
 
-use amr_stated::{Grouping, Route};
 use crate::settings::Settings;
 use crate::sorted::sorted;
-use amr_stated::Stated;
 use amr_labels::{Listing, Matchers, Text};
+use amr_stated::{Grouping, Route, Stated};
 use amr_time::Span;
 use std::alloc::{AllocError, Global};
 

@@ -1,9 +1,9 @@
 ghost use Rattle.std.specs.Prelude.{◌<◌};
 
 use super::*;
-use amr_stated::InhibitRule;
 use amr_events::{PostedAlert, SilenceId};
 use amr_labels::{LabelMap, Labels, Listing, Matcher, Matchers, Operator, Text, TextMap};
+use amr_stated::InhibitRule;
 use amr_time::{Moment, Span};
 use std::alloc::{AllocError, Global};
 use std::test::Fail;

@@ -16,7 +16,7 @@ mod stated;
 
 pub use error::{ConfigError, Refusal};
 pub use members::same;
-pub use read::{walk, Walked};
+pub use read::{Walked, walk};
 pub use read_routes::is_too_deep;
 pub use receiver::{Integration, Receiver};
 pub use route::{Grouping, Route};

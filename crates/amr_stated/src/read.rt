@@ -77,7 +77,7 @@ fn either(one: bool, other: bool) -> bool
 }
 
 /// Goes through the members of a configuration by key in byte order, and through lists in order, up to the first faulty place. Each pattern
-/// is built once, as it is met. That routes have too many levels is not asked before: see `is_too_deep`.
+/// is built once, as it is met. A route below the 32nd level is refused where the walk comes to it; `is_too_deep` tells it before.
 #[tactic(auto, unfolding(crate::specs::Walking::walked_at, crate::specs::Readings::next))]
 pub fn walk(alloc: Global, value: &Value) -> Result<Walked, ConfigError>
     ensures { Reads (λ w. w) result (walked_at (view value.now)) }

@@ -6,10 +6,10 @@ ghost use Rattle.amr_stated.specs.declared.error.Refusal.TheVariants.{BadConfig}
 
 use crate::fault::Fault;
 use amr_config::Config;
-use amr_stated::{ConfigError, Refusal};
 use amr_events::Script;
 use amr_labels::Text;
 use amr_replay::Session;
+use amr_stated::{ConfigError, Refusal};
 use serde_json::Value;
 use std::alloc::{AllocError, Global};
 
