@@ -14,7 +14,7 @@ use Rattle.amr_matchers.specs.Matchers.{all_hold}
 use Rattle.amr_config.specs.declared.walk.Mark.{Mark}
 use Rattle.amr_config.specs.Config.{Config}
 use Rattle.amr_config.specs.Routing.{parent_of, matches_route, is_child, is_cut_off, is_chosen, route_is, chosen}
-use Rattle.amr_config.specs.declared.route.Route.{Route}
+use Rattle.amr_stated.specs.declared.route.Route.{Route}
 use Rattle.amr_config.specs.declared.settings.Settings.{Settings}
 use Rattle.amr_config.specs.Settled.{AreParentsFirst, settings_of}
 use Rattle.amr_config.specs.Marks.{is_open, takes_from, closes, mark_of, marks_at, is_chosen_mark, chosen_numbers}

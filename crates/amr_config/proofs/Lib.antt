@@ -1,12 +1,8 @@
 pub mod Chosen
 pub mod Inherited
-pub mod Levels
 pub mod Lines
-pub mod Names
 pub mod Parents
-pub mod PatternsMet
 pub mod Placing
 pub mod Ranges
-pub mod Readings
+pub mod Refused
 pub mod Settling
-pub mod Turns

@@ -7,7 +7,7 @@ use Rattle.std.proofs.lemmas.List.{reverse-append}
 use Rattle.std.proofs.lemmas.List.FromFn.{length-map-range_with_len, get_or-map-range_with_len, map-range_with_len_more}
 use Rattle.amr_matchers.specs.Matchers.{Matcher}
 use Rattle.amr_time.specs.Time.{second, minute, hour}
-use Rattle.amr_config.specs.declared.route.Route.{Route}
+use Rattle.amr_stated.specs.declared.route.Route.{Route}
 use Rattle.amr_config.specs.declared.settings.Settings.{Settings}
 use Rattle.amr_config.specs.Config.{Config}
 use Rattle.amr_config.specs.Routing.{parent_of, line_of, first_stated, inherited, path_of, sorted_matchers}

@@ -5,13 +5,13 @@ use Rattle.std.specs.List.{list_any}
 use Rattle.std.specs.Ordering.{eq_by_cmp}
 use Rattle.amr_labels.specs.Labels.{Text, text_cmp}
 use Rattle.amr_time.specs.Time.{Span}
-use Rattle.amr_config.specs.declared.error.Refusal.{Refusal}
-use Rattle.amr_config.specs.declared.error.Refusal.TheVariants.{UnknownReceiver, DuplicateReceiver, RootRoute, ZeroInterval, BadGroupBy, TimeIntervals}
-use Rattle.amr_config.specs.declared.receiver.Receiver.{Receiver}
-use Rattle.amr_config.specs.declared.route.Route.{Route}
-use Rattle.amr_config.specs.declared.route.Grouping.{Grouping}
-use Rattle.amr_config.specs.declared.route.Grouping.TheVariants.{AllLabels, Named}
-use Rattle.amr_config.specs.declared.read.Walked.{Walked}
+use Rattle.amr_stated.specs.declared.error.Refusal.{Refusal}
+use Rattle.amr_stated.specs.declared.error.Refusal.TheVariants.{UnknownReceiver, DuplicateReceiver, RootRoute, ZeroInterval, BadGroupBy, TimeIntervals}
+use Rattle.amr_stated.specs.declared.receiver.Receiver.{Receiver}
+use Rattle.amr_stated.specs.declared.route.Route.{Route}
+use Rattle.amr_stated.specs.declared.route.Grouping.{Grouping}
+use Rattle.amr_stated.specs.declared.route.Grouping.TheVariants.{AllLabels, Named}
+use Rattle.amr_stated.specs.declared.read.Walked.{Walked}
 use Rattle.amr_config.specs.Shape.{are_different}
 
 -- a receiver has the name

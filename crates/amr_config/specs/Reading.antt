@@ -1,31 +1,16 @@
 -- A configuration, from the value that it is read from.
-use Rattle.std.specs.Prelude.{ℕ, List, false, Option, Some, None, Result, Ok, Err, codes, unwrap_or, if◌then◌else◌, ◌||◌}
+use Rattle.std.specs.Prelude.{ℕ, List, Option, Some, None, Result, Ok, Err, if◌then◌else◌}
 use Rattle.serde_json.specs.Data.{Data}
 use Rattle.amr_labels.specs.Labels.{Text}
-use Rattle.amr_config.specs.declared.error.Refusal.{Refusal}
-use Rattle.amr_config.specs.declared.error.Refusal.TheVariants.{TooDeep}
-use Rattle.amr_config.specs.declared.read.Walked.{Walked}
+use Rattle.amr_stated.specs.declared.error.Refusal.{Refusal}
+use Rattle.amr_stated.specs.declared.error.Refusal.TheVariants.{TooDeep}
+use Rattle.amr_stated.specs.declared.read.Walked.{Walked}
 use Rattle.amr_config.specs.Config.{Config}
 use Rattle.amr_config.specs.Settled.{stated_config}
-use Rattle.amr_config.specs.Members.{member_of, optional, intervals_at}
-use Rattle.amr_config.specs.Readings.{Reading, plain, ◌>>=◌, MayGive}
-use Rattle.amr_config.specs.Timeout.{timeout_at}
-use Rattle.amr_config.specs.ReadRules.{rules_at}
-use Rattle.amr_config.specs.ReadReceivers.{receivers_at}
-use Rattle.amr_config.specs.RouteParts.{is_too_deep}
-use Rattle.amr_config.specs.ReadRoutes.{routes_at}
+use Rattle.amr_stated.specs.Readings.{Reading, plain, ◌>>=◌, MayGive}
+use Rattle.amr_stated.specs.RouteParts.{is_too_deep}
 use Rattle.amr_config.specs.Judging.{refusal_of}
-
--- the walk through the members in the order of their keys
-unfoldable pub walked_at : Data → Reading Walked
-walked_at d = do
-  timeout ← plain (timeout_at d)
-  rules ← rules_at d
-  mute ← plain (optional (intervals_at (codes "mute_time_intervals")) (member_of (codes "mute_time_intervals") d))
-  receivers ← plain (receivers_at d)
-  tree ← routes_at d
-  named ← plain (optional (intervals_at (codes "time_intervals")) (member_of (codes "time_intervals") d))
-  plain (Ok (record { stated = record { routes = tree.routes; receivers = receivers; rules = rules; resolve_timeout = timeout }; intervals = tree.intervals; top_intervals = unwrap_or mute false || unwrap_or named false }))
+use Rattle.amr_stated.specs.Walking.{walked_at}
 
 abbrev pub unless_refused : Walked → Option Refusal → Result Config Refusal
 unless_refused walked None = Ok (stated_config walked.stated)

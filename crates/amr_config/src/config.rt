@@ -7,14 +7,11 @@ ghost use Rattle.amr_labels.specs.Labels.{text_cmp};
 ghost use Rattle.amr_config.specs.Routing.{group_wait_of, group_interval_of, repeat_interval_of, receiver_name_of, integrations_of, path_of, group_of, grouped_by};
 ghost use Rattle.amr_config.specs.Settled.{settings_of, stated_config, AreParentsFirst};
 
-use crate::receiver::{Integration, Receiver};
-use crate::route::Grouping;
-use crate::rule::InhibitRule;
 use crate::settings::Settings;
 use crate::settle::settle;
-use crate::stated::Stated;
 use amr_labels::{Exact, Labels, Listing, Text};
 use amr_matchers::Matchers;
+use amr_stated::{Grouping, InhibitRule, Integration, Receiver, Stated};
 use amr_time::Span;
 use std::alloc::{AllocError, Global};
 use std::cmp::Ordering;

@@ -6,12 +6,8 @@ ghost use Rattle.amr_labels.specs.Labels.{text_cmp};
 ghost use Rattle.amr_config.specs.Shape.{are_different};
 ghost use Rattle.amr_config.specs.Judging.{is_known as known_of, is_lost as lost_of, is_zero as zero_of, has_zero as zeros_of, is_bad_name as bad_of, has_bad_names as bad_names_of, is_badly_grouped as badly_of, is_bad_root as bad_root_of, root_is_bad, is_name_of as name_of, are_named_apart as apart_of, refusal_of};
 
-use crate::error::Refusal;
-use crate::members::same;
-use crate::read::Walked;
-use crate::receiver::Receiver;
-use crate::route::{Grouping, Route};
 use amr_labels::Text;
+use amr_stated::{Grouping, Receiver, Refusal, Route, Walked, same};
 use amr_time::Span;
 
 #[tactic(auto, unfolding(crate::specs::Judging::is_known))]

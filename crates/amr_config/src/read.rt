@@ -1,103 +1,13 @@
 //! A configuration, read from a value.
-ghost use Rattle.std.specs.Prelude.{◌≡◌, ◌||◌, codes};
 ghost use Rattle.serde_json.specs.View.{view};
-ghost use Rattle.amr_config.specs.Answers.{Gives, Reads, Answers};
-ghost use Rattle.amr_config.specs.Members.{optional, member_of};
-ghost use Rattle.amr_config.specs.Timeout.{timeout_in, timeout_stated, timeout_at};
-ghost use Rattle.amr_config.specs.Reading.{walked_at, ConfigIs};
+ghost use Rattle.amr_stated.specs.Answers.{Answers};
+ghost use Rattle.amr_config.specs.Reading.{ConfigIs};
 
 use crate::config::Config;
-use crate::error::{ConfigError, Refusal};
 use crate::judge::refusal;
-use crate::members::{intervals_member, member, span_member};
-use crate::place::Place;
-use crate::read_receivers::read_receivers;
-use crate::read_routes::{is_too_deep, read_routes};
-use crate::read_rules::read_rules;
-use crate::stated::Stated;
-use amr_labels::Listing;
-use amr_time::Span;
+use amr_stated::{ConfigError, Refusal, is_too_deep, walk};
 use serde_json::Value;
 use std::alloc::Global;
-
-/// What the walk through a value gives: what it states, and where there are time intervals.
-#[derive(Debug, Drop)]
-pub(crate) struct Walked {
-    pub(crate) stated: Stated,
-    pub(crate) intervals: Listing<bool>,
-    pub(crate) top_intervals: bool,
-}
-
-#[tactic(auto, unfolding(crate::specs::Timeout::timeout_in))]
-fn timeout(alloc: Global, value: &Value) -> Result<Option<Span>, ConfigError>
-    ensures { Gives (λ o. o) result (timeout_in (view value.now)) }
-{
-    let here = Place::Member(&Place::Top, "global");
-    if !value.is_object() {
-        return Err(here.faulty(alloc));
-    }
-    span_member(alloc, &here, value, "resolve_timeout")
-}
-
-fn timeout_member(alloc: Global, value: &Value) -> Result<Option<Option<Span>>, ConfigError>
-    ensures { Gives (λ o. o) result (optional timeout_in (member_of (codes "global") (view value.now))) }
-{
-    match member(value, "global") {
-        Some(found) => Ok(Some(timeout(alloc, found)?)),
-        None => Ok(None),
-    }
-}
-
-/// The timeout that is stated, or 5 minutes.
-fn stated_timeout(timeout: Option<Option<Span>>) -> Span
-    ensures { result ≡ timeout_stated timeout }
-{
-    match timeout {
-        Some(Some(span)) => span,
-        Some(None) => Span::from_minutes(5),
-        None => Span::from_minutes(5),
-    }
-}
-
-#[tactic(auto, unfolding(crate::specs::Timeout::timeout_at))]
-fn read_timeout(alloc: Global, value: &Value) -> Result<Span, ConfigError>
-    ensures { Gives (λ span. span) result (timeout_at (view value.now)) }
-{
-    if !value.is_object() {
-        return Err(Place::Top.faulty(alloc));
-    }
-    let timeout = timeout_member(alloc, value)?;
-    Ok(stated_timeout(timeout))
-}
-
-fn either(one: bool, other: bool) -> bool
-    ensures { result ≡ (one || other) }
-{
-    one || other
-}
-
-#[tactic(auto, unfolding(crate::specs::Reading::walked_at, crate::specs::Readings::next))]
-fn walk(alloc: Global, value: &Value) -> Result<Walked, ConfigError>
-    ensures { Reads (λ w. w) result (walked_at (view value.now)) }
-{
-    let resolve_timeout = read_timeout(alloc, value)?;
-    let rules = read_rules(alloc, value)?;
-    let mute = intervals_member(alloc, &Place::Top, value, "mute_time_intervals")?;
-    let receivers = read_receivers(alloc, value)?;
-    let tree = read_routes(alloc, value)?;
-    let named = intervals_member(alloc, &Place::Top, value, "time_intervals")?;
-    let top_intervals = either(mute.unwrap_or(false), named.unwrap_or(false));
-    Ok(Walked {
-        stated: Stated {
-            routes: tree.routes,
-            receivers,
-            rules,
-            resolve_timeout,
-        },
-        intervals: tree.intervals,
-        top_intervals,
-    })
-}
 
 impl Config {
     /// Reads a configuration, the tree of Alertmanager's configuration file as JSON. `null` counts as absent as a member of an object;
@@ -105,7 +15,7 @@ impl Config {
     ///
     /// Of several refusals `TooDeep` is answered first, then `BadConfig` with the first place in a walk that goes through members by key
     /// in byte order and through lists in order, then the one with the least number.
-    #[tactic(auto, unfolding(crate::specs::Reading::reading_of, crate::specs::Readings::next))]
+    #[tactic(auto, unfolding(crate::specs::Reading::reading_of, amr_stated::specs::Readings::next))]
     pub fn read(alloc: Global, value: &Value) -> Result<Config, ConfigError>
         ensures { Answers (λ config. config) result (ConfigIs (view value.now)) }
     {

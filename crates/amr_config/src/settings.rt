@@ -1,8 +1,8 @@
 //! A route's settings, stated there or inherited.
 
-use crate::route::Grouping;
 use amr_labels::{Listing, Text};
 use amr_matchers::Matchers;
+use amr_stated::Grouping;
 use amr_time::Span;
 
 /// What holds at a route, stated by it or by the nearest route above that states it, or by default.

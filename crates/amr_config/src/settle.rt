@@ -4,12 +4,11 @@ ghost use Rattle.std.specs.Option.{option_copied, option_map_or, option_or};
 ghost use Rattle.amr_config.specs.Routing.{sorted_matchers};
 ghost use Rattle.amr_config.specs.Settled.{stated_config, settled, settled_under, AreParentsFirst};
 
-use crate::route::{Grouping, Route};
 use crate::settings::Settings;
 use crate::sorted::sorted;
-use crate::stated::Stated;
 use amr_labels::{Listing, Text};
 use amr_matchers::Matchers;
+use amr_stated::{Grouping, Route, Stated};
 use amr_time::Span;
 use std::alloc::{AllocError, Global};
 

@@ -10,10 +10,10 @@ use crate::note::Clock;
 use crate::placing::group_spot;
 use crate::spot::Spot;
 use crate::store::Store;
-use amr_config::Integration;
 use amr_events::SilenceId;
 use amr_labels::{Labels, Text};
 use amr_rules::{Alert, LogEntry, inhibited_by, silenced_by};
+use amr_stated::Integration;
 use amr_time::Moment;
 use std::alloc::AllocError;
 

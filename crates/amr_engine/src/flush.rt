@@ -15,9 +15,10 @@ use crate::note::{Clock, FiringAlert, LogKey, Note, ResolvedAlert};
 use crate::placing::group_spot;
 use crate::spot::Spot;
 use crate::store::Store;
-use amr_config::{Config, Integration};
+use amr_config::Config;
 use amr_labels::{LabelMap, Labels, Listing};
 use amr_rules::{Alert, LogEntry, inhibited_by, needs_update, silenced_by};
+use amr_stated::Integration;
 use amr_time::Moment;
 use std::alloc::{AllocError, Global};
 

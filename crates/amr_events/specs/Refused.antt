@@ -6,7 +6,7 @@ use Rattle.amr_matchers.specs.Matchers.{Matcher}
 use Rattle.amr_matchers.specs.MatcherRefusals.{MayBeRefused}
 use Rattle.amr_config.specs.Config.{Config}
 use Rattle.amr_config.specs.Reading.{ConfigIs}
-use Rattle.amr_config.specs.declared.error.Refusal.{Refusal}
+use Rattle.amr_stated.specs.declared.error.Refusal.{Refusal}
 use Rattle.amr_events.specs.Events.{Act, Event, Reason}
 use Rattle.amr_events.specs.Events as events
 use Rattle.amr_events.specs.Shapes.{moment_under}

@@ -13,7 +13,8 @@ use crate::posted::alerts;
 use crate::posted_silence::{id, silence};
 use crate::reason::Reason;
 use crate::shapes::moment;
-use amr_config::{Config, ConfigError};
+use amr_config::Config;
+use amr_stated::ConfigError;
 use serde_json::Value;
 use std::alloc::{AllocError, Global};
 

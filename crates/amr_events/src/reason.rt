@@ -1,9 +1,9 @@
 //! Why an event is refused.
 ghost use Rattle.std.specs.Prelude.{◌≡◌};
-ghost use Rattle.amr_config.specs.Numbers.{number_of};
+ghost use Rattle.amr_stated.specs.Numbers.{number_of};
 ghost use Rattle.amr_events.specs.Reasons.{reason_number};
 
-use amr_config::Refusal;
+use amr_stated::Refusal;
 
 /// Why an event is refused. A refused event changes nothing.
 #[derive(Clone, Copy, Debug, PartialEq, Eq)]

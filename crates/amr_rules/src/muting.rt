@@ -10,9 +10,9 @@ ghost use Rattle.amr_rules.specs.Muting.{agree_on, rule_mutes, inhibits, is_inhi
 use crate::alert::Alert;
 use crate::silence::Silence;
 use crate::silence_map::SilenceMap;
-use amr_config::InhibitRule;
 use amr_events::SilenceId;
 use amr_labels::{LabelMap, Labels, Text};
+use amr_stated::InhibitRule;
 use amr_time::Moment;
 use std::alloc::{AllocError, Global};
 use std::cmp::Ordering;

@@ -1,10 +1,10 @@
 ghost use Rattle.std.specs.Prelude.{◌<◌};
 
 use super::*;
-use amr_config::InhibitRule;
 use amr_events::{PostedAlert, SilenceId};
 use amr_labels::{LabelMap, Labels, Listing, Text, TextMap};
 use amr_matchers::{Matcher, Matchers, Operator};
+use amr_stated::InhibitRule;
 use amr_time::{Moment, Span};
 use std::alloc::{AllocError, Global};
 use std::test::Fail;

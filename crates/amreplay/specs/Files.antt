@@ -7,10 +7,10 @@ use Rattle.serde_json.specs.Read.{read}
 use Rattle.amr_labels.specs.Labels.{Text}
 use Rattle.amr_config.specs.Config as config
 use Rattle.amr_events.specs.Events.{Event}
-use Rattle.amr_config.specs.declared.error.Refusal.{Refusal}
-use Rattle.amr_config.specs.declared.error.Refusal.TheVariants.{BadConfig}
-use Rattle.amr_config.specs.declared.error.ConfigError.{ConfigError}
-use Rattle.amr_config.specs.declared.error.ConfigError.TheVariants.{Memory, Refused}
+use Rattle.amr_stated.specs.declared.error.Refusal.{Refusal}
+use Rattle.amr_stated.specs.declared.error.Refusal.TheVariants.{BadConfig}
+use Rattle.amr_stated.specs.declared.error.ConfigError.{ConfigError}
+use Rattle.amr_stated.specs.declared.error.ConfigError.TheVariants.{Memory, Refused}
 use Rattle.amr_events.specs.declared.error.Fault.{Fault as ScriptFault}
 use Rattle.amr_config.specs.Reading.{ConfigIs}
 use Rattle.amr_events.specs.Scripts.{ScriptIs}

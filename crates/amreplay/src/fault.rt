@@ -4,9 +4,9 @@ ghost use Rattle.amr_lines.specs.Outlet.{WritesText};
 
 use crate::run::Stopped;
 use amr_commands::Broken;
-use amr_config::{ConfigError, Refusal};
 use amr_events::{Fault as ScriptFault, ScriptError};
 use amr_lines::{WriteFailed, write_parts};
+use amr_stated::{ConfigError, Refusal};
 use itoa::Buffer;
 use std::alloc::AllocError;
 use std::io::Write;

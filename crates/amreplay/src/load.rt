@@ -2,13 +2,14 @@
 ghost use Rattle.std.specs.Prelude.{◌≡◌, [], option_map, IfOk};
 ghost use Rattle.serde_json.specs.View.{view};
 ghost use Rattle.amreplay.specs.Files.{json_of, ReadsAs, Opens};
-ghost use Rattle.amr_config.specs.declared.error.Refusal.TheVariants.{BadConfig};
+ghost use Rattle.amr_stated.specs.declared.error.Refusal.TheVariants.{BadConfig};
 
 use crate::fault::Fault;
-use amr_config::{Config, ConfigError, Refusal};
+use amr_config::Config;
 use amr_events::Script;
 use amr_labels::Text;
 use amr_replay::Session;
+use amr_stated::{ConfigError, Refusal};
 use serde_json::Value;
 use std::alloc::{AllocError, Global};
 

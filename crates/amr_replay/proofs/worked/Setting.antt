@@ -3,8 +3,8 @@ use Rattle.std.specs.Prelude.{true, false, List, [], ◌∷◌, Option, Some, No
 use Rattle.amr_labels.specs.Map.{entries, empty}
 use Rattle.amr_labels.specs.Labels.{Text}
 use Rattle.amr_time.specs.Time.{Moment, second, minute}
-use Rattle.amr_config.specs.declared.route.Route.{Route}
-use Rattle.amr_config.specs.declared.route.Grouping.TheVariants.{Named}
+use Rattle.amr_stated.specs.declared.route.Route.{Route}
+use Rattle.amr_stated.specs.declared.route.Grouping.TheVariants.{Named}
 use Rattle.amr_config.specs.Config.{Config}
 use Rattle.amr_events.specs.declared.event.PostedAlert.{PostedAlert}
 use Rattle.amr_events.specs.Events.{Event, Act}

@@ -1,0 +1,87 @@
+-- A configuration is refused as too deep exactly where one of its routes stands too deep.
+use Rattle.std.proofs.Common.{◌≡◌, ℕ, Bool, true, false, ◌||◌, if◌then◌else◌, List, [], Option, Some, None, Result, Ok, Err, refl, ap, subst, inl, inr, not, arith}
+use Rattle.std.specs.List.{list_any, Contains}
+use Rattle.serde_json.specs.Data.{Data}
+use Rattle.amr_labels.specs.Labels.{Text}
+use Rattle.amr_stated.specs.declared.error.Refusal.{Refusal}
+use Rattle.amr_stated.specs.declared.error.Refusal.TheVariants.{TooDeep, UnknownReceiver, DuplicateReceiver, RootRoute, ZeroInterval, BadGroupBy, TimeIntervals}
+use Rattle.amr_stated.specs.declared.read.Walked.{Walked}
+use Rattle.amr_config.specs.Config.{Config}
+use Rattle.amr_stated.specs.Readings.{Reading, plain, next, MayGive, IsBadPattern}
+use Rattle.amr_stated.specs.RouteParts.{is_too_deep}
+use Rattle.amr_config.specs.Judging.{refusal_of, is_lost, are_named_apart, root_is_bad, has_zero, is_badly_grouped}
+use Rattle.amr_config.specs.Reading.{unless_refused, reading_of, config_of}
+use Rattle.amr_stated.specs.Walking.{walked_at}
+use Rattle.amr_config.specs.LevelLaws.{DeepIsRefused, DeepIsAnswered}
+use Rattle.amr_stated.proofs.Standing.{deep_stands, stands_deep}
+use Rattle.amr_stated.proofs.OtherRefusals.{IsOther, Flat, FlatWalk, flat_ok, flat_plain, flat_next}
+use Rattle.amr_stated.proofs.FlatRoutes.{flat_walked}
+
+abbrev NoneOrOther : Option Refusal → Type 0
+NoneOrOther None = Unit {0}
+NoneOrOther (Some refusal) = IsOther refusal
+
+other_of : (a b c d e f : Bool) → NoneOrOther (if a then Some UnknownReceiver else (if b then Some DuplicateReceiver else (if c then Some RootRoute else (if d then Some ZeroInterval else (if e then Some BadGroupBy else (if f then Some TimeIntervals else None))))))
+other_of true b c d e f = tt
+other_of false true c d e f = tt
+other_of false false true d e f = tt
+other_of false false false true e f = tt
+other_of false false false false true f = tt
+other_of false false false false false true = tt
+other_of false false false false false false = tt
+
+judged : (walked : Walked) → NoneOrOther (refusal_of walked)
+unfolding refusal_of
+judged walked =
+    other_of (list_any (is_lost walked.stated.receivers) walked.stated.routes) (not (are_named_apart walked.stated.receivers)) (root_is_bad walked.stated.routes walked.intervals) (list_any has_zero walked.stated.routes) (list_any is_badly_grouped walked.stated.routes) (walked.top_intervals || list_any (λ has. has) walked.intervals)
+
+flat_unless : (walked : Walked) (o : Option Refusal) → NoneOrOther o → Flat (unless_refused walked o)
+flat_unless walked None h = flat_ok _
+flat_unless walked (Some refusal) h = record { not_deep = h }
+
+flat_config : (d : Data) → is_too_deep d ≡ false → Flat (config_of d)
+unfolding reading_of
+flat_config d shallow =
+    let whole : FlatWalk (next (walked_at d) (λ walked. plain (unless_refused walked (refusal_of walked)))) = flat_next _ _ (flat_walked d shallow) (λ walked. flat_plain _ (flat_unless walked (refusal_of walked) (judged walked))) in
+    rw (shallow, config_of) whole.read
+
+told : (d : Data) → is_too_deep d ≡ true → config_of d ≡ Err TooDeep
+unfolding reading_of
+told d deep = rw (deep, config_of)
+
+only_deep : (d : Data) (b : Bool) → is_too_deep d ≡ b → config_of d ≡ Err TooDeep → is_too_deep d ≡ true
+only_deep d true is refused = is
+only_deep d false is refused =
+    let flat : Flat {A = Config} (Err TooDeep) = subst (λ (read : Result Config Refusal). Flat read) refused (flat_config d is) in
+    absurd flat.not_deep
+
+pub deep_is_refused : DeepIsRefused
+deep_is_refused d = (λ refused. deep_stands d (only_deep d (is_too_deep d) refl refused), λ has. told d (stands_deep d has))
+
+-- ---- answers where a pattern may be refused
+
+none_met : (reading : Reading Config) → reading ≡ plain (Err TooDeep) → (refusal : Refusal) → IsBadPattern reading.patterns refusal → ⊥
+none_met reading is refusal (path, text, met, may, faulty) =
+    let none : Contains {X = List ℕ × Text} [] (path, text) = rw is at met in
+    absurd (omega (arith, none.1))
+
+only_answer : (reading : Reading Config) (answer : Result Config Refusal) → reading ≡ plain (Err TooDeep) → MayGive reading answer → answer ≡ Err TooDeep
+only_answer reading (Ok config) is h =
+    let value : reading.value ≡ Err TooDeep = ap (λ (r : Reading Config). r.value) is in
+    cc
+only_answer reading (Err refusal) is (inl h) =
+    let value : reading.value ≡ Err TooDeep = ap (λ (r : Reading Config). r.value) is in
+    cc
+only_answer reading (Err refusal) is (inr bad) = absurd (none_met reading is refusal bad)
+
+nothing_else : (d : Data) → is_too_deep d ≡ true → reading_of d ≡ plain (Err TooDeep)
+unfolding reading_of
+nothing_else d deep = rw deep
+
+answered_deep : (reading : Reading Config) → MayGive reading (Err TooDeep) → reading.value ≡ Err TooDeep
+answered_deep reading (inl h) = h
+answered_deep reading (inr (path, text, met, may, faulty)) = absurd (cc)
+
+pub deep_is_answered : DeepIsAnswered
+deep_is_answered d answer is =
+    (λ refused. (deep_is_refused d).0 (answered_deep (reading_of d) (subst (λ (a : Result Config Refusal). MayGive (reading_of d) a) refused is)), λ has. only_answer (reading_of d) answer (nothing_else d (stands_deep d has)) is)

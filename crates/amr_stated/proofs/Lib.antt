@@ -1,0 +1,11 @@
+pub mod FlatParts
+pub mod FlatRoutes
+pub mod KindPlacing
+pub mod Levels
+pub mod Names
+pub mod OtherRefusals
+pub mod PatternsMet
+pub mod Preorder
+pub mod Readings
+pub mod Standing
+pub mod Turns

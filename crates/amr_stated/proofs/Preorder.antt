@@ -1,0 +1,117 @@
+-- In what is read each parent stands before its children.
+use Rattle.std.proofs.Common.{◌≡◌, ℕ, zero, suc, ◌+◌, ◌<◌, ◌≤◌, List, [], ◌∷◌, ◌++◌, length, Option, Some, None, Result, Ok, Err, codes, inl, inr, ◌⊎◌, refl, sym, ap, ◌∙◌, arith}
+use Rattle.std.specs.Option.{option_map_or}
+use Rattle.std.specs.List.{slice_get}
+use Rattle.std.proofs.lemmas.Option.{none-some, same_Some}
+use Rattle.std.proofs.lemmas.List.{length_push}
+use Rattle.serde_json.specs.Data.{Data, Items, no_items, item}
+use Rattle.amr_stated.specs.declared.error.Refusal.{Refusal}
+use Rattle.amr_stated.specs.declared.route.Route.{Route}
+use Rattle.amr_stated.specs.declared.read_routes.Tree.{Tree}
+use Rattle.amr_stated.specs.declared.read.Walked.{Walked}
+use Rattle.amr_stated.specs.Paths.{under, item_path}
+use Rattle.amr_stated.specs.Members.{member_of, optional, members_at, intervals_at}
+use Rattle.amr_stated.specs.Readings.{Reading, plain, next, value_after, items_in_turn}
+use Rattle.amr_stated.specs.Timeout.{timeout_at}
+use Rattle.amr_stated.specs.ReadMatchers.{matchers_at}
+use Rattle.amr_stated.specs.ReadReceivers.{receivers_at}
+use Rattle.amr_stated.specs.ReadRules.{rules_at}
+use Rattle.amr_stated.specs.RouteParts.{front_at, back_at, children_at}
+use Rattle.amr_stated.specs.ReadRoutes.{own_into, add_route, child_into, tree_from, routes_at, with_route, route_from}
+use Rattle.amr_stated.specs.Walking.{walked_at}
+
+abbrev pub AreFirst : List Route → Type 0
+AreFirst routes = (n parent : ℕ) → option_map_or (λ (route : Route). route.parent) (slice_get routes n) None ≡ Some parent → parent < n
+
+value_or : {A : Type 0} → A → Result A Refusal → A
+value_or d (Ok x) = x
+value_or d (Err e) = d
+
+ok_same : {A : Type 0} (x y : A) → ◌≡◌ {A = Result A Refusal} (Ok x) (Ok y) → x ≡ y
+unfolding value_or
+ok_same x y e = ap (value_or x) e
+
+after_ok : {A B : Type 0} (r : Result A Refusal) (f : A → Reading B) (b : B) → value_after r f ≡ Ok b → (a : A) × (r ≡ Ok a) × ((f a).value ≡ Ok b)
+after_ok (Ok a) f b e = (a, refl, e)
+after_ok (Err r) f b e = cc
+
+bind_ok : {A B : Type 0} (part : Reading A) (f : A → Reading B) (b : B) → (next part f).value ≡ Ok b → (a : A) × (part.value ≡ Ok a) × ((f a).value ≡ Ok b)
+unfolding next
+bind_ok part f b e = after_ok part.value f b e
+
+push_cases : (routes : List Route) (route : Route) (n : ℕ) → (slice_get (routes ++ route ∷ []) n ≡ slice_get routes n) ⊎ ((n ≡ length routes) × (slice_get (routes ++ route ∷ []) n ≡ Some route))
+push_cases [] route zero = inr (refl, refl)
+push_cases [] route (suc n) = inl refl
+push_cases (r ∷ routes) route zero = inl refl
+push_cases (r ∷ routes) route (suc n) =
+    elim (push_cases routes route n) [ inl e ↦ inl e | inr (k, e) ↦ inr (ap suc k, e) ]
+
+first_push : (routes : List Route) (route : Route) → AreFirst routes → ((p : ℕ) → route.parent ≡ Some p → p < length routes) → AreFirst (routes ++ route ∷ [])
+first_push routes route first below n parent e =
+    elim (push_cases routes route n) [
+      | inl same ↦ first n parent (ap (λ o. option_map_or (λ (r : Route). r.parent) o None) (sym same) ∙ e)
+      | inr (k, same) ↦ omega (arith, k, below parent (ap (λ o. option_map_or (λ (r : Route). r.parent) o None) (sym same) ∙ e))
+    ]
+
+own_adds : (path : List ℕ) (parent : Option ℕ) (d : Data) (tree own : Tree) → (own_into path parent d tree).value ≡ Ok own → (route : Route) × (route.parent ≡ parent) × (own.routes ≡ tree.routes ++ route ∷ [])
+unfolding own_into
+own_adds path parent d tree own e =
+    let a = bind_ok (plain (members_at path d)) _ own e in
+    let b = bind_ok (plain (front_at path d)) _ own a.2 in
+    let m = bind_ok (matchers_at path (codes "match") (codes "match_re") (codes "matchers") d) _ own b.2 in
+    let c = bind_ok (plain (back_at path d)) _ own m.2 in
+    (route_from parent b.0 m.0 c.0, refl, sym (ap (λ (t : Tree). t.routes) (ok_same (with_route parent b.0 m.0 c.0 tree) own c.2)))
+
+record Keeps (before after : Tree) : Type 0 where
+  first : AreFirst after.routes
+  more : length before.routes ≤ length after.routes
+
+items_keep : (left : ℕ) (path : List ℕ) (parent : ℕ)
+    → ((path : List ℕ) (parent : Option ℕ) (d : Data) (tree after : Tree) → (add_route left path parent d tree).value ≡ Ok after → AreFirst tree.routes → ((p : ℕ) → parent ≡ Some p → p < length tree.routes) → Keeps tree after)
+    → (i : ℕ) (ds : Items) (tree after : Tree) → (items_in_turn (child_into left path parent) i ds tree).value ≡ Ok after → AreFirst tree.routes → parent < length tree.routes → Keeps tree after
+items_keep left path parent keeps i no_items tree after e first below =
+    let same = ok_same tree after e in
+    rw (← same) (record { first = first; more = omega arith })
+items_keep left path parent keeps i (item d ds) tree after e first below =
+    let a = bind_ok (child_into left path parent i d tree) _ after e in
+    let one = keeps (item_path (under path (codes "routes")) i) (Some parent) d tree a.0 a.1 first (λ p s. omega (arith, same_Some parent p s, below)) in
+    let rest = items_keep left path parent keeps (i + 1) ds a.0 after a.2 one.first (omega (arith, below, one.more)) in
+    record { first = rest.first; more = omega (arith, one.more, rest.more) }
+
+route_keeps : (left : ℕ) (path : List ℕ) (parent : Option ℕ) (d : Data) (tree after : Tree) → (add_route left path parent d tree).value ≡ Ok after → AreFirst tree.routes → ((p : ℕ) → parent ≡ Some p → p < length tree.routes) → Keeps tree after
+unfolding add_route
+route_keeps zero path parent d tree after e first below = cc
+route_keeps (suc left) path parent d tree after e first below =
+    let a = bind_ok (own_into path parent d tree) _ after e in
+    let b = bind_ok (plain (children_at path d)) _ after a.2 in
+    let own = own_adds path parent d tree a.0 a.1 in
+    let grown : length a.0.routes ≡ length tree.routes + 1 = ap length own.2 ∙ length_push tree.routes own.0 in
+    let own_first : AreFirst a.0.routes = rw own.2 (first_push tree.routes own.0 first (λ p s. below p (sym own.1 ∙ s))) in
+    let rest = items_keep left path (length tree.routes) (route_keeps left) 0 b.0 a.0 after b.2 own_first (omega (arith, grown)) in
+    record { first = rest.first; more = omega (arith, grown, rest.more) }
+
+found_ok : (found : Option Data) (tree : Tree) → (tree_from found).value ≡ Ok tree → (d : Data) × ((add_route 32 (codes "route") None d (record { routes = []; intervals = [] })).value ≡ Ok tree)
+found_ok None tree e = cc
+found_ok (Some d) tree e = (d, e)
+
+none_first : AreFirst []
+none_first n parent e = absurd (none-some parent e)
+
+routes_first : (d : Data) (tree : Tree) → (routes_at d).value ≡ Ok tree → AreFirst tree.routes
+unfolding routes_at
+routes_first d tree e =
+    let found = found_ok (member_of (codes "route") d) tree e in
+    let start : Tree = record { routes = []; intervals = [] } in
+    (route_keeps 32 (codes "route") None found.0 start tree found.1 none_first (λ p s. absurd (none-some p s))).first
+
+pub walked_first : (d : Data) (walked : Walked) → (walked_at d).value ≡ Ok walked → AreFirst walked.stated.routes
+unfolding walked_at
+walked_first d walked e =
+    let timeout = bind_ok (plain (timeout_at d)) _ walked e in
+    let rules = bind_ok (rules_at d) _ walked timeout.2 in
+    let mute = bind_ok (plain (optional (intervals_at (codes "mute_time_intervals")) (member_of (codes "mute_time_intervals") d))) _ walked rules.2 in
+    let receivers = bind_ok (plain (receivers_at d)) _ walked mute.2 in
+    let tree = bind_ok (routes_at d) _ walked receivers.2 in
+    let named = bind_ok (plain (optional (intervals_at (codes "time_intervals")) (member_of (codes "time_intervals") d))) _ walked tree.2 in
+    let same = ok_same _ walked named.2 in
+    rw (← same) (routes_first d tree.0 tree.1)

@@ -1,0 +1,39 @@
+-- What a reader answers, beside what reading gives.
+use Rattle.std.specs.Prelude.{◌≡◌, Result, Ok, Err}
+use Rattle.amr_stated.specs.declared.error.Refusal.{Refusal}
+use Rattle.amr_stated.specs.declared.error.ConfigError.{ConfigError}
+use Rattle.amr_stated.specs.declared.error.ConfigError.TheVariants.{Memory, Refused}
+use Rattle.amr_stated.specs.Readings.{Reading, MayGive}
+
+-- an error of want of memory says nothing
+abbrev pub Fails : {Y : Type 0} → ConfigError → Result Y Refusal → Type 0
+Fails Memory read = Unit {0}
+Fails (Refused refusal) read = read ≡ Err refusal
+
+abbrev pub Gives : {X Y : Type 0} → (X → Y) → Result X ConfigError → Result Y Refusal → Type 0
+Gives view (Ok x) read = read ≡ Ok (view x)
+Gives view (Err e) read = Fails e read
+
+-- the same of a function that changes what it is lent: on `Ok` it is what reading gives
+abbrev pub Changes : {X Y : Type 0} → (X → Y) → Result (Unit {0}) ConfigError → X → Result Y Refusal → Type 0
+Changes view (Ok u) new read = read ≡ Ok (view new)
+Changes view (Err e) new read = Fails e read
+
+-- ---- where the walk may meet patterns
+
+abbrev pub Stops : {Y : Type 0} → ConfigError → (Result Y Refusal → Type 0) → Type 0
+Stops Memory Is = Unit {0}
+Stops (Refused refusal) Is = Is (Err refusal)
+
+-- what is answered holds, but for want of memory
+abbrev pub Answers : {X Y : Type 0} → (X → Y) → Result X ConfigError → (Result Y Refusal → Type 0) → Type 0
+Answers view (Ok x) Is = Is (Ok (view x))
+Answers view (Err e) Is = Stops e Is
+
+abbrev pub Reads : {X Y : Type 0} → (X → Y) → Result X ConfigError → Reading Y → Type 0
+Reads view result reading = Answers view result (MayGive reading)
+
+-- the same of a function that changes what it is lent
+abbrev pub ReadsInto : {X Y : Type 0} → (X → Y) → Result (Unit {0}) ConfigError → X → Reading Y → Type 0
+ReadsInto view (Ok u) new reading = MayGive reading (Ok (view new))
+ReadsInto view (Err e) new reading = Stops e (MayGive reading)

@@ -1,0 +1,13 @@
+pub mod Answers
+pub mod Levels
+pub mod Members
+pub mod Numbers
+pub mod Paths
+pub mod ReadMatchers
+pub mod ReadReceivers
+pub mod ReadRoutes
+pub mod ReadRules
+pub mod Readings
+pub mod RouteParts
+pub mod Timeout
+pub mod Walking

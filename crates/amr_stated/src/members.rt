@@ -1,0 +1,211 @@
+//! Members and items of a value, by their shapes.
+ghost use Rattle.std.specs.Prelude.{◌≡◌, ℕ, Bool, List, option_map};
+ghost use Rattle.std.specs.Ordering.{eq_by_cmp};
+ghost use Rattle.amr_labels.specs.Labels.{text_cmp};
+ghost use Rattle.serde_json.specs.View.{view, items_view};
+ghost use Rattle.amr_stated.specs.Paths.{place_path, under};
+ghost use Rattle.amr_stated.specs.Answers.{Gives, Changes};
+ghost use Rattle.amr_stated.specs.Members.{member_of, optional, text_at, flag_at, items_at, span_at, text_into, texts_at, interval_into, intervals_at};
+
+use crate::error::ConfigError;
+use crate::place::Place;
+use amr_labels::{Listing, Text};
+use amr_time::Span;
+use serde_json::Value;
+use std::alloc::Global;
+use std::cmp::Ordering;
+
+/// Whether two texts are the same.
+pub fn same(text: &str, other: &str) -> bool
+    ensures { result ≡ eq_by_cmp text_cmp text.now other.now }
+{
+    text.cmp(other) == Ordering::Equal
+}
+
+/// The member of an object that isn't null.
+#[tactic(auto, unfolding(crate::specs::Members::member_of))]
+pub(crate) fn member<'v>(value: &'v Value, key: &str) -> Option<&'v Value>
+    ensures { option_map (λ v. view v.now) result ≡ member_of key.now (view value.now) }
+{
+    match value.get(key) {
+        Some(Value::Null) => None,
+        found => found,
+    }
+}
+
+pub(crate) fn text<'v>(
+    alloc: Global,
+    place: &Place,
+    value: &'v Value,
+) -> Result<&'v str, ConfigError>
+    ensures { Gives (λ s. s.now) result (text_at (place_path place.now) (view value.now)) }
+{
+    match value.as_str() {
+        Some(text) => Ok(text),
+        None => Err(place.faulty(alloc)),
+    }
+}
+
+fn flag(alloc: Global, place: &Place, value: &Value) -> Result<bool, ConfigError>
+    ensures { Gives (λ b. b) result (flag_at (place_path place.now) (view value.now)) }
+{
+    match value.as_bool() {
+        Some(flag) => Ok(flag),
+        None => Err(place.faulty(alloc)),
+    }
+}
+
+pub(crate) fn items<'v>(
+    alloc: Global,
+    place: &Place,
+    value: &'v Value,
+) -> Result<&'v [Value], ConfigError>
+    ensures { Gives (λ s. items_view s.now) result (items_at (place_path place.now) (view value.now)) }
+{
+    match value.as_array() {
+        Some(items) => Ok(items),
+        None => Err(place.faulty(alloc)),
+    }
+}
+
+#[tactic(auto, unfolding(crate::specs::Members::span_at))]
+fn span(alloc: Global, place: &Place, value: &Value) -> Result<Span, ConfigError>
+    ensures { Gives (λ n. n) result (span_at (place_path place.now) (view value.now)) }
+{
+    match Span::read(text(alloc, place, value)?) {
+        Ok(span) => Ok(span),
+        Err(_) => Err(place.faulty(alloc)),
+    }
+}
+
+#[tactic(auto, unfolding(crate::specs::Members::text_into))]
+fn text_item(
+    alloc: Global,
+    place: &Place,
+    index: usize,
+    item: &Value,
+    texts: &mut Listing<Text>,
+) -> Result<(), ConfigError>
+    ensures { Changes (λ ts. ts) result texts.new (text_into (place_path place.now) index (view item.now) texts.old) }
+{
+    let text = text(alloc, &Place::Item(place, index), item)?;
+    texts.push(Text::from_str(alloc, text)?)?;
+    Ok(())
+}
+
+#[tactic(auto, unfolding(crate::specs::Members::texts_at))]
+fn texts(alloc: Global, place: &Place, value: &Value) -> Result<Listing<Text>, ConfigError>
+    ensures { Gives (λ ts. ts) result (texts_at (place_path place.now) (view value.now)) }
+{
+    let items = items(alloc, place, value)?;
+    let mut texts = Listing::new(alloc);
+    for (index, item) in items.iter().enumerate() {
+        text_item(alloc, place, index, item, &mut texts)?;
+    }
+    Ok(texts)
+}
+
+#[tactic(auto, unfolding(crate::specs::Members::interval_into))]
+fn interval(
+    alloc: Global,
+    place: &Place,
+    index: usize,
+    item: &Value,
+    any: &mut bool,
+) -> Result<(), ConfigError>
+    ensures { Changes (λ b. b) result any.new (interval_into (place_path place.now) index (view item.now) any.old) }
+{
+    match item {
+        Value::Null => Err(Place::Item(place, index).faulty(alloc)),
+        _ => {
+            *any = true;
+            Ok(())
+        }
+    }
+}
+
+/// Whether a list of time intervals has one.
+#[tactic(auto, unfolding(crate::specs::Members::intervals_at))]
+fn intervals(alloc: Global, place: &Place, value: &Value) -> Result<bool, ConfigError>
+    ensures { Gives (λ b. b) result (intervals_at (place_path place.now) (view value.now)) }
+{
+    let items = items(alloc, place, value)?;
+    let mut any = false;
+    for (index, item) in items.iter().enumerate() {
+        interval(alloc, place, index, item, &mut any)?;
+    }
+    Ok(any)
+}
+
+pub(crate) fn flag_member(
+    alloc: Global,
+    place: &Place,
+    value: &Value,
+    key: &str,
+) -> Result<Option<bool>, ConfigError>
+    ensures { Gives (λ b. b) result (optional (flag_at (under (place_path place.now) key.now)) (member_of key.now (view value.now))) }
+{
+    match member(value, key) {
+        Some(found) => Ok(Some(flag(alloc, &Place::Member(place, key), found)?)),
+        None => Ok(None),
+    }
+}
+
+pub(crate) fn span_member(
+    alloc: Global,
+    place: &Place,
+    value: &Value,
+    key: &str,
+) -> Result<Option<Span>, ConfigError>
+    ensures { Gives (λ b. b) result (optional (span_at (under (place_path place.now) key.now)) (member_of key.now (view value.now))) }
+{
+    match member(value, key) {
+        Some(found) => Ok(Some(span(alloc, &Place::Member(place, key), found)?)),
+        None => Ok(None),
+    }
+}
+
+pub(crate) fn text_member(
+    alloc: Global,
+    place: &Place,
+    value: &Value,
+    key: &str,
+) -> Result<Option<Text>, ConfigError>
+    ensures { Gives (λ s. s) result (optional (text_at (under (place_path place.now) key.now)) (member_of key.now (view value.now))) }
+{
+    match member(value, key) {
+        Some(found) => {
+            let text = text(alloc, &Place::Member(place, key), found)?;
+            Ok(Some(Text::from_str(alloc, text)?))
+        }
+        None => Ok(None),
+    }
+}
+
+pub(crate) fn texts_member(
+    alloc: Global,
+    place: &Place,
+    value: &Value,
+    key: &str,
+) -> Result<Option<Listing<Text>>, ConfigError>
+    ensures { Gives (λ s. s) result (optional (texts_at (under (place_path place.now) key.now)) (member_of key.now (view value.now))) }
+{
+    match member(value, key) {
+        Some(found) => Ok(Some(texts(alloc, &Place::Member(place, key), found)?)),
+        None => Ok(None),
+    }
+}
+
+pub(crate) fn intervals_member(
+    alloc: Global,
+    place: &Place,
+    value: &Value,
+    key: &str,
+) -> Result<Option<bool>, ConfigError>
+    ensures { Gives (λ b. b) result (optional (intervals_at (under (place_path place.now) key.now)) (member_of key.now (view value.now))) }
+{
+    match member(value, key) {
+        Some(found) => Ok(Some(intervals(alloc, &Place::Member(place, key), found)?)),
+        None => Ok(None),
+    }
+}

@@ -1,0 +1,53 @@
+//! Places in a value.
+ghost use Rattle.std.specs.Prelude.{◌≡◌, ℕ, [], Err, OnOk, string_bytes};
+ghost use Rattle.amr_stated.specs.declared.error.Refusal.TheVariants.{BadConfig};
+ghost use Rattle.amr_stated.specs.Paths.{place_path};
+ghost use Rattle.amr_stated.specs.Answers.{Fails};
+
+use crate::error::{ConfigError, Refusal};
+use amr_labels::Text;
+use std::alloc::{AllocError, Global};
+
+/// A place in a value: the way to it from the top.
+#[derive(Drop)]
+pub(crate) enum Place<'a> {
+    Top,
+    Member(&'a Place<'a>, &'a str),
+    Item(&'a Place<'a>, usize),
+}
+
+impl Place<'_> {
+    fn write(&self, out: &mut String) -> Result<(), AllocError>
+        requires { string_bytes out.old ≡ [] }
+        ensures { OnOk result (string_bytes out.new ≡ place_path self.now) }
+    {
+        match self {
+            Place::Top => Ok(()),
+            Place::Member(place, key) => {
+                place.write(out)?;
+                if !out.is_empty() {
+                    out.push('.')?;
+                }
+                out.push_str(key)
+            }
+            Place::Item(place, index) => {
+                place.write(out)?;
+                write!(out, "[{index}]")
+            }
+        }
+    }
+
+    /// That the value here has the wrong shape.
+    pub(crate) fn faulty(&self, alloc: Global) -> ConfigError
+        ensures { Fails {Y = ℕ} result (Err (BadConfig (place_path self.now))) }
+    {
+        let mut path = String::new(alloc);
+        if self.write(&mut path).is_err() {
+            return ConfigError::Memory;
+        }
+        match Text::from_str(alloc, path.as_str()) {
+            Ok(path) => ConfigError::Refused(Refusal::BadConfig { path }),
+            Err(_) => ConfigError::Memory,
+        }
+    }
+}

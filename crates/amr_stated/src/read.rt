@@ -1,0 +1,102 @@
+//! What a value states, read from it.
+ghost use Rattle.std.specs.Prelude.{◌≡◌, ◌||◌, codes};
+ghost use Rattle.serde_json.specs.View.{view};
+ghost use Rattle.amr_stated.specs.Answers.{Gives, Reads};
+ghost use Rattle.amr_stated.specs.Members.{optional, member_of};
+ghost use Rattle.amr_stated.specs.Timeout.{timeout_in, timeout_stated, timeout_at};
+ghost use Rattle.amr_stated.specs.Walking.{walked_at};
+
+use crate::error::ConfigError;
+use crate::members::{intervals_member, member, span_member};
+use crate::place::Place;
+use crate::read_receivers::read_receivers;
+use crate::read_routes::read_routes;
+use crate::read_rules::read_rules;
+use crate::stated::Stated;
+use amr_labels::Listing;
+use amr_time::Span;
+use serde_json::Value;
+use std::alloc::Global;
+
+/// What the walk through a value gives: what it states, and where there are time intervals.
+#[derive(Debug, Drop)]
+pub struct Walked {
+    pub stated: Stated,
+    /// Whether each route states time intervals.
+    pub intervals: Listing<bool>,
+    /// Whether there are time intervals beside the routes.
+    pub top_intervals: bool,
+}
+
+#[tactic(auto, unfolding(crate::specs::Timeout::timeout_in))]
+fn timeout(alloc: Global, value: &Value) -> Result<Option<Span>, ConfigError>
+    ensures { Gives (λ o. o) result (timeout_in (view value.now)) }
+{
+    let here = Place::Member(&Place::Top, "global");
+    if !value.is_object() {
+        return Err(here.faulty(alloc));
+    }
+    span_member(alloc, &here, value, "resolve_timeout")
+}
+
+fn timeout_member(alloc: Global, value: &Value) -> Result<Option<Option<Span>>, ConfigError>
+    ensures { Gives (λ o. o) result (optional timeout_in (member_of (codes "global") (view value.now))) }
+{
+    match member(value, "global") {
+        Some(found) => Ok(Some(timeout(alloc, found)?)),
+        None => Ok(None),
+    }
+}
+
+/// The timeout that is stated, or 5 minutes.
+fn stated_timeout(timeout: Option<Option<Span>>) -> Span
+    ensures { result ≡ timeout_stated timeout }
+{
+    match timeout {
+        Some(Some(span)) => span,
+        Some(None) => Span::from_minutes(5),
+        None => Span::from_minutes(5),
+    }
+}
+
+#[tactic(auto, unfolding(crate::specs::Timeout::timeout_at))]
+fn read_timeout(alloc: Global, value: &Value) -> Result<Span, ConfigError>
+    ensures { Gives (λ span. span) result (timeout_at (view value.now)) }
+{
+    if !value.is_object() {
+        return Err(Place::Top.faulty(alloc));
+    }
+    let timeout = timeout_member(alloc, value)?;
+    Ok(stated_timeout(timeout))
+}
+
+fn either(one: bool, other: bool) -> bool
+    ensures { result ≡ (one || other) }
+{
+    one || other
+}
+
+/// Goes through the members of a configuration by key in byte order, and through lists in order, up to the first faulty place. Each pattern
+/// is built once, as it is met. A route below the 32nd level is refused where the walk comes to it; `is_too_deep` tells it before.
+#[tactic(auto, unfolding(crate::specs::Walking::walked_at, crate::specs::Readings::next))]
+pub fn walk(alloc: Global, value: &Value) -> Result<Walked, ConfigError>
+    ensures { Reads (λ w. w) result (walked_at (view value.now)) }
+{
+    let resolve_timeout = read_timeout(alloc, value)?;
+    let rules = read_rules(alloc, value)?;
+    let mute = intervals_member(alloc, &Place::Top, value, "mute_time_intervals")?;
+    let receivers = read_receivers(alloc, value)?;
+    let tree = read_routes(alloc, value)?;
+    let named = intervals_member(alloc, &Place::Top, value, "time_intervals")?;
+    let top_intervals = either(mute.unwrap_or(false), named.unwrap_or(false));
+    Ok(Walked {
+        stated: Stated {
+            routes: tree.routes,
+            receivers,
+            rules,
+            resolve_timeout,
+        },
+        intervals: tree.intervals,
+        top_intervals,
+    })
+}

@@ -1,0 +1,229 @@
+//! Routes, read from a value.
+ghost use Rattle.std.specs.Prelude.{◌≡◌};
+ghost use Rattle.serde_json.specs.View.{view, items_view};
+ghost use Rattle.amr_stated.specs.Paths.{place_path, under};
+ghost use Rattle.amr_stated.specs.Answers.{Gives, Reads, ReadsInto};
+ghost use Rattle.amr_stated.specs.RouteParts.{is_all as all_of, grouping_of, grouping_stated, front_at, back_at, children_at, is_deeper as deeper_of, is_too_deep as too_deep_of};
+ghost use Rattle.amr_stated.specs.ReadRoutes.{own_into, add_route, routes_at};
+
+use crate::error::{ConfigError, Refusal};
+use crate::members::{
+    flag_member, intervals_member, items, member, same, span_member, text_member, texts_member,
+};
+use crate::place::Place;
+use crate::read_matchers::read_matchers;
+use crate::route::{Grouping, Route};
+use amr_labels::{Listing, Text};
+use amr_time::Span;
+use serde_json::Value;
+use std::alloc::Global;
+
+/// The routes so far, and whether each states time intervals.
+#[derive(Debug, Drop)]
+pub(crate) struct Tree {
+    pub(crate) routes: Listing<Route>,
+    pub(crate) intervals: Listing<bool>,
+}
+
+/// What the members of a route up to `group_wait` state.
+#[derive(Drop)]
+struct Front {
+    has_active: bool,
+    continues: bool,
+    group_by: Option<Grouping>,
+    group_interval: Option<Span>,
+    group_wait: Option<Span>,
+}
+
+/// What the members of a route from `mute_time_intervals` on state.
+#[derive(Drop)]
+struct Back {
+    has_mute: bool,
+    receiver: Option<Text>,
+    repeat_interval: Option<Span>,
+}
+
+/// Whether the names are `...` alone.
+#[tactic(auto, using(crate::proofs::Names::not_alone, crate::proofs::Names::alone))]
+fn is_all(names: &[Text]) -> bool
+    ensures { result ≡ all_of names.now }
+{
+    if names.len() != 1 {
+        return false;
+    }
+    same(names[0].as_str(), "...")
+}
+
+/// How these names group.
+fn grouping(names: Listing<Text>) -> Grouping
+    ensures { result ≡ grouping_of names }
+{
+    if is_all(names.as_slice()) {
+        Grouping::AllLabels
+    } else {
+        Grouping::Named(names)
+    }
+}
+
+fn stated_grouping(names: Option<Listing<Text>>) -> Option<Grouping>
+    ensures { result ≡ grouping_stated names }
+{
+    match names {
+        Some(names) => Some(grouping(names)),
+        None => None,
+    }
+}
+
+#[tactic(auto, unfolding(crate::specs::RouteParts::front_at))]
+fn read_front(alloc: Global, place: &Place, value: &Value) -> Result<Front, ConfigError>
+    ensures { Gives (λ front. front) result (front_at (place_path place.now) (view value.now)) }
+{
+    let active = intervals_member(alloc, place, value, "active_time_intervals")?;
+    let continues = flag_member(alloc, place, value, "continue")?;
+    let group_by = texts_member(alloc, place, value, "group_by")?;
+    let group_interval = span_member(alloc, place, value, "group_interval")?;
+    let group_wait = span_member(alloc, place, value, "group_wait")?;
+    Ok(Front {
+        has_active: active.unwrap_or(false),
+        continues: continues.unwrap_or(false),
+        group_by: stated_grouping(group_by),
+        group_interval,
+        group_wait,
+    })
+}
+
+#[tactic(auto, unfolding(crate::specs::RouteParts::back_at))]
+fn read_back(alloc: Global, place: &Place, value: &Value) -> Result<Back, ConfigError>
+    ensures { Gives (λ back. back) result (back_at (place_path place.now) (view value.now)) }
+{
+    let mute = intervals_member(alloc, place, value, "mute_time_intervals")?;
+    let receiver = text_member(alloc, place, value, "receiver")?;
+    let repeat_interval = span_member(alloc, place, value, "repeat_interval")?;
+    Ok(Back {
+        has_mute: mute.unwrap_or(false),
+        receiver,
+        repeat_interval,
+    })
+}
+
+/// Adds what a route states itself.
+#[tactic(auto, unfolding(crate::specs::ReadRoutes::own_into, crate::specs::Readings::next))]
+fn add_own(
+    alloc: Global,
+    place: &Place,
+    parent: Option<usize>,
+    value: &Value,
+    tree: &mut Tree,
+) -> Result<(), ConfigError>
+    ensures { ReadsInto (λ t. t) result tree.new (own_into (place_path place.now) parent (view value.now) tree.old) }
+{
+    if !value.is_object() {
+        return Err(place.faulty(alloc));
+    }
+    let front = read_front(alloc, place, value)?;
+    let matchers = read_matchers(alloc, place, "match", "match_re", "matchers", value)?;
+    let back = read_back(alloc, place, value)?;
+    tree.intervals.push(front.has_active || back.has_mute)?;
+    tree.routes.push(Route {
+        parent,
+        matchers,
+        continues: front.continues,
+        receiver: back.receiver,
+        group_by: front.group_by,
+        group_wait: front.group_wait,
+        group_interval: front.group_interval,
+        repeat_interval: back.repeat_interval,
+    })?;
+    Ok(())
+}
+
+/// The routes below a route.
+#[tactic(auto, unfolding(crate::specs::RouteParts::children_at))]
+fn children<'v>(alloc: Global, place: &Place, value: &'v Value) -> Result<&'v [Value], ConfigError>
+    ensures { Gives (λ s. items_view s.now) result (children_at (place_path place.now) (view value.now)) }
+{
+    match member(value, "routes") {
+        Some(found) => items(alloc, &Place::Member(place, "routes"), found),
+        None => Ok(&[]),
+    }
+}
+
+/// Adds a route and those below it, parents first, down to so many levels.
+fn add_route(
+    alloc: Global,
+    left: u32,
+    place: &Place,
+    parent: Option<usize>,
+    value: &Value,
+    tree: &mut Tree,
+) -> Result<(), ConfigError>
+    ensures { ReadsInto (λ t. t) result tree.new (add_route left (place_path place.now) parent (view value.now) tree.old) }
+{
+    if left == 0 {
+        return Err(ConfigError::Refused(Refusal::TooDeep));
+    }
+    let index = tree.routes.len();
+    add_own(alloc, place, parent, value, tree)?;
+    let children = children(alloc, place, value)?;
+    let below = Place::Member(&*place, "routes");
+    for (i, child) in children.iter().enumerate() {
+        add_route(
+            alloc,
+            left - 1,
+            &Place::Item(&below, i),
+            Some(index),
+            child,
+            tree,
+        )?;
+    }
+    Ok(())
+}
+
+/// Whether a route has more levels of routes than are left, itself one.
+#[tactic(auto, unfolding(crate::specs::RouteParts::is_deeper))]
+fn is_deeper(left: u32, value: &Value) -> bool
+    ensures { result ≡ deeper_of left (view value.now) }
+{
+    if left == 0 {
+        return true;
+    }
+    let found = member(value, "routes").and_then(Value::as_array);
+    let Some(items) = found else {
+        return false;
+    };
+    for item in items {
+        if is_deeper(left - 1, item) {
+            return true;
+        }
+    }
+    false
+}
+
+/// Whether the routes of a whole configuration have more than 32 levels.
+#[tactic(auto, unfolding(crate::specs::RouteParts::is_too_deep))]
+pub fn is_too_deep(value: &Value) -> bool
+    ensures { result ≡ too_deep_of (view value.now) }
+{
+    match member(value, "route") {
+        Some(route) => is_deeper(32, route),
+        None => false,
+    }
+}
+
+/// The routes of a whole configuration, parents first.
+#[tactic(auto, unfolding(crate::specs::ReadRoutes::routes_at))]
+pub(crate) fn read_routes(alloc: Global, value: &Value) -> Result<Tree, ConfigError>
+    ensures { Reads (λ t. t) result (routes_at (view value.now)) }
+{
+    let top = Place::Top;
+    let here = Place::Member(&top, "route");
+    let Some(route) = member(value, "route") else {
+        return Err(here.faulty(alloc));
+    };
+    let mut tree = Tree {
+        routes: Listing::new(alloc),
+        intervals: Listing::new(alloc),
+    };
+    add_route(alloc, 32, &here, None, route, &mut tree)?;
+    Ok(tree)
+}

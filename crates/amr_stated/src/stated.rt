@@ -1,0 +1,17 @@
+//! What a configuration states.
+
+use crate::receiver::Receiver;
+use crate::route::Route;
+use crate::rule::InhibitRule;
+use amr_labels::Listing;
+use amr_time::Span;
+
+/// A configuration as it is stated, before it is judged and before anything is inherited.
+#[derive(Debug, Drop)]
+pub struct Stated {
+    /// In preorder.
+    pub routes: Listing<Route>,
+    pub receivers: Listing<Receiver>,
+    pub rules: Listing<InhibitRule>,
+    pub resolve_timeout: Span,
+}
