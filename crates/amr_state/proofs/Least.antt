@@ -2,12 +2,21 @@
 use Rattle.std.proofs.Common.{◌≡◌, Bool, true, false, List, [], ◌∷◌, ◌++◌, Option, Some, None, refl, sym, ap, ◌∙◌, map}
 use Rattle.std.specs.Prelude.{if◌then◌else◌}
 use Rattle.std.specs.List.{filter_map, cons_option}
-use Rattle.std.specs.Ordering.{is_gt}
+use Rattle.std.specs.declared.cmp.Ordering.{Ordering}
+use Rattle.std.specs.declared.cmp.Ordering.TheVariants.{Less, Equal, Greater}
+use Rattle.std.specs.Ordering.{is_gt, ordering_reverse}
 use Rattle.std.proofs.lemmas.Cmp.{upto}
-use Rattle.amr_engine.specs.declared.due.Due.{Due}
-use Rattle.amr_engine.specs.Moves.{due_cmp, due_cmp_total, lesser_due, least_due}
-use Rattle.amr_engine.specs.Coming.{lesser_of}
-use Rattle.amr_engine.proofs.MovesLaws.{not_after}
+use Rattle.amr_state.specs.declared.due.Due.{Due}
+use Rattle.amr_state.specs.Dues.{due_cmp, due_cmp_total, lesser_due, least_due}
+use Rattle.amr_state.specs.Coming.{lesser_of}
+
+pub not_after : (a b : Due) → is_gt (due_cmp a b) ≡ true → is_gt (due_cmp b a) ≡ false
+not_after a b h = flipped (due_cmp b a) (sym (ap is_gt (due_cmp_total.antisymm a b)) ∙ h)
+  where
+    flipped : (o : Ordering) → is_gt (ordering_reverse o) ≡ true → is_gt o ≡ false
+    flipped Less e = refl
+    flipped Equal e = refl
+    flipped Greater e = absurd (cc)
 
 -- what comes after something that comes after a third comes after the third
 after_both : (a b c : Due) → is_gt (due_cmp a b) ≡ true → is_gt (due_cmp b c) ≡ true → is_gt (due_cmp a c) ≡ true

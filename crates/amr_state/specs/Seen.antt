@@ -1,10 +1,10 @@
 -- What is listed of the state.
 use Rattle.std.specs.Prelude.{List, map}
 use Rattle.amr_labels.specs.Map.{entries}
-use Rattle.amr_engine.specs.declared.note.Clock.{Clock}
-use Rattle.amr_engine.specs.declared.spot.Spot.{Spot}
-use Rattle.amr_engine.specs.declared.views.Group.{Group}
-use Rattle.amr_engine.specs.State.{State, members}
+use Rattle.amr_state.specs.declared.note.Clock.{Clock}
+use Rattle.amr_state.specs.declared.spot.Spot.{Spot}
+use Rattle.amr_state.specs.declared.views.Group.{Group}
+use Rattle.amr_state.specs.State.{State, members}
 
 -- a group with its clock and the label sets of its members
 abbrev pub group_seen : State → Spot × Clock → Group

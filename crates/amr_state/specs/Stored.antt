@@ -1,6 +1,6 @@
 -- The state that the code keeps.
-use Rattle.amr_engine.specs.State.{State}
-use Rattle.amr_engine.specs.declared.store.Store.TheInside.{Inside}
+use Rattle.amr_state.specs.State.{State}
+use Rattle.amr_state.specs.declared.store.Store.TheInside.{Inside}
 
 abbrev pub state_of : Inside → State
 state_of store = record {

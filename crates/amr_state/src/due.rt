@@ -5,7 +5,7 @@ ghost use Rattle.std.specs.List.{filter_map};
 ghost use Rattle.std.specs.Ordering.{is_gt};
 ghost use Rattle.amr_labels.specs.Map.{entries};
 ghost use Rattle.amr_time.specs.Time.{latest_read};
-ghost use Rattle.amr_engine.specs.Moves.{kind_place, due_cmp, alert_removal_of, group_removal_of, flush_of, least_due, next_due, dues};
+ghost use Rattle.amr_state.specs.Dues.{kind_place, due_cmp, alert_removal_of, group_removal_of, flush_of, least_due, next_due, dues};
 
 use crate::note::Clock;
 use crate::spot::Spot;
@@ -45,7 +45,7 @@ struct Coming<'a> {
     labels: &'a Labels,
 }
 
-ghost use Rattle.amr_engine.specs.Coming.{due_of, lesser_of};
+ghost use Rattle.amr_state.specs.Coming.{due_of, lesser_of};
 
 /// The kind's place among those of one moment.
 fn kind_place(kind: Kind) -> u8
@@ -168,8 +168,8 @@ fn first_due(store: &Store) -> Option<Coming<'_>>
 }
 
 /// The least that is due at or before a moment.
-#[tactic(auto, unfolding(crate::specs::Moves::next_due))]
-pub(crate) fn next_due(store: &Store, at: Moment) -> Result<Option<Due>, AllocError>
+#[tactic(auto, unfolding(crate::specs::Dues::next_due))]
+pub fn next_due(store: &Store, at: Moment) -> Result<Option<Due>, AllocError>
     ensures due { IfOk result (λ due. due ≡ next_due at store.now) }
     ensures within { IfOk result (λ due. IfSome due (λ d. d.moment ≤ at)) }
 {

@@ -12,7 +12,7 @@ use std::marker::Model;
 
 /// The notification log. Contracts see the finite map.
 #[derive(Drop)]
-pub(crate) struct LogMap {
+pub struct LogMap {
     tree: BTreeMap<LogKey, LogEntry>,
 }
 
@@ -21,7 +21,7 @@ impl Model for LogMap {
     ghost use Rattle.std.specs.Coded.{codes};
     ghost use Rattle.std.specs.BTreeMap.{IsOrdered};
     ghost use Rattle.amr_rules.specs.declared.update.LogEntry.{LogEntry};
-    ghost use Rattle.amr_engine.specs.State.{log_key_cmp};
+    ghost use Rattle.amr_state.specs.State.{log_key_cmp};
 
     ghost Value = { map.Map log_key_cmp LogEntry };
 
@@ -43,7 +43,7 @@ impl LogMap {
     }
 
     /// The entry under a key.
-    pub(crate) fn get(&self, key: &LogKey) -> Option<&LogEntry>
+    pub fn get(&self, key: &LogKey) -> Option<&LogEntry>
         ensures { option_copied result ≡ map.get self.now key.now }
     {
         self.tree.get(key)

@@ -50,7 +50,7 @@ impl PartialEq for LogKey {
     ghost use Rattle.std.specs.Ordering.{eq_by_cmp};
     ghost use Rattle.std.specs.Cmp.Rules.{comparing};
     ghost use Rattle.std.proofs.Common.{rules};
-    ghost use Rattle.amr_engine.specs.State.{log_key_cmp, log_key_cmp_total};
+    ghost use Rattle.amr_state.specs.State.{log_key_cmp, log_key_cmp_total};
 
     ghost eq = { eq_by_cmp log_key_cmp };
 
@@ -64,7 +64,7 @@ impl PartialEq for LogKey {
 impl Eq for LogKey {
     ghost use Rattle.std.specs.Cmp.Rules.{comparing};
     ghost use Rattle.std.proofs.Common.{rules};
-    ghost use Rattle.amr_engine.specs.State.{log_key_cmp_total};
+    ghost use Rattle.amr_state.specs.State.{log_key_cmp_total};
 
     ghost laws = { Prim.search (comparing, rules, log_key_cmp_total) };
 }
@@ -72,7 +72,7 @@ impl Eq for LogKey {
 impl Ord for LogKey {
     ghost use Rattle.std.specs.Cmp.Rules.{comparing};
     ghost use Rattle.std.proofs.Common.{rules};
-    ghost use Rattle.amr_engine.specs.State.{log_key_cmp, log_key_cmp_total};
+    ghost use Rattle.amr_state.specs.State.{log_key_cmp, log_key_cmp_total};
 
     ghost cmp = { log_key_cmp };
 
@@ -96,7 +96,7 @@ impl PartialOrd for LogKey {
     ghost use Rattle.std.specs.Cmp.Rules.{comparing};
     ghost use Rattle.std.specs.Ordering.{as_partial_cmp};
     ghost use Rattle.std.proofs.Common.{rules};
-    ghost use Rattle.amr_engine.specs.State.{log_key_cmp, log_key_cmp_total};
+    ghost use Rattle.amr_state.specs.State.{log_key_cmp, log_key_cmp_total};
 
     ghost partial_cmp = { as_partial_cmp log_key_cmp };
 

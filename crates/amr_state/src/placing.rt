@@ -1,17 +1,14 @@
-//! Alerts in groups: posting, storing, placing.
+//! Alerts in groups: placing them.
 ghost use Rattle.std.specs.Prelude.{◌≡◌, ◌+◌, ◌≤◌, OnOk, IfOk, nat_lt};
 ghost use Rattle.amr_time.specs.Time.{latest_read};
-ghost use Rattle.amr_engine.specs.State.{spot_at, group_spot, clock_with, place_on, place};
-ghost use Rattle.amr_labels.specs.Map as map;
-ghost use Rattle.amr_rules.specs.Alerts.{joined};
-ghost use Rattle.amr_engine.specs.Events.{put};
+ghost use Rattle.amr_state.specs.State.{spot_at, group_spot, clock_with, place_on, place};
 
 use crate::note::Clock;
 use crate::spot::Spot;
 use crate::store::Store;
 use amr_config::Config;
 use amr_labels::Labels;
-use amr_rules::{Alert, merge};
+use amr_rules::Alert;
 use amr_time::{Moment, Span};
 use std::alloc::{AllocError, Global};
 
@@ -41,7 +38,7 @@ fn clock_with(now: Moment, wait: Span, alert: &Alert, clock: Option<Clock>) -> C
 }
 
 /// The group of an alert that is placed on a route.
-pub(crate) fn group_spot(
+pub fn group_spot(
     alloc: Global,
     config: &Config,
     route: usize,
@@ -75,7 +72,7 @@ fn place_on(
 }
 
 /// The alert becomes a member on each chosen route.
-pub(crate) fn place(store: &mut Store, labels: &Labels, alert: &Alert) -> Result<(), AllocError>
+pub fn place(store: &mut Store, labels: &Labels, alert: &Alert) -> Result<(), AllocError>
     ensures { OnOk result (store.new ≡ place store.old (labels.now, alert.now)) }
 {
     let routes = store.config().routes_of(store.alloc(), labels)?;
@@ -83,25 +80,4 @@ pub(crate) fn place(store: &mut Store, labels: &Labels, alert: &Alert) -> Result
         place_on(store, *route, labels, alert)?;
     }
     Ok(())
-}
-
-/// What is stored of a new alert.
-#[tactic(auto, unfolding(amr_rules::specs::Alerts::joined))]
-fn joined(store: &Store, labels: &Labels, alert: Alert) -> Alert
-    ensures { result ≡ joined store.now.moment (map.get store.now.alerts labels.now) alert }
-{
-    match store.alerts().get(labels) {
-        Some(stored) => merge(store.moment(), stored, alert),
-        None => alert,
-    }
-}
-
-/// A valid alert is joined with the stored one of its labels, stored and placed.
-#[tactic(auto, unfolding(crate::specs::Events::put))]
-pub(crate) fn put(store: &mut Store, labels: &Labels, alert: Alert) -> Result<(), AllocError>
-    ensures { OnOk result (store.new ≡ put store.old (labels.now, alert)) }
-{
-    let stored = joined(store, labels, alert);
-    store.insert_alert(labels.clone()?, stored.clone()?)?;
-    place(store, labels, &stored)
 }

@@ -12,7 +12,7 @@ use std::marker::Model;
 
 /// Values under spots. Contracts see the finite map.
 #[derive(Drop)]
-pub(crate) struct SpotMap<V> {
+pub struct SpotMap<V> {
     tree: BTreeMap<Spot, V>,
 }
 
@@ -20,7 +20,7 @@ impl<V> Model for SpotMap<V> {
     ghost use Rattle.amr_labels.specs.Map as map;
     ghost use Rattle.std.specs.Coded.{coded_ℕ, codes};
     ghost use Rattle.std.specs.BTreeMap.{IsOrdered};
-    ghost use Rattle.amr_engine.specs.State.{spot_cmp};
+    ghost use Rattle.amr_state.specs.State.{spot_cmp};
 
     ghost Value = { map.Map spot_cmp V };
 
@@ -42,7 +42,7 @@ impl<V: Drop> SpotMap<V> {
     }
 
     /// The value at a spot.
-    pub(crate) fn get(&self, spot: &Spot) -> Option<&V>
+    pub fn get(&self, spot: &Spot) -> Option<&V>
         ensures { option_copied result ≡ map.get self.now spot.now }
     {
         self.tree.get(spot)

@@ -2,7 +2,7 @@
 ghost use Rattle.std.specs.Prelude.{◌≡◌, ◌≤◌, ◌++◌, ◌∷◌, [], OnOk, OnErr, IfOk};
 ghost use Rattle.amr_labels.specs.Map as map;
 ghost use Rattle.amr_time.specs.Time.{latest_read};
-ghost use Rattle.amr_engine.specs.State.{start};
+ghost use Rattle.amr_state.specs.State.{start};
 
 use crate::log_map::LogMap;
 use crate::note::{Clock, LogKey, Note};
@@ -18,7 +18,7 @@ use std::marker::Model;
 
 /// The state of the replayed instance. Contracts see it as a value.
 #[derive(Drop)]
-pub(crate) struct Store {
+pub struct Store {
     alloc: Global,
     moment: Moment,
     config: Config,
@@ -35,13 +35,13 @@ impl Model for Store {
     ghost use Rattle.std.specs.Coded.{codes};
     ghost use Rattle.amr_labels.specs.Map as map;
     ghost use Rattle.amr_time.specs.Time.{latest_read};
-    ghost use Rattle.amr_engine.specs.State.{State};
+    ghost use Rattle.amr_state.specs.State.{State};
 
     ghost Value = { State };
 
     ghost coded = { Prim.hlevel (codes, map.code) };
 
-    ghost use Rattle.amr_engine.specs.Stored.{state_of};
+    ghost use Rattle.amr_state.specs.Stored.{state_of};
 
     ghost view = { state_of };
 
@@ -68,7 +68,7 @@ impl Clone for Store {
 
 impl Store {
     /// The state at the start.
-    pub(crate) fn new(alloc: Global, config: Config) -> Store
+    pub fn new(alloc: Global, config: Config) -> Store
         ensures { result ≡ start config }
     {
         Store {
@@ -85,30 +85,34 @@ impl Store {
     }
 
     /// What memory is taken from.
-    pub(crate) fn alloc(&self) -> Global {
+    pub fn alloc(&self) -> Global {
         self.alloc
     }
 
-    pub(crate) fn moment(&self) -> Moment
+    /// The clock: the moment of the last event that was accepted.
+    pub fn moment(&self) -> Moment
         ensures value { result ≡ self.now.moment }
         ensures bound { self.now.moment ≤ latest_read }
     {
         self.moment
     }
 
-    pub(crate) fn config(&self) -> &Config
+    /// The configuration in force.
+    pub fn config(&self) -> &Config
         ensures { result.now ≡ self.now.config }
     {
         &self.config
     }
 
-    pub(crate) fn alerts(&self) -> &LabelMap<Alert>
+    /// The stored alerts, under their labels.
+    pub fn alerts(&self) -> &LabelMap<Alert>
         ensures { result.now ≡ self.now.alerts }
     {
         &self.alerts
     }
 
-    pub(crate) fn silences(&self) -> &SilenceMap
+    /// The silences, under their ids.
+    pub fn silences(&self) -> &SilenceMap
         ensures { result.now ≡ self.now.silences }
     {
         &self.silences
@@ -120,26 +124,29 @@ impl Store {
         &self.placements
     }
 
-    pub(crate) fn clocks(&self) -> &SpotMap<Clock>
+    /// The clocks of the groups.
+    pub fn clocks(&self) -> &SpotMap<Clock>
         ensures { result.now ≡ self.now.clocks }
     {
         &self.clocks
     }
 
-    pub(crate) fn log(&self) -> &LogMap
+    /// The notification log.
+    pub fn log(&self) -> &LogMap
         ensures { result.now ≡ self.now.log }
     {
         &self.log
     }
 
-    pub(crate) fn notes(&self) -> &[Shared<Note>]
+    /// All notes so far, in order.
+    pub fn notes(&self) -> &[Shared<Note>]
         ensures { result.now ≡ self.now.notes }
     {
         self.notes.as_slice()
     }
 
     /// The clock goes on.
-    pub(crate) fn set_moment(&mut self, at: Moment)
+    pub fn set_moment(&mut self, at: Moment)
         requires { at ≤ latest_read }
         ensures { self.new ≡ record self.old { moment = at } }
     {
@@ -147,14 +154,14 @@ impl Store {
     }
 
     /// An alert is stored.
-    pub(crate) fn insert_alert(&mut self, labels: Labels, alert: Alert) -> Result<(), AllocError>
+    pub fn insert_alert(&mut self, labels: Labels, alert: Alert) -> Result<(), AllocError>
         ensures { OnOk result (self.new ≡ record self.old { alerts = map.insert self.old.alerts labels alert }) }
     {
         self.alerts.insert(labels, alert)
     }
 
     /// A stored alert is removed.
-    pub(crate) fn remove_alert(&mut self, labels: &Labels)
+    pub fn remove_alert(&mut self, labels: &Labels)
         ensures { self.new ≡ record self.old { alerts = map.remove self.old.alerts labels.now } }
     {
         let _ = self.alerts.remove(labels);
@@ -168,14 +175,14 @@ impl Store {
     }
 
     /// A member leaves.
-    pub(crate) fn remove_copy(&mut self, spot: &Spot)
+    pub fn remove_copy(&mut self, spot: &Spot)
         ensures { self.new ≡ record self.old { placements = map.remove self.old.placements spot.now } }
     {
         self.placements.remove(spot)
     }
 
     /// A group's clock is set.
-    pub(crate) fn set_clock(&mut self, group: Spot, clock: Clock) -> Result<(), AllocError>
+    pub fn set_clock(&mut self, group: Spot, clock: Clock) -> Result<(), AllocError>
         ensures { OnOk result (self.new ≡ record self.old { clocks = map.insert self.old.clocks group clock }) }
     {
         let clock = Clock {
@@ -186,25 +193,21 @@ impl Store {
     }
 
     /// A group is removed.
-    pub(crate) fn remove_clock(&mut self, group: &Spot)
+    pub fn remove_clock(&mut self, group: &Spot)
         ensures { self.new ≡ record self.old { clocks = map.remove self.old.clocks group.now } }
     {
         self.clocks.remove(group)
     }
 
     /// A silence is stored.
-    pub(crate) fn insert_silence(
-        &mut self,
-        id: SilenceId,
-        silence: Silence,
-    ) -> Result<(), AllocError>
+    pub fn insert_silence(&mut self, id: SilenceId, silence: Silence) -> Result<(), AllocError>
         ensures { OnOk result (self.new ≡ record self.old { silences = map.insert self.old.silences id silence }) }
     {
         self.silences.insert(id, silence)
     }
 
     /// The configuration is another one, and all groups go with the old one.
-    pub(crate) fn replace_config(&mut self, config: Config)
+    pub fn replace_config(&mut self, config: Config)
         ensures { self.new ≡ record self.old { config = config; placements = map.empty; clocks = map.empty } }
     {
         self.config = config;
@@ -213,14 +216,14 @@ impl Store {
     }
 
     /// An entry of the notification log is written.
-    pub(crate) fn write_log(&mut self, key: LogKey, entry: LogEntry) -> Result<(), AllocError>
+    pub fn write_log(&mut self, key: LogKey, entry: LogEntry) -> Result<(), AllocError>
         ensures { OnOk result (self.new ≡ record self.old { log = map.insert self.old.log key entry }) }
     {
         self.log.insert(key, entry)
     }
 
     /// A note is appended.
-    pub(crate) fn append_note(&mut self, note: Note) -> Result<(), AllocError>
+    pub fn append_note(&mut self, note: Note) -> Result<(), AllocError>
         ensures { OnOk result (self.new ≡ record self.old { notes = self.old.notes ++ note ∷ [] }) }
     {
         let note = Shared::new(self.alloc, note)?;

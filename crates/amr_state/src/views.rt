@@ -1,9 +1,9 @@
 //! What is seen of the state, in the order in which it is listed.
 ghost use Rattle.std.specs.Prelude.{◌≡◌, IfOk, map};
 ghost use Rattle.amr_labels.specs.Map.{entries};
-ghost use Rattle.amr_engine.specs.State.{members};
+ghost use Rattle.amr_state.specs.State.{members};
 
-use crate::flush::members_of;
+use crate::members::members_of;
 use crate::note::{Clock, LogKey};
 use crate::spot::Spot;
 use crate::store::Store;
@@ -28,10 +28,10 @@ pub struct Group {
     pub members: Listing<Labels>,
 }
 
-ghost use Rattle.amr_engine.specs.Seen.{group_seen, groups_of};
+ghost use Rattle.amr_state.specs.Seen.{group_seen, groups_of};
 
 /// The stored alerts, by labels.
-pub(crate) fn alerts(store: &Store) -> Result<Vec<(Labels, Alert)>, AllocError>
+pub fn alerts(store: &Store) -> Result<Vec<(Labels, Alert)>, AllocError>
     ensures { IfOk result (λ found. found.items ≡ entries store.now.alerts) }
 {
     let mut found = Vec::new(store.alloc());
@@ -42,7 +42,7 @@ pub(crate) fn alerts(store: &Store) -> Result<Vec<(Labels, Alert)>, AllocError>
 }
 
 /// The silences, by their ids.
-pub(crate) fn silences(store: &Store) -> Result<Vec<(SilenceId, Silence)>, AllocError>
+pub fn silences(store: &Store) -> Result<Vec<(SilenceId, Silence)>, AllocError>
     ensures { IfOk result (λ found. found.items ≡ entries store.now.silences) }
 {
     let mut found = Vec::new(store.alloc());
@@ -53,7 +53,7 @@ pub(crate) fn silences(store: &Store) -> Result<Vec<(SilenceId, Silence)>, Alloc
 }
 
 /// The entries of the notification log, by their keys.
-pub(crate) fn log(store: &Store) -> Result<Vec<(LogKey, LogEntry)>, AllocError>
+pub fn log(store: &Store) -> Result<Vec<(LogKey, LogEntry)>, AllocError>
     ensures { IfOk result (λ found. found.items ≡ entries store.now.log) }
 {
     let mut found = Vec::new(store.alloc());
@@ -90,7 +90,7 @@ fn group_at(store: &Store, spot: &Spot, clock: &Clock) -> Result<Group, AllocErr
 }
 
 /// The groups, by route and labels.
-pub(crate) fn groups(store: &Store) -> Result<Vec<Group>, AllocError>
+pub fn groups(store: &Store) -> Result<Vec<Group>, AllocError>
     ensures { IfOk result (λ found. found.items ≡ groups_of store.now) }
 {
     let mut found = Vec::new(store.alloc());

@@ -3,10 +3,10 @@ use Rattle.std.specs.Option.{option_map}
 use Rattle.std.specs.Map.Iter.{deref_pair}
 use Rattle.std.proofs.lemmas.Map.Iter.{rest_more}
 use Rattle.amr_labels.specs.Map.{entries}
-use Rattle.amr_engine.specs.Moves.{alert_removal_of, least_due}
-use Rattle.amr_engine.specs.Coming.{due_of}
-use Rattle.amr_engine.proofs.Least.{turn}
-use Rattle.amr_engine.proofs.due.first_alert_removal.Goals as goal
+use Rattle.amr_state.specs.Dues.{alert_removal_of, least_due}
+use Rattle.amr_state.specs.Coming.{due_of}
+use Rattle.amr_state.proofs.Least.{turn}
+use Rattle.amr_state.proofs.due.first_alert_removal.Goals as goal
 
 pub loop-labels-preserved : goal.loop-labels-preserved
 loop-labels-preserved c =

@@ -1,10 +1,10 @@
 use Rattle.std.proofs.Common.{map, sym, ap, ◌∙◌, ◌++◌}
 use Rattle.std.specs.List.{filter_map}
 use Rattle.amr_labels.specs.Map.{entries}
-use Rattle.amr_engine.specs.Moves.{alert_removal_of, group_removal_of, flush_of, least_due, dues}
-use Rattle.amr_engine.specs.Coming.{lesser_of}
-use Rattle.amr_engine.proofs.Least.{least_due-append}
-use Rattle.amr_engine.proofs.due.first_due.Goals as goal
+use Rattle.amr_state.specs.Dues.{alert_removal_of, group_removal_of, flush_of, least_due, dues}
+use Rattle.amr_state.specs.Coming.{lesser_of}
+use Rattle.amr_state.proofs.Least.{least_due-append}
+use Rattle.amr_state.proofs.due.first_due.Goals as goal
 
 pub returns : goal.returns
 unfolding dues

@@ -3,10 +3,10 @@ use Rattle.std.specs.Option.{option_map}
 use Rattle.std.specs.Map.Iter.{deref_pair}
 use Rattle.std.proofs.lemmas.Map.Iter.{rest_more}
 use Rattle.amr_labels.specs.Map.{entries}
-use Rattle.amr_engine.specs.Moves.{flush_of, least_due}
-use Rattle.amr_engine.specs.Coming.{due_of, lesser_of}
-use Rattle.amr_engine.proofs.Least.{turn}
-use Rattle.amr_engine.proofs.due.with_flushes.Goals as goal
+use Rattle.amr_state.specs.Dues.{flush_of, least_due}
+use Rattle.amr_state.specs.Coming.{due_of, lesser_of}
+use Rattle.amr_state.proofs.Least.{turn}
+use Rattle.amr_state.proofs.due.with_flushes.Goals as goal
 
 pub loop-group-preserved : goal.loop-group-preserved
 loop-group-preserved c =

@@ -1,9 +1,9 @@
 use Rattle.std.proofs.Common.{◌≡◌, map}
 use Rattle.std.specs.Option.{option_map}
 use Rattle.amr_labels.specs.Map.{entries}
-use Rattle.amr_engine.specs.Moves.{flush_of, least_due}
-use Rattle.amr_engine.specs.Coming.{due_of, lesser_of}
-use Rattle.amr_engine.proofs.due.with_flushes.Given as goal
+use Rattle.amr_state.specs.Dues.{flush_of, least_due}
+use Rattle.amr_state.specs.Coming.{due_of, lesser_of}
+use Rattle.amr_state.proofs.due.with_flushes.Given as goal
 
 -- the least so far, and of what is left, is the least of all
 abbrev pub invariant-loop-group : goal.invariant-loop-group

@@ -3,10 +3,10 @@ use Rattle.std.specs.List.{filter_map}
 use Rattle.std.specs.Map.Iter.{deref_pair}
 use Rattle.std.proofs.lemmas.Map.Iter.{rest_more}
 use Rattle.amr_labels.specs.Map.{entries}
-use Rattle.amr_engine.specs.Moves.{group_removal_of, least_due}
-use Rattle.amr_engine.specs.Coming.{due_of, lesser_of}
-use Rattle.amr_engine.proofs.Least.{turn_some}
-use Rattle.amr_engine.proofs.due.with_group_removals.Goals as goal
+use Rattle.amr_state.specs.Dues.{group_removal_of, least_due}
+use Rattle.amr_state.specs.Coming.{due_of, lesser_of}
+use Rattle.amr_state.proofs.Least.{turn_some}
+use Rattle.amr_state.proofs.due.with_group_removals.Goals as goal
 
 pub loop-group-preserved-in-Some-group_removal : goal.loop-group-preserved-in-Some-group_removal
 loop-group-preserved-in-Some-group_removal c =

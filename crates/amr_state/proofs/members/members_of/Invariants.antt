@@ -1,8 +1,8 @@
 use Rattle.std.proofs.Common.{◌≡◌, ◌++◌, map}
 use Rattle.std.specs.List.{filter}
 use Rattle.std.specs.Ordering.{eq_by_cmp}
-use Rattle.amr_engine.specs.State.{spot_cmp, group_spot, members}
-use Rattle.amr_engine.proofs.flush.members_of.Given as goal
+use Rattle.amr_state.specs.State.{spot_cmp, group_spot, members}
+use Rattle.amr_state.proofs.members.members_of.Given as goal
 
 -- what was found so far, and what is left to find, are all
 abbrev pub invariant-loop-spot : goal.invariant-loop-spot

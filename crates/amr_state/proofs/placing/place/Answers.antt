@@ -1,8 +1,8 @@
 use Rattle.std.proofs.Common.{ap, ◌∙◌}
 use Rattle.std.specs.List.{fold}
 use Rattle.amr_config.specs.Routing.{chosen}
-use Rattle.amr_engine.specs.State.{place_on, place}
-use Rattle.amr_engine.proofs.placing.place.Goals as goal
+use Rattle.amr_state.specs.State.{place_on, place}
+use Rattle.amr_state.proofs.placing.place.Goals as goal
 
 pub loop-route-init : goal.loop-route-init
 unfolding place

@@ -1,7 +1,7 @@
 use Rattle.std.proofs.Common.{◌≡◌, drop}
 use Rattle.std.specs.List.{fold}
-use Rattle.amr_engine.specs.State.{place_on, place}
-use Rattle.amr_engine.proofs.placing.place.Given as goal
+use Rattle.amr_state.specs.State.{place_on, place}
+use Rattle.amr_state.proofs.placing.place.Given as goal
 
 -- placed on the routes so far, and then on those that are left, is placed on all
 abbrev pub invariant-loop-route : goal.invariant-loop-route

@@ -1,8 +1,8 @@
 use Rattle.std.proofs.Common.{ap, ◌∙◌}
 use Rattle.amr_labels.specs.Map as map
 use Rattle.amr_labels.proofs.Trees.{insert_of_tree}
-use Rattle.amr_engine.specs.State.{log_key_cmp_total}
-use Rattle.amr_engine.proofs.log_map.LogMap.insert.Goals as goal
+use Rattle.amr_state.specs.State.{log_key_cmp_total}
+use Rattle.amr_state.proofs.log_map.LogMap.insert.Goals as goal
 
 pub returns-clause-ok : goal.returns-clause-ok
 returns-clause-ok c =

@@ -1,8 +1,8 @@
 use Rattle.std.proofs.Common.{ap, ◌∙◌}
 use Rattle.std.proofs.lemmas.Map.Entries.{entries_from_clone}
 use Rattle.amr_labels.specs.Map as map
-use Rattle.amr_engine.specs.State.{log_key_cmp}
-use Rattle.amr_engine.proofs.log_map.LogMapClone.clone.Goals as goal
+use Rattle.amr_state.specs.State.{log_key_cmp}
+use Rattle.amr_state.proofs.log_map.LogMapClone.clone.Goals as goal
 
 pub returns : goal.returns
 returns c = record {

@@ -1,8 +1,8 @@
 use Rattle.std.proofs.Common.{ap, ◌∙◌}
 use Rattle.amr_labels.specs.Map as map
 use Rattle.amr_labels.proofs.Trees.{insert_of_tree}
-use Rattle.amr_engine.specs.State.{spot_cmp_total}
-use Rattle.amr_engine.proofs.spot_map.SpotMap.insert.Goals as goal
+use Rattle.amr_state.specs.State.{spot_cmp_total}
+use Rattle.amr_state.proofs.spot_map.SpotMap.insert.Goals as goal
 
 pub returns-clause-ok : goal.returns-clause-ok
 returns-clause-ok g c =

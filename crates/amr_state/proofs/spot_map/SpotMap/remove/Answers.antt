@@ -1,8 +1,8 @@
 use Rattle.std.proofs.Common.{ap, ◌∙◌}
 use Rattle.amr_labels.specs.Map as map
 use Rattle.amr_labels.proofs.Trees.{remove_of_tree}
-use Rattle.amr_engine.specs.State.{spot_cmp_total}
-use Rattle.amr_engine.proofs.spot_map.SpotMap.remove.Goals as goal
+use Rattle.amr_state.specs.State.{spot_cmp_total}
+use Rattle.amr_state.proofs.spot_map.SpotMap.remove.Goals as goal
 
 pub returns : goal.returns
 returns g c =

@@ -1,8 +1,8 @@
 use Rattle.std.proofs.Common.{ap, ◌∙◌}
 use Rattle.std.proofs.lemmas.Map.Entries.{entries_from_clone}
 use Rattle.amr_labels.specs.Map as map
-use Rattle.amr_engine.specs.State.{spot_cmp}
-use Rattle.amr_engine.proofs.spot_map.SpotMapClone.clone.Goals as goal
+use Rattle.amr_state.specs.State.{spot_cmp}
+use Rattle.amr_state.proofs.spot_map.SpotMapClone.clone.Goals as goal
 
 pub returns : goal.returns
 returns g c = record {
