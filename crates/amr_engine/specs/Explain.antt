@@ -5,7 +5,6 @@ use Rattle.std.specs.List.{flat_map}
 use Rattle.amr_labels.specs.Map.{get}
 use Rattle.amr_labels.specs.Set.{contains}
 use Rattle.amr_labels.specs.Labels.{Text, LabelSet}
-use Rattle.amr_time.specs.Time.{Moment}
 use Rattle.amr_config.specs.declared.receiver.Integration.{Integration}
 use Rattle.amr_config.specs.Routing.{chosen, group_of, receiver_name_of, integrations_of}
 use Rattle.amr_rules.specs.declared.alert.Alert.{Alert}

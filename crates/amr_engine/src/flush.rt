@@ -7,7 +7,6 @@ ghost use Rattle.amr_rules.specs.Updates.{needs_update};
 ghost use Rattle.std.specs.Option.{option_to_list};
 ghost use Rattle.amr_time.specs.Time.{latest_read};
 ghost use Rattle.amr_rules.specs.Muting.{is_inhibited, is_silenced};
-ghost use Rattle.amr_state.specs.State.{spot_at};
 ghost use Rattle.amr_engine.specs.Flush.{let_through, firing_of, resolved_of, labels_of, log_key_of, told_firing, told_resolved, notes_told, tell, notify, notify_all, set_clock, forget, mark_if_empty, drop_resolved, serve, flush};
 
 use amr_config::{Config, Integration};
