@@ -7,7 +7,7 @@ use Rattle.amr_lines.specs.Printed.{event_lines}
 use Rattle.amr_lines.specs.declared.word.Word.{Word}
 use Rattle.amr_config.specs.Config.{Config}
 use Rattle.amr_events.specs.Events.{Event}
-use Rattle.amr_engine.specs.State.{State}
+use Rattle.amr_state.specs.State.{State}
 use Rattle.amr_engine.specs.Events.{Outcome, outcome_of, after_event}
 use Rattle.amr_engine.specs.declared.outcome.Outcome as code
 use Rattle.amr_engine.specs.Outcomes.{outcome_view}

@@ -5,9 +5,9 @@ use Rattle.amr_labels.specs.Map.{entries}
 use Rattle.amr_labels.specs.Labels.{Text}
 use Rattle.amr_config.specs.Config.{Config}
 use Rattle.amr_events.specs.Events.{Event}
-use Rattle.amr_engine.specs.State.{State}
+use Rattle.amr_state.specs.State.{State}
 use Rattle.amr_engine.specs.Events.{Outcome, Accepted, Refused, outcome_of}
-use Rattle.amr_engine.specs.Seen.{groups_of}
+use Rattle.amr_state.specs.Seen.{groups_of}
 use Rattle.amr_engine.specs.Explain.{verdicts}
 use Rattle.amr_replay.specs.Session.{View, state_at, outcomes_passed, events_until}
 use Rattle.amr_lines.specs.declared.word.Word.{Word}

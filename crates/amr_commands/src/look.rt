@@ -2,7 +2,7 @@
 ghost use Rattle.std.specs.Prelude.{◌≡◌, ◌++◌, IfOk, IsOkAnd, string_bytes};
 ghost use Rattle.std.specs.List.{flat_map};
 ghost use Rattle.amr_labels.specs.Map.{entries};
-ghost use Rattle.amr_engine.specs.Seen.{groups_of};
+ghost use Rattle.amr_state.specs.Seen.{groups_of};
 ghost use Rattle.amr_engine.specs.Explain.{verdicts};
 ghost use Rattle.amr_lines.specs.Printed.{alert_line, silence_line, group_seen_line, log_line};
 ghost use Rattle.amr_lines.specs.Verdicts.{verdict_line};

@@ -11,9 +11,10 @@ use Rattle.amr_events.specs.Acts.{event_at}
 use Rattle.amr_rules.specs.declared.silence.Silence.{Silence}
 use Rattle.amr_rules.specs.declared.posting.Posting.{Posting}
 use Rattle.amr_rules.specs.Silences.{Silences, after_post, after_expiry, expired}
-use Rattle.amr_engine.specs.declared.due.Due.{Due}
-use Rattle.amr_engine.specs.State.{State}
-use Rattle.amr_engine.specs.Moves.{next_due, move, advance}
+use Rattle.amr_state.specs.declared.due.Due.{Due}
+use Rattle.amr_state.specs.State.{State}
+use Rattle.amr_state.specs.Dues.{next_due}
+use Rattle.amr_engine.specs.Moves.{move, advance}
 use Rattle.amr_engine.specs.Events.{Outcome, judge, finish, after_act, at_moment, on_ok, move_limit, skipped_of, with_silences, with_config}
 use Rattle.amr_engine.specs.Outcomes.{acceptance, refusal}
 use Rattle.amr_engine.specs.Applied.{ComesTo, silence_at, expiry_at, reload_at, run_moved}

@@ -3,11 +3,12 @@ use Rattle.std.proofs.Common.{◌≡◌, true, false, ℕ, suc, zero, ◌+◌, �
 use Rattle.std.specs.Option.{option_map, option_map_or, is_some}
 use Rattle.std.proofs.lemmas.Bool.{true≢false}
 use Rattle.amr_time.specs.Time.{Moment}
-use Rattle.amr_engine.specs.declared.due.Due.{Due}
-use Rattle.amr_engine.specs.State.{State}
+use Rattle.amr_state.specs.declared.due.Due.{Due}
+use Rattle.amr_state.specs.State.{State}
 use Rattle.amr_engine.specs.Runs.{after_step}
 use Rattle.amr_engine.specs.Events.{move_limit}
-use Rattle.amr_engine.specs.Moves.{next_due, move, advance, counted_run}
+use Rattle.amr_state.specs.Dues.{next_due}
+use Rattle.amr_engine.specs.Moves.{move, advance, counted_run}
 
 -- so many moves more
 abbrev pub plus_moves : Option (ℕ × State) → ℕ → Option (ℕ × State)

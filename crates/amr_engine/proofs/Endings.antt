@@ -11,9 +11,10 @@ use Rattle.amr_rules.specs.Alerts.{completed}
 use Rattle.amr_events.specs.declared.event.PostedAlert.{PostedAlert}
 use Rattle.amr_events.specs.Events.{Event, Act, Reason}
 use Rattle.amr_events.specs.Acts.{event_at}
-use Rattle.amr_engine.specs.declared.due.Due.{Due}
-use Rattle.amr_engine.specs.State.{State}
-use Rattle.amr_engine.specs.Moves.{next_due, move, advance, counted_run}
+use Rattle.amr_state.specs.declared.due.Due.{Due}
+use Rattle.amr_state.specs.State.{State}
+use Rattle.amr_state.specs.Dues.{next_due}
+use Rattle.amr_engine.specs.Moves.{move, advance, counted_run}
 use Rattle.amr_engine.specs.Events.{Outcome, do_within, do_event, after_event, outcome_of, outcome_from, skipped_of, skipped_from, judge, finish, after_act, put_all, put, valid_alerts, at_moment, on_ok, move_limit}
 use Rattle.amr_engine.specs.Neutral.{tick_at}
 use Rattle.amr_engine.specs.Outcomes.{acceptance, refusal}

@@ -7,8 +7,8 @@ use Rattle.amr_events.specs.declared.event.PostedAlert.{PostedAlert}
 use Rattle.amr_events.specs.declared.event.PostedSilence.{PostedSilence}
 use Rattle.amr_events.specs.Events.{Event, Act, Reason}
 use Rattle.amr_events.specs.Acts.{event_at}
-use Rattle.amr_engine.specs.declared.due.Due.{Due}
-use Rattle.amr_engine.specs.State.{State}
+use Rattle.amr_state.specs.declared.due.Due.{Due}
+use Rattle.amr_state.specs.State.{State}
 use Rattle.amr_engine.specs.Events.{Outcome, after_event, outcome_of, at_moment}
 
 -- alerts are posted at a moment

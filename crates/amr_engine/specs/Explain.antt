@@ -5,20 +5,19 @@ use Rattle.std.specs.List.{flat_map}
 use Rattle.amr_labels.specs.Map.{get}
 use Rattle.amr_labels.specs.Set.{contains}
 use Rattle.amr_labels.specs.Labels.{Text, LabelSet}
-use Rattle.amr_time.specs.Time.{Moment}
 use Rattle.amr_stated.specs.declared.receiver.Integration.{Integration}
 use Rattle.amr_config.specs.Routing.{chosen, group_of, receiver_name_of, integrations_of}
 use Rattle.amr_rules.specs.declared.alert.Alert.{Alert}
 use Rattle.amr_rules.specs.Alerts.{is_resolved_at}
 use Rattle.amr_rules.specs.Muting.{inhibition_from, silencer_of}
 use Rattle.amr_rules.specs.declared.update.LogEntry.{LogEntry}
-use Rattle.amr_engine.specs.declared.note.Clock.{Clock}
-use Rattle.amr_engine.specs.declared.spot.Spot.{Spot}
+use Rattle.amr_state.specs.declared.note.Clock.{Clock}
+use Rattle.amr_state.specs.declared.spot.Spot.{Spot}
 use Rattle.amr_engine.specs.declared.explain.Finding.{Finding}
 use Rattle.amr_engine.specs.declared.explain.Finding.TheVariants.{Waiting, Inhibited, Silenced, Nowhere, Told, Due}
 use Rattle.amr_engine.specs.declared.explain.Verdict.{Verdict}
 use Rattle.amr_engine.specs.declared.explain.Verdict.TheVariants.{Unknown, Ended, AtRoute}
-use Rattle.amr_engine.specs.State.{State, spot_at}
+use Rattle.amr_state.specs.State.{State, spot_at}
 use Rattle.amr_engine.specs.Flush.{log_key_of}
 
 abbrev pub waiting : Clock → Option Finding

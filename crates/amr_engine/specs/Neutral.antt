@@ -2,8 +2,8 @@
 use Rattle.std.specs.Prelude.{◌≡◌, ℕ, List, ◌++◌, Ok}
 use Rattle.amr_time.specs.Time.{Moment}
 use Rattle.amr_events.specs.Events.{Event, Act}
-use Rattle.amr_engine.specs.declared.due.Due.{Due}
-use Rattle.amr_engine.specs.State.{State}
+use Rattle.amr_state.specs.declared.due.Due.{Due}
+use Rattle.amr_state.specs.State.{State}
 use Rattle.amr_engine.specs.Events.{do_within}
 
 abbrev pub tick_at : Moment → Event

@@ -1,7 +1,7 @@
 -- What the code's outcomes say.
 use Rattle.std.specs.Prelude.{ℕ, List}
 use Rattle.amr_events.specs.Reasons.{reason_number}
-use Rattle.amr_engine.specs.declared.note.Note.{Note}
+use Rattle.amr_state.specs.declared.note.Note.{Note}
 use Rattle.amr_engine.specs.Events as events
 use Rattle.amr_engine.specs.declared.outcome.Outcome as code
 use Rattle.amr_engine.specs.declared.outcome.Outcome.TheVariants.{Accepted, Refused}

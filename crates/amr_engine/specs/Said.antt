@@ -2,10 +2,11 @@
 use Rattle.std.specs.Prelude.{◌≡◌, ℕ, suc, is_ok, true, false, List, [], ◌∷◌, Ok, Err, length, ◌≤◌, nat_lt, ◌⊎◌}
 use Rattle.std.specs.Ordering.{is_gt}
 use Rattle.amr_events.specs.Events.{Event, Reason}
-use Rattle.amr_engine.specs.declared.due.Due.{Due}
-use Rattle.amr_engine.specs.State.{State}
+use Rattle.amr_state.specs.declared.due.Due.{Due}
+use Rattle.amr_state.specs.State.{State}
 use Rattle.amr_engine.specs.Runs.{Begins}
-use Rattle.amr_engine.specs.Moves.{due_cmp, next_due, move, Advances}
+use Rattle.amr_state.specs.Dues.{due_cmp, next_due}
+use Rattle.amr_engine.specs.Moves.{move, Advances}
 use Rattle.amr_engine.specs.Events.{after_act, at_moment}
 
 -- the item is one of the list

@@ -10,16 +10,15 @@ ghost use Rattle.amr_engine.specs.Outcomes.{outcome_view, acceptance, refusal};
 ghost use Rattle.amr_engine.specs.Applied.{ComesTo, post_at, silence_at, expiry_at, reload_at, run_moved, moved_to};
 
 use crate::moves::advance;
-use crate::note::Note;
 use crate::outcome::Outcome;
 use crate::post::{Sifted, put_all, sift};
 use crate::reload::reload;
 use crate::silencing::{decide, store_posting};
-use crate::store::Store;
 use amr_config::Config;
 use amr_events::{Act, Event, PostedAlert, PostedSilence, Reason, SilenceId};
 use amr_labels::{Listing, Shared};
 use amr_rules::silence_expire;
+use amr_state::{Note, Store};
 use amr_time::Moment;
 use std::alloc::{AllocError, Global};
 

@@ -1,22 +1,20 @@
 //! The engine: a state, and the whole states before the events that it passed.
 ghost use Rattle.std.specs.Prelude.{◌≡◌, ◌<◌, List, [], ◌∷◌, ◌++◌, length, IfOk, OnOk, OnErr};
-ghost use Rattle.amr_engine.specs.State.{start};
+ghost use Rattle.amr_state.specs.State.{start};
 ghost use Rattle.amr_engine.specs.Events.{after_event, outcome_of};
 ghost use Rattle.amr_engine.specs.Outcomes.{outcome_view};
-ghost use Rattle.amr_engine.specs.Seen.{groups_of};
+ghost use Rattle.amr_state.specs.Seen.{groups_of};
 ghost use Rattle.amr_engine.specs.Explain.{verdicts};
 ghost use Rattle.amr_labels.specs.Map.{entries};
 
 use crate::apply::after;
 use crate::explain::{self, Verdict};
-use crate::note::{LogKey, Note};
 use crate::outcome::Outcome;
-use crate::store::Store;
-use crate::views::{self, Group};
 use amr_config::Config;
 use amr_events::{Event, SilenceId};
 use amr_labels::{Labels, Shared};
 use amr_rules::{Alert, LogEntry, Silence};
+use amr_state::{Group, LogKey, Note, Store, views};
 use amr_time::Moment;
 use std::alloc::{AllocError, Global};
 use std::marker::Model;
@@ -32,7 +30,7 @@ pub struct Engine {
 impl Model for Engine {
     ghost use Rattle.std.specs.Coded.{codes};
     ghost use Rattle.amr_labels.specs.Map as map;
-    ghost use Rattle.amr_engine.specs.Steps.{Steps};
+    ghost use Rattle.amr_state.specs.Steps.{Steps};
 
     ghost Value = { Steps };
 

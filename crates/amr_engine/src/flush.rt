@@ -5,47 +5,17 @@ ghost use Rattle.amr_labels.specs.Map.{get};
 ghost use Rattle.amr_config.specs.Routing.{group_interval_of, repeat_interval_of};
 ghost use Rattle.amr_rules.specs.Updates.{needs_update};
 ghost use Rattle.std.specs.Option.{option_to_list};
-ghost use Rattle.std.specs.Ordering.{eq_by_cmp};
 ghost use Rattle.amr_time.specs.Time.{latest_read};
 ghost use Rattle.amr_rules.specs.Muting.{is_inhibited, is_silenced};
-ghost use Rattle.amr_engine.specs.State.{spot_cmp, spot_at, members, group_spot};
 ghost use Rattle.amr_engine.specs.Flush.{let_through, firing_of, resolved_of, labels_of, log_key_of, told_firing, told_resolved, notes_told, tell, notify, notify_all, set_clock, forget, mark_if_empty, drop_resolved, serve, flush};
 
-use crate::note::{Clock, FiringAlert, LogKey, Note, ResolvedAlert};
-use crate::placing::group_spot;
-use crate::spot::Spot;
-use crate::store::Store;
 use amr_config::Config;
+use amr_stated::Integration;
 use amr_labels::{LabelMap, Labels, Listing};
 use amr_rules::{Alert, LogEntry, inhibited_by, needs_update, silenced_by};
-use amr_stated::Integration;
+use amr_state::{Clock, FiringAlert, LogKey, Member, Note, ResolvedAlert, Spot, Store, members_of};
 use amr_time::Moment;
 use std::alloc::{AllocError, Global};
-
-/// A member of a group: the copy of an alert with its labels.
-type Member = (Labels, Alert);
-
-/// Whether an alert that is placed there belongs to the group.
-fn is_of_group(store: &Store, spot: &Spot, group: &Spot) -> Result<bool, AllocError>
-    ensures { IfOk result (λ is. is ≡ eq_by_cmp spot_cmp (group_spot store.now.config spot.now) group.now) }
-{
-    let own = group_spot(store.alloc(), store.config(), spot.route, &spot.labels)?;
-    Ok(own == *group)
-}
-
-/// The members of a group, by labels.
-#[tactic(auto, unfolding(crate::specs::State::members))]
-pub(crate) fn members_of(store: &Store, group: &Spot) -> Result<Vec<Member>, AllocError>
-    ensures { IfOk result (λ found. found.items ≡ members store.now group.now) }
-{
-    let mut found = Vec::new(store.alloc());
-    for (spot, alert) in store.placements().iter() {
-        if is_of_group(store, spot, group)? {
-            found.push((spot.labels.clone()?, alert.clone()?))?;
-        }
-    }
-    Ok(found)
-}
 
 /// Whether a rule inhibits or a silence silences the labels.
 fn is_muted(store: &Store, at: Moment, labels: &Labels) -> Result<bool, AllocError>

@@ -4,10 +4,8 @@ ghost use Rattle.amr_time.specs.Time.{latest_read};
 ghost use Rattle.amr_engine.specs.Moves.{move, advance, counted_run, moves_to};
 ghost use Rattle.amr_engine.specs.Events.{move_limit};
 
-use crate::due::{Due, Kind, next_due};
 use crate::flush::flush;
-use crate::spot::Spot;
-use crate::store::Store;
+use amr_state::{Due, Kind, Spot, Store, next_due};
 use amr_time::Moment;
 use std::alloc::AllocError;
 

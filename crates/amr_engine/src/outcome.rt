@@ -1,8 +1,8 @@
 //! What an event comes to.
 
-use crate::note::Note;
 use amr_events::Reason;
 use amr_labels::{Listing, Shared};
+use amr_state::Note;
 
 /// What an event comes to.
 #[derive(Drop)]

@@ -1,15 +1,15 @@
 //! A post of alerts: which are valid, and storing them.
 ghost use Rattle.std.specs.Prelude.{◌≡◌, ◌+◌, ◌<◌, OnOk, IfOk};
 ghost use Rattle.std.specs.List.{fold, filter_map};
+ghost use Rattle.amr_labels.specs.Map as map;
 ghost use Rattle.amr_time.specs.Time.{before_year_10000};
-ghost use Rattle.amr_rules.specs.Alerts.{completed};
+ghost use Rattle.amr_rules.specs.Alerts.{completed, joined};
 ghost use Rattle.amr_engine.specs.Events.{put, skipped_from};
 
-use crate::placing::put;
-use crate::store::Store;
 use amr_events::PostedAlert;
 use amr_labels::{Labels, Listing};
-use amr_rules::{Alert, complete_alert};
+use amr_rules::{Alert, complete_alert, merge};
+use amr_state::{Store, place};
 use amr_time::{Moment, Span};
 use std::alloc::{AllocError, Global};
 
@@ -40,6 +40,27 @@ pub(crate) fn sift(
         }
     }
     Ok(Sifted { valid, skipped })
+}
+
+/// What is stored of a new alert.
+#[tactic(auto, unfolding(amr_rules::specs::Alerts::joined))]
+fn joined(store: &Store, labels: &Labels, alert: Alert) -> Alert
+    ensures { result ≡ joined store.now.moment (map.get store.now.alerts labels.now) alert }
+{
+    match store.alerts().get(labels) {
+        Some(stored) => merge(store.moment(), stored, alert),
+        None => alert,
+    }
+}
+
+/// A valid alert is joined with the stored one of its labels, stored and placed.
+#[tactic(auto, unfolding(crate::specs::Events::put))]
+fn put(store: &mut Store, labels: &Labels, alert: Alert) -> Result<(), AllocError>
+    ensures { OnOk result (store.new ≡ put store.old (labels.now, alert)) }
+{
+    let stored = joined(store, labels, alert);
+    store.insert_alert(labels.clone()?, stored.clone()?)?;
+    place(store, labels, &stored)
 }
 
 /// The valid alerts are stored, in order.

@@ -1,15 +1,13 @@
 //! A reload: another configuration, and groups by its tree.
 ghost use Rattle.std.specs.Prelude.{◌≡◌, OnOk};
 ghost use Rattle.std.specs.List.{fold};
-ghost use Rattle.amr_engine.specs.State.{place};
+ghost use Rattle.amr_state.specs.State.{place};
 ghost use Rattle.amr_engine.specs.Events.{with_config};
 
-use crate::placing::place;
-use crate::store::Store;
-use crate::views;
 use amr_config::Config;
 use amr_labels::Labels;
 use amr_rules::Alert;
+use amr_state::{Store, place, views};
 use std::alloc::AllocError;
 
 /// The alerts become members on their chosen routes, in order.

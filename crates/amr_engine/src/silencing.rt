@@ -5,9 +5,9 @@ ghost use Rattle.amr_rules.specs.Silences.{named_silence, stored_under, with_pos
 ghost use Rattle.amr_engine.specs.Events.{with_silences};
 ghost use Rattle.amr_engine.specs.Silencing.{with_decision, after_decision};
 
-use crate::store::Store;
 use amr_events::{PostedSilence, Reason, SilenceId};
 use amr_rules::{Posting, Silence, SilenceMap, silence_post};
+use amr_state::Store;
 use amr_time::Moment;
 use std::alloc::{AllocError, Global};
 

@@ -14,11 +14,11 @@ use Rattle.amr_time.specs.Time.{Moment}
 use Rattle.amr_rules.specs.declared.alert.Alert.{Alert}
 use Rattle.amr_rules.specs.declared.silence.Silence.{Silence}
 use Rattle.amr_rules.specs.declared.update.LogEntry.{LogEntry}
-use Rattle.amr_engine.specs.declared.note.LogKey.{LogKey}
-use Rattle.amr_engine.specs.declared.views.Group.{Group}
-use Rattle.amr_engine.specs.declared.note.FiringAlert.{FiringAlert}
-use Rattle.amr_engine.specs.declared.note.ResolvedAlert.{ResolvedAlert}
-use Rattle.amr_engine.specs.declared.note.Note.{Note}
+use Rattle.amr_state.specs.declared.note.LogKey.{LogKey}
+use Rattle.amr_state.specs.declared.views.Group.{Group}
+use Rattle.amr_state.specs.declared.note.FiringAlert.{FiringAlert}
+use Rattle.amr_state.specs.declared.note.ResolvedAlert.{ResolvedAlert}
+use Rattle.amr_state.specs.declared.note.Note.{Note}
 use Rattle.amr_labels.specs.Map.{entries}
 use Rattle.amr_lines.specs.Printed.{object_of, with_text, texts_data, labels_data, label_sets_data, moment_data, firing_members, firing_data, resolved_members, resolved_data, note_members, note_data, number_data, skipped_members, skipped_data, alert_members, alert_data, matcher_members, matcher_data, matchers_data, silence_members, silence_data, since_data, group_members, group_data, log_members, log_data}
 use Rattle.amr_engine.specs.declared.explain.Finding.{Finding}

@@ -15,15 +15,15 @@ use Rattle.amr_time.specs.Time.{Moment}
 use Rattle.amr_rules.specs.declared.alert.Alert.{Alert}
 use Rattle.amr_rules.specs.declared.silence.Silence.{Silence}
 use Rattle.amr_rules.specs.declared.update.LogEntry.{LogEntry}
-use Rattle.amr_engine.specs.declared.note.Clock.{Clock}
-use Rattle.amr_engine.specs.declared.note.LogKey.{LogKey}
-use Rattle.amr_engine.specs.declared.note.FiringAlert.{FiringAlert}
-use Rattle.amr_engine.specs.declared.note.ResolvedAlert.{ResolvedAlert}
-use Rattle.amr_engine.specs.declared.note.Note.{Note}
-use Rattle.amr_engine.specs.declared.spot.Spot.{Spot}
-use Rattle.amr_engine.specs.declared.views.Group.{Group}
-use Rattle.amr_engine.specs.State.{State}
-use Rattle.amr_engine.specs.Seen.{group_seen}
+use Rattle.amr_state.specs.declared.note.Clock.{Clock}
+use Rattle.amr_state.specs.declared.note.LogKey.{LogKey}
+use Rattle.amr_state.specs.declared.note.FiringAlert.{FiringAlert}
+use Rattle.amr_state.specs.declared.note.ResolvedAlert.{ResolvedAlert}
+use Rattle.amr_state.specs.declared.note.Note.{Note}
+use Rattle.amr_state.specs.declared.spot.Spot.{Spot}
+use Rattle.amr_state.specs.declared.views.Group.{Group}
+use Rattle.amr_state.specs.State.{State}
+use Rattle.amr_state.specs.Seen.{group_seen}
 use Rattle.amr_engine.specs.Events.{Outcome, Accepted, Refused}
 use Rattle.amr_time.specs.MomentText.{moment_text}
 

@@ -7,8 +7,9 @@ ghost use Rattle.amr_lines.specs.Printed.{note_line, skipped_line, skipped_lines
 ghost use Rattle.amr_engine.specs.Outcomes.{outcome_view};
 
 use crate::values::{note_value, refused_event_value, skipped_value};
-use amr_engine::{Note, Outcome};
+use amr_engine::Outcome;
 use amr_labels::Shared;
+use amr_state::Note;
 use serde_json::Value;
 use std::alloc::{AllocError, Global};
 

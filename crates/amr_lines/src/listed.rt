@@ -6,11 +6,11 @@ ghost use Rattle.amr_labels.specs.Set as set;
 ghost use Rattle.amr_lines.specs.Printed.{label_sets_data, since_data, is_equal as means_equal, is_regex as takes_regex, matcher_data, matchers_data, alert_data, silence_data, group_data, log_data};
 
 use crate::values::{moment_value, texts_value};
-use amr_engine::{Group, LogKey};
 use amr_events::SilenceId;
 use amr_labels::{LabelMap, Labels};
 use amr_matchers::{Matcher, Matchers, Operator};
 use amr_rules::{Alert, LogEntry, Silence};
+use amr_state::{Group, LogKey};
 use amr_time::Moment;
 use serde_json::{Map, Value, json, put};
 use std::alloc::{AllocError, Global};

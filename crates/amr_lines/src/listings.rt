@@ -5,10 +5,10 @@ ghost use Rattle.amr_lines.specs.Printed.{alert_line, silence_line, group_seen_l
 
 use crate::lines::line_text;
 use crate::listed::{alert_value, group_value, log_value, silence_value};
-use amr_engine::{Group, LogKey};
 use amr_events::SilenceId;
 use amr_labels::Labels;
 use amr_rules::{Alert, LogEntry, Silence};
+use amr_state::{Group, LogKey};
 use std::alloc::{AllocError, Global};
 
 /// A stored alert's line.

@@ -4,8 +4,8 @@ ghost use Rattle.serde_json.specs.Data.{array, object};
 ghost use Rattle.serde_json.specs.View.{view, items_of};
 ghost use Rattle.amr_lines.specs.Printed.{texts_data, moment_data, firing_data, resolved_data, note_data, skipped_data, refused_event_data, number_data};
 
-use amr_engine::{FiringAlert, Note, ResolvedAlert};
 use amr_labels::Text;
+use amr_state::{FiringAlert, Note, ResolvedAlert};
 use amr_time::{Moment, write_moment};
 use serde_json::{Map, Value, json, put};
 use std::alloc::{AllocError, Global};

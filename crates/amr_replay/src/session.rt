@@ -1,17 +1,18 @@
 //! A cursor over a script: what a session shows is the run of the events before it.
 ghost use Rattle.std.specs.Prelude.{◌≡◌, ◌+◌, ◌-◌, ◌<◌, ◌≤◌, [], Some, Err, IsOk, IsOkAnd, IfOk, IfErr, OnOk, OnErr, length, map, slice_get};
 ghost use Rattle.amr_labels.specs.Map.{entries};
-ghost use Rattle.amr_engine.specs.Seen.{groups_of};
+ghost use Rattle.amr_state.specs.Seen.{groups_of};
 ghost use Rattle.amr_engine.specs.Events.{outcome_of};
 ghost use Rattle.amr_engine.specs.Outcomes.{outcome_view};
 ghost use Rattle.amr_engine.specs.Explain.{verdicts};
 ghost use Rattle.amr_replay.specs.Session.{at_cursor, outcomes_passed, events_until};
 
 use amr_config::Config;
-use amr_engine::{Engine, Group, LogKey, Note, Outcome, Verdict};
+use amr_engine::{Engine, Outcome, Verdict};
 use amr_events::{Event, Script, SilenceId};
 use amr_labels::{Labels, Shared};
 use amr_rules::{Alert, LogEntry, Silence};
+use amr_state::{Group, LogKey, Note};
 use amr_time::Moment;
 use std::alloc::{AllocError, Global};
 use std::marker::Model;

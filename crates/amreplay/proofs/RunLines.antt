@@ -8,7 +8,7 @@ use Rattle.std.proofs.KnownBytes.{Appends-nil, Appends-trans, Appends-kept}
 use Rattle.amr_labels.specs.Labels.{Text}
 use Rattle.amr_config.specs.Config.{Config}
 use Rattle.amr_events.specs.Events.{Event}
-use Rattle.amr_engine.specs.State.{State, start}
+use Rattle.amr_state.specs.State.{State, start}
 use Rattle.amr_engine.specs.Events.{Outcome, outcome_of, after_event, after_events, run_of}
 use Rattle.amr_lines.specs.Printed.{event_lines}
 use Rattle.amreplay.specs.Runs.{lines_from, run_lines, LeavesAt, RunLeavesAt, RunLeaves}

@@ -4,7 +4,7 @@ use Rattle.std.specs.Io.KnownBytes.{Appends}
 use Rattle.amr_labels.specs.Labels.{Text}
 use Rattle.amr_config.specs.Config.{Config}
 use Rattle.amr_events.specs.Events.{Event}
-use Rattle.amr_engine.specs.State.{State, start}
+use Rattle.amr_state.specs.State.{State, start}
 use Rattle.amr_engine.specs.Events.{outcome_of, after_event}
 use Rattle.amreplay.specs.declared.run.Stopped.{Stopped}
 use Rattle.amreplay.specs.declared.run.Stopped.TheVariants.{OutOfMemory, CannotWrite}

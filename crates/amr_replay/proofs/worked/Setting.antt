@@ -8,7 +8,7 @@ use Rattle.amr_stated.specs.declared.route.Grouping.TheVariants.{Named}
 use Rattle.amr_config.specs.Config.{Config}
 use Rattle.amr_events.specs.declared.event.PostedAlert.{PostedAlert}
 use Rattle.amr_events.specs.Events.{Event, Act}
-use Rattle.amr_engine.specs.declared.note.Note.{Note}
+use Rattle.amr_state.specs.declared.note.Note.{Note}
 
 abbrev pub ten : Moment
 ten = 1714557600 * second

@@ -13,7 +13,7 @@ use Rattle.amr_config.specs.Routing.{chosen, routing}
 use Rattle.amr_events.specs.Events.{Event, Act}
 use Rattle.amr_rules.specs.declared.silence.Silence.{Silence}
 use Rattle.amr_rules.specs.declared.update.LogEntry.{LogEntry}
-use Rattle.amr_engine.specs.declared.note.LogKey.{LogKey}
+use Rattle.amr_state.specs.declared.note.LogKey.{LogKey}
 use Rattle.amr_engine.specs.Events.{run_of, replaying}
 use Rattle.amr_replay.proofs.worked.Setting.{ten, root, config_ops, alert, posts, ticks, told}
 

@@ -5,8 +5,8 @@ use Rattle.amr_labels.specs.Map.{entries}
 use Rattle.amr_labels.specs.Labels.{Text, LabelSet}
 use Rattle.amr_time.specs.Time.{Moment, second, minute, hour}
 use Rattle.amr_events.specs.declared.event.PostedAlert.{PostedAlert}
-use Rattle.amr_engine.specs.declared.note.Clock.{Clock}
-use Rattle.amr_engine.specs.declared.spot.Spot.{Spot}
+use Rattle.amr_state.specs.declared.note.Clock.{Clock}
+use Rattle.amr_state.specs.declared.spot.Spot.{Spot}
 use Rattle.amr_engine.specs.Events.{run_of, replaying}
 use Rattle.amr_replay.proofs.worked.Setting.{ten, config_ops, alert, posts, ticks, told}
 

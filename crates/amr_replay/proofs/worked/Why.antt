@@ -9,8 +9,8 @@ use Rattle.amr_time.specs.Time.{Moment, second, minute, hour}
 use Rattle.amr_stated.specs.declared.route.Grouping.TheVariants.{Named}
 use Rattle.amr_config.specs.Config.{Config}
 use Rattle.amr_events.specs.Events.{Event, Act}
-use Rattle.amr_engine.specs.declared.note.Clock.{Clock}
-use Rattle.amr_engine.specs.declared.spot.Spot.{Spot}
+use Rattle.amr_state.specs.declared.note.Clock.{Clock}
+use Rattle.amr_state.specs.declared.spot.Spot.{Spot}
 use Rattle.amr_engine.specs.Events.{run_of, replaying}
 use Rattle.amr_engine.specs.declared.explain.Finding.TheVariants as finding
 use Rattle.amr_engine.specs.declared.explain.Verdict.TheVariants as verdict

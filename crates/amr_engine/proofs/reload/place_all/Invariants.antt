@@ -1,6 +1,6 @@
 use Rattle.std.proofs.Common.{◌≡◌, drop}
 use Rattle.std.specs.List.{fold}
-use Rattle.amr_engine.specs.State.{place}
+use Rattle.amr_state.specs.State.{place}
 use Rattle.amr_engine.proofs.reload.place_all.Given as goal
 
 -- after those so far, those that are left are placed as all are

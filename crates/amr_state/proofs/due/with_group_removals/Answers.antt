@@ -1,0 +1,16 @@
+use Rattle.std.specs.Option.{option_map}
+use Rattle.std.specs.List.{filter_map}
+use Rattle.std.specs.Map.Iter.{deref_pair}
+use Rattle.std.proofs.lemmas.Map.Iter.{rest_more}
+use Rattle.amr_labels.specs.Map.{entries}
+use Rattle.amr_state.specs.Dues.{group_removal_of, least_due}
+use Rattle.amr_state.specs.Coming.{due_of, lesser_of}
+use Rattle.amr_state.proofs.Least.{turn_some}
+use Rattle.amr_state.proofs.due.with_group_removals.Goals as goal
+
+pub loop-group-preserved-in-Some-group_removal : goal.loop-group-preserved-in-Some-group_removal
+loop-group-preserved-in-Some-group_removal c =
+    let rest = rest_more deref_pair _ _ _ (c.in-Some.group, c.in-Some.clock) c.in-Some.is c.next.ensures.steps in
+    turn_some group_removal_of (option_map due_of c.loop-group.best) (option_map due_of c.lesser-best.result) (due_of c.in-Some-group_removal.removal) (c.in-Some.group.now, c.in-Some.clock.now)
+    c.loop-group.group-iterator c.next.new.self (lesser_of (option_map due_of c.args.best) (least_due (filter_map group_removal_of (entries c.args.store.now.clocks)))) c.lesser-best.ensures
+    c.in-Some-group_removal.ensures rest c.loop-group.invariant

@@ -1,0 +1,99 @@
+-- What is due, and what is next.
+use Rattle.std.specs.Prelude.{◌≡◌, ℕ, zero, suc, List, [], ◌∷◌, ◌++◌, Option, Some, None, if◌then◌else◌, nat_le, ◌-◌, ◌*◌, map, option_map, max}
+use Rattle.std.specs.List.{filter_map}
+use Rattle.std.specs.declared.cmp.Ordering.{Ordering}
+use Rattle.std.specs.Ordering.{nat_cmp, ordering_then, is_gt}
+use Rattle.std.specs.Cmp.{IsTotalOrder, nat_cmp_total}
+use Rattle.std.specs.FinMap.{IsAntisymmetric}
+use Rattle.std.proofs.Common.{refl, sym, ap, ◌∙◌}
+use Rattle.std.proofs.lemmas.Cmp.{on_total, then_total}
+use Rattle.std.proofs.lemmas.Map.Lookups.{exact_pairs, exact_unsigned}
+use Rattle.amr_labels.specs.Map.{entries}
+use Rattle.amr_labels.specs.Labels.{LabelSet, label_set_cmp, label_set_cmp_total}
+use Rattle.amr_time.specs.Time.{Moment, second, minute, next_multiple_of}
+use Rattle.amr_rules.specs.declared.alert.Alert.{Alert}
+use Rattle.amr_state.specs.declared.note.Clock.{Clock}
+use Rattle.amr_state.specs.declared.due.Due.{Due}
+use Rattle.amr_state.specs.declared.due.Kind.{Kind}
+use Rattle.amr_state.specs.declared.due.Kind.TheVariants.{AlertRemoval, GroupRemoval, GroupFlush}
+use Rattle.amr_state.specs.declared.spot.Spot.{Spot}
+use Rattle.amr_state.specs.State.{State, spot_at, spot_cmp, spot_cmp-IsAntisymmetric}
+
+abbrev pub kind_place : Kind → ℕ
+kind_place AlertRemoval = 0
+kind_place GroupRemoval = 1
+kind_place GroupFlush = 2
+
+-- by moment, kind, route and labels
+abbrev pub due_cmp : Due → Due → Ordering
+due_cmp a b =
+    ordering_then (nat_cmp a.moment b.moment) (ordering_then (nat_cmp (kind_place a.kind) (kind_place b.kind))
+    (ordering_then (nat_cmp a.route b.route) (label_set_cmp a.labels b.labels)))
+
+pub due_cmp_total : IsTotalOrder due_cmp
+due_cmp_total =
+    then_total (on_total (λ (due : Due). due.moment) nat_cmp_total) (then_total (on_total (λ (due : Due). kind_place due.kind) nat_cmp_total)
+    (then_total (on_total (λ (due : Due). due.route) nat_cmp_total) (on_total (λ (due : Due). due.labels) label_set_cmp_total)))
+
+kind_at : ℕ → Kind
+kind_at zero = AlertRemoval
+kind_at (suc zero) = GroupRemoval
+kind_at (suc (suc n)) = GroupFlush
+
+kind_at_its_place : (kind : Kind) → kind_at (kind_place kind) ≡ kind
+unfolding kind_at
+kind_at_its_place AlertRemoval = refl
+kind_at_its_place GroupRemoval = refl
+kind_at_its_place GroupFlush = refl
+
+abbrev due_parts : Due → Moment × (ℕ × Spot)
+due_parts due = (due.moment, (kind_place due.kind, spot_at due.route due.labels))
+
+-- dues that compare alike are the same
+pub due_cmp-IsAntisymmetric : IsAntisymmetric due_cmp
+due_cmp-IsAntisymmetric a b tie =
+    let parts : due_parts a ≡ due_parts b =
+    exact_pairs nat_cmp (λ (x y : ℕ × Spot). ordering_then (nat_cmp x.0 y.0) (spot_cmp x.1 y.1)) exact_unsigned (exact_pairs nat_cmp spot_cmp exact_unsigned spot_cmp-IsAntisymmetric)
+    (due_parts a) (due_parts b) tie in
+    let kinds : a.kind ≡ b.kind =
+    sym (kind_at_its_place a.kind) ∙ ap (λ (x : Moment × (ℕ × Spot)). kind_at x.1.0) parts ∙ kind_at_its_place b.kind in
+    λ i. record { moment = (parts i).0; kind = kinds i; route = (parts i).1.1.route; labels = (parts i).1.1.labels }
+
+-- a stored alert is removed at the first multiple of half an hour that is after its last post and not before its end
+abbrev pub alert_removal_of : LabelSet × Alert → Due
+alert_removal_of alert = record {
+  moment = next_multiple_of (max alert.1.last_post (alert.1.ends_at - 1)) (30 * minute);
+  kind = AlertRemoval;
+  route = 0;
+  labels = alert.0;
+}
+
+-- a group is removed at the first multiple of half a minute after it became empty
+abbrev pub group_removal_of : Spot × Clock → Option Due
+group_removal_of group =
+    option_map (λ since. record { moment = next_multiple_of since (30 * second); kind = GroupRemoval; route = group.0.route; labels = group.0.labels }) group.1.empty_since
+
+abbrev pub flush_of : Spot × Clock → Due
+flush_of group = record { moment = group.1.next_flush; kind = GroupFlush; route = group.0.route; labels = group.0.labels }
+
+-- all that is due, at whatever moment
+unfoldable pub dues : State → List Due
+dues s = map alert_removal_of (entries s.alerts) ++ filter_map group_removal_of (entries s.clocks) ++ map flush_of (entries s.clocks)
+
+-- the lesser of two, where there may be no second
+abbrev pub lesser_due : Due → Option Due → Due
+lesser_due due None = due
+lesser_due due (Some other) = if is_gt (due_cmp due other) then other else due
+
+-- the least of a list
+abbrev pub least_due : List Due → Option Due
+least_due [] = None
+least_due (due ∷ rest) = Some (lesser_due due (least_due rest))
+
+abbrev pub due_by : Moment → Option Due → Option Due
+due_by at None = None
+due_by at (Some due) = if nat_le due.moment at then Some due else None
+
+-- the least that is due at or before the moment
+unfoldable pub next_due : Moment → State → Option Due
+next_due at s = due_by at (least_due (dues s))

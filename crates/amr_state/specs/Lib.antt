@@ -1,0 +1,6 @@
+pub mod State
+pub mod Dues
+pub mod Stored
+pub mod Coming
+pub mod Steps
+pub mod Seen

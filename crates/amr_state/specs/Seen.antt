@@ -1,0 +1,22 @@
+-- What is listed of the state.
+use Rattle.std.specs.Prelude.{List, map}
+use Rattle.amr_labels.specs.Map.{entries}
+use Rattle.amr_state.specs.declared.note.Clock.{Clock}
+use Rattle.amr_state.specs.declared.spot.Spot.{Spot}
+use Rattle.amr_state.specs.declared.views.Group.{Group}
+use Rattle.amr_state.specs.State.{State, members}
+
+-- a group with its clock and the label sets of its members
+abbrev pub group_seen : State → Spot × Clock → Group
+group_seen s group = record {
+  route = group.0.route;
+  labels = group.0.labels;
+  next_flush = group.1.next_flush;
+  flushed = group.1.flushed;
+  empty_since = group.1.empty_since;
+  members = map (λ member. member.0) (members s group.0);
+}
+
+-- the groups, by route and labels
+abbrev pub groups_of : State → List Group
+groups_of s = map (group_seen s) (entries s.clocks)

@@ -1,0 +1,142 @@
+//! What the state holds beside alerts: clocks of groups, keys of the notification log, notes.
+ghost use Rattle.std.specs.Prelude.{◌≡◌};
+ghost use Rattle.std.proofs.Common.{rules};
+
+use amr_labels::{Exact, Labels, Listing, Text, TextMap};
+use amr_matchers::Matchers;
+use amr_time::Moment;
+use std::alloc::AllocError;
+use std::cmp::Ordering;
+
+/// The clock of a group.
+#[derive(Clone, Copy, Debug)]
+pub struct Clock {
+    pub next_flush: Moment,
+    pub flushed: bool,
+    /// Since when the group has no member.
+    pub empty_since: Option<Moment>,
+}
+
+impl Exact for Clock {
+    ghost exact = { λ x y same. Prim.search rules };
+}
+
+/// What an entry of the notification log is kept under.
+#[derive(Debug, Drop)]
+pub struct LogKey {
+    pub receiver: Text,
+    /// The integration's kind, as `webhook`.
+    pub kind: Text,
+    pub place: usize,
+    pub group: Labels,
+    /// The sorted matchers of each route from the root down to the group's.
+    pub path: Listing<Matchers>,
+}
+
+impl Clone for LogKey {
+    ghost is_clone = { λ a b. b ≡ a };
+
+    fn clone(&self) -> Result<LogKey, AllocError> {
+        Ok(LogKey {
+            receiver: self.receiver.clone()?,
+            kind: self.kind.clone()?,
+            place: self.place,
+            group: self.group.clone()?,
+            path: self.path.clone()?,
+        })
+    }
+}
+
+impl PartialEq for LogKey {
+    ghost use Rattle.std.specs.Ordering.{eq_by_cmp};
+    ghost use Rattle.std.specs.Cmp.Rules.{comparing};
+    ghost use Rattle.std.proofs.Common.{rules};
+    ghost use Rattle.amr_state.specs.State.{log_key_cmp, log_key_cmp_total};
+
+    ghost eq = { eq_by_cmp log_key_cmp };
+
+    ghost laws = { Prim.search (comparing, rules, log_key_cmp_total) };
+
+    fn eq(&self, other: &LogKey) -> bool {
+        self.cmp(other) == Ordering::Equal
+    }
+}
+
+impl Eq for LogKey {
+    ghost use Rattle.std.specs.Cmp.Rules.{comparing};
+    ghost use Rattle.std.proofs.Common.{rules};
+    ghost use Rattle.amr_state.specs.State.{log_key_cmp_total};
+
+    ghost laws = { Prim.search (comparing, rules, log_key_cmp_total) };
+}
+
+impl Ord for LogKey {
+    ghost use Rattle.std.specs.Cmp.Rules.{comparing};
+    ghost use Rattle.std.proofs.Common.{rules};
+    ghost use Rattle.amr_state.specs.State.{log_key_cmp, log_key_cmp_total};
+
+    ghost cmp = { log_key_cmp };
+
+    ghost total = { log_key_cmp_total };
+
+    ghost matches_partial_cmp = { Prim.search (comparing, rules) };
+
+    ghost matches_eq = { Prim.search (comparing, rules) };
+
+    fn cmp(&self, other: &LogKey) -> Ordering {
+        let by_path = self.path.as_slice().cmp(other.path.as_slice());
+        let by_group = self.group.cmp(&other.group).then(by_path);
+        let by_place = self.place.cmp(&other.place).then(by_group);
+        let by_kind = self.kind.cmp(&other.kind).then(by_place);
+        self.receiver.cmp(&other.receiver).then(by_kind)
+    }
+}
+
+impl PartialOrd for LogKey {
+    ghost use Rattle.std.specs.Cmp.{partial_order_from_own_ties};
+    ghost use Rattle.std.specs.Cmp.Rules.{comparing};
+    ghost use Rattle.std.specs.Ordering.{as_partial_cmp};
+    ghost use Rattle.std.proofs.Common.{rules};
+    ghost use Rattle.amr_state.specs.State.{log_key_cmp, log_key_cmp_total};
+
+    ghost partial_cmp = { as_partial_cmp log_key_cmp };
+
+    ghost laws = { partial_order_from_own_ties (Prim.search (comparing, rules, log_key_cmp_total)) (Prim.search (comparing, rules)) };
+
+    fn partial_cmp(&self, other: &LogKey) -> Option<Ordering> {
+        Some(self.cmp(other))
+    }
+}
+
+impl Exact for LogKey {
+    ghost exact = { λ x y same. same };
+}
+
+/// What a note tells of an alert that fires.
+#[derive(Debug, Drop)]
+pub struct FiringAlert {
+    pub labels: Labels,
+    pub starts_at: Moment,
+    pub annotations: TextMap,
+}
+
+/// What a note tells of an alert that is resolved.
+#[derive(Debug, Drop)]
+pub struct ResolvedAlert {
+    pub labels: Labels,
+    pub starts_at: Moment,
+    pub ends_at: Moment,
+    pub annotations: TextMap,
+}
+
+/// A notification.
+#[derive(Debug, Drop)]
+pub struct Note {
+    pub at: Moment,
+    pub route: usize,
+    pub key: LogKey,
+    /// By labels.
+    pub firing: Listing<FiringAlert>,
+    /// By labels; empty where the integration isn't told of resolved alerts.
+    pub resolved: Listing<ResolvedAlert>,
+}

@@ -1,0 +1,83 @@
+//! Alerts in groups: placing them.
+ghost use Rattle.std.specs.Prelude.{◌≡◌, ◌+◌, ◌≤◌, OnOk, IfOk, nat_lt};
+ghost use Rattle.amr_time.specs.Time.{latest_read};
+ghost use Rattle.amr_state.specs.State.{spot_at, group_spot, clock_with, place_on, place};
+
+use crate::note::Clock;
+use crate::spot::Spot;
+use crate::store::Store;
+use amr_config::Config;
+use amr_labels::Labels;
+use amr_rules::Alert;
+use amr_time::{Moment, Span};
+use std::alloc::{AllocError, Global};
+
+/// Whether a wait that began with the alert is over before now.
+fn has_waited(starts_at: Moment, wait: Span, now: Moment) -> bool
+    ensures { result ≡ nat_lt (starts_at + wait) now }
+{
+    starts_at.nanoseconds() + (wait.nanoseconds() as u128) < now.nanoseconds()
+}
+
+/// The clock that a group has after an alert is put there.
+fn clock_with(now: Moment, wait: Span, alert: &Alert, clock: Option<Clock>) -> Clock
+    requires { now ≤ latest_read }
+    ensures { result ≡ clock_with now wait alert.now clock }
+{
+    let is_over = has_waited(alert.starts_at, wait, now);
+    let (flush, flushed) = match clock {
+        None => (now.plus(wait), false),
+        Some(clock) => (clock.next_flush, clock.flushed),
+    };
+    let next_flush = if !flushed && is_over { now } else { flush };
+    Clock {
+        next_flush,
+        flushed,
+        empty_since: None,
+    }
+}
+
+/// The group of an alert that is placed on a route.
+pub fn group_spot(
+    alloc: Global,
+    config: &Config,
+    route: usize,
+    labels: &Labels,
+) -> Result<Spot, AllocError>
+    ensures { IfOk result (λ group. group ≡ group_spot config.now (spot_at route labels.now)) }
+{
+    let labels = config.group_of(alloc, route, labels)?;
+    Ok(Spot { route, labels })
+}
+
+/// The alert becomes a member on the route.
+fn place_on(
+    store: &mut Store,
+    route: usize,
+    labels: &Labels,
+    alert: &Alert,
+) -> Result<(), AllocError>
+    ensures { OnOk result (store.new ≡ place_on labels.now alert.now store.old route) }
+{
+    let group = group_spot(store.alloc(), store.config(), route, labels)?;
+    let wait = store.config().group_wait(route);
+    let clock = store.clocks().get(&group).copied();
+    let clock = clock_with(store.moment(), wait, alert, clock);
+    let spot = Spot {
+        route,
+        labels: labels.clone()?,
+    };
+    store.place_copy(spot, alert.clone()?)?;
+    store.set_clock(group, clock)
+}
+
+/// The alert becomes a member on each chosen route.
+pub fn place(store: &mut Store, labels: &Labels, alert: &Alert) -> Result<(), AllocError>
+    ensures { OnOk result (store.new ≡ place store.old (labels.now, alert.now)) }
+{
+    let routes = store.config().routes_of(store.alloc(), labels)?;
+    for route in &routes {
+        place_on(store, *route, labels, alert)?;
+    }
+    Ok(())
+}

@@ -1,0 +1,101 @@
+//! What is seen of the state, in the order in which it is listed.
+ghost use Rattle.std.specs.Prelude.{◌≡◌, IfOk, map};
+ghost use Rattle.amr_labels.specs.Map.{entries};
+ghost use Rattle.amr_state.specs.State.{members};
+
+use crate::members::members_of;
+use crate::note::{Clock, LogKey};
+use crate::spot::Spot;
+use crate::store::Store;
+use amr_events::SilenceId;
+use amr_labels::{Labels, Listing};
+use amr_rules::{Alert, LogEntry, Silence};
+use amr_time::Moment;
+use std::alloc::AllocError;
+
+/// A group, as it is listed.
+#[derive(Debug, Drop)]
+pub struct Group {
+    /// The route's number in preorder.
+    pub route: usize,
+    /// The group labels.
+    pub labels: Labels,
+    pub next_flush: Moment,
+    pub flushed: bool,
+    /// Since when the group has no member.
+    pub empty_since: Option<Moment>,
+    /// The label sets of the members.
+    pub members: Listing<Labels>,
+}
+
+ghost use Rattle.amr_state.specs.Seen.{group_seen, groups_of};
+
+/// The stored alerts, by labels.
+pub fn alerts(store: &Store) -> Result<Vec<(Labels, Alert)>, AllocError>
+    ensures { IfOk result (λ found. found.items ≡ entries store.now.alerts) }
+{
+    let mut found = Vec::new(store.alloc());
+    for (labels, alert) in store.alerts().iter() {
+        found.push((labels.clone()?, alert.clone()?))?;
+    }
+    Ok(found)
+}
+
+/// The silences, by their ids.
+pub fn silences(store: &Store) -> Result<Vec<(SilenceId, Silence)>, AllocError>
+    ensures { IfOk result (λ found. found.items ≡ entries store.now.silences) }
+{
+    let mut found = Vec::new(store.alloc());
+    for (id, silence) in store.silences().iter() {
+        found.push((*id, silence.clone()?))?;
+    }
+    Ok(found)
+}
+
+/// The entries of the notification log, by their keys.
+pub fn log(store: &Store) -> Result<Vec<(LogKey, LogEntry)>, AllocError>
+    ensures { IfOk result (λ found. found.items ≡ entries store.now.log) }
+{
+    let mut found = Vec::new(store.alloc());
+    for (key, entry) in store.log().iter() {
+        found.push((key.clone()?, entry.clone()?))?;
+    }
+    Ok(found)
+}
+
+/// The label sets of the members of a group.
+fn member_labels(store: &Store, group: &Spot) -> Result<Listing<Labels>, AllocError>
+    ensures { IfOk result (λ found. found ≡ map (λ member. member.0) (members store.now group.now)) }
+{
+    let mut found = Listing::new(store.alloc());
+    let members = members_of(store, group)?;
+    for (labels, _) in &members {
+        found.push(labels.clone()?)?;
+    }
+    Ok(found)
+}
+
+/// A group with its members.
+fn group_at(store: &Store, spot: &Spot, clock: &Clock) -> Result<Group, AllocError>
+    ensures { IfOk result (λ group. group ≡ group_seen store.now (spot.now, clock.now)) }
+{
+    Ok(Group {
+        route: spot.route,
+        labels: spot.labels.clone()?,
+        next_flush: clock.next_flush,
+        flushed: clock.flushed,
+        empty_since: clock.empty_since,
+        members: member_labels(store, spot)?,
+    })
+}
+
+/// The groups, by route and labels.
+pub fn groups(store: &Store) -> Result<Vec<Group>, AllocError>
+    ensures { IfOk result (λ found. found.items ≡ groups_of store.now) }
+{
+    let mut found = Vec::new(store.alloc());
+    for (spot, clock) in store.clocks().iter() {
+        found.push(group_at(store, spot, clock)?)?;
+    }
+    Ok(found)
+}
