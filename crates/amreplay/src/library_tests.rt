@@ -1,3 +1,4 @@
+//! What no command of the program shows.
 use crate::fault::Fault;
 use crate::session::run_session;
 use amr_labels::{Interner, Labels, Matchers, ParseError, Text};
