@@ -6,8 +6,6 @@ mod digits;
 mod labels;
 mod line;
 mod parts;
-#[cfg(test)]
-mod tests;
 
 pub use command::{Command, Said, Unread};
 pub use line::{Content, LONGEST, Line};

@@ -7,7 +7,5 @@ mod hear;
 mod look;
 mod passing;
 mod respond;
-#[cfg(test)]
-mod tests;
 
 pub use conversation::{Broken, converse};

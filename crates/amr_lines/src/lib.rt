@@ -6,8 +6,6 @@ mod lines;
 mod listed;
 mod listings;
 mod outlet;
-#[cfg(test)]
-mod tests;
 mod values;
 mod verdicts;
 mod word;

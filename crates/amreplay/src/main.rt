@@ -4,6 +4,8 @@
 mod check;
 mod fault;
 mod input;
+#[cfg(test)]
+mod library_tests;
 mod load;
 mod run;
 mod session;

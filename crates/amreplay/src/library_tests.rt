@@ -1,0 +1,266 @@
+//! What no command of the program shows.
+use crate::fault::Fault;
+use crate::session::run_session;
+use amr_labels::{Interner, Labels, Text};
+use amr_lines::{WriteFailed, write_whole};
+use amr_matchers::{Matchers, ParseError};
+use amr_time::{Moment, Span, next_multiple, write_moment};
+use std::alloc::{AllocError, Global};
+use std::io;
+use std::io::{ErrorKind, Read, Write};
+use std::test::Fail;
+
+/// The set of one label.
+fn label_set(alloc: Global, name: &str) -> Result<Labels, Fail> {
+    let mut pairs = Vec::new(alloc);
+    pairs.push((Text::from_str(alloc, name)?, Text::from_str(alloc, "1")?))?;
+    let found = Labels::of_pairs(alloc, pairs.as_slice())?;
+    Ok(found.ok_or("the name is empty")?)
+}
+
+#[test]
+fn label_sets_are_numbered_in_order_of_first_sight(rt: HostRuntime) -> Result<(), Fail> {
+    let first = label_set(rt.alloc(), "b")?;
+    let second = label_set(rt.alloc(), "a")?;
+    let mut seen = Interner::new(rt.alloc());
+    assert_eq!(rt; seen.find(&first), None);
+    assert_eq!(rt; seen.id_of(&first)?, 0);
+    assert_eq!(rt; seen.id_of(&second)?, 1);
+    assert_eq!(rt; seen.id_of(&first)?, 0);
+    let interner = seen.clone()?;
+    assert_eq!(rt; interner.find(&second), Some(1));
+    assert_eq!(rt; interner.len(), 2);
+    assert_eq!(rt; interner.labels_of(1).value_of("a"), "1");
+    Ok(())
+}
+
+/// Texts that are no matcher texts, and the place at which no matcher text goes on.
+const FAULTY: [(&str, usize); 26] = [
+    ("foo", 3),
+    ("a b=c", 2),
+    ("{,}", 1),
+    ("a=b,,", 4),
+    ("\u{1c}", 1),
+    (",", 0),
+    ("a= ~b", 3),
+    ("a==b", 2),
+    ("a!b", 2),
+    ("a!", 2),
+    ("a=\"b\\x\"", 5),
+    ("a=\"b\\7\"", 5),
+    ("a=\"b\\'\"", 5),
+    ("a=\"b", 4),
+    ("a='b'", 2),
+    ("a=`b`", 2),
+    ("a=b}", 3),
+    ("{a=b", 4),
+    ("{a=b}c", 5),
+    ("a=\"b\"c", 5),
+    ("a=b\"c\"", 3),
+    ("éé=é=", 7),
+    ("=b", 0),
+    ("\"\"=x", 1),
+    ("a=b c=d", 4),
+    ("c=~\"[\",,", 7),
+];
+
+fn place_of_fault(alloc: Global, text: &str) -> Result<Option<usize>, AllocError> {
+    match Matchers::parse(alloc, text) {
+        Err(ParseError::BadMatcher { at }) => Ok(Some(at)),
+        Err(ParseError::Memory) => Err(AllocError),
+        _ => Ok(None),
+    }
+}
+
+#[test]
+fn faulty_matcher_texts_are_refused_at_their_places(rt: HostRuntime) -> Result<(), Fail> {
+    for (text, place) in FAULTY {
+        assert_eq!(rt; place_of_fault(rt.alloc(), text)?, Some(place), "{text}");
+    }
+    Ok(())
+}
+
+/// No event of a script reaches it.
+#[test]
+fn the_last_moment_is_written_and_has_a_multiple(rt: HostRuntime) -> Result<(), Fail> {
+    let last = Moment::from_nanoseconds(253_402_300_799_999_999_999);
+    assert_eq!(rt;
+        write_moment(rt.alloc(), last)?.as_str(),
+        "9999-12-31T23:59:59.999999999Z"
+    );
+    assert_eq!(rt;
+        next_multiple(last, Span::from_seconds(30)),
+        253_402_300_800_000_000_000
+    );
+    Ok(())
+}
+
+const CONFIG: &str =
+    r#"{"route":{"receiver":"ops","group_by":["alertname"]},"receivers":[{"name":"ops","webhook_configs":[{}]}]}"#;
+
+const SCRIPT: &str =
+    r#"{"at":"2024-05-01T10:00:00Z","alerts":[{"labels":{"alertname":"DiskFull"},"startsAt":"2024-05-01T10:00:00Z","endsAt":"2024-05-01T20:00:00Z"}]}
+{"at":"2024-05-01T10:00:29.999Z","tick":true}
+{"at":"2024-05-01T10:00:30Z","tick":true}
+"#;
+
+const COMMANDS: &[u8] = b"step\nseek 3\nback\ncursor\nexplain {\"alertname\":\"DiskFull\"}";
+
+const TEXT: &str = r#"{"command":"step","cursor":1,"moves":0}
+{"at":"2024-05-01T10:00:30Z","firing":[{"annotations":{},"labels":{"alertname":"DiskFull"},"startsAt":"2024-05-01T10:00:00Z"}],"groupLabels":{"alertname":"DiskFull"},"integration":"webhook","place":0,"receiver":"ops","resolved":[],"route":0}
+{"command":"seek","cursor":3,"moves":1}
+{"command":"back","cursor":2}
+{"command":"cursor","cursor":2,"events":3,"now":"2024-05-01T10:00:29.999000000Z"}
+{"due":"2024-05-01T10:00:30Z","integration":"webhook","place":0,"receiver":"ops","route":0,"verdict":"Waiting"}
+{"command":"explain","cursor":2}
+"#;
+
+/// Gives a byte a call, and fails at one call.
+#[derive(Drop)]
+struct Dripping<'a> {
+    bytes: &'a [u8],
+    calls: usize,
+    fails_at: usize,
+}
+
+impl Read for Dripping<'_> {
+    fn read(&mut self, buf: &mut [u8]) -> io::Result<usize> {
+        let call = self.calls;
+        self.calls = self.calls.saturating_add(1);
+        if call == self.fails_at {
+            return Err(io::Error::from(ErrorKind::Interrupted));
+        }
+        if buf.is_empty() || self.bytes.is_empty() {
+            return Ok(0);
+        }
+        buf[0] = self.bytes[0];
+        self.bytes = &self.bytes[1..];
+        Ok(1)
+    }
+}
+
+/// Takes a byte a call, which is held back until the writer is flushed, and fails at one call.
+#[derive(Drop)]
+struct Sipping {
+    held: Vec<u8>,
+    flushed: usize,
+    calls: usize,
+    fails_at: usize,
+}
+
+impl Write for Sipping {
+    fn write(&mut self, buf: &[u8]) -> io::Result<usize> {
+        let call = self.calls;
+        self.calls = self.calls.saturating_add(1);
+        if call == self.fails_at {
+            return Err(io::Error::from(ErrorKind::StorageFull));
+        }
+        let n = buf.len().min(1);
+        self.held.extend_from_slice(&buf[..n])?;
+        Ok(n)
+    }
+
+    fn flush(&mut self) -> io::Result<()> {
+        self.flushed = self.held.len();
+        Ok(())
+    }
+}
+
+/// How a session ended, what was written, and how much of it was handed on.
+fn heard(
+    alloc: Global,
+    read_fails_at: usize,
+    write_fails_at: usize,
+) -> (Result<(), Fault>, Vec<u8>, usize) {
+    let mut source = Dripping {
+        bytes: COMMANDS,
+        calls: 0,
+        fails_at: read_fails_at,
+    };
+    let mut out = Sipping {
+        held: Vec::new(alloc),
+        flushed: 0,
+        calls: 0,
+        fails_at: write_fails_at,
+    };
+    let ended = run_session(
+        alloc,
+        CONFIG.as_bytes(),
+        SCRIPT.as_bytes(),
+        &mut source,
+        &mut out,
+    );
+    (ended, out.held, out.flushed)
+}
+
+/// The length of the text of the whole lines among so many bytes of the commands.
+fn text_of_lines(read: usize) -> usize {
+    let lines = COMMANDS.iter().take(read).filter(|b| **b == b'\n').count();
+    let printed = match lines {
+        0 => 0,
+        1 => 1,
+        2 => 3,
+        3 => 4,
+        _ => 5,
+    };
+    let mut length = 0usize;
+    for line in TEXT.lines().take(printed) {
+        length = length.saturating_add(line.len()).saturating_add(1);
+    }
+    length
+}
+
+#[test]
+fn a_reader_of_commands_fails_anywhere(rt: HostRuntime) -> Result<(), Fail> {
+    for fails_at in 0..=COMMANDS.len() {
+        let (ended, written, flushed) = heard(rt.alloc(), fails_at, usize::MAX);
+        assert!(rt;
+            matches!(ended, Err(Fault::CannotReadCommands)),
+            "at {fails_at}"
+        );
+        assert!(rt;
+            TEXT.as_bytes().starts_with(written.as_slice()),
+            "at {fails_at}"
+        );
+        assert!(rt; written.len() == text_of_lines(fails_at), "at {fails_at}");
+        assert!(rt; flushed == written.len(), "at {fails_at}");
+    }
+    Ok(())
+}
+
+#[test]
+fn a_writer_of_answers_fails_anywhere(rt: HostRuntime) -> Result<(), Fail> {
+    for fails_at in 0..TEXT.len() {
+        let (ended, written, _) = heard(rt.alloc(), usize::MAX, fails_at);
+        assert!(rt; matches!(ended, Err(Fault::CannotWrite)), "at {fails_at}");
+        assert!(rt;
+            written.as_slice() == &TEXT.as_bytes()[..fails_at],
+            "at {fails_at}"
+        );
+    }
+    let (ended, written, flushed) = heard(rt.alloc(), usize::MAX, usize::MAX);
+    assert!(rt; ended.is_ok());
+    assert!(rt; written.as_slice() == TEXT.as_bytes());
+    assert_eq!(rt; flushed, TEXT.len());
+    Ok(())
+}
+
+/// A writer that takes no byte.
+#[derive(Drop)]
+struct Shut;
+
+impl Write for Shut {
+    fn write(&mut self, _bytes: &[u8]) -> io::Result<usize> {
+        Ok(0)
+    }
+
+    fn flush(&mut self) -> io::Result<()> {
+        Ok(())
+    }
+}
+
+#[test]
+fn a_writer_that_takes_no_byte_has_failed(rt: HostRuntime) {
+    assert_eq!(rt; write_whole(&mut Shut, b"a"), Err(WriteFailed));
+    assert_eq!(rt; write_whole(&mut Shut, b""), Ok(()));
+}
