@@ -1,3 +1,2 @@
-pub mod Steps
 pub mod Fronts
 pub mod Words

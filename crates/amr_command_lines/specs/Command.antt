@@ -11,7 +11,7 @@ use Rattle.amr_lines.specs.declared.word.Word.{Word}
 use Rattle.amr_lines.specs.declared.word.Word.TheVariants as word
 use Rattle.amr_lines.specs.LastLines.{word_text}
 use Rattle.amr_command_lines.specs.Parts.{trimmed, word_in, argument_in, is_digit, number_within}
-use Rattle.amr_command_lines.specs.Labels.{labels_in}
+use Rattle.amr_events.specs.LabelTexts.{labels_in}
 use Rattle.amr_command_lines.specs.declared.command.Command.{Command}
 use Rattle.amr_command_lines.specs.declared.command.Command.TheVariants as command
 use Rattle.amr_command_lines.specs.declared.command.Said.{Said}

@@ -5,9 +5,8 @@ ghost use Rattle.amr_command_lines.specs.Command.{word_named, said_alone, seek_s
 ghost use Rattle.amr_command_lines.specs.Said.{FailsToRead, LineSays, Reads, ReadsSuch, TextSays, WordSays};
 
 use crate::digits::{all_digits, number};
-use crate::labels::{LabelsError, labels};
 use crate::parts::{argument, trimmed, word};
-use amr_events::{Event, ScriptError};
+use amr_events::{Event, LineError, ScriptError, read_labels};
 use amr_labels::Labels;
 use amr_lines::{Word, word_text};
 use amr_time::{Moment, read_moment};
@@ -143,10 +142,10 @@ fn explain(alloc: Global, argument: &[u8]) -> Result<Said, Unread>
     if argument.is_empty() {
         return Ok(Said::Malformed(Word::Explain));
     }
-    match labels(alloc, argument) {
+    match read_labels(alloc, argument) {
         Ok(labels) => Ok(Said::Asks(Command::Explain(labels))),
-        Err(LabelsError::Faulty) => Ok(Said::Unfit(Word::Explain)),
-        Err(LabelsError::Memory) => Err(Unread {
+        Err(LineError::Faulty) => Ok(Said::Unfit(Word::Explain)),
+        Err(LineError::Memory) => Err(Unread {
             word: Word::Explain,
         }),
     }

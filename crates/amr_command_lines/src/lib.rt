@@ -3,7 +3,6 @@
 
 mod command;
 mod digits;
-mod labels;
 mod line;
 mod parts;
 

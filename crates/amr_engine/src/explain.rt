@@ -6,11 +6,11 @@ ghost use Rattle.amr_config.specs.Routing.{chosen};
 ghost use Rattle.amr_engine.specs.Explain.{waiting, inhibited_or_silenced, logged, heard, finding, clock_of, kind_and_place, verdict_at, verdicts_at, verdicts_of_stored, verdicts};
 
 use crate::flush::log_key;
-use amr_stated::Integration;
 use amr_events::SilenceId;
 use amr_labels::{Labels, Text};
 use amr_rules::{Alert, LogEntry, inhibited_by, silenced_by};
 use amr_state::{Clock, Spot, Store, group_spot};
+use amr_stated::Integration;
 use amr_time::Moment;
 use std::alloc::AllocError;
 

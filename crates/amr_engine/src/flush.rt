@@ -10,10 +10,10 @@ ghost use Rattle.amr_rules.specs.Muting.{is_inhibited, is_silenced};
 ghost use Rattle.amr_engine.specs.Flush.{let_through, firing_of, resolved_of, labels_of, log_key_of, told_firing, told_resolved, notes_told, tell, notify, notify_all, set_clock, forget, mark_if_empty, drop_resolved, serve, flush};
 
 use amr_config::Config;
-use amr_stated::Integration;
 use amr_labels::{LabelMap, Labels, Listing};
 use amr_rules::{Alert, LogEntry, inhibited_by, needs_update, silenced_by};
 use amr_state::{Clock, FiringAlert, LogKey, Member, Note, ResolvedAlert, Spot, Store, members_of};
+use amr_stated::Integration;
 use amr_time::Moment;
 use std::alloc::{AllocError, Global};
 

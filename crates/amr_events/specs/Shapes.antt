@@ -11,16 +11,6 @@ abbrev pub ◌>>=◌ : {A B : Type 0} → Option A → (A → Option B) → Opti
 None >>= f = None
 (Some x) >>= f = f x
 
--- a member that may be absent or `null`
-abbrev pub present : Option Data → Option Data
-present None = None
-present (Some null) = None
-present (Some (boolean b)) = Some (boolean b)
-present (Some (number n)) = Some (number n)
-present (Some (string s)) = Some (string s)
-present (Some (array items)) = Some (array items)
-present (Some (object members)) = Some (object members)
-
 -- what each of the items is read as
 abbrev pub each_item : {A : Type 0} → (Data → Option A) → Items → Option (List A)
 each_item reads no_items = Some []

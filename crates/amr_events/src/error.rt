@@ -59,12 +59,12 @@ impl<T: Drop> From<AllocFailed<T>> for ScriptError {
     }
 }
 
-/// Why no event is read from a line.
+/// Why a line, or a text within one, is not read.
 #[derive(Debug, Drop)]
-pub(crate) enum LineError {
+pub enum LineError {
     /// There is no memory.
     Memory,
-    /// The line has another shape.
+    /// The text has another shape.
     Faulty,
 }
 

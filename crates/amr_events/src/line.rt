@@ -20,7 +20,7 @@ use std::alloc::{AllocError, Global};
 
 /// The value that a text of JSON stands for.
 #[tactic(auto, unfolding(crate::specs::Lines::json_of))]
-fn json(alloc: Global, line: &[u8]) -> Result<Value, LineError>
+pub(crate) fn json(alloc: Global, line: &[u8]) -> Result<Value, LineError>
     ensures { Reads view result (json_of line.now) }
 {
     match Value::from_slice(alloc, line) {

@@ -1,4 +1,3 @@
 mod Unflushed
-pub mod FilesRead
 pub mod FirstPage
 pub mod RunLines
