@@ -10,3 +10,7 @@ longest = 1_048_576
 pub record Holds (line : Line) (bytes : List ℕ) : Type 0 where
   pub len : line.len ≡ min (length bytes) (longest + 1)
   pub held : line.is_held ≡ true → line.len ≤ longest → line.bytes.items ≡ bytes
+
+-- the bytes of the line are held, so far
+abbrev pub IsHeld : Line → Type 0
+IsHeld line = line.is_held ≡ true

@@ -27,11 +27,12 @@ pub enum Content<'a> {
 
 impl Line {
     ghost use Rattle.amr_command_lines.specs.Content.{IsContent};
-    ghost use Rattle.amr_command_lines.specs.Line.{Holds};
+    ghost use Rattle.amr_command_lines.specs.Line.{Holds, IsHeld};
 
     /// Nothing yet.
     pub fn new(alloc: Global) -> Line
-        ensures { Holds result [] }
+        ensures empty { Holds result [] }
+        ensures held { IsHeld result }
     {
         Line {
             bytes: Vec::new(alloc),
@@ -60,7 +61,8 @@ impl Line {
 
     /// A new line. It keeps its memory.
     pub fn clear(&mut self)
-        ensures { Holds self.new [] }
+        ensures empty { Holds self.new [] }
+        ensures held { IsHeld self.new }
     {
         self.bytes.clear();
         self.len = 0;

@@ -20,6 +20,11 @@ pub enum Unread {
 }
 
 impl From<AllocError> for Unread {
+    ghost use Rattle.std.specs.Prelude.{◌≡◌};
+    ghost use Rattle.amreplay.specs.declared.input.Unread.TheVariants.{OutOfMemory};
+
+    ghost from_gives = { λ _ unread. unread ≡ OutOfMemory };
+
     fn from(_error: AllocError) -> Unread {
         Unread::OutOfMemory
     }

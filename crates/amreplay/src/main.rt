@@ -1,6 +1,8 @@
 //! A replayer of Prometheus Alertmanager incidents.
 #![tactic(auto)]
 
+ghost use Rattle.std.specs.Prelude.{◌≡◌};
+
 mod check;
 mod fault;
 mod input;
@@ -110,6 +112,7 @@ fn read_file(rt: &(impl Files + AllocGlobal), path: &str, most: u64) -> Result<V
     read_whole(rt.alloc(), &mut file.take(most))
 }
 
+/// Why a file that couldn't be opened isn't read.
 fn unopened(error: &Error) -> Unread {
     if error.kind() == ErrorKind::OutOfMemory {
         Unread::OutOfMemory
@@ -118,7 +121,11 @@ fn unopened(error: &Error) -> Unread {
     }
 }
 
-fn fault_of(unread: Unread, otherwise: Fault) -> Fault {
+/// The fault of a file that isn't read: want of memory, or the one that is given.
+fn fault_of(unread: Unread, otherwise: Fault) -> Fault
+    ensures memory { unread ≡ Unread.OutOfMemory → result ≡ Fault.OutOfMemory }
+    ensures reading { unread ≡ Unread.CannotRead → result ≡ otherwise }
+{
     match unread {
         Unread::OutOfMemory => Fault::OutOfMemory,
         Unread::CannotRead => otherwise,

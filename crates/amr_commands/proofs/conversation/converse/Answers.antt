@@ -7,7 +7,7 @@ use Rattle.amr_commands.proofs.conversation.converse.Goals as goal
 
 pub loop-init : goal.loop-init
 loop-init g c =
-    let (rest, told, holds) = Stands-new (incident_of c.args.session.now) _ _ _ c.requires c.new-line.ensures in
+    let (rest, told, holds) = Stands-new (incident_of c.args.session.now) _ _ _ c.requires c.new-line.ensures.empty in
     (refl, [], Consumes-nil _, (rest, told, holds))
 
 pub loop-preserved : goal.loop-preserved

@@ -14,4 +14,4 @@ returns-in_err-answer_line-clause-heard g c = λ start before rest t h.
 
 pub returns-clause-heard : goal.returns-clause-heard
 returns-clause-heard g c = λ start before rest t h.
-    ([], Told-line_ok _ start _ _ before _ _ rest c.answer_line.result _ c.args.b c.if-b-ne10.false c.in_ok-answer_line.was t (c.answer_line.ensures.answered rest h), c.clear.ensures)
+    ([], Told-line_ok _ start _ _ before _ _ rest c.answer_line.result _ c.args.b c.if-b-ne10.false c.in_ok-answer_line.was t (c.answer_line.ensures.answered rest h), c.clear.ensures.empty)
