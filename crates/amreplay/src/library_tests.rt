@@ -1,9 +1,8 @@
 //! What no command of the program shows.
-use crate::fault::Fault;
-use crate::session::run_session;
 use amr_labels::{Interner, Labels, Text};
 use amr_lines::{WriteFailed, write_whole};
 use amr_matchers::{Matchers, ParseError};
+use amr_program::{Fault, run_session};
 use amr_time::{Moment, Span, next_multiple, write_moment};
 use std::alloc::{AllocError, Global};
 use std::io;

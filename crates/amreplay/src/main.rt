@@ -3,30 +3,20 @@
 
 ghost use Rattle.std.specs.Prelude.{◌≡◌};
 
-mod check;
-mod fault;
-mod input;
 #[cfg(test)]
 mod library_tests;
-mod load;
-mod run;
-mod session;
 #[cfg(test)]
 mod tests;
-mod words;
 
-use check::check_config;
-use fault::{Fault, status_of, write_fault};
-use input::{Unread, read_whole};
-use load::LONGEST_CONFIG;
-use run::run_script;
-use session::run_session;
+use amr_program::{
+    Command, Fault, LONGEST_CONFIG, Unread, check_config, command_of, read_whole, run_script,
+    run_session, status_of, write_fault,
+};
 use std::alloc::AllocError;
 use std::io::{BufWriter, Error, ErrorKind, Read};
 use std::process::ExitCode;
 use std::rt::{Env, Files};
 use std::{env, fs};
-use words::{Command, command_of};
 
 fn main(rt: HostRuntime) -> ExitCode {
     match start(&rt) {
@@ -100,7 +90,7 @@ fn words_of(rt: &(impl Env + AllocGlobal)) -> Result<Vec<String>, Fault> {
         Ok(args) => args
             .skip(1)
             .collect(rt.alloc())
-            .map_err(|_e: AllocError| Fault::OutOfMemory),
+            .map_err(|_error: AllocError| Fault::OutOfMemory),
         Err(e) if e.kind() == ErrorKind::OutOfMemory => Err(Fault::OutOfMemory),
         Err(_) => Err(Fault::Usage),
     }

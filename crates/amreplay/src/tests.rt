@@ -1,10 +1,9 @@
-use crate::check::check_config;
-use crate::fault::{Fault, status_of, write_fault};
-use crate::input::{Unread, read_whole};
-use crate::run::run_script;
-use crate::words::{Command, command_of};
 use amr_events::Fault as ScriptFault;
 use amr_labels::Text;
+use amr_program::{
+    Command, Fault, Unread, check_config, command_of, read_whole, run_script, status_of,
+    write_fault,
+};
 use amr_stated::Refusal;
 use std::alloc::Global;
 use std::io;

@@ -1,0 +1,25 @@
+-- What a session over two files takes from the reader of its commands, and leaves in a writer.
+use Rattle.std.specs.Prelude.{◌≡◌, ◌⊎◌, ℕ, List, Option, Result, Ok, Err}
+use Rattle.std.specs.Io.KnownBytes.{Keeps}
+use Rattle.amr_labels.specs.Labels.{Text}
+use Rattle.amr_config.specs.Config as config
+use Rattle.amr_events.specs.Events.{Event}
+use Rattle.amr_commands.specs.declared.conversation.Broken.{Broken}
+use Rattle.amr_commands.specs.Replies.{Incident}
+use Rattle.amr_commands.specs.Converse.{Converses}
+use Rattle.amr_program.specs.declared.fault.Fault.{Fault}
+use Rattle.amr_program.specs.Faults.{broken_fault}
+use Rattle.amr_program.specs.Files.{Hold, AreRefused}
+
+abbrev pub incident_with : config.Config → List Event → Incident
+incident_with held events = record { config = held; events = events }
+
+-- A session over two files. Where one is refused, its fault is answered, and nothing is read or written. Else the commands are answered over what they hold, to the end of the
+-- commands or to the end that broke.
+abbrev pub SessionLeaves : Option Text → Option Text → Option Text → Option Text → List ℕ → List ℕ → Result (Unit {0}) Fault → Type 0
+SessionLeaves source left old new bytes script (Ok u) =
+    (held : config.Config) × (events : List Event) × Hold bytes script held events × Converses (incident_with held events) source left old new (Ok u)
+SessionLeaves source left old new bytes script (Err fault) =
+    (AreRefused bytes script fault × Keeps source left × Keeps old new)
+    ⊎ ((held : config.Config) × (events : List Event) × Hold bytes script held events × (broken : Broken) × (fault ≡ broken_fault broken)
+    × Converses (incident_with held events) source left old new (Err broken))

@@ -1,0 +1,42 @@
+//! A check of a configuration: its numbers of receivers, routes and inhibition rules.
+ghost use Rattle.std.specs.Prelude.{◌≡◌, IfOk, string_bytes};
+ghost use Rattle.serde_json.specs.View.{view};
+ghost use Rattle.amr_program.specs.Checked.{counts_data, counts_line, CheckLeaves};
+
+use crate::fault::Fault;
+use crate::load::read_config;
+use amr_config::Config;
+use amr_lines::{flush, line_text, write_whole};
+use serde_json::{Value, json};
+use std::alloc::{AllocError, Global};
+use std::io::Write;
+
+/// The numbers of receivers, of routes with the root, and of inhibition rules.
+fn counts_value(alloc: Global, config: &Config) -> Result<Value, AllocError>
+    ensures { IfOk result (λ v. view v ≡ counts_data config.now) }
+{
+    let receivers = config.receiver_count();
+    let routes = config.route_count();
+    let rules = config.rules().len();
+    json!(in alloc; {"receivers": receivers, "routes": routes, "rules": rules})
+}
+
+/// The same, as a line.
+fn counts_text(alloc: Global, config: &Config) -> Result<String, AllocError>
+    ensures { IfOk result (λ text. string_bytes text ≡ counts_line config.now) }
+{
+    let value = counts_value(alloc, config)?;
+    line_text(alloc, &value)
+}
+
+/// Judges a configuration, and writes the numbers of its receivers, routes and inhibition rules as a line. Nothing is written
+/// where it is refused.
+pub fn check_config<W: Write>(alloc: Global, config: &[u8], out: &mut W) -> Result<(), Fault>
+    ensures { CheckLeaves (W.contents out.old) (W.contents out.new) config.now result }
+{
+    let config = read_config(alloc, config)?;
+    let text = counts_text(alloc, &config)?;
+    write_whole(out, text.as_bytes())?;
+    flush(out)?;
+    Ok(())
+}

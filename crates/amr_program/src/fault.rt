@@ -1,0 +1,232 @@
+//! What stops the program, and its line on standard error.
+ghost use Rattle.std.specs.Prelude.{◌≡◌};
+ghost use Rattle.amr_lines.specs.Outlet.{WritesText};
+
+use crate::run::Stopped;
+use amr_commands::Broken;
+use amr_events::{Fault as ScriptFault, ScriptError};
+use amr_lines::{WriteFailed, write_parts};
+use amr_stated::{ConfigError, Refusal};
+use itoa::Buffer;
+use std::alloc::AllocError;
+use std::io::Write;
+
+/// What stops the program.
+#[derive(Debug, Drop)]
+pub enum Fault {
+    /// The configuration is refused.
+    Config(Refusal),
+    /// The script is refused.
+    Script(ScriptFault),
+    CannotReadConfig,
+    CannotReadScript,
+    CannotReadCommands,
+    CannotWrite,
+    OutOfMemory,
+    /// The words are no form of the program.
+    Usage,
+}
+
+impl From<AllocError> for Fault {
+    ghost use Rattle.std.specs.Prelude.{◌≡◌};
+    ghost use Rattle.amr_program.specs.declared.fault.Fault.TheVariants.{OutOfMemory};
+
+    ghost from_gives = { λ _ fault. fault ≡ OutOfMemory };
+
+    fn from(_error: AllocError) -> Fault {
+        Fault::OutOfMemory
+    }
+}
+
+impl From<ConfigError> for Fault {
+    ghost use Rattle.std.specs.Prelude.{◌≡◌};
+    ghost use Rattle.amr_program.specs.Faults.{config_fault};
+
+    ghost from_gives = { λ error fault. fault ≡ config_fault error };
+
+    fn from(error: ConfigError) -> Fault {
+        match error {
+            ConfigError::Memory => Fault::OutOfMemory,
+            ConfigError::Refused(refusal) => Fault::Config(refusal),
+        }
+    }
+}
+
+impl From<ScriptError> for Fault {
+    ghost use Rattle.std.specs.Prelude.{◌≡◌};
+    ghost use Rattle.amr_program.specs.Faults.{script_fault};
+
+    ghost from_gives = { λ error fault. fault ≡ script_fault error };
+
+    fn from(error: ScriptError) -> Fault {
+        match error {
+            ScriptError::Memory => Fault::OutOfMemory,
+            ScriptError::Refused(fault) => Fault::Script(fault),
+        }
+    }
+}
+
+impl From<Stopped> for Fault {
+    ghost use Rattle.std.specs.Prelude.{◌≡◌};
+    ghost use Rattle.amr_program.specs.Faults.{stop_fault};
+
+    ghost from_gives = { λ stopped fault. fault ≡ stop_fault stopped };
+
+    fn from(stopped: Stopped) -> Fault {
+        match stopped {
+            Stopped::OutOfMemory => Fault::OutOfMemory,
+            Stopped::CannotWrite => Fault::CannotWrite,
+        }
+    }
+}
+
+impl From<WriteFailed> for Fault {
+    ghost use Rattle.std.specs.Prelude.{◌≡◌};
+    ghost use Rattle.amr_program.specs.declared.fault.Fault.TheVariants.{CannotWrite};
+
+    ghost from_gives = { λ _ fault. fault ≡ CannotWrite };
+
+    fn from(_error: WriteFailed) -> Fault {
+        Fault::CannotWrite
+    }
+}
+
+impl From<Broken> for Fault {
+    ghost use Rattle.std.specs.Prelude.{◌≡◌};
+    ghost use Rattle.amr_program.specs.Faults.{broken_fault};
+
+    ghost from_gives = { λ broken fault. fault ≡ broken_fault broken };
+
+    fn from(broken: Broken) -> Fault {
+        match broken {
+            Broken::Reading => Fault::CannotReadCommands,
+            Broken::Writing => Fault::CannotWrite,
+        }
+    }
+}
+
+/// What a fault's line has after its name.
+#[derive(Clone, Copy, Debug)]
+enum Place<'a> {
+    Nowhere,
+    AtPath(&'a str),
+    AtLine(u64),
+}
+
+ghost use Rattle.amr_program.specs.Faults.{fault_line, fault_name, config_name as config_name_of, script_name as script_name_of, fault_place, config_place as config_place_of, script_place as script_place_of, path_place as place_of_path, line_with_place, place_of as place_seen, status_of as fault_status};
+
+/// Writes the fault's line.
+pub fn write_fault<W: Write>(fault: &Fault, out: &mut W) -> Result<(), WriteFailed>
+    ensures { WritesText (W.contents out.old) (W.contents out.new) result (fault_line fault.now) }
+{
+    write_line(name_of(fault), &place_of(fault), out)
+}
+
+fn write_line<W: Write>(name: &str, place: &Place, out: &mut W) -> Result<(), WriteFailed>
+    ensures { WritesText (W.contents out.old) (W.contents out.new) result (line_with_place name.now (place_seen place.now)) }
+{
+    match place {
+        Place::Nowhere => write_parts(out, &[name.as_bytes(), b"\n"]),
+        Place::AtPath(path) => {
+            write_parts(out, &[name.as_bytes(), b" at ", path.as_bytes(), b"\n"])
+        }
+        Place::AtLine(line) => {
+            let mut digits = Buffer::new();
+            let digits = digits.format(*line);
+            write_parts(
+                out,
+                &[name.as_bytes(), b" at line ", digits.as_bytes(), b"\n"],
+            )
+        }
+    }
+}
+
+fn name_of(fault: &Fault) -> &'static str
+    ensures { result.now ≡ fault_name fault.now }
+{
+    match fault {
+        Fault::Config(refusal) => config_name(refusal),
+        Fault::Script(fault) => script_name(*fault),
+        Fault::CannotReadConfig => "amreplay: cannot read config",
+        Fault::CannotReadScript => "amreplay: cannot read script",
+        Fault::CannotReadCommands => "amreplay: cannot read commands",
+        Fault::CannotWrite => "amreplay: cannot write",
+        Fault::OutOfMemory => "amreplay: out of memory",
+        Fault::Usage => "amreplay: usage",
+    }
+}
+
+fn config_name(refusal: &Refusal) -> &'static str
+    ensures { result.now ≡ config_name_of refusal.now }
+{
+    match refusal {
+        Refusal::BadConfig { path: _ } => "amreplay: config: 5 BadConfig",
+        Refusal::UnknownReceiver => "amreplay: config: 6 UnknownReceiver",
+        Refusal::DuplicateReceiver => "amreplay: config: 7 DuplicateReceiver",
+        Refusal::RootRoute => "amreplay: config: 8 RootRoute",
+        Refusal::ZeroInterval => "amreplay: config: 9 ZeroInterval",
+        Refusal::BadGroupBy => "amreplay: config: 10 BadGroupBy",
+        Refusal::TooDeep => "amreplay: config: 11 TooDeep",
+        Refusal::TimeIntervals => "amreplay: config: 12 TimeIntervals",
+    }
+}
+
+fn script_name(fault: ScriptFault) -> &'static str
+    ensures { result.now ≡ script_name_of fault }
+{
+    match fault {
+        ScriptFault::BadLine { line: _ } => "amreplay: script: 13 BadLine",
+        ScriptFault::LineTooLong { line: _ } => "amreplay: script: 14 LineTooLong",
+        ScriptFault::TooManyEvents => "amreplay: script: 15 TooManyEvents",
+    }
+}
+
+fn place_of(fault: &Fault) -> Place<'_>
+    ensures { place_seen result ≡ fault_place fault.now }
+{
+    match fault {
+        Fault::Config(refusal) => config_place(refusal),
+        Fault::Script(fault) => script_place(*fault),
+        _ => Place::Nowhere,
+    }
+}
+
+fn config_place(refusal: &Refusal) -> Place<'_>
+    ensures { place_seen result ≡ config_place_of refusal.now }
+{
+    match refusal {
+        Refusal::BadConfig { path } => path_place(path.as_str()),
+        _ => Place::Nowhere,
+    }
+}
+
+// The empty path, which is the whole configuration, isn't printed.
+fn path_place(path: &str) -> Place<'_>
+    ensures { place_seen result ≡ place_of_path path.now }
+{
+    if path.is_empty() {
+        Place::Nowhere
+    } else {
+        Place::AtPath(path)
+    }
+}
+
+fn script_place(fault: ScriptFault) -> Place<'static>
+    ensures { place_seen result ≡ script_place_of fault }
+{
+    match fault {
+        ScriptFault::BadLine { line } => Place::AtLine(line),
+        ScriptFault::LineTooLong { line } => Place::AtLine(line),
+        ScriptFault::TooManyEvents => Place::Nowhere,
+    }
+}
+
+/// The exit status of a fault: 2 where the words are no form of the program, else 1.
+pub fn status_of(fault: &Fault) -> u8
+    ensures { result ≡ fault_status fault.now }
+{
+    match fault {
+        Fault::Usage => 2,
+        _ => 1,
+    }
+}

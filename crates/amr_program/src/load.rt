@@ -1,0 +1,69 @@
+//! What the bytes of a file say.
+ghost use Rattle.std.specs.Prelude.{◌≡◌, [], option_map, IfOk};
+ghost use Rattle.serde_json.specs.View.{view};
+ghost use Rattle.amr_program.specs.Files.{json_of, ReadsAs, Opens};
+ghost use Rattle.amr_stated.specs.declared.error.Refusal.TheVariants.{BadConfig};
+
+use crate::fault::Fault;
+use amr_config::Config;
+use amr_events::Script;
+use amr_labels::Text;
+use amr_replay::Session;
+use amr_stated::{ConfigError, Refusal};
+use serde_json::Value;
+use std::alloc::{AllocError, Global};
+
+/// The most bytes of a configuration.
+pub const LONGEST_CONFIG: usize = 1_048_576;
+
+/// The value that bytes stand for, which are a text of JSON in UTF-8.
+#[tactic(auto, unfolding(crate::specs::Files::json_of))]
+fn json(alloc: Global, bytes: &[u8]) -> Result<Option<Value>, AllocError>
+    ensures { IfOk result (λ found. option_map view found ≡ json_of bytes.now) }
+{
+    match Value::from_slice(alloc, bytes) {
+        Ok(value) => Ok(Some(value)),
+        Err(error) => {
+            if error.is_memory() {
+                Err(AllocError)
+            } else {
+                Ok(None)
+            }
+        }
+    }
+}
+
+/// The refusal of a whole file.
+fn whole_file(alloc: Global) -> Result<Refusal, AllocError>
+    ensures { IfOk result (λ refusal. refusal ≡ BadConfig []) }
+{
+    Ok(Refusal::BadConfig {
+        path: Text::from_str(alloc, "")?,
+    })
+}
+
+/// The configuration of a file: a text of JSON of at most 1 MiB.
+#[tactic(auto, unfolding(crate::specs::Files::ConfigFileIs))]
+pub fn read_config(alloc: Global, bytes: &[u8]) -> Result<Config, ConfigError>
+    ensures { ReadsAs bytes.now result }
+{
+    if bytes.len() > LONGEST_CONFIG {
+        return Err(ConfigError::Refused(whole_file(alloc)?));
+    }
+    match json(alloc, bytes)? {
+        Some(value) => Config::read(alloc, &value),
+        None => Err(ConfigError::Refused(whole_file(alloc)?)),
+    }
+}
+
+/// The session of a script under a configuration, at its start. The configuration is judged before the script.
+pub fn open_session(alloc: Global, config: &[u8], script: &[u8]) -> Result<Session, Fault>
+    ensures { Opens config.now script.now result }
+{
+    let config = read_config(alloc, config)?;
+    let script = Script::read(alloc, script)?;
+    match Session::new(alloc, config, script) {
+        Ok(session) => Ok(session),
+        Err(_) => Err(Fault::OutOfMemory),
+    }
+}

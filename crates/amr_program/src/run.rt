@@ -1,0 +1,100 @@
+//! A run: all events of a script are passed, and their lines written.
+ghost use Rattle.std.specs.Prelude.{◌≡◌, ◌+◌, [], IfOk, length, ℕ, string_bytes};
+ghost use Rattle.amr_lines.specs.Printed.{event_lines};
+ghost use Rattle.amr_program.specs.Files.{FilesLeave};
+ghost use Rattle.amr_program.specs.Runs.{Leaves, RunLeaves, LeavesAt};
+ghost use Rattle.amr_engine.specs.Outcomes.{outcome_view};
+ghost use Rattle.amr_replay.specs.Session.{at_cursor};
+
+use crate::fault::Fault;
+use crate::load::open_session;
+use amr_engine::Outcome;
+use amr_lines::{WriteFailed, event_text, flush, write_whole};
+use amr_replay::Session;
+use std::alloc::{AllocError, Global};
+use std::io::Write;
+
+/// Why a run ends before its last line.
+#[derive(Debug, Drop)]
+pub enum Stopped {
+    OutOfMemory,
+    CannotWrite,
+}
+
+impl From<AllocError> for Stopped {
+    ghost use Rattle.std.specs.Prelude.{◌≡◌};
+    ghost use Rattle.amr_program.specs.declared.run.Stopped.TheVariants.{OutOfMemory};
+
+    ghost from_gives = { λ _ e. e ≡ OutOfMemory };
+
+    fn from(_error: AllocError) -> Stopped {
+        Stopped::OutOfMemory
+    }
+}
+
+impl From<WriteFailed> for Stopped {
+    ghost use Rattle.std.specs.Prelude.{◌≡◌};
+    ghost use Rattle.amr_program.specs.declared.run.Stopped.TheVariants.{CannotWrite};
+
+    ghost from_gives = { λ _ e. e ≡ CannotWrite };
+
+    fn from(_error: WriteFailed) -> Stopped {
+        Stopped::CannotWrite
+    }
+}
+
+/// Writes the lines of an event's outcome, whose text is built whole first.
+fn write_event<W: Write>(
+    alloc: Global,
+    event: u64,
+    outcome: &Outcome,
+    out: &mut W,
+) -> Result<(), Stopped>
+    ensures { Leaves (W.contents out.old) (W.contents out.new) (event_lines event (outcome_view outcome.now)) result }
+{
+    let text = event_text(alloc, event, outcome)?;
+    write_whole(out, text.as_bytes())?;
+    Ok(())
+}
+
+/// Steps a session from its start to its end, and writes each event's lines.
+fn write_events<W: Write>(alloc: Global, session: &mut Session, out: &mut W) -> Result<(), Stopped>
+    requires { session.old ≡ at_cursor session.old.config session.old.events 0 }
+    ensures { RunLeaves (W.contents out.old) (W.contents out.new) session.old.config session.old.events result }
+{
+    for number in 0..session.events() {
+        // An event is left, so memory alone can stop the step.
+        let Ok(outcome) = session.step() else {
+            return Err(Stopped::OutOfMemory);
+        };
+        write_event(alloc, number as u64 + 1, &outcome, out)?;
+    }
+    Ok(())
+}
+
+/// The same, and hands on what the writer holds back, also where memory stops the run.
+fn write_run<W: Write>(alloc: Global, session: &mut Session, out: &mut W) -> Result<(), Stopped>
+    requires { session.old ≡ at_cursor session.old.config session.old.events 0 }
+    ensures { RunLeaves (W.contents out.old) (W.contents out.new) session.old.config session.old.events result }
+{
+    let ended = write_events(alloc, session, out);
+    flush(out)?;
+    ended
+}
+
+/// Runs a script over a configuration, and writes the lines of its events.
+///
+/// The configuration is judged before the script, and nothing is written where one of them is refused. The text of an event is built whole
+/// before its first byte is written, so want of memory leaves the lines of the events before.
+pub fn run_script<W: Write>(
+    alloc: Global,
+    config: &[u8],
+    script: &[u8],
+    out: &mut W,
+) -> Result<(), Fault>
+    ensures { FilesLeave (W.contents out.old) (W.contents out.new) config.now script.now result }
+{
+    let mut session = open_session(alloc, config, script)?;
+    write_run(alloc, &mut session, out)?;
+    Ok(())
+}

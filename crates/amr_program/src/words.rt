@@ -1,0 +1,41 @@
+//! The words after the program's name.
+ghost use Rattle.std.specs.Prelude.{◌≡◌, map, option_map, string_bytes};
+
+/// What the words ask for, with the paths.
+#[derive(Clone, Copy, Debug, PartialEq, Eq)]
+pub enum Command<'a> {
+    /// A configuration is judged and counted.
+    Check { config: &'a str },
+    /// All events of a script are passed over a configuration.
+    Run { config: &'a str, script: &'a str },
+    /// Commands are read from standard input, and answered over a script and a configuration.
+    Session { config: &'a str, script: &'a str },
+}
+
+ghost use Rattle.amr_program.specs.Words.{asked, task_of, with_files};
+
+/// The forms with two files.
+fn command_with_files<'a>(word: &str, config: &'a str, script: &'a str) -> Option<Command<'a>>
+    ensures { option_map task_of result ≡ with_files word.now config.now script.now }
+{
+    match word {
+        "run" => Some(Command::Run { config, script }),
+        "session" => Some(Command::Session { config, script }),
+        _ => None,
+    }
+}
+
+/// What the words ask for; there are no options.
+pub fn command_of<'a>(words: &'a [String]) -> Option<Command<'a>>
+    ensures { option_map task_of result ≡ asked (map string_bytes words.now) }
+{
+    match words {
+        [word, config] if word.as_str() == "check" => Some(Command::Check {
+            config: config.as_str(),
+        }),
+        [word, config, script] => {
+            command_with_files(word.as_str(), config.as_str(), script.as_str())
+        }
+        _ => None,
+    }
+}
