@@ -9,7 +9,7 @@ use amr_labels::Labels;
 use std::alloc::{AllocError, Global};
 
 /// What is known of a route, once some routes after it have been seen.
-#[derive(Clone, Copy, Debug)]
+#[derive(Clone, Copy)]
 pub(crate) struct Mark {
     /// The alert comes to the route, and the route matches it.
     is_open: bool,

@@ -15,7 +15,7 @@ use amr_time::Moment;
 use std::alloc::AllocError;
 
 /// What is found of a stored alert at an integration: the first of these, in this order, that holds.
-#[derive(Debug, Drop)]
+#[derive(Drop)]
 pub enum Finding {
     /// The alert's group waits for its first flush.
     Waiting { due: Moment },
@@ -32,7 +32,7 @@ pub enum Finding {
 }
 
 /// One answer to the question why an alert was told of, or not.
-#[derive(Debug, Drop)]
+#[derive(Drop)]
 pub enum Verdict {
     /// No alert with these labels is stored.
     Unknown,

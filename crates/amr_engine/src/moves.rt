@@ -10,7 +10,7 @@ use amr_time::Moment;
 use std::alloc::AllocError;
 
 /// The most moves that an event may make.
-pub const MOST_MOVES: usize = 10_000;
+const MOST_MOVES: usize = 10_000;
 
 /// A move makes the change at its own moment.
 fn make(store: &mut Store, due: Due) -> Result<(), AllocError>

@@ -43,7 +43,7 @@ impl From<AllocError> for ScriptError {
 
     ghost from_gives = { λ _ e. e ≡ Memory };
 
-    fn from(_e: AllocError) -> ScriptError {
+    fn from(_error: AllocError) -> ScriptError {
         ScriptError::Memory
     }
 }
@@ -54,7 +54,7 @@ impl<T: Drop> From<AllocFailed<T>> for ScriptError {
 
     ghost from_gives = { λ _ e. e ≡ Memory };
 
-    fn from(_e: AllocFailed<T>) -> ScriptError {
+    fn from(_error: AllocFailed<T>) -> ScriptError {
         ScriptError::Memory
     }
 }
@@ -74,7 +74,7 @@ impl From<AllocError> for LineError {
 
     ghost from_gives = { λ _ e. e ≡ Memory };
 
-    fn from(_e: AllocError) -> LineError {
+    fn from(_error: AllocError) -> LineError {
         LineError::Memory
     }
 }
@@ -85,7 +85,7 @@ impl<T: Drop> From<AllocFailed<T>> for LineError {
 
     ghost from_gives = { λ _ e. e ≡ Memory };
 
-    fn from(_e: AllocFailed<T>) -> LineError {
+    fn from(_error: AllocFailed<T>) -> LineError {
         LineError::Memory
     }
 }
@@ -96,7 +96,7 @@ impl From<BadTime> for LineError {
 
     ghost from_gives = { λ _ e. e ≡ Faulty };
 
-    fn from(_e: BadTime) -> LineError {
+    fn from(_error: BadTime) -> LineError {
         LineError::Faulty
     }
 }

@@ -22,7 +22,7 @@ use std::alloc::{AllocError, Global};
 use std::marker::Model;
 
 /// A matcher as it is stated; its pattern is not read yet.
-#[derive(Debug, Drop)]
+#[derive(Drop)]
 struct StatedMatcher {
     name: Text,
     operator: Operator,

@@ -14,7 +14,7 @@ use std::alloc::Global;
 use std::marker::Model;
 
 /// The events of a script, in order.
-#[derive(Debug, Drop)]
+#[derive(Drop)]
 pub struct Script {
     events: Listing<Event>,
 }

@@ -11,7 +11,7 @@ use std::collections::btree_map::Iter;
 use std::marker::Model;
 
 /// Values under label sets, in the order of the label sets.
-#[derive(Debug, Drop)]
+#[derive(Drop)]
 pub struct LabelMap<V> {
     tree: BTreeMap<Labels, V>,
 }

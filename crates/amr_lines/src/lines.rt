@@ -24,7 +24,7 @@ pub fn line_text(alloc: Global, value: &Value) -> Result<String, AllocError>
 }
 
 /// A note's line.
-pub fn note_text(alloc: Global, note: &Note) -> Result<String, AllocError>
+fn note_text(alloc: Global, note: &Note) -> Result<String, AllocError>
     ensures { IfOk result (λ text. string_bytes text ≡ note_line note.now) }
 {
     let value = note_value(alloc, note)?;
@@ -32,7 +32,7 @@ pub fn note_text(alloc: Global, note: &Note) -> Result<String, AllocError>
 }
 
 /// The line of an event's skipped alerts, which are told by their places in the post, from 1.
-pub fn skipped_text(alloc: Global, event: u64, places: &[usize]) -> Result<String, AllocError>
+fn skipped_text(alloc: Global, event: u64, places: &[usize]) -> Result<String, AllocError>
     ensures { IfOk result (λ text. string_bytes text ≡ skipped_line event places.now) }
 {
     let value = skipped_value(alloc, event, places)?;
@@ -40,7 +40,7 @@ pub fn skipped_text(alloc: Global, event: u64, places: &[usize]) -> Result<Strin
 }
 
 /// The line of a refused event.
-pub fn refused_event_text(alloc: Global, event: u64, reason: u64) -> Result<String, AllocError>
+fn refused_event_text(alloc: Global, event: u64, reason: u64) -> Result<String, AllocError>
     ensures { IfOk result (λ text. string_bytes text ≡ refused_event_line event reason) }
 {
     let value = refused_event_value(alloc, event, reason)?;
@@ -48,7 +48,7 @@ pub fn refused_event_text(alloc: Global, event: u64, reason: u64) -> Result<Stri
 }
 
 /// The lines of an accepted event: its notes, and its skipped alerts where there are any.
-pub fn accepted_text(
+fn accepted_text(
     alloc: Global,
     event: u64,
     notes: &[Shared<Note>],

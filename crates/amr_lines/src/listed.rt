@@ -17,7 +17,7 @@ use std::alloc::{AllocError, Global};
 
 /// A stored alert.
 #[tactic(auto, unfolding(crate::specs::Printed::alert_data))]
-pub fn alert_value(alloc: Global, alert: &(Labels, Alert)) -> Result<Value, AllocError>
+pub(crate) fn alert_value(alloc: Global, alert: &(Labels, Alert)) -> Result<Value, AllocError>
     ensures { IfOk result (λ v. view v ≡ alert_data alert.now) }
 {
     let annotations = texts_value(alloc, alert.1.annotations.entries())?;
@@ -85,7 +85,10 @@ fn matchers_value(alloc: Global, matchers: &[Matcher]) -> Result<Value, AllocErr
 
 /// A stored silence.
 #[tactic(auto, unfolding(crate::specs::Printed::silence_data))]
-pub fn silence_value(alloc: Global, silence: &(SilenceId, Silence)) -> Result<Value, AllocError>
+pub(crate) fn silence_value(
+    alloc: Global,
+    silence: &(SilenceId, Silence),
+) -> Result<Value, AllocError>
     ensures { IfOk result (λ v. view v ≡ silence_data silence.now) }
 {
     let ends_at = moment_value(alloc, silence.1.ends_at)?;
@@ -123,7 +126,7 @@ fn since_value(alloc: Global, since: Option<Moment>) -> Result<Value, AllocError
 
 /// A group.
 #[tactic(auto, unfolding(crate::specs::Printed::group_data))]
-pub fn group_value(alloc: Global, group: &Group) -> Result<Value, AllocError>
+pub(crate) fn group_value(alloc: Global, group: &Group) -> Result<Value, AllocError>
     ensures { IfOk result (λ v. view v ≡ group_data group.now) }
 {
     let empty_since = since_value(alloc, group.empty_since)?;
@@ -166,7 +169,7 @@ fn path_value(alloc: Global, path: &[Matchers]) -> Result<Value, AllocError>
 
 /// An entry of the notification log.
 #[tactic(auto, unfolding(crate::specs::Printed::log_data))]
-pub fn log_value(alloc: Global, entry: &(LogKey, LogEntry)) -> Result<Value, AllocError>
+pub(crate) fn log_value(alloc: Global, entry: &(LogKey, LogEntry)) -> Result<Value, AllocError>
     ensures { IfOk result (λ v. view v ≡ log_data entry.now) }
 {
     let key = &entry.0;

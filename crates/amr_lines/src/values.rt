@@ -11,7 +11,7 @@ use serde_json::{Map, Value, json, put};
 use std::alloc::{AllocError, Global};
 
 /// Texts under their names.
-pub fn texts_value(alloc: Global, texts: &[(Text, Text)]) -> Result<Value, AllocError>
+pub(crate) fn texts_value(alloc: Global, texts: &[(Text, Text)]) -> Result<Value, AllocError>
     ensures { IfOk result (λ v. view v ≡ texts_data texts.now) }
 {
     let mut members = Map::new(alloc);
@@ -24,7 +24,7 @@ pub fn texts_value(alloc: Global, texts: &[(Text, Text)]) -> Result<Value, Alloc
 
 /// A moment.
 #[tactic(auto, unfolding(crate::specs::Printed::moment_data))]
-pub fn moment_value(alloc: Global, moment: Moment) -> Result<Value, AllocError>
+pub(crate) fn moment_value(alloc: Global, moment: Moment) -> Result<Value, AllocError>
     ensures { IfOk result (λ v. view v ≡ moment_data moment) }
 {
     Ok(Value::String(write_moment(alloc, moment)?))
@@ -82,7 +82,7 @@ fn resolved_values(alloc: Global, alerts: &[ResolvedAlert]) -> Result<Value, All
 
 /// A note.
 #[tactic(auto, unfolding(crate::specs::Printed::note_data))]
-pub fn note_value(alloc: Global, note: &Note) -> Result<Value, AllocError>
+pub(crate) fn note_value(alloc: Global, note: &Note) -> Result<Value, AllocError>
     ensures { IfOk result (λ v. view v ≡ note_data note.now) }
 {
     let key = &note.key;
@@ -135,7 +135,11 @@ fn places_value(alloc: Global, places: &[usize]) -> Result<Value, AllocError>
 }
 
 /// The skipped alerts of an event.
-pub fn skipped_value(alloc: Global, event: u64, places: &[usize]) -> Result<Value, AllocError>
+pub(crate) fn skipped_value(
+    alloc: Global,
+    event: u64,
+    places: &[usize],
+) -> Result<Value, AllocError>
     ensures { IfOk result (λ v. view v ≡ skipped_data event places.now) }
 {
     let skipped = places_value(alloc, places)?;
@@ -143,7 +147,11 @@ pub fn skipped_value(alloc: Global, event: u64, places: &[usize]) -> Result<Valu
 }
 
 /// An event that was refused.
-pub fn refused_event_value(alloc: Global, event: u64, reason: u64) -> Result<Value, AllocError>
+pub(crate) fn refused_event_value(
+    alloc: Global,
+    event: u64,
+    reason: u64,
+) -> Result<Value, AllocError>
     ensures { IfOk result (λ v. view v ≡ refused_event_data event reason) }
 {
     json!(in alloc; {"event": event, "reason": reason})

@@ -42,7 +42,7 @@ holds matcher labels = compares matcher.operator matcher.value (value_of labels 
 abbrev pub all_hold : List Matcher → LabelSet → Bool
 all_hold matchers labels = list_all (λ matcher. holds matcher labels) matchers
 
--- the place of an operator in the order of log keys
+-- the place of an operator in the order of matchers
 abbrev pub operator_place : Operator → ℕ
 operator_place Equal = 0
 operator_place NotEqual = 1

@@ -1,4 +1,4 @@
-// Laws of matcher texts: each function says one, and does nothing.
+//! Laws of matcher texts: each function says one, and does nothing.
 ghost use Rattle.amr_matchers.specs.MatcherLaws.{ReadIsSpelled, SpelledIsRead};
 
 /// A text that is read as a list of matchers spells it: matchers separated by commas, in braces or not.

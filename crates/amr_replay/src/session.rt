@@ -128,7 +128,7 @@ impl Session {
         Ok(())
     }
 
-    // Goes back by one event.
+    /// Goes back by one event.
     fn unstep(&mut self)
         requires { 0 < self.old.cursor }
         ensures { self.new ≡ at_cursor self.old.config self.old.events (self.old.cursor - 1) }
@@ -166,7 +166,7 @@ impl Session {
         self.move_to(to)
     }
 
-    // Moves the cursor to a place that there is.
+    /// Moves the cursor to a place that there is.
     fn move_to(&mut self, to: usize) -> Result<Vec<Outcome>, AllocError>
         requires { to ≤ length self.old.events }
         ensures outcomes { IfOk result (λ outcomes. map outcome_view outcomes.items ≡ outcomes_passed self.old.config self.old.events self.old.cursor to) }
@@ -188,7 +188,7 @@ impl Session {
         }
     }
 
-    // Goes back to an earlier place.
+    /// Goes back to an earlier place.
     fn rewind(&mut self, to: usize)
         requires { to ≤ self.old.cursor }
         ensures { self.new ≡ at_cursor self.old.config self.old.events to }
@@ -198,7 +198,7 @@ impl Session {
         }
     }
 
-    // Passes the events up to a place, as far as memory lasts.
+    /// Passes the events up to a place, as far as memory lasts.
     fn forward(&mut self, to: usize) -> Result<Vec<Outcome>, AllocError>
         requires from { self.old.cursor ≤ to }
         requires inside { to ≤ length self.old.events }

@@ -9,7 +9,7 @@ use amr_time::{Moment, Span};
 use std::alloc::{AllocError, Global};
 
 /// A stored alert without its labels.
-#[derive(Debug, Drop)]
+#[derive(Drop)]
 pub struct Alert {
     pub starts_at: Moment,
     /// The alert is resolved at this moment and from then on.

@@ -11,7 +11,7 @@ use amr_time::Moment;
 use std::alloc::{AllocError, Global};
 
 /// What a post of a silence comes to.
-#[derive(Debug, Drop)]
+#[derive(Drop)]
 pub enum Posting {
     /// The stored silence that the post names becomes this one.
     InPlace(Silence),

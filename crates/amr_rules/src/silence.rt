@@ -7,7 +7,7 @@ use amr_time::Moment;
 use std::alloc::AllocError;
 
 /// A silence without its id.
-#[derive(Debug, Drop)]
+#[derive(Drop)]
 pub struct Silence {
     pub matchers: Matchers,
     pub starts_at: Moment,

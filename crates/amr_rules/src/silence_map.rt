@@ -12,7 +12,7 @@ use std::collections::btree_map::Iter;
 use std::marker::Model;
 
 /// Silences under their ids, in the order of the ids as numbers.
-#[derive(Debug, Drop)]
+#[derive(Drop)]
 pub struct SilenceMap {
     tree: BTreeMap<SilenceId, Silence>,
 }

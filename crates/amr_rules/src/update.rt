@@ -8,7 +8,7 @@ use amr_time::{Moment, Span};
 use std::alloc::{AllocError, Global};
 
 /// What the notification log keeps of the last note.
-#[derive(Debug, Drop)]
+#[derive(Drop)]
 pub struct LogEntry {
     pub time: Moment,
     /// The label sets of the alerts that fired.

@@ -17,7 +17,7 @@ use std::alloc::AllocError;
 use std::cmp::Ordering;
 
 /// What may be due, in the order in which it is made at one moment.
-#[derive(Clone, Copy, Debug, PartialEq, Eq)]
+#[derive(Clone, Copy)]
 pub enum Kind {
     AlertRemoval,
     GroupRemoval,
@@ -25,7 +25,7 @@ pub enum Kind {
 }
 
 /// Something that is due.
-#[derive(Debug, Drop)]
+#[derive(Drop)]
 pub struct Due {
     /// In nanoseconds since 1970.
     pub moment: u128,

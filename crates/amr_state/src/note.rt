@@ -9,7 +9,7 @@ use std::alloc::AllocError;
 use std::cmp::Ordering;
 
 /// The clock of a group.
-#[derive(Clone, Copy, Debug)]
+#[derive(Clone, Copy)]
 pub struct Clock {
     pub next_flush: Moment,
     pub flushed: bool,
@@ -22,7 +22,7 @@ impl Exact for Clock {
 }
 
 /// What an entry of the notification log is kept under.
-#[derive(Debug, Drop)]
+#[derive(Drop)]
 pub struct LogKey {
     pub receiver: Text,
     /// The integration's kind, as `webhook`.
@@ -113,7 +113,7 @@ impl Exact for LogKey {
 }
 
 /// What a note tells of an alert that fires.
-#[derive(Debug, Drop)]
+#[derive(Drop)]
 pub struct FiringAlert {
     pub labels: Labels,
     pub starts_at: Moment,
@@ -121,7 +121,7 @@ pub struct FiringAlert {
 }
 
 /// What a note tells of an alert that is resolved.
-#[derive(Debug, Drop)]
+#[derive(Drop)]
 pub struct ResolvedAlert {
     pub labels: Labels,
     pub starts_at: Moment,
@@ -130,7 +130,7 @@ pub struct ResolvedAlert {
 }
 
 /// A notification.
-#[derive(Debug, Drop)]
+#[derive(Drop)]
 pub struct Note {
     pub at: Moment,
     pub route: usize,

@@ -6,7 +6,7 @@ use amr_labels::{Exact, Labels};
 use std::alloc::AllocError;
 
 /// An alert that is placed on a route, or a group: a route with a label set.
-#[derive(Debug, PartialEq, Eq, PartialOrd, Ord, Drop)]
+#[derive(PartialEq, Eq, PartialOrd, Ord, Drop)]
 pub struct Spot {
     /// The route's number in preorder.
     pub route: usize,

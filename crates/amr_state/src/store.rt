@@ -185,6 +185,7 @@ impl Store {
     pub fn set_clock(&mut self, group: Spot, clock: Clock) -> Result<(), AllocError>
         ensures { OnOk result (self.new ≡ record self.old { clocks = map.insert self.old.clocks group clock }) }
     {
+        // Built from its parts, so that the proof is told of the `Option` among them.
         let clock = Clock {
             empty_since: clock.empty_since,
             ..clock

@@ -14,7 +14,7 @@ use amr_time::Moment;
 use std::alloc::AllocError;
 
 /// A group, as it is listed.
-#[derive(Debug, Drop)]
+#[derive(Drop)]
 pub struct Group {
     /// The route's number in preorder.
     pub route: usize,

@@ -19,7 +19,7 @@ use serde_json::Value;
 use std::alloc::Global;
 
 /// What the walk through a value gives: what it states, and where there are time intervals.
-#[derive(Debug, Drop)]
+#[derive(Drop)]
 pub struct Walked {
     pub stated: Stated,
     /// Whether each route states time intervals.
@@ -70,6 +70,7 @@ fn read_timeout(alloc: Global, value: &Value) -> Result<Span, ConfigError>
     Ok(stated_timeout(timeout))
 }
 
+/// Whether one of the two is so.
 fn either(one: bool, other: bool) -> bool
     ensures { result ≡ (one || other) }
 {

@@ -16,7 +16,7 @@ use std::alloc::{AllocError, Global};
 use std::cmp::Ordering;
 
 /// The integrations of one kind at a receiver.
-#[derive(Debug, Drop)]
+#[derive(Drop)]
 struct Kind {
     name: Text,
     integrations: Listing<Integration>,

@@ -19,7 +19,7 @@ use serde_json::Value;
 use std::alloc::Global;
 
 /// The routes so far, and whether each states time intervals.
-#[derive(Debug, Drop)]
+#[derive(Drop)]
 pub(crate) struct Tree {
     pub(crate) routes: Listing<Route>,
     pub(crate) intervals: Listing<bool>,

@@ -1,4 +1,4 @@
-// Decimal digits at the front of a text.
+//! Decimal digits at the front of a text.
 ghost use Rattle.std.specs.Prelude.{◌≡◌, ◌<◌, ◌^◌, min, length};
 ghost use Rattle.amr_time.specs.MomentText.{decimal};
 ghost use Rattle.amr_time.specs.MomentRead.{is_digit as tests_digit, digits_of};

@@ -1,4 +1,4 @@
-// Laws of moments, durations and their texts: each function says one, and does nothing.
+//! Laws of moments, durations and their texts: each function says one, and does nothing.
 ghost use Rattle.std.specs.Prelude.{ℕ, ◌<◌};
 ghost use Rattle.amr_time.specs.Time.{IsNextMultiple, next_multiple_of};
 ghost use Rattle.amr_time.specs.Laws.{ReadIsSpelled, SpelledIsRead, WrittenIsSpelled, WrittenIsRead};

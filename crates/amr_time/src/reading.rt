@@ -1,4 +1,4 @@
-// Moments from their texts, read from left to right.
+//! Moments from their texts, read from left to right.
 ghost use Rattle.std.specs.Prelude.{◌≡◌, ◌<◌, ◌≤◌, ◌^◌, pos, ◌+◌, ◌*◌, ◌+ℤ◌, ◌-ℤ◌, ◌*ℤ◌, option_map, IfSome, IfOk};
 ghost use Rattle.std.specs.Result.{result_ok};
 ghost use Rattle.jiff.specs.Words.{IsEpochDay, IsWithin};

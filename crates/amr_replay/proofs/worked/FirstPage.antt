@@ -1,4 +1,4 @@
--- Worked incidents: FirstPage.
+-- A page: nothing before the wait of its group is over, and then the notification.
 use Rattle.std.specs.Prelude.{◌≡◌, List, [], ◌∷◌, Some, codes, ◌+◌, ◌*◌, map}
 use Rattle.std.proofs.Common.{refl}
 use Rattle.amr_labels.specs.Labels.{Text}

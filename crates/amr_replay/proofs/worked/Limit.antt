@@ -1,4 +1,4 @@
--- Worked incidents: Limit.
+-- As many moves as one event may make, and one more.
 use Rattle.std.specs.Prelude.{◌≡◌, true, List, [], ◌∷◌, Some, Err, codes, ◌+◌, ◌*◌, is_ok}
 use Rattle.std.proofs.Common.{refl}
 use Rattle.amr_labels.specs.Labels.{Text}

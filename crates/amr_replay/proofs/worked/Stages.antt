@@ -1,4 +1,4 @@
--- Worked incidents: Stages.
+-- Inhibition, silences, resolved alerts, what is removed, and the routes that are chosen.
 use Rattle.std.specs.Prelude.{◌≡◌, ℕ, Bool, true, false, List, [], ◌∷◌, Option, Some, None, codes, ◌+◌, ◌-◌, ◌*◌, map, length}
 use Rattle.std.proofs.Common.{refl}
 use Rattle.amr_labels.specs.Map.{entries, from_entries}

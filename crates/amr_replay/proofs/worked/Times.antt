@@ -1,4 +1,4 @@
--- Worked incidents: Times.
+-- Times of alerts: old ones, timeouts, stated ends, and the interval of repeats.
 use Rattle.std.specs.Prelude.{◌≡◌, Bool, true, false, List, [], ◌∷◌, Option, Some, None, codes, ◌+◌, ◌-◌, ◌*◌, map}
 use Rattle.std.proofs.Common.{refl}
 use Rattle.amr_labels.specs.Map.{entries}
