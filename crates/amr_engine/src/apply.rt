@@ -2,12 +2,11 @@
 ghost use Rattle.std.specs.Prelude.{◌≡◌, ◌≤◌, IfOk, length, drop, false, nat_lt};
 ghost use Rattle.amr_time.specs.Time.{latest_read};
 ghost use Rattle.amr_events.specs.Acts.{by_number};
-ghost use Rattle.amr_events.specs.Reasons.{reason_number};
-ghost use Rattle.amr_engine.specs.Moves.{advance};
+ghost use Rattle.amr_engine.specs.Moves.{advance, moves_to};
 ghost use Rattle.amr_engine.specs.Events.{move_limit};
 ghost use Rattle.amr_engine.specs.Neutral.{tick_at};
-ghost use Rattle.amr_engine.specs.Outcomes.{outcome_view, acceptance, refusal};
-ghost use Rattle.amr_engine.specs.Applied.{ComesTo, post_at, silence_at, expiry_at, reload_at, run_moved, moved_to};
+ghost use Rattle.amr_engine.specs.Outcomes.{outcome_view, acceptance};
+ghost use Rattle.amr_engine.specs.Applied.{ComesTo, IsDone, post_at, silence_at, expiry_at, reload_at, run_moved};
 
 use crate::moves::advance;
 use crate::outcome::Outcome;
@@ -40,169 +39,185 @@ fn notes_from(
     Ok(added)
 }
 
-/// A copy of the state after the moves up to a moment, with the clock there, and how many moves there were.
-fn moved(store: &Store, at: Moment) -> Result<Option<(Store, usize)>, AllocError>
+/// What an accepted event did: how many moves it made, and the places of the alerts that it skipped.
+#[derive(Drop)]
+pub(crate) struct Done {
+    pub(crate) moves: usize,
+    pub(crate) skipped: Listing<usize>,
+}
+
+/// The moves up to a moment are made, and the clock goes there; none where there are more than an event may make.
+fn go_to(store: &mut Store, at: Moment) -> Result<Option<usize>, AllocError>
     requires { at ≤ latest_read }
-    ensures { IfOk result (λ moved. moved_to moved ≡ run_moved at (advance move_limit at store.now)) }
+    ensures { IfOk result (λ made. moves_to store.new made ≡ run_moved at (advance move_limit at store.old)) }
 {
-    let mut next = store.clone()?;
-    match advance(&mut next, at)? {
-        None => Ok(None),
+    let made = advance(store, at)?;
+    store.set_moment(at);
+    Ok(made)
+}
+
+/// Time passes.
+fn tick(store: &mut Store, at: Moment) -> Result<Result<Done, Reason>, AllocError>
+    requires bound { at ≤ latest_read }
+    requires not_past { nat_lt at store.old.moment ≡ false }
+    ensures { IfOk result (λ done. IsDone store.old (tick_at at) store.new done) }
+{
+    match go_to(store, at)? {
+        None => Ok(Err(Reason::TooManyMoves)),
         Some(moves) => {
-            next.set_moment(at);
-            Ok(Some((next, moves)))
+            let skipped = Listing::new(store.alloc());
+            Ok(Ok(Done { moves, skipped }))
         }
     }
 }
 
-/// The event is refused, and changes nothing.
-fn refused(store: &Store, reason: Reason) -> Result<(Store, Outcome), AllocError>
-    ensures state { IfOk result (λ end. end.0 ≡ store.now) }
-    ensures outcome { IfOk result (λ end. outcome_view end.1 ≡ refusal (reason_number reason)) }
-{
-    Ok((store.clone()?, Outcome::Refused(reason)))
-}
-
-/// The event is accepted: so many moves were made, and its act was done.
-fn accepted(
-    store: &Store,
-    next: Store,
-    moves: usize,
-    skipped: Listing<usize>,
-) -> Result<(Store, Outcome), AllocError>
-    ensures state { IfOk result (λ end. end.0 ≡ next) }
-    ensures outcome { IfOk result (λ end. outcome_view end.1 ≡ acceptance moves (drop (length store.now.notes) next.notes) skipped) }
-{
-    let notes = notes_from(store.alloc(), next.notes(), store.notes().len())?;
-    let outcome = Outcome::Accepted {
-        moves,
-        notes,
-        skipped,
-    };
-    Ok((next, outcome))
-}
-
-/// Time passes.
-fn after_tick(store: &Store, at: Moment) -> Result<(Store, Outcome), AllocError>
-    requires bound { at ≤ latest_read }
-    requires not_past { nat_lt at store.now.moment ≡ false }
-    ensures { IfOk result (λ end. ComesTo store.now (tick_at at) end.0 (outcome_view end.1)) }
-{
-    match moved(store, at)? {
-        None => refused(store, Reason::TooManyMoves),
-        Some((next, moves)) => accepted(store, next, moves, Listing::new(store.alloc())),
-    }
-}
-
 /// Alerts are posted.
-fn after_post(
-    store: &Store,
+fn post(
+    store: &mut Store,
     at: Moment,
     posted: &[PostedAlert],
-) -> Result<(Store, Outcome), AllocError>
+) -> Result<Result<Done, Reason>, AllocError>
     requires bound { at ≤ latest_read }
-    requires not_past { nat_lt at store.now.moment ≡ false }
-    ensures { IfOk result (λ end. ComesTo store.now (post_at at posted.now) end.0 (outcome_view end.1)) }
+    requires not_past { nat_lt at store.old.moment ≡ false }
+    ensures { IfOk result (λ done. IsDone store.old (post_at at posted.now) store.new done) }
 {
     let timeout = store.config().resolve_timeout();
     let Sifted { valid, skipped } = sift(store.alloc(), at, timeout, posted)?;
     let alerts = valid.as_slice();
     if alerts.is_empty() {
-        return refused(store, Reason::BadAlert);
+        return Ok(Err(Reason::BadAlert));
     }
-    match moved(store, at)? {
-        None => refused(store, Reason::TooManyMoves),
-        Some((mut next, moves)) => {
-            put_all(&mut next, alerts)?;
-            accepted(store, next, moves, skipped)
+    match go_to(store, at)? {
+        None => Ok(Err(Reason::TooManyMoves)),
+        Some(moves) => {
+            put_all(store, alerts)?;
+            Ok(Ok(Done { moves, skipped }))
         }
     }
 }
 
 /// A silence is posted.
-fn after_silence(
-    store: &Store,
+fn post_silence(
+    store: &mut Store,
     at: Moment,
     posted: &PostedSilence,
-) -> Result<(Store, Outcome), AllocError>
+) -> Result<Result<Done, Reason>, AllocError>
     requires bound { at ≤ latest_read }
-    requires not_past { nat_lt at store.now.moment ≡ false }
-    ensures { IfOk result (λ end. ComesTo store.now (silence_at at posted.now) end.0 (outcome_view end.1)) }
+    requires not_past { nat_lt at store.old.moment ≡ false }
+    ensures { IfOk result (λ done. IsDone store.old (silence_at at posted.now) store.new done) }
 {
     match decide(store.alloc(), at, store.silences(), posted)? {
-        Err(reason) => refused(store, reason),
-        Ok(posting) => match moved(store, at)? {
-            None => refused(store, Reason::TooManyMoves),
-            Some((mut next, moves)) => {
-                store_posting(&mut next, posted, posting)?;
-                accepted(store, next, moves, Listing::new(store.alloc()))
+        Err(reason) => Ok(Err(reason)),
+        Ok(posting) => match go_to(store, at)? {
+            None => Ok(Err(Reason::TooManyMoves)),
+            Some(moves) => {
+                store_posting(store, posted, posting)?;
+                let skipped = Listing::new(store.alloc());
+                Ok(Ok(Done { moves, skipped }))
             }
         },
     }
 }
 
 /// A silence is expired.
-fn after_expiry(store: &Store, at: Moment, id: SilenceId) -> Result<(Store, Outcome), AllocError>
+fn expire(store: &mut Store, at: Moment, id: SilenceId) -> Result<Result<Done, Reason>, AllocError>
     requires bound { at ≤ latest_read }
-    requires not_past { nat_lt at store.now.moment ≡ false }
-    ensures { IfOk result (λ end. ComesTo store.now (expiry_at at id) end.0 (outcome_view end.1)) }
+    requires not_past { nat_lt at store.old.moment ≡ false }
+    ensures { IfOk result (λ done. IsDone store.old (expiry_at at id) store.new done) }
 {
-    match store.silences().get(id) {
-        None => refused(store, Reason::UnknownSilence),
-        Some(silence) => match moved(store, at)? {
-            None => refused(store, Reason::TooManyMoves),
-            Some((mut next, moves)) => {
-                next.insert_silence(id, silence_expire(at, silence.clone()?))?;
-                accepted(store, next, moves, Listing::new(store.alloc()))
-            }
-        },
+    let Some(silence) = store.silences().get(id) else {
+        return Ok(Err(Reason::UnknownSilence));
+    };
+    let ended = silence_expire(at, silence.clone()?);
+    match go_to(store, at)? {
+        None => Ok(Err(Reason::TooManyMoves)),
+        Some(moves) => {
+            store.insert_silence(id, ended)?;
+            let skipped = Listing::new(store.alloc());
+            Ok(Ok(Done { moves, skipped }))
+        }
     }
 }
 
 /// The configuration is changed for another one.
-fn after_reload(store: &Store, at: Moment, config: &Config) -> Result<(Store, Outcome), AllocError>
+fn change_config(
+    store: &mut Store,
+    at: Moment,
+    config: &Config,
+) -> Result<Result<Done, Reason>, AllocError>
     requires bound { at ≤ latest_read }
-    requires not_past { nat_lt at store.now.moment ≡ false }
-    ensures { IfOk result (λ end. ComesTo store.now (reload_at at (Ok config.now)) end.0 (outcome_view end.1)) }
+    requires not_past { nat_lt at store.old.moment ≡ false }
+    ensures { IfOk result (λ done. IsDone store.old (reload_at at (Ok config.now)) store.new done) }
 {
-    match moved(store, at)? {
-        None => refused(store, Reason::TooManyMoves),
-        Some((mut next, moves)) => {
-            reload(&mut next, config.clone()?)?;
-            accepted(store, next, moves, Listing::new(store.alloc()))
+    match go_to(store, at)? {
+        None => Ok(Err(Reason::TooManyMoves)),
+        Some(moves) => {
+            reload(store, config.clone()?)?;
+            let skipped = Listing::new(store.alloc());
+            Ok(Ok(Done { moves, skipped }))
         }
     }
 }
 
 /// A configuration was read, or refused.
-fn after_reading(
-    store: &Store,
+fn take_config(
+    store: &mut Store,
     at: Moment,
     read: &Result<Config, Reason>,
-) -> Result<(Store, Outcome), AllocError>
+) -> Result<Result<Done, Reason>, AllocError>
     requires bound { at ≤ latest_read }
-    requires not_past { nat_lt at store.now.moment ≡ false }
-    ensures { IfOk result (λ end. ComesTo store.now (reload_at at (by_number read.now)) end.0 (outcome_view end.1)) }
+    requires not_past { nat_lt at store.old.moment ≡ false }
+    ensures { IfOk result (λ done. IsDone store.old (reload_at at (by_number read.now)) store.new done) }
 {
     match read {
-        Ok(config) => after_reload(store, at, config),
-        Err(reason) => refused(store, *reason),
+        Ok(config) => change_config(store, at, config),
+        Err(reason) => Ok(Err(*reason)),
     }
 }
 
-/// The state after an event, and what the event comes to. The state before it stays.
-pub(crate) fn after(store: &Store, event: &Event) -> Result<(Store, Outcome), AllocError>
-    ensures { IfOk result (λ end. ComesTo store.now event.now end.0 (outcome_view end.1)) }
+/// The event happens to the state, unless it is refused. What a refused event leaves is not to be used.
+fn happen(store: &mut Store, event: &Event) -> Result<Result<Done, Reason>, AllocError>
+    ensures { IfOk result (λ done. IsDone store.old event.now store.new done) }
 {
     let at = event.at();
     if at.nanoseconds() < store.moment().nanoseconds() {
-        return refused(store, Reason::Backwards);
+        return Ok(Err(Reason::Backwards));
     }
     match event.act() {
-        Act::Post(posted) => after_post(store, at, posted.as_slice()),
-        Act::Silence(posted) => after_silence(store, at, posted),
-        Act::Expire(id) => after_expiry(store, at, *id),
-        Act::Reload(read) => after_reading(store, at, read),
-        Act::Tick => after_tick(store, at),
+        Act::Post(posted) => post(store, at, posted.as_slice()),
+        Act::Silence(posted) => post_silence(store, at, posted),
+        Act::Expire(id) => expire(store, at, *id),
+        Act::Reload(read) => take_config(store, at, read),
+        Act::Tick => tick(store, at),
+    }
+}
+
+/// What is told of an event that was done, on the way from one state to the next.
+fn accepted(store: &Store, next: &Store, done: Done) -> Result<Outcome, AllocError>
+    ensures { IfOk result (λ outcome. outcome_view outcome ≡ acceptance done.moves (drop (length store.now.notes) next.now.notes) done.skipped) }
+{
+    let notes = notes_from(store.alloc(), next.notes(), store.notes().len())?;
+    Ok(Outcome::Accepted {
+        moves: done.moves,
+        notes,
+        skipped: done.skipped,
+    })
+}
+
+/// The event happens to a copy of the state, which is the state again where the event is refused.
+pub(crate) fn apply_to(
+    next: &mut Store,
+    store: &Store,
+    event: &Event,
+) -> Result<Outcome, AllocError>
+    requires { next.old ≡ store.now }
+    ensures { IfOk result (λ outcome. ComesTo store.now event.now next.new (outcome_view outcome)) }
+{
+    match happen(next, event)? {
+        Ok(done) => accepted(store, next, done),
+        Err(reason) => {
+            *next = store.clone()?;
+            Ok(Outcome::Refused(reason))
+        }
     }
 }

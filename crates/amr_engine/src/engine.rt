@@ -7,7 +7,7 @@ ghost use Rattle.amr_state.specs.Seen.{groups_of};
 ghost use Rattle.amr_engine.specs.Explain.{verdicts};
 ghost use Rattle.amr_labels.specs.Map.{entries};
 
-use crate::apply::after;
+use crate::apply::apply_to;
 use crate::explain::{self, Verdict};
 use crate::outcome::Outcome;
 use amr_config::Config;
@@ -59,7 +59,8 @@ impl Engine {
         ensures err { OnErr result (self.new ≡ self.old) }
     {
         self.past.reserve(1)?;
-        let (next, outcome) = after(&self.store, event)?;
+        let mut next = self.store.clone()?;
+        let outcome = apply_to(&mut next, &self.store, event)?;
         let before = mem::replace(&mut self.store, next);
         self.past.push_reserved(before);
         Ok(outcome)
