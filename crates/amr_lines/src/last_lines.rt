@@ -7,11 +7,11 @@ ghost use Rattle.amr_lines.specs.declared.word.Word.TheVariants.{Back};
 
 use crate::lines::line_text;
 use crate::outlet::{WriteFailed, write_parts};
-use crate::values::moment_value;
+use crate::values::{put_moment, put_text};
 use crate::word::{Word, word_text};
 use amr_time::Moment;
 use itoa::Buffer;
-use serde_json::{Value, json};
+use serde_json::{Map, Value, json, put};
 use std::alloc::{AllocError, Global};
 use std::io::Write;
 
@@ -57,8 +57,12 @@ fn place_value(
 ) -> Result<Value, AllocError>
     ensures { IfOk result (λ v. view v ≡ place_data cursor events now) }
 {
-    let now = moment_value(alloc, now)?;
-    json!(in alloc; {"command": "cursor", "cursor": cursor, "events": events, "now": now})
+    let mut members = Map::new(alloc);
+    put_text(&mut members, alloc, "command", "cursor")?;
+    put(&mut members, alloc, "cursor", Value::from(cursor))?;
+    put(&mut members, alloc, "events", Value::from(events))?;
+    put_moment(&mut members, alloc, "now", now)?;
+    Ok(Value::Object(members))
 }
 
 /// The last line of the command that asks where the session stands.

@@ -1,18 +1,18 @@
 //! The objects that listings print, as JSON values.
-ghost use Rattle.std.specs.Prelude.{◌≡◌, map, IfOk};
-ghost use Rattle.serde_json.specs.Data.{array, boolean};
-ghost use Rattle.serde_json.specs.View.{view, items_of};
+ghost use Rattle.std.specs.Prelude.{◌≡◌, map, IfOk, OnOk};
+ghost use Rattle.serde_json.specs.Data.{array, put as with_member};
+ghost use Rattle.serde_json.specs.View.{view, items_of, members_view};
 ghost use Rattle.amr_labels.specs.Set as set;
 ghost use Rattle.amr_lines.specs.Printed.{label_sets_data, since_data, is_equal as means_equal, is_regex as takes_regex, matcher_data, matchers_data, alert_data, silence_data, group_data, log_data};
 
-use crate::values::{moment_value, texts_value};
+use crate::values::{moment_value, put_moment, put_text, put_texts, texts_value};
 use amr_events::SilenceId;
 use amr_labels::{LabelMap, Labels};
 use amr_matchers::{Matcher, Matchers, Operator};
 use amr_rules::{Alert, LogEntry, Silence};
 use amr_state::{Group, LogKey};
 use amr_time::Moment;
-use serde_json::{Map, Value, json, put};
+use serde_json::{Map, Value, put};
 use std::alloc::{AllocError, Global};
 
 /// A stored alert.
@@ -20,20 +20,24 @@ use std::alloc::{AllocError, Global};
 pub(crate) fn alert_value(alloc: Global, alert: &(Labels, Alert)) -> Result<Value, AllocError>
     ensures { IfOk result (λ v. view v ≡ alert_data alert.now) }
 {
-    let annotations = texts_value(alloc, alert.1.annotations.entries())?;
-    let ends_at = moment_value(alloc, alert.1.ends_at)?;
-    let labels = texts_value(alloc, alert.0.entries())?;
-    let starts_at = moment_value(alloc, alert.1.starts_at)?;
-    let timeout = alert.1.timed_out;
-    let updated_at = moment_value(alloc, alert.1.last_post)?;
-    json!(in alloc; {
-        "annotations": annotations,
-        "endsAt": ends_at,
-        "labels": labels,
-        "startsAt": starts_at,
-        "timeout": timeout,
-        "updatedAt": updated_at
-    })
+    let mut members = Map::new(alloc);
+    put_texts(
+        &mut members,
+        alloc,
+        "annotations",
+        alert.1.annotations.entries(),
+    )?;
+    put_moment(&mut members, alloc, "endsAt", alert.1.ends_at)?;
+    put_texts(&mut members, alloc, "labels", alert.0.entries())?;
+    put_moment(&mut members, alloc, "startsAt", alert.1.starts_at)?;
+    put(
+        &mut members,
+        alloc,
+        "timeout",
+        Value::from(alert.1.timed_out),
+    )?;
+    put_moment(&mut members, alloc, "updatedAt", alert.1.last_post)?;
+    Ok(Value::Object(members))
 }
 
 /// Whether the operator asks for a value that is equal, or that the pattern matches.
@@ -65,11 +69,23 @@ fn is_regex(operator: Operator) -> bool
 fn matcher_value(alloc: Global, matcher: &Matcher) -> Result<Value, AllocError>
     ensures { IfOk result (λ v. view v ≡ matcher_data matcher.now) }
 {
-    let is_equal = is_equal(matcher.operator());
-    let is_regex = is_regex(matcher.operator());
-    let name = matcher.name().as_str();
-    let value = matcher.value().as_str();
-    json!(in alloc; {"isEqual": is_equal, "isRegex": is_regex, "name": name, "value": value})
+    let operator = matcher.operator();
+    let mut members = Map::new(alloc);
+    put(
+        &mut members,
+        alloc,
+        "isEqual",
+        Value::from(is_equal(operator)),
+    )?;
+    put(
+        &mut members,
+        alloc,
+        "isRegex",
+        Value::from(is_regex(operator)),
+    )?;
+    put_text(&mut members, alloc, "name", matcher.name().as_str())?;
+    put_text(&mut members, alloc, "value", matcher.value().as_str())?;
+    Ok(Value::Object(members))
 }
 
 /// Matchers in a list.
@@ -91,16 +107,18 @@ pub(crate) fn silence_value(
 ) -> Result<Value, AllocError>
     ensures { IfOk result (λ v. view v ≡ silence_data silence.now) }
 {
-    let ends_at = moment_value(alloc, silence.1.ends_at)?;
-    let id = Value::String(silence.0.text(alloc)?);
+    let mut members = Map::new(alloc);
+    put_moment(&mut members, alloc, "endsAt", silence.1.ends_at)?;
+    put(
+        &mut members,
+        alloc,
+        "id",
+        Value::String(silence.0.text(alloc)?),
+    )?;
     let matchers = matchers_value(alloc, silence.1.matchers.as_slice())?;
-    let starts_at = moment_value(alloc, silence.1.starts_at)?;
-    json!(in alloc; {
-        "endsAt": ends_at,
-        "id": id,
-        "matchers": matchers,
-        "startsAt": starts_at
-    })
+    put(&mut members, alloc, "matchers", matchers)?;
+    put_moment(&mut members, alloc, "startsAt", silence.1.starts_at)?;
+    Ok(Value::Object(members))
 }
 
 /// Label sets in a list.
@@ -129,20 +147,20 @@ fn since_value(alloc: Global, since: Option<Moment>) -> Result<Value, AllocError
 pub(crate) fn group_value(alloc: Global, group: &Group) -> Result<Value, AllocError>
     ensures { IfOk result (λ v. view v ≡ group_data group.now) }
 {
-    let empty_since = since_value(alloc, group.empty_since)?;
-    let flushed = group.flushed;
-    let group_labels = texts_value(alloc, group.labels.entries())?;
-    let members = label_sets_value(alloc, group.members.as_slice())?;
-    let next_flush = moment_value(alloc, group.next_flush)?;
-    let route = group.route;
-    json!(in alloc; {
-        "emptySince": empty_since,
-        "flushed": flushed,
-        "groupLabels": group_labels,
-        "members": members,
-        "nextFlush": next_flush,
-        "route": route
-    })
+    let mut members = Map::new(alloc);
+    put(
+        &mut members,
+        alloc,
+        "emptySince",
+        since_value(alloc, group.empty_since)?,
+    )?;
+    put(&mut members, alloc, "flushed", Value::from(group.flushed))?;
+    put_texts(&mut members, alloc, "groupLabels", group.labels.entries())?;
+    let sets = label_sets_value(alloc, group.members.as_slice())?;
+    put(&mut members, alloc, "members", sets)?;
+    put_moment(&mut members, alloc, "nextFlush", group.next_flush)?;
+    put(&mut members, alloc, "route", Value::from(group.route))?;
+    Ok(Value::Object(members))
 }
 
 /// The label sets of a set of them, in a list.
@@ -154,6 +172,18 @@ fn set_value(alloc: Global, labels: &LabelMap<()>) -> Result<Value, AllocError>
         values.push(texts_value(alloc, labels.entries())?)?;
     }
     Ok(Value::Array(values))
+}
+
+/// Puts the label sets of a set of them, in a list, into an object.
+fn put_set(
+    members: &mut Map<String, Value>,
+    alloc: Global,
+    key: &str,
+    labels: &LabelMap<()>,
+) -> Result<(), AllocError>
+    ensures { OnOk result (members_view members.new.entries ≡ with_member key.now (label_sets_data (set.items labels.now)) (members_view members.old.entries)) }
+{
+    put(members, alloc, key, set_value(alloc, labels)?)
 }
 
 /// The matchers of the routes on a way from the root down.
@@ -175,43 +205,14 @@ pub(crate) fn log_value(alloc: Global, entry: &(LogKey, LogEntry)) -> Result<Val
     let key = &entry.0;
     let last = &entry.1;
     let mut members = Map::new(alloc);
-    put(&mut members, alloc, "at", moment_value(alloc, last.time)?)?;
-    put(
-        &mut members,
-        alloc,
-        "firing",
-        set_value(alloc, &last.firing)?,
-    )?;
-    put(
-        &mut members,
-        alloc,
-        "groupLabels",
-        texts_value(alloc, key.group.entries())?,
-    )?;
-    put(
-        &mut members,
-        alloc,
-        "integration",
-        Value::try_from_str(alloc, key.kind.as_str())?,
-    )?;
-    put(
-        &mut members,
-        alloc,
-        "path",
-        path_value(alloc, key.path.as_slice())?,
-    )?;
+    put_moment(&mut members, alloc, "at", last.time)?;
+    put_set(&mut members, alloc, "firing", &last.firing)?;
+    put_texts(&mut members, alloc, "groupLabels", key.group.entries())?;
+    put_text(&mut members, alloc, "integration", key.kind.as_str())?;
+    let path = path_value(alloc, key.path.as_slice())?;
+    put(&mut members, alloc, "path", path)?;
     put(&mut members, alloc, "place", Value::from(key.place))?;
-    put(
-        &mut members,
-        alloc,
-        "receiver",
-        Value::try_from_str(alloc, key.receiver.as_str())?,
-    )?;
-    put(
-        &mut members,
-        alloc,
-        "resolved",
-        set_value(alloc, &last.resolved)?,
-    )?;
+    put_text(&mut members, alloc, "receiver", key.receiver.as_str())?;
+    put_set(&mut members, alloc, "resolved", &last.resolved)?;
     Ok(Value::Object(members))
 }

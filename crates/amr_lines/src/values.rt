@@ -1,7 +1,7 @@
 //! The objects that are printed, as JSON values.
-ghost use Rattle.std.specs.Prelude.{◌≡◌, ℕ, map, IfOk};
-ghost use Rattle.serde_json.specs.Data.{array, object};
-ghost use Rattle.serde_json.specs.View.{view, items_of};
+ghost use Rattle.std.specs.Prelude.{◌≡◌, ℕ, codes, map, IfOk, OnOk};
+ghost use Rattle.serde_json.specs.Data.{array, object, string, put as with_member};
+ghost use Rattle.serde_json.specs.View.{view, items_of, members_view};
 ghost use Rattle.amr_lines.specs.Printed.{texts_data, moment_data, firing_data, resolved_data, note_data, skipped_data, refused_event_data, number_data};
 
 use amr_labels::Text;
@@ -30,15 +30,57 @@ pub(crate) fn moment_value(alloc: Global, moment: Moment) -> Result<Value, Alloc
     Ok(Value::String(write_moment(alloc, moment)?))
 }
 
+/// Puts a text into an object.
+pub(crate) fn put_text(
+    members: &mut Map<String, Value>,
+    alloc: Global,
+    key: &str,
+    text: &str,
+) -> Result<(), AllocError>
+    ensures { OnOk result (members_view members.new.entries ≡ with_member key.now (string text.now) (members_view members.old.entries)) }
+{
+    put(members, alloc, key, Value::try_from_str(alloc, text)?)
+}
+
+/// Puts texts under their names into an object.
+pub(crate) fn put_texts(
+    members: &mut Map<String, Value>,
+    alloc: Global,
+    key: &str,
+    texts: &[(Text, Text)],
+) -> Result<(), AllocError>
+    ensures { OnOk result (members_view members.new.entries ≡ with_member key.now (texts_data texts.now) (members_view members.old.entries)) }
+{
+    put(members, alloc, key, texts_value(alloc, texts)?)
+}
+
+/// Puts a moment into an object.
+pub(crate) fn put_moment(
+    members: &mut Map<String, Value>,
+    alloc: Global,
+    key: &str,
+    moment: Moment,
+) -> Result<(), AllocError>
+    ensures { OnOk result (members_view members.new.entries ≡ with_member key.now (moment_data moment) (members_view members.old.entries)) }
+{
+    put(members, alloc, key, moment_value(alloc, moment)?)
+}
+
 /// An alert of a note that fires.
 #[tactic(auto, unfolding(crate::specs::Printed::firing_data))]
 fn firing_value(alloc: Global, alert: &FiringAlert) -> Result<Value, AllocError>
     ensures { IfOk result (λ v. view v ≡ firing_data alert.now) }
 {
-    let annotations = texts_value(alloc, alert.annotations.entries())?;
-    let labels = texts_value(alloc, alert.labels.entries())?;
-    let starts_at = moment_value(alloc, alert.starts_at)?;
-    json!(in alloc; {"annotations": annotations, "labels": labels, "startsAt": starts_at})
+    let mut members = Map::new(alloc);
+    put_texts(
+        &mut members,
+        alloc,
+        "annotations",
+        alert.annotations.entries(),
+    )?;
+    put_texts(&mut members, alloc, "labels", alert.labels.entries())?;
+    put_moment(&mut members, alloc, "startsAt", alert.starts_at)?;
+    Ok(Value::Object(members))
 }
 
 /// An alert of a note that is resolved.
@@ -46,16 +88,17 @@ fn firing_value(alloc: Global, alert: &FiringAlert) -> Result<Value, AllocError>
 fn resolved_value(alloc: Global, alert: &ResolvedAlert) -> Result<Value, AllocError>
     ensures { IfOk result (λ v. view v ≡ resolved_data alert.now) }
 {
-    let annotations = texts_value(alloc, alert.annotations.entries())?;
-    let ends_at = moment_value(alloc, alert.ends_at)?;
-    let labels = texts_value(alloc, alert.labels.entries())?;
-    let starts_at = moment_value(alloc, alert.starts_at)?;
-    json!(in alloc; {
-        "annotations": annotations,
-        "endsAt": ends_at,
-        "labels": labels,
-        "startsAt": starts_at
-    })
+    let mut members = Map::new(alloc);
+    put_texts(
+        &mut members,
+        alloc,
+        "annotations",
+        alert.annotations.entries(),
+    )?;
+    put_moment(&mut members, alloc, "endsAt", alert.ends_at)?;
+    put_texts(&mut members, alloc, "labels", alert.labels.entries())?;
+    put_moment(&mut members, alloc, "startsAt", alert.starts_at)?;
+    Ok(Value::Object(members))
 }
 
 /// The alerts of a note that fire.
@@ -80,6 +123,28 @@ fn resolved_values(alloc: Global, alerts: &[ResolvedAlert]) -> Result<Value, All
     Ok(Value::Array(values))
 }
 
+/// Puts the alerts of a note that fire into its object.
+fn put_firing(
+    members: &mut Map<String, Value>,
+    alloc: Global,
+    alerts: &[FiringAlert],
+) -> Result<(), AllocError>
+    ensures { OnOk result (members_view members.new.entries ≡ with_member (codes "firing") (array (items_of (map firing_data alerts.now))) (members_view members.old.entries)) }
+{
+    put(members, alloc, "firing", firing_values(alloc, alerts)?)
+}
+
+/// Puts the alerts of a note that are resolved into its object.
+fn put_resolved(
+    members: &mut Map<String, Value>,
+    alloc: Global,
+    alerts: &[ResolvedAlert],
+) -> Result<(), AllocError>
+    ensures { OnOk result (members_view members.new.entries ≡ with_member (codes "resolved") (array (items_of (map resolved_data alerts.now))) (members_view members.old.entries)) }
+{
+    put(members, alloc, "resolved", resolved_values(alloc, alerts)?)
+}
+
 /// A note.
 #[tactic(auto, unfolding(crate::specs::Printed::note_data))]
 pub(crate) fn note_value(alloc: Global, note: &Note) -> Result<Value, AllocError>
@@ -87,38 +152,13 @@ pub(crate) fn note_value(alloc: Global, note: &Note) -> Result<Value, AllocError
 {
     let key = &note.key;
     let mut members = Map::new(alloc);
-    put(&mut members, alloc, "at", moment_value(alloc, note.at)?)?;
-    put(
-        &mut members,
-        alloc,
-        "firing",
-        firing_values(alloc, note.firing.as_slice())?,
-    )?;
-    put(
-        &mut members,
-        alloc,
-        "groupLabels",
-        texts_value(alloc, key.group.entries())?,
-    )?;
-    put(
-        &mut members,
-        alloc,
-        "integration",
-        Value::try_from_str(alloc, key.kind.as_str())?,
-    )?;
+    put_moment(&mut members, alloc, "at", note.at)?;
+    put_firing(&mut members, alloc, note.firing.as_slice())?;
+    put_texts(&mut members, alloc, "groupLabels", key.group.entries())?;
+    put_text(&mut members, alloc, "integration", key.kind.as_str())?;
     put(&mut members, alloc, "place", Value::from(key.place))?;
-    put(
-        &mut members,
-        alloc,
-        "receiver",
-        Value::try_from_str(alloc, key.receiver.as_str())?,
-    )?;
-    put(
-        &mut members,
-        alloc,
-        "resolved",
-        resolved_values(alloc, note.resolved.as_slice())?,
-    )?;
+    put_text(&mut members, alloc, "receiver", key.receiver.as_str())?;
+    put_resolved(&mut members, alloc, note.resolved.as_slice())?;
     put(&mut members, alloc, "route", Value::from(note.route))?;
     Ok(Value::Object(members))
 }
@@ -142,8 +182,10 @@ pub(crate) fn skipped_value(
 ) -> Result<Value, AllocError>
     ensures { IfOk result (λ v. view v ≡ skipped_data event places.now) }
 {
-    let skipped = places_value(alloc, places)?;
-    json!(in alloc; {"event": event, "skipped": skipped})
+    let mut members = Map::new(alloc);
+    put(&mut members, alloc, "event", Value::from(event))?;
+    put(&mut members, alloc, "skipped", places_value(alloc, places)?)?;
+    Ok(Value::Object(members))
 }
 
 /// An event that was refused.

@@ -7,7 +7,7 @@ ghost use Rattle.amr_engine.specs.declared.explain.Verdict.TheVariants.{AtRoute}
 ghost use Rattle.amr_lines.specs.Verdicts.{finding_name as name_of_finding, finding_members, integration_members, verdict_data, verdict_line};
 
 use crate::lines::line_text;
-use crate::values::{moment_value, texts_value};
+use crate::values::{put_moment, put_text, put_texts};
 use amr_engine::{Finding, Verdict};
 use amr_labels::Text;
 use serde_json::{Map, Value, json, put};
@@ -36,20 +36,15 @@ fn put_finding(
     ensures { OnOk result (members_view members.new.entries ≡ with_members (finding_members finding.now) (members_view members.old.entries)) }
 {
     match finding {
-        Finding::Waiting { due } => put(members, alloc, "due", moment_value(alloc, *due)?),
+        Finding::Waiting { due } => put_moment(members, alloc, "due", *due),
         Finding::Inhibited { rule, source } => {
-            put(
-                members,
-                alloc,
-                "source",
-                texts_value(alloc, source.entries())?,
-            )?;
+            put_texts(members, alloc, "source", source.entries())?;
             put(members, alloc, "rule", Value::from(*rule))
         }
         Finding::Silenced { id } => put(members, alloc, "id", Value::String(id.text(alloc)?)),
         Finding::Nowhere => Ok(()),
-        Finding::Told { at } => put(members, alloc, "at", moment_value(alloc, *at)?),
-        Finding::Due { at } => put(members, alloc, "at", moment_value(alloc, *at)?),
+        Finding::Told { at } => put_moment(members, alloc, "at", *at),
+        Finding::Due { at } => put_moment(members, alloc, "at", *at),
     }
 }
 
@@ -65,12 +60,7 @@ fn put_integration(
         None => Ok(()),
         Some(integration) => {
             put(members, alloc, "place", Value::from(integration.1))?;
-            put(
-                members,
-                alloc,
-                "integration",
-                Value::try_from_str(alloc, integration.0.as_str())?,
-            )
+            put_text(members, alloc, "integration", integration.0.as_str())
         }
     }
 }
@@ -86,19 +76,9 @@ fn at_route_value(
     ensures { IfOk result (λ v. view v ≡ verdict_data (AtRoute route receiver.now integration.now finding.now)) }
 {
     let mut members = Map::new(alloc);
-    put(
-        &mut members,
-        alloc,
-        "verdict",
-        Value::try_from_str(alloc, finding_name(finding))?,
-    )?;
+    put_text(&mut members, alloc, "verdict", finding_name(finding))?;
     put(&mut members, alloc, "route", Value::from(route))?;
-    put(
-        &mut members,
-        alloc,
-        "receiver",
-        Value::try_from_str(alloc, receiver)?,
-    )?;
+    put_text(&mut members, alloc, "receiver", receiver)?;
     put_integration(alloc, &mut members, integration)?;
     put_finding(alloc, &mut members, finding)?;
     Ok(Value::Object(members))

@@ -16,7 +16,7 @@ returns c =
     let named : List (Text × Data) = integration_members c.args.integration.now in
     let common : List (Text × Data) =
     (codes "receiver", string c.args.receiver.now) ∷ (codes "route", number_data c.args.route) ∷ (codes "verdict", string (finding_name c.args.finding.now)) ∷ [] in
-    let first : members_view c.put-3.new.map.entries ≡ with_members common no_members = search rules in
+    let first : members_view c.put_text-2.new.members.entries ≡ with_members common no_members = search rules in
     view-Object c.put_finding.new.members
     ∙ ap object
     (c.in_ok-put_finding.ensures
