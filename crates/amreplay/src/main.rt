@@ -4,8 +4,6 @@
 ghost use Rattle.std.specs.Prelude.{◌≡◌};
 
 #[cfg(test)]
-mod library_tests;
-#[cfg(test)]
 mod tests;
 
 use amr_program::{
