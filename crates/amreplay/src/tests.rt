@@ -17,19 +17,39 @@ fn label_set(alloc: Global, name: &str) -> Result<Labels, Fail> {
     Ok(found.ok_or("the name is empty")?)
 }
 
+/// The number of a label set, which is given one where it has none.
+fn number_of(alloc: Global, seen: &mut Interner, name: &str) -> Result<usize, Fail> {
+    let labels = label_set(alloc, name)?;
+    Ok(seen.id_of(&labels)?)
+}
+
+/// Whether a label set has a number, and which.
+fn known_number(alloc: Global, seen: &Interner, name: &str) -> Result<Option<usize>, Fail> {
+    let labels = label_set(alloc, name)?;
+    Ok(seen.find(&labels))
+}
+
+/// Three label sets are seen, the last as the first.
+fn see(alloc: Global, seen: &mut Interner) -> Result<bool, Fail> {
+    let is_new = known_number(alloc, seen, "b")?.is_none();
+    let first = number_of(alloc, seen, "b")?;
+    let second = number_of(alloc, seen, "a")?;
+    let third = number_of(alloc, seen, "b")?;
+    Ok(is_new && first == 0 && second == 1 && third == 0)
+}
+
+/// Whether they are known by their numbers.
+fn are_known(alloc: Global, seen: &Interner) -> Result<bool, Fail> {
+    let number = known_number(alloc, seen, "a")?;
+    Ok(number == Some(1) && seen.len() == 2 && seen.labels_of(1).value_of("a") == "1")
+}
+
 #[test]
 fn label_sets_are_numbered_in_order_of_first_sight(rt: HostRuntime) -> Result<(), Fail> {
-    let first = label_set(rt.alloc(), "b")?;
-    let second = label_set(rt.alloc(), "a")?;
     let mut seen = Interner::new(rt.alloc());
-    assert_eq!(rt; seen.find(&first), None);
-    assert_eq!(rt; seen.id_of(&first)?, 0);
-    assert_eq!(rt; seen.id_of(&second)?, 1);
-    assert_eq!(rt; seen.id_of(&first)?, 0);
-    let interner = seen.clone()?;
-    assert_eq!(rt; interner.find(&second), Some(1));
-    assert_eq!(rt; interner.len(), 2);
-    assert_eq!(rt; interner.labels_of(1).value_of("a"), "1");
+    assert!(rt; see(rt.alloc(), &mut seen)?);
+    let copy = seen.clone()?;
+    assert!(rt; are_known(rt.alloc(), &copy)?);
     Ok(())
 }
 
@@ -73,8 +93,8 @@ fn place_of_fault(alloc: Global, text: &str) -> Result<Option<usize>, AllocError
 
 #[test]
 fn faulty_matcher_texts_are_refused_at_their_places(rt: HostRuntime) -> Result<(), Fail> {
-    for (text, place) in FAULTY {
-        assert_eq!(rt; place_of_fault(rt.alloc(), text)?, Some(place), "{text}");
+    for (text, place) in &FAULTY {
+        assert_eq!(rt; place_of_fault(rt.alloc(), text)?, Some(*place), "{text}");
     }
     Ok(())
 }
@@ -217,27 +237,31 @@ fn length_of_lines(lines: usize) -> usize {
     length
 }
 
+/// How a session ends whose reader fails at one call and whose writer at another, and what the writer has then.
+fn ended(alloc: Global, read_fails_at: usize, write_fails_at: usize) -> (Option<Fault>, Sipping) {
+    let mut source = failing_reader(COMMANDS, read_fails_at);
+    let mut out = failing_writer(alloc, write_fails_at);
+    let ended = run_session(alloc, CONFIG, SCRIPT, &mut source, &mut out);
+    (ended.err(), out)
+}
+
 #[test]
 fn a_reader_of_commands_fails_anywhere(rt: HostRuntime) {
     for fails_at in 0..=COMMANDS.len() {
-        let mut source = failing_reader(COMMANDS, fails_at);
-        let mut out = failing_writer(rt.alloc(), usize::MAX);
-        let ended = run_session(rt.alloc(), CONFIG, SCRIPT, &mut source, &mut out);
-        assert!(rt; matches!(ended, Err(Fault::CannotReadCommands)));
+        let (fault, out) = ended(rt.alloc(), fails_at, usize::MAX);
+        let length = length_of_lines(answered(fails_at));
+        assert!(rt; matches!(fault, Some(Fault::CannotReadCommands)));
         assert!(rt; TEXT.as_bytes().starts_with(out.held.as_slice()));
-        assert_eq!(rt; out.held.len(), length_of_lines(answered(fails_at)));
-        assert_eq!(rt; out.flushed, out.held.len());
+        assert!(rt; out.held.len() == length && out.flushed == length);
     }
 }
 
 #[test]
 fn a_writer_of_answers_fails_anywhere(rt: HostRuntime) {
     for fails_at in 0..=TEXT.len() {
-        let mut source = failing_reader(COMMANDS, usize::MAX);
-        let mut out = failing_writer(rt.alloc(), fails_at);
-        let ended = run_session(rt.alloc(), CONFIG, SCRIPT, &mut source, &mut out);
+        let (fault, out) = ended(rt.alloc(), usize::MAX, fails_at);
         assert!(rt; out.held.as_slice() == &TEXT.as_bytes()[..fails_at]);
-        assert_eq!(rt; ended.is_ok(), fails_at == TEXT.len());
+        assert!(rt; fault.is_none() == (fails_at == TEXT.len()));
     }
 }
 
