@@ -1,4 +1,3 @@
-pub mod Numbers
 pub mod Pairs
 pub mod Proper
 pub mod Searches

@@ -2,7 +2,6 @@
 ghost use Rattle.std.specs.Prelude.{◌≡◌, Some, None, refl};
 ghost use Rattle.std.proofs.Common.{ap};
 
-use crate::interner::Interner;
 use crate::label_map::LabelMap;
 use crate::labels::Labels;
 use crate::listing::Listing;
@@ -28,10 +27,6 @@ impl Exact for TextMap {
 }
 
 impl Exact for Labels {
-    ghost exact = { λ x y same. same };
-}
-
-impl Exact for Interner {
     ghost exact = { λ x y same. same };
 }
 

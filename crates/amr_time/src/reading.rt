@@ -1,13 +1,13 @@
 //! Moments from their texts, read from left to right.
 ghost use Rattle.std.specs.Prelude.{◌≡◌, ◌<◌, ◌≤◌, ◌^◌, pos, ◌+◌, ◌*◌, ◌+ℤ◌, ◌-ℤ◌, ◌*ℤ◌, option_map, IfSome, IfOk};
 ghost use Rattle.std.specs.Result.{result_ok};
-ghost use Rattle.jiff.specs.Words.{IsEpochDay, IsWithin};
+ghost use Rattle.jiff_core.specs.Calendar.{IsEpochDay, IsWithin};
 ghost use Rattle.amr_time.specs.Time.{latest_read};
 ghost use Rattle.amr_time.specs.MomentRead.{mark_at, two_at, four_at, day_at, minutes_at, seconds_at, fraction_digits_at, fraction_at, offset_at, time_mark_at, in_range, moment_at};
 
 use crate::digits::{capped, digit_count, is_digit};
 use crate::moments::Moment;
-use jiff::civil::Date;
+use jiff_core::civil::Date;
 
 /// The text isn't a moment.
 #[derive(Clone, Copy, Debug, PartialEq, Eq)]
@@ -58,7 +58,7 @@ fn day_number(year: u16, month: u8, day: u8) -> Option<i32>
     ensures bound { IfSome result (λ n. IsEpochDay n) }
 {
     match Date::new(year as i16, month as i8, day as i8) {
-        Ok(date) => Some(date.to_plain().to_unix_epoch_day()),
+        Ok(date) => Some(date.to_unix_epoch_day()),
         Err(_) => None,
     }
 }

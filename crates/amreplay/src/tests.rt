@@ -1,5 +1,4 @@
 //! What no command of the program shows.
-use amr_labels::{Interner, Labels, Text};
 use amr_lines::{WriteFailed, write_whole};
 use amr_matchers::{Matchers, ParseError};
 use amr_program::{Fault, Unread, read_whole, run_session};
@@ -8,50 +7,6 @@ use std::alloc::{AllocError, Global};
 use std::io;
 use std::io::{ErrorKind, Read, Write};
 use std::test::Fail;
-
-/// The set of one label.
-fn label_set(alloc: Global, name: &str) -> Result<Labels, Fail> {
-    let mut pairs = Vec::new(alloc);
-    pairs.push((Text::from_str(alloc, name)?, Text::from_str(alloc, "1")?))?;
-    let found = Labels::of_pairs(alloc, pairs.as_slice())?;
-    Ok(found.ok_or("the name is empty")?)
-}
-
-/// The number of a label set, which is given one where it has none.
-fn number_of(alloc: Global, seen: &mut Interner, name: &str) -> Result<usize, Fail> {
-    let labels = label_set(alloc, name)?;
-    Ok(seen.id_of(&labels)?)
-}
-
-/// Whether a label set has a number, and which.
-fn known_number(alloc: Global, seen: &Interner, name: &str) -> Result<Option<usize>, Fail> {
-    let labels = label_set(alloc, name)?;
-    Ok(seen.find(&labels))
-}
-
-/// Three label sets are seen, the last as the first.
-fn see(alloc: Global, seen: &mut Interner) -> Result<bool, Fail> {
-    let is_new = known_number(alloc, seen, "b")?.is_none();
-    let first = number_of(alloc, seen, "b")?;
-    let second = number_of(alloc, seen, "a")?;
-    let third = number_of(alloc, seen, "b")?;
-    Ok(is_new && first == 0 && second == 1 && third == 0)
-}
-
-/// Whether they are known by their numbers.
-fn are_known(alloc: Global, seen: &Interner) -> Result<bool, Fail> {
-    let number = known_number(alloc, seen, "a")?;
-    Ok(number == Some(1) && seen.len() == 2 && seen.labels_of(1).value_of("a") == "1")
-}
-
-#[test]
-fn label_sets_are_numbered_in_order_of_first_sight(rt: HostRuntime) -> Result<(), Fail> {
-    let mut seen = Interner::new(rt.alloc());
-    assert!(rt; see(rt.alloc(), &mut seen)?);
-    let copy = seen.clone()?;
-    assert!(rt; are_known(rt.alloc(), &copy)?);
-    Ok(())
-}
 
 /// Texts that are no matcher texts, and the place at which no matcher text goes on.
 const FAULTY: [(&str, usize); 26] = [
@@ -260,8 +215,10 @@ fn a_reader_of_commands_fails_anywhere(rt: HostRuntime) {
 fn a_writer_of_answers_fails_anywhere(rt: HostRuntime) {
     for fails_at in 0..=TEXT.len() {
         let (fault, out) = ended(rt.alloc(), usize::MAX, fails_at);
+        let is_whole = fails_at == TEXT.len();
         assert!(rt; out.held.as_slice() == &TEXT.as_bytes()[..fails_at]);
-        assert!(rt; fault.is_none() == (fails_at == TEXT.len()));
+        assert!(rt; matches!(fault, Some(Fault::CannotWrite)) != is_whole);
+        assert!(rt; fault.is_none() == is_whole && (!is_whole || out.flushed == fails_at));
     }
 }
 

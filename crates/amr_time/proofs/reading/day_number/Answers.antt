@@ -8,7 +8,7 @@ use Rattle.amr_time.proofs.reading.day_number.Goals as goal
 pub returns-in-Ok-clause-value : goal.returns-in-Ok-clause-value
 returns-in-Ok-clause-value c =
     let here = made c.args.year c.args.month c.args.day (to_z w16 c.args.year) (to_z w8 c.args.month) (to_z w8 c.args.day) c.in-Ok.date (to_z_pos w16 c.args.year (omega arith)) (to_z_pos w8 c.args.month (omega arith)) (to_z_pos w8 c.args.day (omega arith)) (c.in-Ok.ensures.succeeds.0 refl) c.in-Ok.ensures.value in
-    let e : c.to_unix_epoch_day.result ≡ epoch_day c.in-Ok.date = c.to_unix_epoch_day.ensures.value ∙ ap epoch_day c.to_plain.ensures in
+    let e : c.to_unix_epoch_day.result ≡ epoch_day c.in-Ok.date = c.to_unix_epoch_day.ensures.value in
     let fits : FitsSigned w32 c.to_unix_epoch_day.result = omega (arith, ints) in
     rw (to_z-of_z w32 c.to_unix_epoch_day.result fits, e) here
 

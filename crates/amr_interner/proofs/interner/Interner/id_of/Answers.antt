@@ -1,8 +1,8 @@
 use Rattle.std.proofs.Common.{ap, sym, ◌∙◌, Some}
 use Rattle.std.proofs.lemmas.Map.Views.{tells_apart}
 use Rattle.amr_labels.specs.Labels.{LabelSet, label_set_cmp-IsAntisymmetric}
-use Rattle.amr_labels.specs.Numbers.{with_seen}
-use Rattle.amr_labels.proofs.interner.Interner.id_of.Goals as goal
+use Rattle.amr_interner.specs.Numbers.{with_seen}
+use Rattle.amr_interner.proofs.interner.Interner.id_of.Goals as goal
 
 pub returns-clause-number : goal.returns-clause-number
 returns-clause-number c =

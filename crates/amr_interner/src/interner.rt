@@ -3,9 +3,9 @@ ghost use Rattle.std.specs.Prelude.{◌≡◌, ◌<◌, [], length, Some, IfOk, 
 ghost use Rattle.std.specs.List.{IsDistinct, list_any};
 ghost use Rattle.std.specs.Ordering.{eq_by_cmp};
 ghost use Rattle.amr_labels.specs.Labels.{label_set_cmp};
-ghost use Rattle.amr_labels.specs.Numbers.{with_seen};
+ghost use Rattle.amr_interner.specs.Numbers.{with_seen};
 
-use crate::labels::Labels;
+use amr_labels::Labels;
 use indexmap::IndexSet;
 use std::alloc::{AllocError, Global};
 use std::marker::Model;
