@@ -1,5 +1,5 @@
 //! The flush of a group.
-ghost use Rattle.std.specs.Prelude.{◌≡◌, ◌≤◌, ◌||◌, ◌+◌, true, map, OnOk, IfOk};
+ghost use Rattle.std.specs.Prelude.{◌≡◌, ◌≤◌, ◌||◌, ◌+◌, ◌++◌, true, map, OnOk, IfOk};
 ghost use Rattle.std.specs.List.{fold};
 ghost use Rattle.amr_labels.specs.Map.{get};
 ghost use Rattle.amr_config.specs.Routing.{group_interval_of, repeat_interval_of};
@@ -158,6 +158,50 @@ fn note_told(
     }))
 }
 
+/// The note is told, where there is one.
+fn tell_note(
+    store: &mut Store,
+    at: Moment,
+    group: &Spot,
+    key: &LogKey,
+    send_resolved: bool,
+    firing: &[Member],
+    resolved: &[Member],
+) -> Result<(), AllocError>
+    ensures { OnOk result (store.new ≡ record store.old { notes = store.old.notes ++ notes_told at group.now key.now send_resolved firing.now resolved.now }) }
+{
+    let key = key.clone()?;
+    let note = note_told(
+        store.alloc(),
+        at,
+        group,
+        key,
+        send_resolved,
+        firing,
+        resolved,
+    )?;
+    if let Some(note) = note {
+        store.append_note(note)?;
+    }
+    Ok(())
+}
+
+/// What the log keeps of members that are told of.
+fn log_entry(
+    alloc: Global,
+    at: Moment,
+    firing: &[Member],
+    resolved: &[Member],
+) -> Result<LogEntry, AllocError>
+    ensures { IfOk result (λ entry. entry ≡ record { time = at; firing = labels_of firing.now; resolved = labels_of resolved.now }) }
+{
+    Ok(LogEntry {
+        time: at,
+        firing: labels_of(alloc, firing)?,
+        resolved: labels_of(alloc, resolved)?,
+    })
+}
+
 /// The log's entry is new, and the note is told.
 fn tell(
     store: &mut Store,
@@ -169,28 +213,12 @@ fn tell(
 ) -> Result<(), AllocError>
     ensures { OnOk result (store.new ≡ tell at group.now key.now send_resolved members.now store.old) }
 {
-    let alloc = store.alloc();
-    let firing = firing_of(alloc, at, members)?;
-    let resolved = resolved_of(alloc, at, members)?;
-    let entry = LogEntry {
-        time: at,
-        firing: labels_of(alloc, firing.as_slice())?,
-        resolved: labels_of(alloc, resolved.as_slice())?,
-    };
+    let firing = firing_of(store.alloc(), at, members)?;
+    let resolved = resolved_of(store.alloc(), at, members)?;
+    let (firing, resolved) = (firing.as_slice(), resolved.as_slice());
+    let entry = log_entry(store.alloc(), at, firing, resolved)?;
     store.write_log(key.clone()?, entry)?;
-    let note = note_told(
-        alloc,
-        at,
-        group,
-        key.clone()?,
-        send_resolved,
-        firing.as_slice(),
-        resolved.as_slice(),
-    )?;
-    if let Some(note) = note {
-        store.append_note(note)?;
-    }
-    Ok(())
+    tell_note(store, at, group, key, send_resolved, firing, resolved)
 }
 
 /// Whether the log says that an integration is told of the members now.
