@@ -1,8 +1,7 @@
 -- Reading a moment from left to right: each part is a value and the bytes after it.
 use Rattle.std.specs.Prelude.{ℕ, ◌+◌, ◌-◌, ◌*◌, ◌&&◌, ◌||◌, ◌==◌, ℤ, pos, negsuc, ◌+ℤ◌, ◌-ℤ◌, ◌*ℤ◌, List, [], ◌∷◌, length, drop, Bool, nat_le, nat_lt, if◌then◌else◌, Option, Some, None}
 use Rattle.std.specs.List.{take_while}
-use Rattle.jiff_core.specs.Calendar.{days_in_month}
-use Rattle.jiff_core.specs.Calendar.{days_from_civil}
+use Rattle.jiff_core.specs.Calendar.{days_in_month, days_from_civil}
 use Rattle.amr_time.specs.Time.{Moment, second, latest_read}
 use Rattle.amr_time.specs.MomentText.{fraction_nanoseconds}
 

@@ -2,8 +2,7 @@
 -- The form is that of RFC 3339, from years 0000 to 9999, with at most nine digits of a fraction.
 use Rattle.std.specs.Prelude.{◌≡◌, ◌⊎◌, ℕ, ◌+◌, ◌-◌, ◌*◌, ◌/◌, ◌%◌, ◌^◌, ◌<◌, ◌≤◌, ◌==◌, if◌then◌else◌, ℤ, pos, ◌+ℤ◌, ◌-ℤ◌, ◌*ℤ◌, List, [], ◌∷◌, ◌++◌, length, fold}
 use Rattle.std.specs.List.{AllByRecursion}
-use Rattle.jiff_core.specs.Calendar.{days_in_month}
-use Rattle.jiff_core.specs.Calendar.{days_from_civil}
+use Rattle.jiff_core.specs.Calendar.{days_in_month, days_from_civil}
 use Rattle.amr_time.specs.Time.{Moment, second, minute, hour, latest_read}
 use Rattle.amr_time.specs.Calendar.{Date, date_of}
 

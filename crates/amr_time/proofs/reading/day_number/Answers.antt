@@ -1,4 +1,4 @@
-use Rattle.std.proofs.Common.{◌≡◌, refl, ap, ◌∙◌, to_z, w8, w16, w32, FitsSigned, arith}
+use Rattle.std.proofs.Common.{◌≡◌, refl, to_z, w8, w16, w32, FitsSigned, arith}
 use Rattle.std.proofs.lemmas.Int.{ints, to_z-of_z, to_z_pos}
 use Rattle.std.proofs.lemmas.Bool.{false≢true}
 use Rattle.jiff_core.specs.Date.{epoch_day}
