@@ -207,7 +207,12 @@ class Timeline {
   }
 
   // Marks that are too near each other to be told apart are one mark, with their number.
-  drawMarks(marks, y, kind) {
+  drawMarks(all, y, kind) {
+    const ghosts = all.filter((each) => each.shape === "ghost");
+    return ghosts.length ? [this.drawNear(ghosts, y, kind), this.drawNear(all.filter((each) => each.shape !== "ghost"), y, kind)] : this.drawNear(all, y, kind);
+  }
+
+  drawNear(marks, y, kind) {
     const near = kind === "group" ? 2 : NEAR;
     const bunches = [];
     let place = firstFrom(marks, this.view.from - (this.view.to - this.view.from) * 0.02);
@@ -215,7 +220,7 @@ class Timeline {
       const each = marks[place];
       const x = this.x(each.time);
       const last = bunches[bunches.length - 1];
-      if (last && x - last.x < near && (kind !== "events" || each.time !== last.marks[0].time || x - last.x < near)) last.marks.push(each);
+      if (last && x - last.x < near) last.marks.push(each);
       else bunches.push({ x, marks: [each] });
     }
     return bunches.map((bunch) => this.drawBunch(bunch, y, kind));
@@ -394,7 +399,7 @@ const SHAPES = {
   firing: (x, y) => svg("path", { class: "ink", d: `M${x} ${y - 6.5}l6.5 11.5h-13z` }),
   resolved: (x, y) => svg("circle", { class: "line", cx: x, cy: y, r: 5 }),
   both: (x, y) => [svg("circle", { class: "line", cx: x, cy: y, r: 6.5 }), svg("path", { class: "ink", d: `M${x} ${y - 4.5}l4.2 7.2h-8.4z` })],
-  ghost: (x, y) => svg("rect", { class: "line", x: x - 5, y: y - 5, width: 10, height: 10, rx: 2 }),
+  ghost: (x, y) => svg("rect", { class: "line", x: x - 9, y: y - 9, width: 18, height: 18, rx: 3 }),
   post: (x, y) => svg("circle", { class: "ink", cx: x, cy: y, r: 4 }),
   tick: (x, y) => svg("line", { class: "line", x1: x, x2: x, y1: y - 5, y2: y + 5 }),
   silence: (x, y) => svg("rect", { class: "ink", x: x - 4.5, y: y - 4.5, width: 9, height: 9 }),
