@@ -123,7 +123,8 @@ function groupLane(run, entry) {
       .map(({ from, to }) => ({ from, to, row: i % rows, set, shape: "alert", name: `${labelsText(set)} fires${spanText(from, to)}` }))));
     return { spans, rows, marks: flushesOf(run, entry) };
   };
-  return { ...lane("group", name, made, `group ${entry.route} ${entry.set}`), entry };
+  const short = labelsOf(entry.set).map(([, value]) => seen(value)).join(", ");
+  return { ...lane("group", name, made, `group ${entry.route} ${entry.set}`), entry, short };
 }
 
 function spanText(from, to) {

@@ -29,10 +29,10 @@ class Panel {
       event.reason > 0 && el("p", { class: "flag" }, el("b", {}, "Refused"), `, ${reasonWords(event.reason)}. It changed nothing.`),
       event.skipped.length > 0 && el("p", { class: "flag" }, `Skipped as invalid: ${event.skipped.map((place) => `alert ${place}`).join(", ")} of the post.`),
       event.act === "alerts" && postedEl(this.app, event),
-      el("h3", {}, notes.length ? `It made ${many(notes.length, "notification")}` : "It made no notification"),
+      el("h3", {}, notes.length ? `${many(notes.length, "notification")} up to it` : "No notification up to it"),
       notes.length > 0 && el("ul", { class: "notes" }, notes.slice(0, ROWS).map((note) => this.noteEl(note)),
         notes.length > ROWS && el("li", { class: "quiet" }, `and ${notes.length - ROWS} more; see the lines below`)),
-      el("p", { class: "quiet" }, `${many(event.moves, "move")}: flushes, and removals of alerts and groups.`),
+      event.moves > 0 && el("p", { class: "quiet" }, `${many(event.moves, "move")} came before it: flushes, and removals of alerts and groups.`),
       linesEl("What the session printed", () => eventLines(run, cursor)));
   }
 

@@ -1,8 +1,10 @@
 // The timeline: lanes over time, zoomed by wheel and dragged. Only the lanes that are in sight are drawn.
 const LANE_HEIGHT = 26;
 const AXIS_HEIGHT = 28;
-const NEAR = 9;
+const NEAR = 11;
+const ROOM_FOR_NUMBER = 26;
 const SHORTEST_VIEW = 20;
+const NARROW = 160;
 const STEPS = [1, 2, 5, 10, 20, 50, 100, 200, 500, 1000, 2000, 5000, 10000, 15000, 30000, 60000, 120000, 300000, 600000, 900000, 1800000,
   3600000, 7200000, 10800000, 21600000, 43200000, 86400000, 172800000, 604800000, 2592000000, 31536000000];
 
@@ -159,7 +161,7 @@ class Timeline {
       if (x > this.width - 30) return null;
       return [svg("line", { class: "grid", x1: x, x2: x, y1: AXIS_HEIGHT - 5, y2: AXIS_HEIGHT }),
         svg("text", { class: "tick", x, y: 20, "text-anchor": "middle" }, clock),
-        date && svg("text", { class: "tick date", x: this.gutter - 8, y: 20, "text-anchor": "end" }, i === 0 ? date : "")];
+        date && this.gutter >= NARROW && svg("text", { class: "tick date", x: this.gutter - 8, y: 20, "text-anchor": "end" }, i === 0 ? date : "")];
     });
     const now = this.app.time();
     const x = this.x(now);
@@ -184,7 +186,7 @@ class Timeline {
     return svg("g", { class: classes, role: "group", "aria-label": `${each.kind} ${each.name}` },
       svg("rect", { class: "ground", x: 0, y, width: this.width, height: LANE_HEIGHT }),
       svg("g", { "clip-path": "url(#plot)" }, this.drawSpans(made, y), this.drawMarks(made.marks, y, each.kind)),
-      this.target({ name: each.name, x: 0, y }, svg("text", { class: "lane-name", x: 10, y: y + 17 }, cut(each.name, most))));
+      this.target({ name: each.name, x: 0, y }, svg("text", { class: "lane-name", x: 10, y: y + 17 }, cut(this.gutter < NARROW && each.short ? each.short : each.name, most))));
   }
 
   target(item, element) {
@@ -223,10 +225,10 @@ class Timeline {
       if (last && x - last.x < near) last.marks.push(each);
       else bunches.push({ x, marks: [each] });
     }
-    return bunches.map((bunch) => this.drawBunch(bunch, y, kind));
+    return bunches.map((bunch, i) => this.drawBunch(bunch, y, kind, i + 1 === bunches.length || bunches[i + 1].x - bunch.x > ROOM_FOR_NUMBER));
   }
 
-  drawBunch({ x, marks }, y, kind) {
+  drawBunch({ x, marks }, y, kind, hasRoom) {
     const strongest = marks.find((each) => each.note && each.shape !== "flush") || marks.find((each) => each.shape !== "tick") || marks[0];
     const here = marks.some((each) => each.cursor === this.app.cursor);
     const first = marks.find((each) => each.cursor === this.app.cursor) || marks[0];
@@ -234,7 +236,7 @@ class Timeline {
     if (marks.length > 8) names.push(`and ${marks.length - 8} more`);
     const middle = y + LANE_HEIGHT / 2;
     const compared = strongest.note && kind === "receiver" ? this.comparedRing(strongest.note, x, middle) : null;
-    const number = marks.length > 1 && kind !== "group" ? svg("text", { class: "bunch", x: x + 7, y: y + 10 }, marks.length > 99 ? "99+" : marks.length) : null;
+    const number = marks.length > 1 && hasRoom && kind !== "group" ? svg("text", { class: "bunch", x: x + 7, y: y + 10 }, marks.length > 99 ? "99+" : marks.length) : null;
     return this.target({ name: names.join("\n"), cursor: first.cursor, x },
       svg("g", { class: `mark ${strongest.shape}${here ? " here" : ""}`, role: "img", "aria-label": names.join("; ") },
         svg("rect", { class: "hit", x: x - 7, y, width: 14, height: LANE_HEIGHT }), shapeOf(strongest.shape, x, middle), compared, number));
@@ -246,7 +248,8 @@ class Timeline {
     if (compared.alone.has(note.index)) return svg("rect", { class: "ring", x: x - 9, y: y - 9, width: 18, height: 18, rx: 3 });
     if (!compared.moved.has(note.index)) return null;
     const other = this.x(compared.other.notes[compared.moved.get(note.index)].time);
-    return [svg("line", { class: "moved", x1: other, x2: x, y1: y, y2: y }), svg("circle", { class: "moved-from", cx: other, cy: y, r: 3.5 })];
+    const low = y + 9;
+    return [svg("path", { class: "moved", d: `M${other} ${low}H${x}` }), svg("circle", { class: "moved-from", cx: other, cy: low, r: 3 })];
   }
 
   listen() {

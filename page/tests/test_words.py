@@ -155,3 +155,15 @@ class Moments(unittest.TestCase):
         self.assertEqual(nanoseconds("2024-05-01T12:00:00+02:00"), nanoseconds("2024-05-01t10:00:00z"))
         with self.assertRaises(ValueError):
             nanoseconds("yesterday")
+
+
+class Examples(WithRoom):
+    def test_the_kept_pages_are_made_again(self) -> None:
+        names = ("a-page-that-never-came", "a-reload")
+        for name in names:
+            (self.room / name).mkdir()
+        subprocess.run([str(EXAMPLES.parent / "page" / "make-examples"), PROGRAM, str(self.room)], check=True)
+        for name in names:
+            made = (self.room / name / "incident.html").read_bytes()
+            self.assertTrue(made == (EXAMPLES / name / "incident.html").read_bytes(), f"{name}: run page/make-examples")
+            self.assertLess(len(made), 200_000)
