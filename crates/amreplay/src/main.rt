@@ -3,9 +3,6 @@
 
 ghost use Rattle.std.specs.Prelude.{◌≡◌};
 
-#[cfg(test)]
-mod tests;
-
 use amr_program::{
     Command, Fault, LONGEST_CONFIG, Unread, check_config, command_of, read_whole, run_script,
     run_session, status_of, write_fault,
