@@ -18,9 +18,6 @@ stated_or : {X : Type 0} (a b : Option X) (d : X) → unwrap_or (option_or a b) 
 stated_or None b d = refl
 stated_or (Some x) b d = refl
 
-sorted_at : Config → ℕ → List Matcher
-sorted_at config m = option_map_or (λ (route : Route). sorted_matchers route.matchers) (slice_get config.routes m) []
-
 module _ (config : Config) (first : AreParentsFirst config) (n : ℕ) (route : Route) (here : slice_get config.routes n ≡ Some route) where
   inherited_root : {X : Type 0} (field : Route → Option X) → parent_of config n ≡ None → inherited field config n ≡ option_or (field route) None
   unfolding inherited

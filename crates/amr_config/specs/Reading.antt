@@ -24,10 +24,6 @@ reading_of d = if is_too_deep d then plain (Err TooDeep) else (walked_at d >>= �
 abbrev pub config_of : Data → Result Config Refusal
 config_of d = (reading_of d).value
 
--- the paths and texts of the patterns that the walk meets before its first fault
-abbrev pub patterns_met : Data → List (List ℕ × Text)
-patterns_met d = (reading_of d).patterns
-
 -- the configuration where all patterns are good, or that one which is met is refused
 abbrev pub ConfigIs : Data → Result Config Refusal → Type 0
 ConfigIs d = MayGive (reading_of d)
