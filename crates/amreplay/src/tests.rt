@@ -1,5 +1,5 @@
 //! What no command of the program shows.
-use amr_lines::{WriteFailed, write_whole};
+use amr_lines::{Inlet, Outlet, WriteFailed, write_whole};
 use amr_matchers::{Matchers, ParseError};
 use amr_program::{Fault, Unread, read_whole, run_session};
 use amr_time::{Moment, Span, next_multiple, write_moment};
@@ -145,10 +145,13 @@ fn failing_writer(alloc: Global, fails_at: usize) -> Sipping {
 #[test]
 fn a_reader_of_a_file_fails_anywhere(rt: HostRuntime) {
     for fails_at in 0..4 {
-        let read = read_whole(rt.alloc(), &mut failing_reader(b"abc", fails_at));
+        let read = read_whole(
+            rt.alloc(),
+            &mut Inlet::new(failing_reader(b"abc", fails_at)),
+        );
         assert!(rt; matches!(read, Err(Unread::CannotRead)));
     }
-    let read = read_whole(rt.alloc(), &mut failing_reader(b"abc", 4));
+    let read = read_whole(rt.alloc(), &mut Inlet::new(failing_reader(b"abc", 4)));
     assert!(rt; read.is_ok_and(|bytes| bytes.as_slice() == b"abc".as_slice()));
 }
 
@@ -194,9 +197,15 @@ fn length_of_lines(lines: usize) -> usize {
 
 /// How a session ends whose reader fails at one call and whose writer at another, and what the writer has then.
 fn ended(alloc: Global, read_fails_at: usize, write_fails_at: usize) -> (Option<Fault>, Sipping) {
-    let mut source = failing_reader(COMMANDS, read_fails_at);
+    let source = failing_reader(COMMANDS, read_fails_at);
     let mut out = failing_writer(alloc, write_fails_at);
-    let ended = run_session(alloc, CONFIG, SCRIPT, &mut source, &mut out);
+    let ended = run_session(
+        alloc,
+        CONFIG,
+        SCRIPT,
+        &mut Inlet::new(source),
+        &mut Outlet::new(&mut out),
+    );
     (ended.err(), out)
 }
 
@@ -238,6 +247,6 @@ impl Write for Shut {
 
 #[test]
 fn a_writer_that_takes_no_byte_has_failed(rt: HostRuntime) {
-    assert_eq!(rt; write_whole(&mut Shut, b"a"), Err(WriteFailed));
-    assert_eq!(rt; write_whole(&mut Shut, b""), Ok(()));
+    assert_eq!(rt; write_whole(&mut Outlet::new(Shut), b"a"), Err(WriteFailed));
+    assert_eq!(rt; write_whole(&mut Outlet::new(Shut), b""), Ok(()));
 }
