@@ -2,7 +2,7 @@ use Rattle.std.proofs.Common.{◌≤◌, refl, ◌∙◌, arith, w16, w64, FitsS
 use Rattle.std.proofs.lemmas.Int.{ints, to_z_pos, to_z-of_z}
 use Rattle.amr_time.specs.Calendar.{date_of}
 use Rattle.amr_time.proofs.Days.{same_date}
-use Rattle.amr_time.proofs.writing.date_with_number.Goals as goal
+use Rattle.amr_time.proofs.calendar.date_with_number.Goals as goal
 
 pub overflow_cast-result : goal.overflow_cast-result
 overflow_cast-result c =
