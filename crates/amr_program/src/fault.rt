@@ -169,7 +169,6 @@ fn config_name(refusal: &Refusal) -> &'static str
         Refusal::ZeroInterval => "amreplay: config: 9 ZeroInterval",
         Refusal::BadGroupBy => "amreplay: config: 10 BadGroupBy",
         Refusal::TooDeep => "amreplay: config: 11 TooDeep",
-        Refusal::TimeIntervals => "amreplay: config: 12 TimeIntervals",
     }
 }
 

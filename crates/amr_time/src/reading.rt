@@ -79,7 +79,7 @@ fn day(bytes: &[u8]) -> Option<(i32, &[u8])>
 
 /// Hours and minutes at the front, in minutes.
 #[tactic(auto, unfolding(crate::specs::MomentRead::minutes_at))]
-fn minutes(bytes: &[u8]) -> Option<(u32, &[u8])>
+pub(crate) fn minutes(bytes: &[u8]) -> Option<(u32, &[u8])>
     ensures value { option_map (λ x. (x.0, x.1.now)) result ≡ minutes_at bytes.now }
     ensures bound { IfSome result (λ x. x.0 < 1440) }
 {
