@@ -34,7 +34,7 @@ function eventMark(run, event, i) {
 }
 
 function eventLane(run) {
-  return lane("events", "what happened", () => ({ marks: run.events.map((event, i) => eventMark(run, event, i)).filter((each) => each.time) }));
+  return lane("events", "all events", () => ({ marks: run.events.map((event, i) => eventMark(run, event, i)).filter((each) => each.time) }));
 }
 
 function exceptionLanes(run) {
@@ -164,7 +164,8 @@ function silenceLane(run, entry) {
     return { spans };
   };
   const last = entry.values.filter((value) => value).pop();
-  return lane("silence", matchersText(last.matchers), made, `silence ${entry.id}`);
+  const short = last.matchers.map((matcher) => seen(matcher.value)).join(", ");
+  return { ...lane("silence", matchersText(last.matchers), made, `silence ${entry.id}`), short };
 }
 
 // What the comparison says: for a run, the places of notifications that it has alone or moved, and those of the other that it lacks.

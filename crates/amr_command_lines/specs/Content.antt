@@ -6,5 +6,5 @@ use Rattle.amr_command_lines.specs.declared.line.Content.TheVariants.{TooLong, U
 
 abbrev pub IsContent : List ℕ → Content → Type 0
 IsContent bytes TooLong = longest < length bytes
-IsContent bytes Unheld = length bytes ≤ longest
+IsContent bytes Unheld = (0 < length bytes) × (length bytes ≤ longest)
 IsContent bytes (Held held) = (length bytes ≤ longest) × (held.now ≡ bytes)

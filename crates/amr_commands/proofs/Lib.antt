@@ -4,3 +4,5 @@ pub mod Printing
 pub mod EventsPassed
 pub mod Commands
 pub mod Answering
+pub mod Ending
+pub mod Silent

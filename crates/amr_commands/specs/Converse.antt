@@ -1,7 +1,8 @@
 -- A whole session: what is printed for what was read.
-use Rattle.std.specs.Prelude.{ℕ, List, [], ◌∷◌, ◌++◌, map, Option, Result, MatchResult, ◌⊎◌}
+use Rattle.std.specs.Prelude.{◌≡◌, ℕ, ◌+◌, ◌≤◌, Bool, true, List, [], ◌∷◌, ◌++◌, map, Option, Result, MatchResult, ◌⊎◌}
 use Rattle.std.specs.Io.KnownBytes.{Appends, Consumes, IsAtEnd}
 use Rattle.amr_labels.specs.Labels.{Text}
+use Rattle.amr_lines.specs.Inlet.{most_calls, HasEnded}
 use Rattle.amr_command_lines.specs.declared.line.Line.{Line}
 use Rattle.amr_command_lines.specs.Line.{Holds}
 use Rattle.amr_commands.specs.Lines.{Cuts}
@@ -46,3 +47,18 @@ Turns incident left left' now now' cursor cursor' line line' r = (source start :
     → (bytes' : Text) × Consumes source left' bytes' × MatchResult r
     (λ turn. Turned turn incident left' start now' bytes' cursor' line')
     (λ broken. PrintedAt broken incident start now' bytes')
+
+-- Each fault is that of its own end: one of reading says that the reader failed, or was called as often as it may be, and one of writing that the
+-- writer failed. An end that failed is never passed over.
+abbrev pub BreaksBy : Broken → Bool → Bool → ℕ → Bool → Bool → Type 0
+BreaksBy Reading read_failed read_failed' calls write_failed write_failed' = HasEnded read_failed' calls × (write_failed' ≡ write_failed)
+BreaksBy Writing read_failed read_failed' calls write_failed write_failed' = (read_failed' ≡ read_failed) × (write_failed' ≡ true)
+
+abbrev pub EndsBy : {T : Type 0} → Result T Broken → Bool → Bool → ℕ → Bool → Bool → Type 0
+EndsBy r read_failed read_failed' calls write_failed write_failed' = MatchResult r
+    (λ _. (read_failed' ≡ read_failed) × (write_failed' ≡ write_failed))
+    (λ broken. BreaksBy broken read_failed read_failed' calls write_failed write_failed')
+
+-- the reader was called once more
+abbrev pub CountsTurn : Result Turn Broken → ℕ → ℕ → Type 0
+CountsTurn r calls calls' = MatchResult r (λ _. (calls' ≡ calls + 1) × (calls' ≤ most_calls)) (λ _. Unit {0})

@@ -3,3 +3,4 @@ pub mod Replies
 pub mod Talk
 pub mod Answer
 pub mod Converse
+pub mod Laws

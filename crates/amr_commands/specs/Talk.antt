@@ -30,10 +30,11 @@ reply incident cursor Unheld = refused cursor word.Unknown 0
 reply incident cursor (Undone said) = refused cursor (word_of said) 0
 reply incident cursor (Done said) = reply_of incident cursor said
 
--- this may become of a line: it is undone only where it takes memory
+-- This may become of a line. It is undone only if it takes memory, and only a line with a byte finds no memory to hold it: so an empty line, as the one
+-- behind a line feed at the end, prints nothing.
 abbrev pub MayBe : Incident → ℕ → Text → Fate → Type 0
 MayBe incident cursor line TooLong = longest < length line
-MayBe incident cursor line Unheld = length line ≤ longest
+MayBe incident cursor line Unheld = (0 < length line) × (length line ≤ longest)
 MayBe incident cursor line (Undone said) = (length line ≤ longest) × LineSays line said × MayFindNoMemory incident cursor said
 MayBe incident cursor line (Done said) = (length line ≤ longest) × LineSays line said
 

@@ -1,9 +1,9 @@
 //! What is to be written for a command.
 ghost use Rattle.std.specs.Prelude.{◌≡◌};
-ghost use Rattle.amr_lines.specs.Outlet.{WritesText};
+ghost use Rattle.amr_lines.specs.Outlet.{WritesText, FailsAt};
 ghost use Rattle.amr_commands.specs.Answer.{refusal_number, answer_text};
 
-use amr_lines::{Word, WriteFailed, write_back, write_backward_seek, write_refused, write_whole};
+use amr_lines::{Outlet, Word, WriteFailed, write_back, write_backward_seek, write_refused, write_whole};
 use std::io::Write;
 
 /// Why a command is refused.
@@ -57,11 +57,12 @@ pub(crate) enum Answer {
 
 /// Writes an answer, at the cursor that the command left.
 pub(crate) fn write_answer<W: Write>(
-    out: &mut W,
+    out: &mut Outlet<W>,
     cursor: usize,
     answer: &Answer,
 ) -> Result<(), WriteFailed>
-    ensures { WritesText (W.contents out.old) (W.contents out.new) result (answer_text cursor answer.now) }
+    ensures written { WritesText (W.contents out.old.writer) (W.contents out.new.writer) result (answer_text cursor answer.now) }
+    ensures failed { FailsAt result out.old.failed out.new.failed }
 {
     match answer {
         Answer::Nothing => Ok(()),

@@ -1,20 +1,19 @@
 //! A session over any reader and any writer.
 ghost use Rattle.std.specs.Prelude.{◌≡◌, ℕ, ◌<◌, ◌≤◌, List, [], length, take, Option, MatchResult};
 ghost use Rattle.std.specs.Io.KnownBytes.{Consumes, Keeps, IsAtEnd};
+ghost use Rattle.amr_lines.specs.Inlet.{CountsCall};
+ghost use Rattle.amr_lines.specs.Outlet.{FailsAt};
 ghost use Rattle.amr_commands.specs.Replies.{incident_of};
-ghost use Rattle.amr_commands.specs.Converse.{Converses, Turns, Printed, Stands};
+ghost use Rattle.amr_commands.specs.Converse.{Converses, Turns, Printed, Stands, EndsBy, CountsTurn};
 ghost use Rattle.amr_commands.specs.Talk.{StopsShort};
 
 use crate::hear::hear;
 use crate::respond::answer_line;
 use amr_command_lines::Line;
-use amr_lines::WriteFailed;
+use amr_lines::{Inlet, Outlet, WriteFailed};
 use amr_replay::Session;
 use std::alloc::Global;
 use std::io::{Read, Write};
-
-/// Reading ends at the call of this number.
-const MOST_READS: u64 = 1_099_511_627_776;
 
 /// How many bytes are asked for at once.
 const CHUNK: usize = 4096;
@@ -33,15 +32,16 @@ enum Turn {
     Ended,
 }
 
-/// One read. Every error is one of reading, an interrupted call too.
-fn read_once<R: Read>(commands: &mut R, chunk: &mut [u8]) -> Result<usize, Broken>
+/// Reads once.
+fn read_once<R: Read>(commands: &mut Inlet<R>, chunk: &mut [u8]) -> Result<usize, Broken>
     requires { 0 < length chunk.old }
-    ensures { MatchResult result
+    ensures read { MatchResult result
         (λ n. (n ≤ length chunk.new)
-        × Consumes (R.remaining commands.old) (R.remaining commands.new) (take n chunk.new)
-        × (n ≡ 0 → IsAtEnd (R.remaining commands.new)))
+        × Consumes (R.remaining commands.old.reader) (R.remaining commands.new.reader) (take n chunk.new)
+        × (n ≡ 0 → IsAtEnd (R.remaining commands.new.reader)))
         (λ broken. (broken ≡ Broken.Reading)
-        × Keeps (R.remaining commands.old) (R.remaining commands.new)) }
+        × Keeps (R.remaining commands.old.reader) (R.remaining commands.new.reader)) }
+    ensures counted { CountsCall result commands.old.failed commands.new.failed commands.old.calls commands.new.calls }
 {
     match commands.read(chunk) {
         Ok(n) => Ok(n),
@@ -49,37 +49,40 @@ fn read_once<R: Read>(commands: &mut R, chunk: &mut [u8]) -> Result<usize, Broke
     }
 }
 
-/// The last line, which has no line feed.
+/// Answers the last line, which has no line feed.
 fn finish<W: Write>(
     alloc: Global,
     session: &mut Session,
     line: &Line,
-    out: &mut W,
+    out: &mut Outlet<W>,
 ) -> Result<(), WriteFailed>
     ensures kept { incident_of session.new ≡ incident_of session.old }
     ensures printed { (start : Option (List ℕ)) (bytes : List ℕ)
-        → Stands (incident_of session.old) start (W.contents out.old) bytes session.old.cursor line.now
+        → Stands (incident_of session.old) start (W.contents out.old.writer) bytes session.old.cursor line.now
         → MatchResult result
-        (λ _. Printed (incident_of session.old) start (W.contents out.new) bytes)
-        (λ _. StopsShort (incident_of session.old) start (W.contents out.new) bytes []) }
+        (λ _. Printed (incident_of session.old) start (W.contents out.new.writer) bytes)
+        (λ _. StopsShort (incident_of session.old) start (W.contents out.new.writer) bytes []) }
+    ensures failed { FailsAt result out.old.failed out.new.failed }
 {
     answer_line(alloc, session, line, out)
 }
 
-/// One read, and what it brought.
+/// Reads once, and answers what it brought.
 fn take_turn<R: Read, W: Write>(
     alloc: Global,
     session: &mut Session,
     line: &mut Line,
     chunk: &mut [u8],
-    commands: &mut R,
-    out: &mut W,
+    commands: &mut Inlet<R>,
+    out: &mut Outlet<W>,
 ) -> Result<Turn, Broken>
     requires { 0 < length chunk.old }
     ensures kept { incident_of session.new ≡ incident_of session.old }
-    ensures turned { Turns (incident_of session.old) (R.remaining commands.old) (R.remaining commands.new)
-        (W.contents out.old) (W.contents out.new) session.old.cursor session.new.cursor
+    ensures turned { Turns (incident_of session.old) (R.remaining commands.old.reader) (R.remaining commands.new.reader)
+        (W.contents out.old.writer) (W.contents out.new.writer) session.old.cursor session.new.cursor
         line.old line.new result }
+    ensures counted { CountsTurn result commands.old.calls commands.new.calls }
+    ensures ended { EndsBy result commands.old.failed commands.new.failed commands.new.calls out.old.failed out.new.failed }
 {
     match read_once(commands, chunk) {
         Err(_) => Err(Broken::Reading),
@@ -101,21 +104,21 @@ fn take_turn<R: Read, W: Write>(
 pub fn converse<R: Read, W: Write>(
     alloc: Global,
     session: &mut Session,
-    commands: &mut R,
-    out: &mut W,
+    commands: &mut Inlet<R>,
+    out: &mut Outlet<W>,
 ) -> Result<(), Broken>
     requires { session.old.cursor ≡ 0 }
-    ensures { Converses (incident_of session.old) (R.remaining commands.old) (R.remaining commands.new)
-        (W.contents out.old) (W.contents out.new) result }
+    ensures conversed { Converses (incident_of session.old) (R.remaining commands.old.reader) (R.remaining commands.new.reader)
+        (W.contents out.old.writer) (W.contents out.new.writer) result }
+    ensures ended { EndsBy result commands.old.failed commands.new.failed commands.new.calls out.old.failed out.new.failed }
 {
     let mut line = Line::new(alloc);
     let mut chunk = [0u8; CHUNK];
-    for _ in 1..MOST_READS {
+    loop {
         match take_turn(alloc, session, &mut line, &mut chunk, commands, out) {
             Ok(Turn::More) => {}
             Ok(Turn::Ended) => return Ok(()),
             Err(broken) => return Err(broken),
         }
     }
-    Err(Broken::Reading)
 }

@@ -1,11 +1,12 @@
 //! The bytes of the commands, heard as they come.
 ghost use Rattle.std.specs.Prelude.{◌≡◌, [], ◌∷◌};
+ghost use Rattle.amr_lines.specs.Outlet.{FailsAt};
 ghost use Rattle.amr_commands.specs.Replies.{incident_of};
 ghost use Rattle.amr_commands.specs.Talk.{Hears};
 
 use crate::respond::answer_line;
 use amr_command_lines::Line;
-use amr_lines::WriteFailed;
+use amr_lines::{Outlet, WriteFailed};
 use amr_replay::Session;
 use std::alloc::Global;
 use std::io::Write;
@@ -16,11 +17,12 @@ fn hear_byte<W: Write>(
     session: &mut Session,
     line: &mut Line,
     b: u8,
-    out: &mut W,
+    out: &mut Outlet<W>,
 ) -> Result<(), WriteFailed>
     ensures kept { incident_of session.new ≡ incident_of session.old }
-    ensures heard { Hears (incident_of session.old) (W.contents out.old) session.old.cursor line.old
-        (W.contents out.new) session.new.cursor line.new result (b ∷ []) }
+    ensures heard { Hears (incident_of session.old) (W.contents out.old.writer) session.old.cursor line.old
+        (W.contents out.new.writer) session.new.cursor line.new result (b ∷ []) }
+    ensures failed { FailsAt result out.old.failed out.new.failed }
 {
     if b != b'\n' {
         line.push(b);
@@ -37,11 +39,12 @@ pub(crate) fn hear<W: Write>(
     session: &mut Session,
     line: &mut Line,
     bytes: &[u8],
-    out: &mut W,
+    out: &mut Outlet<W>,
 ) -> Result<(), WriteFailed>
     ensures kept { incident_of session.new ≡ incident_of session.old }
-    ensures heard { Hears (incident_of session.old) (W.contents out.old) session.old.cursor line.old
-        (W.contents out.new) session.new.cursor line.new result bytes.now }
+    ensures heard { Hears (incident_of session.old) (W.contents out.old.writer) session.old.cursor line.old
+        (W.contents out.new.writer) session.new.cursor line.new result bytes.now }
+    ensures failed { FailsAt result out.old.failed out.new.failed }
 {
     for b in bytes {
         hear_byte(alloc, session, line, *b, out)?;

@@ -4,6 +4,7 @@
 mod answer;
 mod conversation;
 mod hear;
+pub mod laws;
 mod look;
 mod passing;
 mod respond;

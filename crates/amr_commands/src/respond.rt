@@ -1,5 +1,6 @@
 //! One line answered.
 ghost use Rattle.std.specs.Prelude.{◌≡◌, ◌≤◌, List, ℕ, length};
+ghost use Rattle.amr_lines.specs.Outlet.{FailsAt};
 ghost use Rattle.amr_command_lines.specs.declared.command.Said.TheVariants.{Asks};
 ghost use Rattle.amr_command_lines.specs.Line.{longest, Holds};
 ghost use Rattle.amr_commands.specs.Replies.{incident_of};
@@ -10,7 +11,7 @@ use crate::answer::{Answer, Refusal, write_answer};
 use crate::look::{alerts, explain, groups, log, place, silences, transcript};
 use crate::passing::{back, seek, seek_time, step, trial};
 use amr_command_lines::{Command, Content, Line, Said};
-use amr_lines::{Word, WriteFailed, flush};
+use amr_lines::{Outlet, Word, WriteFailed, flush};
 use amr_replay::Session;
 use std::alloc::Global;
 use std::io::Write;
@@ -79,12 +80,13 @@ fn write_line<W: Write>(
     alloc: Global,
     session: &mut Session,
     line: &Line,
-    out: &mut W,
+    out: &mut Outlet<W>,
 ) -> Result<(), WriteFailed>
     ensures kept { incident_of session.new ≡ incident_of session.old }
     ensures answered { (bytes : List ℕ) → Holds line.now bytes
         → Answers (incident_of session.old) session.old.cursor session.new.cursor bytes
-        (W.contents out.old) (W.contents out.new) result }
+        (W.contents out.old.writer) (W.contents out.new.writer) result }
+    ensures failed { FailsAt result out.old.failed out.new.failed }
 {
     let answer = answer(alloc, session, line);
     write_answer(out, session.cursor(), &answer)
@@ -95,12 +97,13 @@ pub(crate) fn answer_line<W: Write>(
     alloc: Global,
     session: &mut Session,
     line: &Line,
-    out: &mut W,
+    out: &mut Outlet<W>,
 ) -> Result<(), WriteFailed>
     ensures kept { incident_of session.new ≡ incident_of session.old }
     ensures answered { (bytes : List ℕ) → Holds line.now bytes
         → Answers (incident_of session.old) session.old.cursor session.new.cursor bytes
-        (W.contents out.old) (W.contents out.new) result }
+        (W.contents out.old.writer) (W.contents out.new.writer) result }
+    ensures failed { FailsAt result out.old.failed out.new.failed }
 {
     write_line(alloc, session, line, out)?;
     flush(out)

@@ -1,10 +1,10 @@
 -- In what is read each parent stands before its children.
 use Rattle.std.proofs.Common.{◌≡◌, Ok}
 use Rattle.serde_json.specs.Data.{Data}
-use Rattle.amr_stated.specs.declared.read.Walked.{Walked}
+use Rattle.amr_stated.specs.declared.stated.Stated.{Stated}
 use Rattle.amr_stated.specs.Walking.{walked_at}
 use Rattle.amr_stated.proofs.Preorder.{walked_first}
 use Rattle.amr_config.specs.Settled.{AreParentsFirst, stated_config}
 
-pub parents_first : (d : Data) (walked : Walked) → (walked_at d).value ≡ Ok walked → AreParentsFirst (stated_config walked.stated)
-parents_first d walked e = walked_first d walked e
+pub parents_first : (d : Data) (stated : Stated) → (walked_at d).value ≡ Ok stated → AreParentsFirst (stated_config stated)
+parents_first d stated e = walked_first d stated e

@@ -1,11 +1,11 @@
 -- A configuration is refused as too deep exactly where one of its routes stands too deep.
-use Rattle.std.proofs.Common.{◌≡◌, ℕ, Bool, true, false, ◌||◌, if◌then◌else◌, List, [], Option, Some, None, Result, Ok, Err, refl, ap, subst, inl, inr, not, arith}
+use Rattle.std.proofs.Common.{◌≡◌, ℕ, Bool, true, false, if◌then◌else◌, List, [], Option, Some, None, Result, Ok, Err, refl, ap, subst, inl, inr, not, arith}
 use Rattle.std.specs.List.{list_any, Contains}
 use Rattle.serde_json.specs.Data.{Data}
 use Rattle.amr_labels.specs.Labels.{Text}
 use Rattle.amr_stated.specs.declared.error.Refusal.{Refusal}
-use Rattle.amr_stated.specs.declared.error.Refusal.TheVariants.{TooDeep, UnknownReceiver, DuplicateReceiver, RootRoute, ZeroInterval, BadGroupBy, TimeIntervals}
-use Rattle.amr_stated.specs.declared.read.Walked.{Walked}
+use Rattle.amr_stated.specs.declared.error.Refusal.TheVariants.{TooDeep, UnknownReceiver, DuplicateReceiver, RootRoute, ZeroInterval, BadGroupBy}
+use Rattle.amr_stated.specs.declared.stated.Stated.{Stated}
 use Rattle.amr_config.specs.Config.{Config}
 use Rattle.amr_stated.specs.Readings.{Reading, plain, next, MayGive, IsBadPattern}
 use Rattle.amr_stated.specs.RouteParts.{is_too_deep}
@@ -21,28 +21,27 @@ abbrev NoneOrOther : Option Refusal → Type 0
 NoneOrOther None = Unit {0}
 NoneOrOther (Some refusal) = IsOther refusal
 
-other_of : (a b c d e f : Bool) → NoneOrOther (if a then Some UnknownReceiver else (if b then Some DuplicateReceiver else (if c then Some RootRoute else (if d then Some ZeroInterval else (if e then Some BadGroupBy else (if f then Some TimeIntervals else None))))))
-other_of true b c d e f = tt
-other_of false true c d e f = tt
-other_of false false true d e f = tt
-other_of false false false true e f = tt
-other_of false false false false true f = tt
-other_of false false false false false true = tt
-other_of false false false false false false = tt
+other_of : (a b c d e : Bool) → NoneOrOther (if a then Some UnknownReceiver else (if b then Some DuplicateReceiver else (if c then Some RootRoute else (if d then Some ZeroInterval else (if e then Some BadGroupBy else None)))))
+other_of true b c d e = tt
+other_of false true c d e = tt
+other_of false false true d e = tt
+other_of false false false true e = tt
+other_of false false false false true = tt
+other_of false false false false false = tt
 
-judged : (walked : Walked) → NoneOrOther (refusal_of walked)
+judged : (stated : Stated) → NoneOrOther (refusal_of stated)
 unfolding refusal_of
-judged walked =
-    other_of (list_any (is_lost walked.stated.receivers) walked.stated.routes) (not (are_named_apart walked.stated.receivers)) (root_is_bad walked.stated.routes walked.intervals) (list_any has_zero walked.stated.routes) (list_any is_badly_grouped walked.stated.routes) (walked.top_intervals || list_any (λ has. has) walked.intervals)
+judged stated =
+    other_of (list_any (is_lost stated.receivers) stated.routes) (not (are_named_apart stated.receivers)) (root_is_bad stated.routes) (list_any has_zero stated.routes) (list_any is_badly_grouped stated.routes)
 
-flat_unless : (walked : Walked) (o : Option Refusal) → NoneOrOther o → Flat (unless_refused walked o)
-flat_unless walked None h = flat_ok _
-flat_unless walked (Some refusal) h = record { not_deep = h }
+flat_unless : (stated : Stated) (o : Option Refusal) → NoneOrOther o → Flat (unless_refused stated o)
+flat_unless stated None h = flat_ok _
+flat_unless stated (Some refusal) h = record { not_deep = h }
 
 flat_config : (d : Data) → is_too_deep d ≡ false → Flat (config_of d)
 unfolding reading_of
 flat_config d shallow =
-    let whole : FlatWalk (next (walked_at d) (λ walked. plain (unless_refused walked (refusal_of walked)))) = flat_next _ _ (flat_walked d shallow) (λ walked. flat_plain _ (flat_unless walked (refusal_of walked) (judged walked))) in
+    let whole : FlatWalk (next (walked_at d) (λ stated. plain (unless_refused stated (refusal_of stated)))) = flat_next _ _ (flat_walked d shallow) (λ stated. flat_plain _ (flat_unless stated (refusal_of stated) (judged stated))) in
     rw (shallow, config_of) whole.read
 
 told : (d : Data) → is_too_deep d ≡ true → config_of d ≡ Err TooDeep

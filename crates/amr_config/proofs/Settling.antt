@@ -10,16 +10,13 @@ use Rattle.amr_time.specs.Time.{second, minute, hour}
 use Rattle.amr_stated.specs.declared.route.Route.{Route}
 use Rattle.amr_config.specs.declared.settings.Settings.{Settings}
 use Rattle.amr_config.specs.Config.{Config}
-use Rattle.amr_config.specs.Routing.{parent_of, line_of, first_stated, inherited, path_of, sorted_matchers}
+use Rattle.amr_config.specs.Routing.{parent_of, line_of, first_stated, inherited, active_intervals_of, mute_intervals_of, path_of, sorted_matchers}
 use Rattle.amr_config.specs.Settled.{settings_of, settled, settled_to, settled_under, AreParentsFirst}
 use Rattle.amr_config.proofs.Lines.{line_of-root, line_of-child}
 
 stated_or : {X : Type 0} (a b : Option X) (d : X) → unwrap_or (option_or a b) d ≡ unwrap_or a (unwrap_or b d)
 stated_or None b d = refl
 stated_or (Some x) b d = refl
-
-sorted_at : Config → ℕ → List Matcher
-sorted_at config m = option_map_or (λ (route : Route). sorted_matchers route.matchers) (slice_get config.routes m) []
 
 module _ (config : Config) (first : AreParentsFirst config) (n : ℕ) (route : Route) (here : slice_get config.routes n ≡ Some route) where
   inherited_root : {X : Type 0} (field : Route → Option X) → parent_of config n ≡ None → inherited field config n ≡ option_or (field route) None
@@ -58,6 +55,12 @@ module _ (config : Config) (first : AreParentsFirst config) (n : ℕ) (route : R
   own_continues : route.continues ≡ option_map_or (λ (r : Route). r.continues) (slice_get config.routes n) false
   own_continues = sym (ap (λ o. option_map_or (λ (r : Route). r.continues) o false) here)
 
+  own_active : route.active_time_intervals ≡ active_intervals_of config n
+  own_active = sym (ap (λ o. option_map_or (λ (r : Route). r.active_time_intervals) o []) here)
+
+  own_mute : route.mute_time_intervals ≡ mute_intervals_of config n
+  own_mute = sym (ap (λ o. option_map_or (λ (r : Route). r.mute_time_intervals) o []) here)
+
   own_parent : route.parent ≡ parent_of config n
   own_parent = sym (ap (λ o. option_map_or (λ (r : Route). r.parent) o None) here)
 
@@ -70,7 +73,7 @@ module _ (config : Config) (first : AreParentsFirst config) (n : ℕ) (route : R
       let group_interval = value_root (λ r. r.group_interval) (5 * minute) e in
       let repeat_interval = value_root (λ r. r.repeat_interval) (4 * hour) e in
       let path = sym (path_root e) in
-      λ i. record { parent = own_parent i; matchers = own_matchers i; continues = own_continues i; receiver = receiver i; group_by = group_by i; group_wait = group_wait i; group_interval = group_interval i; repeat_interval = repeat_interval i; path = path i }
+      λ i. record { parent = own_parent i; matchers = own_matchers i; continues = own_continues i; receiver = receiver i; group_by = group_by i; group_wait = group_wait i; group_interval = group_interval i; repeat_interval = repeat_interval i; active_time_intervals = own_active i; mute_time_intervals = own_mute i; path = path i }
 
   settings_child : (parent : ℕ) → parent_of config n ≡ Some parent → settled_under route (Some (settings_of config parent)) ≡ settings_of config n
   unfolding settled_under settings_of
@@ -81,7 +84,7 @@ module _ (config : Config) (first : AreParentsFirst config) (n : ℕ) (route : R
       let group_interval = value_child (λ r. r.group_interval) (5 * minute) parent e in
       let repeat_interval = value_child (λ r. r.repeat_interval) (4 * hour) parent e in
       let path = sym (path_child parent e) in
-      λ i. record { parent = own_parent i; matchers = own_matchers i; continues = own_continues i; receiver = receiver i; group_by = group_by i; group_wait = group_wait i; group_interval = group_interval i; repeat_interval = repeat_interval i; path = path i }
+      λ i. record { parent = own_parent i; matchers = own_matchers i; continues = own_continues i; receiver = receiver i; group_by = group_by i; group_wait = group_wait i; group_interval = group_interval i; repeat_interval = repeat_interval i; active_time_intervals = own_active i; mute_time_intervals = own_mute i; path = path i }
 
   found_above : (parent : ℕ) → parent < n → slice_get (settled_to config n) parent ≡ Some (settings_of config parent)
   unfolding settled_to

@@ -6,12 +6,12 @@ use Rattle.std.specs.Ordering.{eq_by_cmp}
 use Rattle.amr_labels.specs.Labels.{Text, text_cmp}
 use Rattle.amr_time.specs.Time.{Span}
 use Rattle.amr_stated.specs.declared.error.Refusal.{Refusal}
-use Rattle.amr_stated.specs.declared.error.Refusal.TheVariants.{UnknownReceiver, DuplicateReceiver, RootRoute, ZeroInterval, BadGroupBy, TimeIntervals}
+use Rattle.amr_stated.specs.declared.error.Refusal.TheVariants.{UnknownReceiver, DuplicateReceiver, RootRoute, ZeroInterval, BadGroupBy}
 use Rattle.amr_stated.specs.declared.receiver.Receiver.{Receiver}
 use Rattle.amr_stated.specs.declared.route.Route.{Route}
 use Rattle.amr_stated.specs.declared.route.Grouping.{Grouping}
 use Rattle.amr_stated.specs.declared.route.Grouping.TheVariants.{AllLabels, Named}
-use Rattle.amr_stated.specs.declared.read.Walked.{Walked}
+use Rattle.amr_stated.specs.declared.stated.Stated.{Stated}
 use Rattle.amr_config.specs.Shape.{are_different}
 
 -- a receiver has the name
@@ -45,14 +45,17 @@ groups_badly (Some (Named names)) = has_bad_names names
 unfoldable pub is_badly_grouped : Route → Bool
 is_badly_grouped route = groups_badly route.group_by
 
--- the root matches all alerts and names a receiver
-unfoldable pub is_bad_root : Route → Bool
-is_bad_root route = not (length route.matchers == 0) || route.continues || is_none route.receiver
+-- the route states time intervals
+abbrev pub has_intervals : Route → Bool
+has_intervals route = not (length route.active_time_intervals == 0) || not (length route.mute_time_intervals == 0)
 
-abbrev pub root_is_bad : List Route → List Bool → Bool
-root_is_bad [] intervals = true
-root_is_bad (root ∷ routes) [] = is_bad_root root
-root_is_bad (root ∷ routes) (has ∷ intervals) = is_bad_root root || has
+-- the root matches all alerts at all times, and names a receiver
+unfoldable pub is_bad_root : Route → Bool
+is_bad_root route = not (length route.matchers == 0) || route.continues || is_none route.receiver || has_intervals route
+
+abbrev pub root_is_bad : List Route → Bool
+root_is_bad [] = true
+root_is_bad (root ∷ routes) = is_bad_root root
 
 -- a receiver has the name
 abbrev pub is_name_of : Text → List Receiver → Bool
@@ -64,12 +67,11 @@ are_named_apart [] = true
 are_named_apart (receiver ∷ receivers) = not (is_name_of receiver.name receivers) && are_named_apart receivers
 
 -- the refusal with the least number
-unfoldable pub refusal_of : Walked → Option Refusal
-refusal_of walked =
-    if list_any (is_lost walked.stated.receivers) walked.stated.routes then Some UnknownReceiver
-    else (if not (are_named_apart walked.stated.receivers) then Some DuplicateReceiver
-    else (if root_is_bad walked.stated.routes walked.intervals then Some RootRoute
-    else (if list_any has_zero walked.stated.routes then Some ZeroInterval
-    else (if list_any is_badly_grouped walked.stated.routes then Some BadGroupBy
-    else (if walked.top_intervals || list_any (λ has. has) walked.intervals then Some TimeIntervals
-    else None)))))
+unfoldable pub refusal_of : Stated → Option Refusal
+refusal_of stated =
+    if list_any (is_lost stated.receivers) stated.routes then Some UnknownReceiver
+    else (if not (are_named_apart stated.receivers) then Some DuplicateReceiver
+    else (if root_is_bad stated.routes then Some RootRoute
+    else (if list_any has_zero stated.routes then Some ZeroInterval
+    else (if list_any is_badly_grouped stated.routes then Some BadGroupBy
+    else None))))

@@ -4,7 +4,7 @@ use Rattle.serde_json.specs.Data.{Data}
 use Rattle.amr_labels.specs.Labels.{Text}
 use Rattle.amr_stated.specs.declared.error.Refusal.{Refusal}
 use Rattle.amr_stated.specs.declared.error.Refusal.TheVariants.{TooDeep}
-use Rattle.amr_stated.specs.declared.read.Walked.{Walked}
+use Rattle.amr_stated.specs.declared.stated.Stated.{Stated}
 use Rattle.amr_config.specs.Config.{Config}
 use Rattle.amr_config.specs.Settled.{stated_config}
 use Rattle.amr_stated.specs.Readings.{Reading, plain, ◌>>=◌, MayGive}
@@ -12,21 +12,17 @@ use Rattle.amr_stated.specs.RouteParts.{is_too_deep}
 use Rattle.amr_config.specs.Judging.{refusal_of}
 use Rattle.amr_stated.specs.Walking.{walked_at}
 
-abbrev pub unless_refused : Walked → Option Refusal → Result Config Refusal
-unless_refused walked None = Ok (stated_config walked.stated)
-unless_refused walked (Some refusal) = Err refusal
+abbrev pub unless_refused : Stated → Option Refusal → Result Config Refusal
+unless_refused stated None = Ok (stated_config stated)
+unless_refused stated (Some refusal) = Err refusal
 
 -- too many levels are told first, then the first place of the walk that is faulty, then the refusal with the least number
 unfoldable pub reading_of : Data → Reading Config
-reading_of d = if is_too_deep d then plain (Err TooDeep) else (walked_at d >>= λ walked. plain (unless_refused walked (refusal_of walked)))
+reading_of d = if is_too_deep d then plain (Err TooDeep) else (walked_at d >>= λ stated. plain (unless_refused stated (refusal_of stated)))
 
 -- the configuration where all patterns are good
 abbrev pub config_of : Data → Result Config Refusal
 config_of d = (reading_of d).value
-
--- the paths and texts of the patterns that the walk meets before its first fault
-abbrev pub patterns_met : Data → List (List ℕ × Text)
-patterns_met d = (reading_of d).patterns
 
 -- the configuration where all patterns are good, or that one which is met is refused
 abbrev pub ConfigIs : Data → Result Config Refusal → Type 0

@@ -8,7 +8,7 @@ use Rattle.amr_config.specs.declared.settings.Settings.{Settings}
 use Rattle.amr_config.specs.declared.config.Parts.{Parts}
 use Rattle.amr_stated.specs.declared.stated.Stated.{Stated}
 use Rattle.amr_config.specs.Config.{Config}
-use Rattle.amr_config.specs.Routing.{route_numbers, route_is, parent_of, inherited, group_wait_of, group_interval_of, repeat_interval_of, receiver_name_of, path_of, sorted_matchers}
+use Rattle.amr_config.specs.Routing.{route_numbers, route_is, parent_of, inherited, group_wait_of, group_interval_of, repeat_interval_of, receiver_name_of, active_intervals_of, mute_intervals_of, path_of, sorted_matchers}
 
 -- the settings of the route with this number, and the defaults where there is none
 unfoldable pub settings_of : Config → ℕ → Settings
@@ -21,6 +21,8 @@ settings_of config n = record {
   group_wait = group_wait_of config n;
   group_interval = group_interval_of config n;
   repeat_interval = repeat_interval_of config n;
+  active_time_intervals = active_intervals_of config n;
+  mute_time_intervals = mute_intervals_of config n;
   path = path_of config n;
 }
 
@@ -29,7 +31,7 @@ unfoldable pub settled : Config → List Settings
 settled config = map (settings_of config) (route_numbers config)
 
 abbrev pub stated_config : Stated → Config
-stated_config stated = record { routes = stated.routes; receivers = stated.receivers; rules = stated.rules; resolve_timeout = stated.resolve_timeout }
+stated_config stated = record { routes = stated.routes; receivers = stated.receivers; rules = stated.rules; resolve_timeout = stated.resolve_timeout; time_intervals = stated.time_intervals }
 
 abbrev pub config_of_parts : Parts → Config
 config_of_parts parts = stated_config parts.stated
@@ -53,6 +55,8 @@ settled_under route above = record {
   group_wait = unwrap_or route.group_wait (option_map_or (λ settings. settings.group_wait) above (30 * second));
   group_interval = unwrap_or route.group_interval (option_map_or (λ settings. settings.group_interval) above (5 * minute));
   repeat_interval = unwrap_or route.repeat_interval (option_map_or (λ settings. settings.repeat_interval) above (4 * hour));
+  active_time_intervals = route.active_time_intervals;
+  mute_time_intervals = route.mute_time_intervals;
   path = option_map_or (λ settings. settings.path) above [] ++ sorted_matchers route.matchers ∷ [];
 }
 

@@ -2,17 +2,17 @@
 ghost use Rattle.std.specs.Prelude.{◌≡◌, ℕ, ◌<◌, ◌≤◌, length, IfOk, MatchOption, map};
 ghost use Rattle.std.specs.Option.{option_copied};
 ghost use Rattle.std.specs.Ordering.{eq_by_cmp};
-ghost use Rattle.std.specs.List.{find};
+ghost use Rattle.std.specs.List.{find, list_any};
 ghost use Rattle.amr_labels.specs.Labels.{text_cmp};
-ghost use Rattle.amr_config.specs.Routing.{group_wait_of, group_interval_of, repeat_interval_of, receiver_name_of, integrations_of, path_of, group_of, grouped_by};
+ghost use Rattle.amr_config.specs.Routing.{group_wait_of, group_interval_of, repeat_interval_of, receiver_name_of, integrations_of, path_of, group_of, grouped_by, is_within, is_active_at, is_muted_at};
 ghost use Rattle.amr_config.specs.Settled.{settings_of, stated_config, AreParentsFirst};
 
 use crate::settings::Settings;
 use crate::settle::settle;
 use amr_labels::{Exact, Labels, Listing, Text};
 use amr_matchers::Matchers;
-use amr_stated::{Grouping, InhibitRule, Integration, Receiver, Stated};
-use amr_time::Span;
+use amr_stated::{Grouping, InhibitRule, Integration, NamedInterval, Receiver, Stated};
+use amr_time::{Moment, Span};
 use std::alloc::{AllocError, Global};
 use std::cmp::Ordering;
 use std::marker::Model;
@@ -201,6 +201,47 @@ impl Config {
         }
     }
 
+    /// Whether the route notifies at the moment: it names no `active_time_intervals`, or the moment is in one of them.
+    pub fn is_active_at(&self, route: usize, moment: Moment) -> bool
+        ensures { result ≡ is_active_at self.now route moment }
+    {
+        match self.settings_at(route) {
+            Some(settings) => {
+                settings.active_time_intervals.is_empty()
+                    || self.is_in_one(settings.active_time_intervals.as_slice(), moment)
+            }
+            None => true,
+        }
+    }
+
+    /// Whether the route is muted at the moment, by one of its `mute_time_intervals`.
+    pub fn is_muted_at(&self, route: usize, moment: Moment) -> bool
+        ensures { result ≡ is_muted_at self.now route moment }
+    {
+        match self.settings_at(route) {
+            Some(settings) => self.is_in_one(settings.mute_time_intervals.as_slice(), moment),
+            None => false,
+        }
+    }
+
+    fn is_in_one(&self, names: &[Text], moment: Moment) -> bool
+        ensures { result ≡ list_any (is_within self.now moment) names.now }
+    {
+        names.iter().any(|name| self.is_within(name, moment))
+    }
+
+    /// Whether the moment is in the interval with this name.
+    #[tactic(auto, unfolding(crate::specs::Routing::is_within))]
+    fn is_within(&self, name: &Text, moment: Moment) -> bool
+        ensures { result ≡ is_within self.now moment name.now }
+    {
+        let intervals = self.shared.stated.time_intervals.as_slice();
+        match interval_named(intervals, name.as_str()) {
+            Some(found) => found.interval.contains(moment),
+            None => false,
+        }
+    }
+
     /// What holds at the route, stated by it, inherited or by default.
     pub fn route(&self, id: usize) -> &Settings
         requires { id < length self.now.routes }
@@ -212,6 +253,18 @@ impl Config {
             None => unreachable!(),
         }
     }
+}
+
+/// The time interval with this name, among some.
+fn interval_named<'a>(intervals: &'a [NamedInterval], name: &str) -> Option<&'a NamedInterval>
+    ensures { option_copied result ≡ find (λ found. eq_by_cmp text_cmp found.name name.now) intervals.now }
+{
+    for interval in intervals {
+        if interval.name.as_str().cmp(name) == Ordering::Equal {
+            return Some(interval);
+        }
+    }
+    None
 }
 
 /// The receiver with this name, among some.

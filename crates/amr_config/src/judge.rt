@@ -1,13 +1,13 @@
 //! What is asked of a configuration whose shapes are right.
-ghost use Rattle.std.specs.Prelude.{◌≡◌, ◌||◌};
+ghost use Rattle.std.specs.Prelude.{◌≡◌};
 ghost use Rattle.std.specs.List.{list_any};
 ghost use Rattle.std.specs.Ordering.{eq_by_cmp};
 ghost use Rattle.amr_labels.specs.Labels.{text_cmp};
 ghost use Rattle.amr_config.specs.Shape.{are_different};
-ghost use Rattle.amr_config.specs.Judging.{is_known as known_of, is_lost as lost_of, is_zero as zero_of, has_zero as zeros_of, is_bad_name as bad_of, has_bad_names as bad_names_of, is_badly_grouped as badly_of, is_bad_root as bad_root_of, root_is_bad, is_name_of as name_of, are_named_apart as apart_of, refusal_of};
+ghost use Rattle.amr_config.specs.Judging.{is_known as known_of, is_lost as lost_of, is_zero as zero_of, has_zero as zeros_of, is_bad_name as bad_of, has_bad_names as bad_names_of, is_badly_grouped as badly_of, has_intervals as intervals_of, is_bad_root as bad_root_of, root_is_bad, is_name_of as name_of, are_named_apart as apart_of, refusal_of};
 
 use amr_labels::Text;
-use amr_stated::{Grouping, Receiver, Refusal, Route, Walked, same};
+use amr_stated::{Grouping, Receiver, Refusal, Route, Stated, same};
 use amr_time::Span;
 
 #[tactic(auto, unfolding(crate::specs::Judging::is_known))]
@@ -118,17 +118,25 @@ fn any_badly_grouped(routes: &[Route]) -> bool
 fn is_bad_root(route: &Route) -> bool
     ensures { result ≡ bad_root_of route.now }
 {
-    !route.matchers.is_empty() || route.continues || route.receiver.is_none()
+    !route.matchers.is_empty()
+        || route.continues
+        || route.receiver.is_none()
+        || has_intervals(route)
+}
+
+fn has_intervals(route: &Route) -> bool
+    ensures { result ≡ intervals_of route.now }
+{
+    !route.active_time_intervals.is_empty() || !route.mute_time_intervals.is_empty()
 }
 
 /// Whether the root has matchers, `continue` or time intervals, or no receiver.
-fn is_root_bad(routes: &[Route], intervals: &[bool]) -> bool
-    ensures { result ≡ root_is_bad routes.now intervals.now }
+fn is_root_bad(routes: &[Route]) -> bool
+    ensures { result ≡ root_is_bad routes.now }
 {
-    match (routes, intervals) {
-        ([], _) => true,
-        ([root, ..], []) => is_bad_root(root),
-        ([root, ..], [has_intervals, ..]) => is_bad_root(root) || *has_intervals,
+    match routes {
+        [] => true,
+        [root, ..] => is_bad_root(root),
     }
 }
 
@@ -152,26 +160,20 @@ fn are_named_apart(receivers: &[Receiver]) -> bool
     true
 }
 
-fn any_intervals(intervals: &[bool]) -> bool
-    ensures { result ≡ list_any (λ has. has) intervals.now }
-{
-    intervals.iter().any(|has| *has)
-}
-
 /// The refusal with the least number.
 #[tactic(auto, unfolding(crate::specs::Judging::refusal_of))]
-pub(crate) fn refusal(walked: &Walked) -> Option<Refusal>
-    ensures { result ≡ refusal_of walked.now }
+pub(crate) fn refusal(stated: &Stated) -> Option<Refusal>
+    ensures { result ≡ refusal_of stated.now }
 {
-    let routes = walked.stated.routes.as_slice();
-    let receivers = walked.stated.receivers.as_slice();
+    let routes = stated.routes.as_slice();
+    let receivers = stated.receivers.as_slice();
     if any_lost(receivers, routes) {
         return Some(Refusal::UnknownReceiver);
     }
     if !are_named_apart(receivers) {
         return Some(Refusal::DuplicateReceiver);
     }
-    if is_root_bad(routes, walked.intervals.as_slice()) {
+    if is_root_bad(routes) {
         return Some(Refusal::RootRoute);
     }
     if any_zero(routes) {
@@ -179,9 +181,6 @@ pub(crate) fn refusal(walked: &Walked) -> Option<Refusal>
     }
     if any_badly_grouped(routes) {
         return Some(Refusal::BadGroupBy);
-    }
-    if walked.top_intervals || any_intervals(walked.intervals.as_slice()) {
-        return Some(Refusal::TimeIntervals);
     }
     None
 }

@@ -22,10 +22,10 @@ impl Config {
         if is_too_deep(value) {
             return Err(ConfigError::Refused(Refusal::TooDeep));
         }
-        let walked = walk(alloc, value)?;
-        if let Some(refusal) = refusal(&walked) {
+        let stated = walk(alloc, value)?;
+        if let Some(refusal) = refusal(&stated) {
             return Err(ConfigError::Refused(refusal));
         }
-        Ok(Config::from_stated(alloc, walked.stated)?)
+        Ok(Config::from_stated(alloc, stated)?)
     }
 }

@@ -21,6 +21,10 @@ pub struct Settings {
     pub group_interval: Span,
     /// 4 hours by default.
     pub repeat_interval: Span,
+    /// The names of the route's own `active_time_intervals`.
+    pub active_time_intervals: Listing<Text>,
+    /// The names of the route's own `mute_time_intervals`.
+    pub mute_time_intervals: Listing<Text>,
     /// The sorted matchers of each route from the root down to this one.
     pub path: Listing<Matchers>,
 }

@@ -81,6 +81,8 @@ fn settings_under(
         group_wait: route.group_wait.unwrap_or(group_wait),
         group_interval: route.group_interval.unwrap_or(group_interval),
         repeat_interval: route.repeat_interval.unwrap_or(repeat_interval),
+        active_time_intervals: route.active_time_intervals.clone()?,
+        mute_time_intervals: route.mute_time_intervals.clone()?,
         path: path_under(alloc, route, above)?,
     })
 }

@@ -9,15 +9,15 @@ use Rattle.amr_stated.specs.declared.receiver.Integration.{Integration}
 use Rattle.amr_config.specs.Routing.{chosen, group_of, receiver_name_of, integrations_of}
 use Rattle.amr_rules.specs.declared.alert.Alert.{Alert}
 use Rattle.amr_rules.specs.Alerts.{is_resolved_at}
-use Rattle.amr_rules.specs.Muting.{inhibition_from, silencer_of}
 use Rattle.amr_rules.specs.declared.update.LogEntry.{LogEntry}
 use Rattle.amr_state.specs.declared.note.Clock.{Clock}
 use Rattle.amr_state.specs.declared.spot.Spot.{Spot}
 use Rattle.amr_engine.specs.declared.explain.Finding.{Finding}
-use Rattle.amr_engine.specs.declared.explain.Finding.TheVariants.{Waiting, Inhibited, Silenced, Nowhere, Told, Due}
+use Rattle.amr_engine.specs.declared.explain.Finding.TheVariants.{Waiting, Nowhere, Told, Due}
 use Rattle.amr_engine.specs.declared.explain.Verdict.{Verdict}
 use Rattle.amr_engine.specs.declared.explain.Verdict.TheVariants.{Unknown, Ended, AtRoute}
 use Rattle.amr_state.specs.State.{State, spot_at}
+use Rattle.amr_engine.specs.Stages.{taken_away}
 use Rattle.amr_engine.specs.Flush.{log_key_of}
 
 abbrev pub waiting : Clock → Option Finding
@@ -32,15 +32,10 @@ abbrev pub heard : State → Spot → LabelSet → Clock → Option Integration 
 heard s group labels clock None = Nowhere
 heard s group labels clock (Some integration) = logged labels clock (get s.log (log_key_of s.config group integration))
 
-abbrev pub inhibited_or_silenced : State → LabelSet → Option Finding
-inhibited_or_silenced s labels =
-    option_or (option_map (λ found. Inhibited found.0 found.1) (inhibition_from 0 s.moment labels s.alerts s.config.rules))
-    (option_map Silenced (silencer_of s.moment labels s.silences))
-
--- the first that holds: the group waits for its first flush; a rule inhibits; a silence silences; what the log says
+-- the first that holds: the group waits for its first flush; a stage takes the alert away; what the log says
 abbrev pub finding : State → Spot → LabelSet → Option Integration → Clock → Finding
 finding s group labels integration clock =
-    unwrap_or (option_or (waiting clock) (inhibited_or_silenced s labels)) (heard s group labels clock integration)
+    unwrap_or (option_or (waiting clock) (taken_away s s.moment group.route labels)) (heard s group labels clock integration)
 
 -- each integration of a receiver, or the receiver once where it has none
 abbrev pub asked : List Integration → List (Option Integration)

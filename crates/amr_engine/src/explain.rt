@@ -3,12 +3,13 @@ ghost use Rattle.std.specs.Prelude.{◌≡◌, ◌++◌, IfOk, OnOk, option_map}
 ghost use Rattle.std.specs.Option.{option_copied};
 ghost use Rattle.std.specs.List.{flat_map};
 ghost use Rattle.amr_config.specs.Routing.{chosen};
-ghost use Rattle.amr_engine.specs.Explain.{waiting, inhibited_or_silenced, logged, heard, finding, clock_of, kind_and_place, verdict_at, verdicts_at, verdicts_of_stored, verdicts};
+ghost use Rattle.amr_engine.specs.Explain.{waiting, logged, heard, finding, clock_of, kind_and_place, verdict_at, verdicts_at, verdicts_of_stored, verdicts};
 
 use crate::flush::log_key;
+use crate::stages::taken_away;
 use amr_events::SilenceId;
 use amr_labels::{Labels, Text};
-use amr_rules::{Alert, LogEntry, inhibited_by, silenced_by};
+use amr_rules::{Alert, LogEntry};
 use amr_state::{Clock, Spot, Store, group_spot};
 use amr_stated::Integration;
 use amr_time::Moment;
@@ -21,6 +22,10 @@ pub enum Finding {
     Waiting { due: Moment },
     /// A rule inhibits the alert: the least one, counted from 0, with the least label set of an alert by which it does.
     Inhibited { rule: usize, source: Labels },
+    /// The route names active time intervals, and the moment is in none of them.
+    OutsideActive,
+    /// The moment is in a mute time interval of the route.
+    TimeMuted,
     /// A silence silences the alert: the one with the least id.
     Silenced { id: SilenceId },
     /// The receiver has no integration.
@@ -60,22 +65,6 @@ fn waiting(clock: &Clock) -> Option<Finding>
         Some(Finding::Waiting {
             due: clock.next_flush,
         })
-    }
-}
-
-/// A rule inhibits the alert, or else a silence silences it.
-fn inhibited_or_silenced(store: &Store, labels: &Labels) -> Result<Option<Finding>, AllocError>
-    ensures { IfOk result (λ found. found ≡ inhibited_or_silenced store.now labels.now) }
-{
-    let alloc = store.alloc();
-    let now = store.moment();
-    let rules = store.config().rules();
-    if let Some((rule, source)) = inhibited_by(alloc, rules, store.alerts(), now, labels)? {
-        return Ok(Some(Finding::Inhibited { rule, source }));
-    }
-    match silenced_by(alloc, store.silences(), now, labels)? {
-        Some(id) => Ok(Some(Finding::Silenced { id })),
-        None => Ok(None),
     }
 }
 
@@ -123,7 +112,7 @@ fn first_finding(
     if let Some(found) = waiting(clock) {
         return Ok(found);
     }
-    if let Some(found) = inhibited_or_silenced(store, labels)? {
+    if let Some(found) = taken_away(store, store.moment(), group.route, labels)? {
         return Ok(found);
     }
     heard(store, group, labels, clock, integration)

@@ -1,39 +1,34 @@
 //! The flush of a group.
-ghost use Rattle.std.specs.Prelude.{◌≡◌, ◌≤◌, ◌||◌, ◌+◌, ◌++◌, true, map, OnOk, IfOk};
+ghost use Rattle.std.specs.Prelude.{◌≡◌, ◌≤◌, ◌+◌, ◌++◌, true, map, OnOk, IfOk};
 ghost use Rattle.std.specs.List.{fold};
 ghost use Rattle.amr_labels.specs.Map.{get};
 ghost use Rattle.amr_config.specs.Routing.{group_interval_of, repeat_interval_of};
 ghost use Rattle.amr_rules.specs.Updates.{needs_update};
 ghost use Rattle.std.specs.Option.{option_to_list};
 ghost use Rattle.amr_time.specs.Time.{latest_read};
-ghost use Rattle.amr_rules.specs.Muting.{is_inhibited, is_silenced};
 ghost use Rattle.amr_engine.specs.Flush.{let_through, firing_of, resolved_of, labels_of, log_key_of, told_firing, told_resolved, notes_told, tell, notify, notify_all, set_clock, forget, mark_if_empty, drop_resolved, serve, flush};
 
+use crate::stages::taken_away;
 use amr_config::Config;
 use amr_labels::{LabelMap, Labels, Listing};
-use amr_rules::{Alert, LogEntry, inhibited_by, needs_update, silenced_by};
+use amr_rules::{Alert, LogEntry, needs_update};
 use amr_state::{Clock, FiringAlert, LogKey, Member, Note, ResolvedAlert, Spot, Store, members_of};
 use amr_stated::Integration;
 use amr_time::Moment;
 use std::alloc::{AllocError, Global};
 
-/// Whether a rule inhibits or a silence silences the labels.
-fn is_muted(store: &Store, at: Moment, labels: &Labels) -> Result<bool, AllocError>
-    ensures { IfOk result (λ is. is ≡ (is_inhibited store.now.config store.now.alerts at labels.now || is_silenced store.now.silences at labels.now)) }
-{
-    let rules = store.config().rules();
-    let inhibited = inhibited_by(store.alloc(), rules, store.alerts(), at, labels)?;
-    let silenced = silenced_by(store.alloc(), store.silences(), at, labels)?;
-    Ok(inhibited.is_some() || silenced.is_some())
-}
-
-/// The members that nothing mutes.
-fn let_through(store: &Store, at: Moment, members: &[Member]) -> Result<Vec<Member>, AllocError>
-    ensures { IfOk result (λ through. through.items ≡ let_through store.now at members.now) }
+/// The members that no stage takes away.
+fn let_through(
+    store: &Store,
+    at: Moment,
+    route: usize,
+    members: &[Member],
+) -> Result<Vec<Member>, AllocError>
+    ensures { IfOk result (λ through. through.items ≡ let_through store.now at route members.now) }
 {
     let mut through = Vec::new(store.alloc());
     for (labels, alert) in members {
-        if !is_muted(store, at, labels)? {
+        if taken_away(store, at, route, labels)?.is_none() {
             through.push((labels.clone()?, alert.clone()?))?;
         }
     }
@@ -342,7 +337,7 @@ fn serve(store: &mut Store, at: Moment, group: &Spot, members: &[Member]) -> Res
     if members.is_empty() {
         return Ok(());
     }
-    let through = let_through(store, at, members)?;
+    let through = let_through(store, at, group.route, members)?;
     notify_all(store, at, group, through.as_slice())?;
     drop_resolved(store, at, group, members)
 }

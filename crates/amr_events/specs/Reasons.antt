@@ -1,7 +1,7 @@
 -- The numbers of the reasons that refuse an event.
 use Rattle.std.specs.Prelude.{ℕ}
 use Rattle.amr_events.specs.declared.reason.Reason.{Reason}
-use Rattle.amr_events.specs.declared.reason.Reason.TheVariants.{BadConfig, UnknownReceiver, DuplicateReceiver, RootRoute, ZeroInterval, BadGroupBy, TooDeep, TimeIntervals, BadAlert, BadSilence, UnknownSilence, SilenceIdTaken, Backwards, TooManyMoves}
+use Rattle.amr_events.specs.declared.reason.Reason.TheVariants.{BadConfig, UnknownReceiver, DuplicateReceiver, RootRoute, ZeroInterval, BadGroupBy, TooDeep, BadAlert, BadSilence, UnknownSilence, SilenceIdTaken, Backwards, TooManyMoves}
 
 abbrev pub reason_number : Reason → ℕ
 reason_number BadConfig = 5
@@ -11,7 +11,6 @@ reason_number RootRoute = 8
 reason_number ZeroInterval = 9
 reason_number BadGroupBy = 10
 reason_number TooDeep = 11
-reason_number TimeIntervals = 12
 reason_number BadAlert = 16
 reason_number BadSilence = 17
 reason_number UnknownSilence = 18

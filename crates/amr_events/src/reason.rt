@@ -22,8 +22,6 @@ pub enum Reason {
     BadGroupBy,
     /// A configuration's tree has more than 32 levels.
     TooDeep,
-    /// A configuration has time intervals.
-    TimeIntervals,
     /// No alert of a post is valid.
     BadAlert,
     /// A silence may not be posted as it is.
@@ -51,7 +49,6 @@ impl Reason {
             Refusal::ZeroInterval => Reason::ZeroInterval,
             Refusal::BadGroupBy => Reason::BadGroupBy,
             Refusal::TooDeep => Reason::TooDeep,
-            Refusal::TimeIntervals => Reason::TimeIntervals,
         }
     }
 
@@ -67,7 +64,6 @@ impl Reason {
             Reason::ZeroInterval => 9,
             Reason::BadGroupBy => 10,
             Reason::TooDeep => 11,
-            Reason::TimeIntervals => 12,
             Reason::BadAlert => 16,
             Reason::BadSilence => 17,
             Reason::UnknownSilence => 18,

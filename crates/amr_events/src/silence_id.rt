@@ -28,20 +28,6 @@ impl Model for SilenceId {
 }
 
 impl SilenceId {
-    /// The id with these bits.
-    pub fn from_bits(bits: u128) -> SilenceId
-        ensures { result ≡ bits }
-    {
-        SilenceId { bits }
-    }
-
-    /// The bits of the id.
-    pub fn bits(self) -> u128
-        ensures { result ≡ self }
-    {
-        self.bits
-    }
-
     /// Reads a UUID (RFC 9562) in one of four forms: 32 hexadecimal digits, these hyphenated as 8-4-4-4-12, and the
     /// hyphenated form in braces or after `urn:uuid:`. Digits and the prefix are read in either case.
     pub fn read(text: &str) -> Option<SilenceId>

@@ -2,7 +2,5 @@
 #![tactic(auto)]
 
 mod interner;
-#[cfg(test)]
-mod tests;
 
 pub use interner::Interner;

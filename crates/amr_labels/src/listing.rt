@@ -37,14 +37,6 @@ impl<T> Listing<T> {
     }
 
     /// The values of the list.
-    pub fn into_vec(self) -> Vec<T>
-        ensures { result.items ≡ self }
-    {
-        let Listing { items } = self;
-        items
-    }
-
-    /// The values of the list.
     pub fn as_slice(&self) -> &[T]
         ensures { result.now ≡ self.now }
     {

@@ -22,7 +22,7 @@ use Rattle.amr_state.specs.declared.note.Note.{Note}
 use Rattle.amr_labels.specs.Map.{entries}
 use Rattle.amr_lines.specs.Printed.{object_of, with_text, texts_data, labels_data, label_sets_data, moment_data, firing_members, firing_data, resolved_members, resolved_data, note_members, note_data, number_data, skipped_members, skipped_data, alert_members, alert_data, matcher_members, matcher_data, matchers_data, silence_members, silence_data, since_data, group_members, group_data, log_members, log_data}
 use Rattle.amr_engine.specs.declared.explain.Finding.{Finding}
-use Rattle.amr_engine.specs.declared.explain.Finding.TheVariants.{Waiting, Inhibited, Silenced, Nowhere, Told, Due}
+use Rattle.amr_engine.specs.declared.explain.Finding.TheVariants.{Waiting, Inhibited, OutsideActive, TimeMuted, Silenced, Nowhere, Told, Due}
 use Rattle.amr_engine.specs.declared.explain.Verdict.{Verdict}
 use Rattle.amr_engine.specs.declared.explain.Verdict.TheVariants.{Unknown, Ended, AtRoute}
 use Rattle.amr_lines.specs.LastLines.{place_members, place_data}
@@ -187,6 +187,8 @@ no_floats-append (m ∷ ms) more none rest = (none.0, no_floats-append ms more n
 no_floats-finding : (finding : Finding) → NoFloats (finding_members finding)
 no_floats-finding (Waiting due) = (has_float-moment due, tt)
 no_floats-finding (Inhibited rule source) = (refl, (has_float-labels source, tt))
+no_floats-finding OutsideActive = tt
+no_floats-finding TimeMuted = tt
 no_floats-finding (Silenced id) = (refl, tt)
 no_floats-finding Nowhere = tt
 no_floats-finding (Told at) = (has_float-moment at, tt)

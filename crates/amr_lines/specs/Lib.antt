@@ -1,3 +1,4 @@
+pub mod Inlet
 pub mod Outlet
 pub mod Printed
 pub mod LastLines

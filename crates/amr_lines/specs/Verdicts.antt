@@ -3,7 +3,7 @@ use Rattle.std.specs.Prelude.{ℕ, List, [], ◌∷◌, ◌++◌, Option, None, 
 use Rattle.serde_json.specs.Data.{Data, string, object}
 use Rattle.amr_labels.specs.Labels.{Text}
 use Rattle.amr_engine.specs.declared.explain.Finding.{Finding}
-use Rattle.amr_engine.specs.declared.explain.Finding.TheVariants.{Waiting, Inhibited, Silenced, Nowhere, Told, Due}
+use Rattle.amr_engine.specs.declared.explain.Finding.TheVariants.{Waiting, Inhibited, OutsideActive, TimeMuted, Silenced, Nowhere, Told, Due}
 use Rattle.amr_engine.specs.declared.explain.Verdict.{Verdict}
 use Rattle.amr_engine.specs.declared.explain.Verdict.TheVariants.{Unknown, Ended, AtRoute}
 use Rattle.amr_events.specs.Ids.{id_text}
@@ -12,6 +12,8 @@ use Rattle.amr_lines.specs.Printed.{object_of, number_data, moment_data, labels_
 abbrev pub finding_name : Finding → Text
 finding_name (Waiting due) = codes "Waiting"
 finding_name (Inhibited rule source) = codes "Inhibited"
+finding_name OutsideActive = codes "OutsideActive"
+finding_name TimeMuted = codes "TimeMuted"
 finding_name (Silenced id) = codes "Silenced"
 finding_name Nowhere = codes "Nowhere"
 finding_name (Told at) = codes "Told"
@@ -21,6 +23,8 @@ finding_name (Due at) = codes "Due"
 abbrev pub finding_members : Finding → List (Text × Data)
 finding_members (Waiting due) = (codes "due", moment_data due) ∷ []
 finding_members (Inhibited rule source) = (codes "rule", number_data rule) ∷ (codes "source", labels_data source) ∷ []
+finding_members OutsideActive = []
+finding_members TimeMuted = []
 finding_members (Silenced id) = (codes "id", string (id_text id)) ∷ []
 finding_members Nowhere = []
 finding_members (Told at) = (codes "at", moment_data at) ∷ []

@@ -2,11 +2,11 @@
 ghost use Rattle.std.specs.Prelude.{◌≡◌, IfOk, string_bytes};
 ghost use Rattle.serde_json.specs.View.{view};
 ghost use Rattle.amr_lines.specs.LastLines.{moves_data, moves_line, cursor_data, cursor_line, place_data, place_line, refused_line};
-ghost use Rattle.amr_lines.specs.Outlet.{WritesText};
+ghost use Rattle.amr_lines.specs.Outlet.{WritesText, FailsAt};
 ghost use Rattle.amr_lines.specs.declared.word.Word.TheVariants.{Back};
 
 use crate::lines::line_text;
-use crate::outlet::{WriteFailed, write_parts};
+use crate::outlet::{Outlet, WriteFailed, write_parts};
 use crate::values::{put_moment, put_text};
 use crate::word::{Word, word_text};
 use amr_time::Moment;
@@ -80,12 +80,13 @@ pub fn place_text(
 
 /// Writes the line of a refused command, with the number of the reason. It takes no memory.
 pub fn write_refused<W: Write>(
-    out: &mut W,
+    out: &mut Outlet<W>,
     word: Word,
     cursor: usize,
     reason: u64,
 ) -> Result<(), WriteFailed>
-    ensures { WritesText (W.contents out.old) (W.contents out.new) result (refused_line word cursor reason) }
+    ensures written { WritesText (W.contents out.old.writer) (W.contents out.new.writer) result (refused_line word cursor reason) }
+    ensures failed { FailsAt result out.old.failed out.new.failed }
 {
     let mut cursor_digits = Buffer::new();
     let mut reason_digits = Buffer::new();
@@ -104,8 +105,9 @@ pub fn write_refused<W: Write>(
 }
 
 /// Writes the line of a step back. It takes no memory.
-pub fn write_back<W: Write>(out: &mut W, cursor: usize) -> Result<(), WriteFailed>
-    ensures { WritesText (W.contents out.old) (W.contents out.new) result (cursor_line Back cursor) }
+pub fn write_back<W: Write>(out: &mut Outlet<W>, cursor: usize) -> Result<(), WriteFailed>
+    ensures written { WritesText (W.contents out.old.writer) (W.contents out.new.writer) result (cursor_line Back cursor) }
+    ensures failed { FailsAt result out.old.failed out.new.failed }
 {
     let mut digits = Buffer::new();
     write_parts(
@@ -120,11 +122,12 @@ pub fn write_back<W: Write>(out: &mut W, cursor: usize) -> Result<(), WriteFaile
 
 /// Writes the line of a seek that passes no event, which is one to the cursor or below it. It takes no memory.
 pub fn write_backward_seek<W: Write>(
-    out: &mut W,
+    out: &mut Outlet<W>,
     word: Word,
     cursor: usize,
 ) -> Result<(), WriteFailed>
-    ensures { WritesText (W.contents out.old) (W.contents out.new) result (moves_line word cursor 0) }
+    ensures written { WritesText (W.contents out.old.writer) (W.contents out.new.writer) result (moves_line word cursor 0) }
+    ensures failed { FailsAt result out.old.failed out.new.failed }
 {
     let mut digits = Buffer::new();
     write_parts(

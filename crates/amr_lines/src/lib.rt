@@ -1,6 +1,7 @@
 //! What is printed, and writing it.
 #![tactic(auto)]
 
+mod inlet;
 mod last_lines;
 mod lines;
 mod listed;
@@ -10,11 +11,12 @@ mod values;
 mod verdicts;
 mod word;
 
+pub use inlet::{Inlet, ReadFailed};
 pub use last_lines::{
     cursor_text, moves_text, place_text, write_back, write_backward_seek, write_refused,
 };
 pub use lines::{event_text, line_text, notes_text};
 pub use listings::{alerts_text, groups_text, log_text, silences_text};
-pub use outlet::{WriteFailed, flush, write_parts, write_whole};
+pub use outlet::{Outlet, WriteFailed, flush, write_parts, write_whole};
 pub use verdicts::verdicts_text;
 pub use word::{Word, word_text};

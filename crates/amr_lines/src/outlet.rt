@@ -1,8 +1,8 @@
 //! Bytes to any writer, so that what stands there after a fault is known.
-ghost use Rattle.std.specs.Prelude.{flat_map};
+ghost use Rattle.std.specs.Prelude.{◌≡◌, ◌≢◌, IfOk, flat_map, false};
 ghost use Rattle.std.specs.Io.KnownBytes.{WriteAppends, Keeps};
 ghost use Rattle.std.specs.Io.{WritesAtMost};
-ghost use Rattle.amr_lines.specs.Outlet.{WritesText};
+ghost use Rattle.amr_lines.specs.Outlet.{WritesText, FailsAt};
 
 use std::io::Write;
 
@@ -10,47 +10,76 @@ use std::io::Write;
 #[derive(Clone, Copy, Debug, PartialEq, Eq)]
 pub struct WriteFailed;
 
-/// Writes all the bytes, a part at a time where the writer takes only a part. Every error of the writer ends it, an
+/// A writer, and whether it failed.
+#[derive(Drop)]
+pub struct Outlet<W> {
+    writer: W,
+    failed: bool,
+}
+
+impl<W: Write> Outlet<W> {
+    /// Wraps a writer that hasn't failed.
+    pub fn new(writer: W) -> Outlet<W>
+        ensures { result ≡ record { writer = writer; failed = false } }
+    {
+        Outlet {
+            writer,
+            failed: false,
+        }
+    }
+
+    /// Writes once. A write that takes no byte has failed.
+    fn write_once(&mut self, bytes: &[u8]) -> Result<usize, WriteFailed>
+        ensures bound { WritesAtMost result bytes.now }
+        ensures some { IfOk result (λ taken. taken ≢ 0) }
+        ensures bytes { WriteAppends (W.contents self.old.writer) (W.contents self.new.writer) result bytes.now }
+        ensures failed { FailsAt result self.old.failed self.new.failed }
+    {
+        match self.writer.write(bytes) {
+            Ok(taken) if taken != 0 => Ok(taken),
+            _ => {
+                self.failed = true;
+                Err(WriteFailed)
+            }
+        }
+    }
+}
+
+/// Writes all the bytes, a part at a time if the writer takes only a part. Every error of the writer ends it, an
 /// interrupted write too, and so does a write that takes no byte.
-pub fn write_whole<W: Write>(out: &mut W, bytes: &[u8]) -> Result<(), WriteFailed>
-    ensures { WritesText (W.contents out.old) (W.contents out.new) result bytes.now }
+pub fn write_whole<W: Write>(out: &mut Outlet<W>, bytes: &[u8]) -> Result<(), WriteFailed>
+    ensures written { WritesText (W.contents out.old.writer) (W.contents out.new.writer) result bytes.now }
+    ensures failed { FailsAt result out.old.failed out.new.failed }
 {
     let mut rest = bytes;
-    for _ in 0..u64::MAX {
-        if rest.is_empty() {
-            return Ok(());
-        }
-        let taken = write_once(out, rest)?;
+    while !rest.is_empty() {
+        let taken = out.write_once(rest)?;
         rest = &rest[taken..];
     }
-    Err(WriteFailed)
+    Ok(())
 }
 
 /// Hands on what the writer holds back.
-pub fn flush<W: Write>(out: &mut W) -> Result<(), WriteFailed>
-    ensures { Keeps (W.contents out.old) (W.contents out.new) }
+pub fn flush<W: Write>(out: &mut Outlet<W>) -> Result<(), WriteFailed>
+    ensures kept { Keeps (W.contents out.old.writer) (W.contents out.new.writer) }
+    ensures failed { FailsAt result out.old.failed out.new.failed }
 {
-    out.flush().map_err(|_| WriteFailed)
+    match out.writer.flush() {
+        Ok(()) => Ok(()),
+        Err(_) => {
+            out.failed = true;
+            Err(WriteFailed)
+        }
+    }
 }
 
 /// Writes the parts, one after the other.
-pub fn write_parts<W: Write>(out: &mut W, parts: &[&[u8]]) -> Result<(), WriteFailed>
-    ensures { WritesText (W.contents out.old) (W.contents out.new) result (flat_map (λ part. part.now) parts.now) }
+pub fn write_parts<W: Write>(out: &mut Outlet<W>, parts: &[&[u8]]) -> Result<(), WriteFailed>
+    ensures written { WritesText (W.contents out.old.writer) (W.contents out.new.writer) result (flat_map (λ part. part.now) parts.now) }
+    ensures failed { FailsAt result out.old.failed out.new.failed }
 {
     for part in parts {
         write_whole(out, part)?;
     }
     Ok(())
-}
-
-/// One write.
-fn write_once<W: Write>(out: &mut W, bytes: &[u8]) -> Result<usize, WriteFailed>
-    ensures bound { WritesAtMost result bytes.now }
-    ensures bytes { WriteAppends (W.contents out.old) (W.contents out.new) result bytes.now }
-{
-    match out.write(bytes) {
-        Ok(0) => Err(WriteFailed),
-        Ok(taken) => Ok(taken),
-        Err(_) => Err(WriteFailed),
-    }
 }

@@ -20,6 +20,8 @@ fn finding_name(finding: &Finding) -> &'static str
     match finding {
         Finding::Waiting { due: _ } => "Waiting",
         Finding::Inhibited { rule: _, source: _ } => "Inhibited",
+        Finding::OutsideActive => "OutsideActive",
+        Finding::TimeMuted => "TimeMuted",
         Finding::Silenced { id: _ } => "Silenced",
         Finding::Nowhere => "Nowhere",
         Finding::Told { at: _ } => "Told",
@@ -41,6 +43,8 @@ fn put_finding(
             put_texts(members, alloc, "source", source.entries())?;
             put(members, alloc, "rule", Value::from(*rule))
         }
+        Finding::OutsideActive => Ok(()),
+        Finding::TimeMuted => Ok(()),
         Finding::Silenced { id } => put(members, alloc, "id", Value::String(id.text(alloc)?)),
         Finding::Nowhere => Ok(()),
         Finding::Told { at } => put_moment(members, alloc, "at", *at),

@@ -34,7 +34,8 @@ impl Model for Matcher {
 }
 
 impl Matcher {
-    /// The matcher of a name, an operator and a value. `BadPattern` is answered only where `regex` refuses the value of `=~` or `!~`.
+    /// Makes the matcher of a name, an operator and a value. `BadPattern` says that `regex` refused the value of `=~` or `!~` as a pattern; which
+    /// patterns it refuses, no contract says.
     pub fn new(
         alloc: Global,
         name: Text,

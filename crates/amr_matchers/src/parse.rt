@@ -1,6 +1,7 @@
 //! Lists of matchers read from a text.
-ghost use Rattle.std.specs.Prelude.{◌≡◌, Some, IfOk, IfErr, IsErrOf};
+ghost use Rattle.std.specs.Prelude.{◌≡◌, Some, IfOk, IfErr, IsErrOf, chars};
 ghost use Rattle.amr_matchers.specs.declared.pattern.MatcherError.TheVariants.{BadPattern as RefusedPattern};
+ghost use Rattle.amr_matchers.specs.MatcherText.{Spells};
 ghost use Rattle.amr_matchers.specs.MatcherReading.{matchers_of};
 ghost use Rattle.amr_matchers.specs.MatcherRefusals.{MayBeRefused, OneMayBeRefused, Explains};
 
@@ -103,9 +104,11 @@ fn build(alloc: Global, drafts: &[Draft]) -> Result<Vec<Matcher>, MatcherError>
 impl Matchers {
     /// The matchers of a text in the matcher syntax of Alertmanager's configuration reference, as `{alertname="X", team=~"a|b"}` or `severity!=info`:
     /// matchers separated by commas, in braces or not, with names and values unquoted or in double quotes. A text that isn't of this form is refused
-    /// as `BadMatcher`, also where a pattern in it can't be read. `BadPattern` is answered only where `regex` refuses a pattern.
+    /// as `BadMatcher`, also if a pattern in it can't be read. `BadPattern` says that `regex` refused the pattern of a `=~` or `!~`; which patterns it
+    /// refuses, no contract says.
     pub fn parse(alloc: Global, text: &str) -> Result<Matchers, ParseError>
         ensures read { IfOk result (λ matchers. matchers_of text.now ≡ Some matchers) }
+        ensures spelled { IfOk result (λ matchers. Spells (chars text.now) matchers) }
         ensures refused { IfErr result (Explains text.now) }
     {
         let drafts = drafts_of(alloc, text)?;

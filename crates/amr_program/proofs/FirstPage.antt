@@ -15,10 +15,11 @@ use Rattle.serde_json.proofs.OnLiterals.{serde_json_on_literals}
 
 abbrev config_a : Config
 config_a = record {
-  routes = record { parent = None; matchers = []; continues = false; receiver = Some (codes "ops"); group_by = Some (Named (codes "alertname" ∷ [])); group_wait = None; group_interval = None; repeat_interval = None } ∷ [];
+  routes = record { parent = None; matchers = []; continues = false; receiver = Some (codes "ops"); group_by = Some (Named (codes "alertname" ∷ [])); group_wait = None; group_interval = None; repeat_interval = None; active_time_intervals = []; mute_time_intervals = [] } ∷ [];
   receivers = record { name = codes "ops"; integrations = record { kind = codes "webhook"; place = 0; send_resolved = true } ∷ [] } ∷ [];
   rules = [];
   resolve_timeout = 5 * minute;
+  time_intervals = [];
 }
 
 abbrev ten : Moment

@@ -1,7 +1,7 @@
 -- The lines of the faults on standard error, and the statuses.
 use Rattle.std.specs.Prelude.{ℕ, List, [], ◌∷◌, ◌++◌, codes, decimal}
 use Rattle.amr_stated.specs.declared.error.Refusal.{Refusal}
-use Rattle.amr_stated.specs.declared.error.Refusal.TheVariants.{BadConfig, UnknownReceiver, DuplicateReceiver, RootRoute, ZeroInterval, BadGroupBy, TooDeep, TimeIntervals}
+use Rattle.amr_stated.specs.declared.error.Refusal.TheVariants.{BadConfig, UnknownReceiver, DuplicateReceiver, RootRoute, ZeroInterval, BadGroupBy, TooDeep}
 use Rattle.amr_stated.specs.declared.error.ConfigError.{ConfigError}
 use Rattle.amr_stated.specs.declared.error.ConfigError.TheVariants as config_error
 use Rattle.amr_events.specs.declared.error.Fault.{Fault as ScriptFault}
@@ -42,7 +42,6 @@ config_name RootRoute = codes "amreplay: config: 8 RootRoute"
 config_name ZeroInterval = codes "amreplay: config: 9 ZeroInterval"
 config_name BadGroupBy = codes "amreplay: config: 10 BadGroupBy"
 config_name TooDeep = codes "amreplay: config: 11 TooDeep"
-config_name TimeIntervals = codes "amreplay: config: 12 TimeIntervals"
 
 abbrev pub script_name : ScriptFault → List ℕ
 script_name (BadLine line) = codes "amreplay: script: 13 BadLine"
@@ -82,7 +81,6 @@ config_place RootRoute = Nowhere
 config_place ZeroInterval = Nowhere
 config_place BadGroupBy = Nowhere
 config_place TooDeep = Nowhere
-config_place TimeIntervals = Nowhere
 
 abbrev pub script_place : ScriptFault → FaultPlace
 script_place (BadLine line) = AtLine line

@@ -1,12 +1,13 @@
 //! A check of a configuration: its numbers of receivers, routes and inhibition rules.
 ghost use Rattle.std.specs.Prelude.{◌≡◌, IfOk, string_bytes};
 ghost use Rattle.serde_json.specs.View.{view};
+ghost use Rattle.amr_program.specs.Ends.{EndsBy};
 ghost use Rattle.amr_program.specs.Checked.{counts_data, counts_line, CheckLeaves};
 
 use crate::fault::Fault;
 use crate::load::read_config;
 use amr_config::Config;
-use amr_lines::{flush, line_text, write_whole};
+use amr_lines::{Outlet, flush, line_text, write_whole};
 use serde_json::{Value, json};
 use std::alloc::{AllocError, Global};
 use std::io::Write;
@@ -31,8 +32,13 @@ fn counts_text(alloc: Global, config: &Config) -> Result<String, AllocError>
 
 /// Judges a configuration, and writes the numbers of its receivers, routes and inhibition rules as a line. Nothing is written
 /// where it is refused.
-pub fn check_config<W: Write>(alloc: Global, config: &[u8], out: &mut W) -> Result<(), Fault>
-    ensures { CheckLeaves (W.contents out.old) (W.contents out.new) config.now result }
+pub fn check_config<W: Write>(
+    alloc: Global,
+    config: &[u8],
+    out: &mut Outlet<W>,
+) -> Result<(), Fault>
+    ensures left { CheckLeaves (W.contents out.old.writer) (W.contents out.new.writer) config.now result }
+    ensures ended { EndsBy result out.old.failed out.new.failed }
 {
     let config = read_config(alloc, config)?;
     let text = counts_text(alloc, &config)?;

@@ -1,11 +1,11 @@
 //! What stops the program, and its line on standard error.
 ghost use Rattle.std.specs.Prelude.{◌≡◌};
-ghost use Rattle.amr_lines.specs.Outlet.{WritesText};
+ghost use Rattle.amr_lines.specs.Outlet.{WritesText, FailsAt};
 
 use crate::run::Stopped;
 use amr_commands::Broken;
 use amr_events::{Fault as ScriptFault, ScriptError};
-use amr_lines::{WriteFailed, write_parts};
+use amr_lines::{Outlet, WriteFailed, write_parts};
 use amr_stated::{ConfigError, Refusal};
 use itoa::Buffer;
 use std::alloc::AllocError;
@@ -116,14 +116,16 @@ enum Place<'a> {
 ghost use Rattle.amr_program.specs.Faults.{fault_line, fault_name, config_name as config_name_of, script_name as script_name_of, fault_place, config_place as config_place_of, script_place as script_place_of, path_place as place_of_path, line_with_place, place_of as place_seen, status_of as fault_status};
 
 /// Writes the fault's line.
-pub fn write_fault<W: Write>(fault: &Fault, out: &mut W) -> Result<(), WriteFailed>
-    ensures { WritesText (W.contents out.old) (W.contents out.new) result (fault_line fault.now) }
+pub fn write_fault<W: Write>(fault: &Fault, out: &mut Outlet<W>) -> Result<(), WriteFailed>
+    ensures written { WritesText (W.contents out.old.writer) (W.contents out.new.writer) result (fault_line fault.now) }
+    ensures failed { FailsAt result out.old.failed out.new.failed }
 {
     write_line(name_of(fault), &place_of(fault), out)
 }
 
-fn write_line<W: Write>(name: &str, place: &Place, out: &mut W) -> Result<(), WriteFailed>
-    ensures { WritesText (W.contents out.old) (W.contents out.new) result (line_with_place name.now (place_seen place.now)) }
+fn write_line<W: Write>(name: &str, place: &Place, out: &mut Outlet<W>) -> Result<(), WriteFailed>
+    ensures written { WritesText (W.contents out.old.writer) (W.contents out.new.writer) result (line_with_place name.now (place_seen place.now)) }
+    ensures failed { FailsAt result out.old.failed out.new.failed }
 {
     match place {
         Place::Nowhere => write_parts(out, &[name.as_bytes(), b"\n"]),
@@ -167,7 +169,6 @@ fn config_name(refusal: &Refusal) -> &'static str
         Refusal::ZeroInterval => "amreplay: config: 9 ZeroInterval",
         Refusal::BadGroupBy => "amreplay: config: 10 BadGroupBy",
         Refusal::TooDeep => "amreplay: config: 11 TooDeep",
-        Refusal::TimeIntervals => "amreplay: config: 12 TimeIntervals",
     }
 }
 

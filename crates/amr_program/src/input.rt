@@ -1,13 +1,11 @@
 //! The bytes that a reader gives.
-ghost use Rattle.std.specs.Prelude.{◌<◌, length, IfOk, MatchResult, take};
-ghost use Rattle.std.specs.Io.{ReadsAtMost};
-ghost use Rattle.std.specs.Io.KnownBytes.{ReadConsumes, Consumes, IsAtEnd};
+ghost use Rattle.std.specs.Prelude.{◌≡◌, IfOk, MatchResult};
+ghost use Rattle.std.specs.Io.KnownBytes.{Consumes, IsAtEnd};
+ghost use Rattle.amr_program.specs.Input.{UnreadBy};
 
+use amr_lines::{Inlet, ReadFailed};
 use std::alloc::{AllocError, Global};
 use std::io::Read;
-
-/// Reading ends at the call of this number.
-const MOST_READS: u64 = 1_099_511_627_776;
 
 /// How many bytes are asked for at once.
 const CHUNK: usize = 8192;
@@ -30,30 +28,34 @@ impl From<AllocError> for Unread {
     }
 }
 
-/// One read. Every error is one of reading, an interrupted call too.
-fn read_once<R: Read>(reader: &mut R, chunk: &mut [u8]) -> Result<usize, Unread>
-    ensures bound { ReadsAtMost result chunk.new }
-    ensures bytes { ReadConsumes (R.remaining reader.old) (R.remaining reader.new) result chunk.new }
-{
-    match reader.read(chunk) {
-        Ok(taken) => Ok(taken),
-        Err(_) => Err(Unread::CannotRead),
+impl From<ReadFailed> for Unread {
+    ghost use Rattle.std.specs.Prelude.{◌≡◌};
+    ghost use Rattle.amr_program.specs.declared.input.Unread.TheVariants.{CannotRead};
+
+    ghost from_gives = { λ _ unread. unread ≡ CannotRead };
+
+    fn from(_error: ReadFailed) -> Unread {
+        Unread::CannotRead
     }
 }
 
-/// All the bytes that the reader has left.
-pub fn read_whole<R: Read>(alloc: Global, reader: &mut R) -> Result<Vec<u8>, Unread>
-    ensures consumed { IfOk result (λ bytes. Consumes (R.remaining reader.old) (R.remaining reader.new) bytes.items) }
-    ensures at_end { IfOk result (λ bytes. IsAtEnd (R.remaining reader.new)) }
+/// Reads all the bytes that are left.
+///
+/// Reading ends at the call of read numbered 1,099,511,627,776, as at an error of the reader.
+pub fn read_whole<R: Read>(alloc: Global, inlet: &mut Inlet<R>) -> Result<Vec<u8>, Unread>
+    ensures consumed { IfOk result (λ bytes. Consumes (R.remaining inlet.old.reader) (R.remaining inlet.new.reader) bytes.items) }
+    ensures at_end { IfOk result (λ bytes. IsAtEnd (R.remaining inlet.new.reader)) }
+    ensures ended { MatchResult result
+        (λ _. inlet.new.failed ≡ inlet.old.failed)
+        (λ unread. UnreadBy unread inlet.old.failed inlet.new.failed inlet.new.calls) }
 {
     let mut bytes = Vec::new(alloc);
     let mut chunk = [0; CHUNK];
-    for _ in 1..MOST_READS {
-        let taken = read_once(reader, &mut chunk)?;
+    loop {
+        let taken = inlet.read(&mut chunk)?;
         if taken == 0 {
             return Ok(bytes);
         }
         bytes.extend_from_slice(&chunk[..taken])?;
     }
-    Err(Unread::CannotRead)
 }

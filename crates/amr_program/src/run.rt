@@ -3,13 +3,14 @@ ghost use Rattle.std.specs.Prelude.{◌≡◌, ◌+◌, [], IfOk, length, ℕ, s
 ghost use Rattle.amr_lines.specs.Printed.{event_lines};
 ghost use Rattle.amr_program.specs.Files.{FilesLeave};
 ghost use Rattle.amr_program.specs.Runs.{Leaves, RunLeaves, LeavesAt};
+ghost use Rattle.amr_program.specs.Ends.{StoppedBy, EndsBy};
 ghost use Rattle.amr_engine.specs.Outcomes.{outcome_view};
 ghost use Rattle.amr_replay.specs.Session.{at_cursor};
 
 use crate::fault::Fault;
 use crate::load::open_session;
 use amr_engine::Outcome;
-use amr_lines::{WriteFailed, event_text, flush, write_whole};
+use amr_lines::{Outlet, WriteFailed, event_text, flush, write_whole};
 use amr_replay::Session;
 use std::alloc::{AllocError, Global};
 use std::io::Write;
@@ -48,9 +49,10 @@ fn write_event<W: Write>(
     alloc: Global,
     event: u64,
     outcome: &Outcome,
-    out: &mut W,
+    out: &mut Outlet<W>,
 ) -> Result<(), Stopped>
-    ensures { Leaves (W.contents out.old) (W.contents out.new) (event_lines event (outcome_view outcome.now)) result }
+    ensures left { Leaves (W.contents out.old.writer) (W.contents out.new.writer) (event_lines event (outcome_view outcome.now)) result }
+    ensures stopped { StoppedBy result out.old.failed out.new.failed }
 {
     let text = event_text(alloc, event, outcome)?;
     write_whole(out, text.as_bytes())?;
@@ -58,9 +60,10 @@ fn write_event<W: Write>(
 }
 
 /// Steps a session from its start to its end, and writes each event's lines.
-fn write_events<W: Write>(alloc: Global, session: &mut Session, out: &mut W) -> Result<(), Stopped>
+fn write_events<W: Write>(alloc: Global, session: &mut Session, out: &mut Outlet<W>) -> Result<(), Stopped>
     requires { session.old ≡ at_cursor session.old.config session.old.events 0 }
-    ensures { RunLeaves (W.contents out.old) (W.contents out.new) session.old.config session.old.events result }
+    ensures left { RunLeaves (W.contents out.old.writer) (W.contents out.new.writer) session.old.config session.old.events result }
+    ensures stopped { StoppedBy result out.old.failed out.new.failed }
 {
     for number in 0..session.events() {
         // An event is left, so memory alone can stop the step.
@@ -73,9 +76,10 @@ fn write_events<W: Write>(alloc: Global, session: &mut Session, out: &mut W) -> 
 }
 
 /// The same, and hands on what the writer holds back, also where memory stops the run.
-fn write_run<W: Write>(alloc: Global, session: &mut Session, out: &mut W) -> Result<(), Stopped>
+fn write_run<W: Write>(alloc: Global, session: &mut Session, out: &mut Outlet<W>) -> Result<(), Stopped>
     requires { session.old ≡ at_cursor session.old.config session.old.events 0 }
-    ensures { RunLeaves (W.contents out.old) (W.contents out.new) session.old.config session.old.events result }
+    ensures left { RunLeaves (W.contents out.old.writer) (W.contents out.new.writer) session.old.config session.old.events result }
+    ensures stopped { StoppedBy result out.old.failed out.new.failed }
 {
     let ended = write_events(alloc, session, out);
     flush(out)?;
@@ -90,9 +94,10 @@ pub fn run_script<W: Write>(
     alloc: Global,
     config: &[u8],
     script: &[u8],
-    out: &mut W,
+    out: &mut Outlet<W>,
 ) -> Result<(), Fault>
-    ensures { FilesLeave (W.contents out.old) (W.contents out.new) config.now script.now result }
+    ensures left { FilesLeave (W.contents out.old.writer) (W.contents out.new.writer) config.now script.now result }
+    ensures ended { EndsBy result out.old.failed out.new.failed }
 {
     let mut session = open_session(alloc, config, script)?;
     write_run(alloc, &mut session, out)?;

@@ -1,9 +1,11 @@
 //! A session: commands are read, and answered over a script and a configuration.
+ghost use Rattle.amr_program.specs.Ends.{EndsBy, ReadsBy};
 ghost use Rattle.amr_program.specs.Sessions.{SessionLeaves};
 
 use crate::fault::Fault;
 use crate::load::open_session;
 use amr_commands::converse;
+use amr_lines::{Inlet, Outlet};
 use std::alloc::Global;
 use std::io::{Read, Write};
 
@@ -15,11 +17,13 @@ pub fn run_session<R: Read, W: Write>(
     alloc: Global,
     config: &[u8],
     script: &[u8],
-    commands: &mut R,
-    out: &mut W,
+    commands: &mut Inlet<R>,
+    out: &mut Outlet<W>,
 ) -> Result<(), Fault>
-    ensures { SessionLeaves (R.remaining commands.old) (R.remaining commands.new) (W.contents out.old) (W.contents out.new)
-        config.now script.now result }
+    ensures left { SessionLeaves (R.remaining commands.old.reader) (R.remaining commands.new.reader)
+        (W.contents out.old.writer) (W.contents out.new.writer) config.now script.now result }
+    ensures read { ReadsBy result commands.old.failed commands.new.failed commands.new.calls }
+    ensures written { EndsBy result out.old.failed out.new.failed }
 {
     let mut session = open_session(alloc, config, script)?;
     converse(alloc, &mut session, commands, out)?;

@@ -1,3 +1,4 @@
 pub mod Places
 pub mod Passed
+pub mod Said
 pub mod worked

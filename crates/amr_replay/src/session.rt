@@ -1,5 +1,5 @@
 //! A cursor over a script: what a session shows is the run of the events before it.
-ghost use Rattle.std.specs.Prelude.{◌≡◌, ◌+◌, ◌-◌, ◌<◌, ◌≤◌, [], Some, Err, IsOk, IsOkAnd, IfOk, IfErr, OnOk, OnErr, length, map, slice_get};
+ghost use Rattle.std.specs.Prelude.{◌≡◌, ◌+◌, ◌-◌, ◌<◌, ◌≤◌, [], Some, Err, IsOk, IsErr, IsOkAnd, IfOk, IfErr, OnOk, OnErr, length, map, slice_get};
 ghost use Rattle.amr_labels.specs.Map.{entries};
 ghost use Rattle.amr_state.specs.Seen.{groups_of};
 ghost use Rattle.amr_engine.specs.Events.{outcome_of};
@@ -24,11 +24,13 @@ pub enum SessionError {
     Memory,
     /// No event is left.
     AtEnd,
-    /// No event was passed.
-    AtStart,
     /// The script has fewer events.
     OutOfRange,
 }
+
+/// No event was passed, so none can be taken back.
+#[derive(Clone, Copy, Debug, PartialEq, Eq)]
+pub struct AtStart;
 
 impl From<AllocError> for SessionError {
     ghost use Rattle.std.specs.Prelude.{◌≡◌};
@@ -117,12 +119,12 @@ impl Session {
     }
 
     /// Undoes the last event. It takes no memory.
-    pub fn back(&mut self) -> Result<(), SessionError>
-        ensures at_start { self.old.cursor ≡ 0 → (result ≡ Err SessionError.AtStart) × (self.new ≡ self.old) }
+    pub fn back(&mut self) -> Result<(), AtStart>
+        ensures at_start { self.old.cursor ≡ 0 → IsErr result × (self.new ≡ self.old) }
         ensures back { 0 < self.old.cursor → IsOk result × (self.new ≡ at_cursor self.old.config self.old.events (self.old.cursor - 1)) }
     {
         if self.cursor == 0 {
-            return Err(SessionError::AtStart);
+            return Err(AtStart);
         }
         self.unstep();
         Ok(())

@@ -35,17 +35,6 @@ impl Exact for LogEntry {
 
 ghost use Rattle.amr_rules.specs.Updates.{differs, needs_update};
 
-/// The set of some label sets.
-pub fn labels_of(alloc: Global, members: &[Labels]) -> Result<LabelMap<()>, AllocError>
-    ensures { IfOk result (λ made. made ≡ set.from_list members.now) }
-{
-    let mut made = LabelMap::new(alloc);
-    for labels in members {
-        made.insert(labels.clone()?, ())?;
-    }
-    Ok(made)
-}
-
 /// Whether each label set of the one is in the other.
 pub fn is_subset(a: &LabelMap<()>, b: &LabelMap<()>) -> bool
     ensures { result ≡ set.is_subset a.now b.now }

@@ -1,5 +1,5 @@
 -- What stands beside the routes is never refused as too deep.
-use Rattle.std.proofs.Common.{ℕ, List, [], length, Bool, true, false, ◌==◌, Option, Some, None, codes}
+use Rattle.std.proofs.Common.{ℕ, List, [], length, nat_lt, Bool, true, false, ◌==◌, Option, Some, None, codes}
 use Rattle.std.specs.Option.{option_or}
 use Rattle.serde_json.specs.Data.{Data}
 use Rattle.serde_json.specs.Find.{as_str, as_bool, as_array, as_object}
@@ -13,8 +13,13 @@ use Rattle.amr_stated.specs.declared.receiver.Integration.{Integration}
 use Rattle.amr_stated.specs.declared.receiver.Receiver.{Receiver}
 use Rattle.amr_stated.specs.declared.read_receivers.Kind.{Kind}
 use Rattle.amr_stated.specs.declared.rule.InhibitRule.{InhibitRule}
+use Rattle.amr_stated.specs.declared.read_intervals.Field.TheVariants.{Weekdays, Months, Years}
 use Rattle.amr_stated.specs.Paths.{under, item_path}
-use Rattle.amr_stated.specs.Members.{present, member_of, optional, text_at, flag_at, items_at, members_at, span_at, text_into, texts_at, item_present, interval_into, intervals_at}
+use Rattle.amr_stated.specs.Members.{present, member_of, optional, text_at, flag_at, items_at, members_at, span_at, text_into, texts_at, stated}
+use Rattle.amr_time.specs.declared.intervals.TimeRange.{TimeRange}
+use Rattle.amr_time.specs.declared.intervals.IntervalMember.{IntervalMember}
+use Rattle.amr_stated.specs.declared.interval.NamedInterval.{NamedInterval}
+use Rattle.amr_stated.specs.ReadIntervals.{range_in, day_range_in, range_into, ranges_at, time_of, time_range_at, time_range_into, times_at, is_utc, location_at, interval_fields_at, interval_member_at, interval_member_into, interval_members_at, is_taken, new_name_at, interval_at, interval_into, intervals_from, intervals_at, is_defined, name_into, names_at}
 use Rattle.amr_stated.specs.Timeout.{timeout_in, timeout_at}
 use Rattle.amr_stated.specs.RouteParts.{front_at, back_at, children_at}
 use Rattle.amr_stated.specs.ReadMatchers.{matcher_at, stated_into, matcher_into, members_into, object_into, spelled_at, spelled_into, texts_into, list_into, matchers_at}
@@ -48,17 +53,101 @@ pub flat_texts : (path : List ℕ) (d : Data) → Flat (texts_at path d)
 unfolding texts_at
 flat_texts path d = flat_then _ _ (flat_list path d) (λ ds. flat_items (text_into path) 0 ds [] (flat_text_into path))
 
-flat_item_present : (path : List ℕ) (o : Option Data) → Flat (item_present path o)
-flat_item_present path None = flat_faulty path
-flat_item_present path (Some d) = flat_ok true
+-- ---- time intervals
 
-flat_interval_into : (path : List ℕ) (i : ℕ) (d : Data) (any : Bool) → Flat (interval_into path i d any)
+flat_range_into : {A : Type 0} (reads : Data → Option A) (path : List ℕ) (i : ℕ) (d : Data) (ranges : List A) → Flat (range_into reads path i d ranges)
+unfolding range_into
+flat_range_into reads path i d ranges = flat_then _ _ (flat_or_faulty (item_path path i) (reads d)) (λ range. flat_ok _)
+
+flat_ranges : {A : Type 0} (reads : Data → Option A) (path : List ℕ) (d : Data) → Flat (ranges_at reads path d)
+unfolding ranges_at
+flat_ranges reads path d = flat_then _ _ (flat_list path d) (λ ds. flat_items (range_into reads path) 0 ds [] (flat_range_into reads path))
+
+flat_time : (spelled : List ℕ → Option ℕ) (path : List ℕ) (d : Data) → Flat (time_of spelled path d)
+unfolding time_of
+flat_time spelled path d = flat_then _ _ (flat_text path d) (λ text. flat_or_faulty path (spelled text))
+
+flat_time_range : (path : List ℕ) (d : Data) → Flat (time_range_at path d)
+unfolding time_range_at
+flat_time_range path d =
+    flat_then _ _ (flat_object path d) (λ whole.
+    flat_then _ _ (flat_required _ _ _ (λ e. flat_time _ _ e)) (λ end.
+    flat_then _ _ (flat_required _ _ _ (λ e. flat_time _ _ e)) (λ start. flat_either (nat_lt start end) _ _ (flat_ok _) (flat_faulty path))))
+
+flat_time_range_into : (path : List ℕ) (i : ℕ) (d : Data) (ranges : List TimeRange) → Flat (time_range_into path i d ranges)
+unfolding time_range_into
+flat_time_range_into path i d ranges = flat_then _ _ (flat_time_range (item_path path i) d) (λ range. flat_ok _)
+
+flat_times : (path : List ℕ) (d : Data) → Flat (times_at path d)
+unfolding times_at
+flat_times path d = flat_then _ _ (flat_list path d) (λ ds. flat_items (time_range_into path) 0 ds [] (flat_time_range_into path))
+
+flat_location : (path : List ℕ) (d : Data) → Flat (location_at path d)
+unfolding location_at
+flat_location path d = flat_then _ _ (flat_text path d) (λ text. flat_either (is_utc text) _ _ (flat_ok true) (flat_faulty path))
+
+flat_ranges_under : {A : Type 0} (reads : Data → Option A) (path key : List ℕ) (d : Data) → Flat (stated (ranges_at reads) path key d)
+flat_ranges_under reads path key d = flat_optional (ranges_at reads (under path key)) (member_of key d) (flat_ranges reads (under path key))
+
+flat_location_under : (path key : List ℕ) (d : Data) → Flat (stated location_at path key d)
+flat_location_under path key d = flat_optional (location_at (under path key)) (member_of key d) (flat_location (under path key))
+
+flat_times_under : (path key : List ℕ) (d : Data) → Flat (stated times_at path key d)
+flat_times_under path key d = flat_optional (times_at (under path key)) (member_of key d) (flat_times (under path key))
+
+flat_interval_fields : (path : List ℕ) (d : Data) → Flat (interval_fields_at path d)
+unfolding interval_fields_at
+flat_interval_fields path d =
+    flat_then _ _ (flat_ranges_under day_range_in path (codes "days_of_month") d) (λ days.
+    flat_then _ _ (flat_location_under path (codes "location") d) (λ location.
+    flat_then _ _ (flat_ranges_under (range_in Months) path (codes "months") d) (λ months.
+    flat_then _ _ (flat_times_under path (codes "times") d) (λ times.
+    flat_then _ _ (flat_ranges_under (range_in Weekdays) path (codes "weekdays") d) (λ weekdays.
+    flat_then _ _ (flat_ranges_under (range_in Years) path (codes "years") d) (λ years. flat_ok _))))))
+
+flat_interval_member : (path : List ℕ) (d : Data) → Flat (interval_member_at path d)
+unfolding interval_member_at
+flat_interval_member path d = flat_then _ _ (flat_object path d) (λ whole. flat_interval_fields path d)
+
+flat_interval_member_into : (path : List ℕ) (i : ℕ) (d : Data) (members : List IntervalMember) → Flat (interval_member_into path i d members)
+unfolding interval_member_into
+flat_interval_member_into path i d members = flat_then _ _ (flat_interval_member (item_path path i) d) (λ member. flat_ok _)
+
+flat_interval_members : (path : List ℕ) (d : Data) → Flat (interval_members_at path d)
+unfolding interval_members_at
+flat_interval_members path d = flat_then _ _ (flat_list path d) (λ ds. flat_items (interval_member_into path) 0 ds [] (flat_interval_member_into path))
+
+flat_new_name : (intervals : List NamedInterval) (path : List ℕ) (d : Data) → Flat (new_name_at intervals path d)
+unfolding new_name_at
+flat_new_name intervals path d = flat_then _ _ (flat_text path d) (λ name. flat_either (is_taken name intervals) _ _ (flat_faulty path) (flat_ok name))
+
+flat_interval : (intervals : List NamedInterval) (path : List ℕ) (d : Data) → Flat (interval_at intervals path d)
+unfolding interval_at
+flat_interval intervals path d =
+    flat_then _ _ (flat_object path d) (λ whole.
+    flat_then _ _ (flat_required _ _ _ (λ e. flat_new_name intervals _ e)) (λ name.
+    flat_then _ _ (flat_required _ _ _ (λ e. flat_interval_members _ e)) (λ members. flat_ok _)))
+
+flat_interval_into : (path : List ℕ) (i : ℕ) (d : Data) (intervals : List NamedInterval) → Flat (interval_into path i d intervals)
 unfolding interval_into
-flat_interval_into path i d any = flat_item_present (item_path path i) (present (Some d))
+flat_interval_into path i d intervals = flat_then _ _ (flat_interval intervals (item_path path i) d) (λ interval. flat_ok _)
 
-pub flat_intervals : (path : List ℕ) (d : Data) → Flat (intervals_at path d)
+flat_intervals_from : (path : List ℕ) (o : Option Data) (intervals : List NamedInterval) → Flat (intervals_from path o intervals)
+flat_intervals_from path None intervals = flat_ok intervals
+flat_intervals_from path (Some d) intervals = flat_then _ _ (flat_list path d) (λ ds. flat_items (interval_into path) 0 ds intervals (flat_interval_into path))
+
+pub flat_defined : (key : List ℕ) (d : Data) (intervals : List NamedInterval) → Flat (intervals_at key d intervals)
 unfolding intervals_at
-flat_intervals path d = flat_then _ _ (flat_list path d) (λ ds. flat_items (interval_into path) 0 ds false (flat_interval_into path))
+flat_defined key d intervals = flat_intervals_from key (member_of key d) intervals
+
+flat_name_into : (whole : Data) (path : List ℕ) (i : ℕ) (d : Data) (names : List Text) → Flat (name_into whole path i d names)
+unfolding name_into
+flat_name_into whole path i d names =
+    flat_then _ _ (flat_text (item_path path i) d) (λ name. flat_either (is_defined whole name) _ _ (flat_ok _) (flat_faulty _))
+
+flat_names : (whole : Data) (path : List ℕ) (d : Data) → Flat (names_at whole path d)
+unfolding names_at
+flat_names whole path d = flat_then _ _ (flat_list path d) (λ ds. flat_items (name_into whole path) 0 ds [] (flat_name_into whole path))
 
 -- ---- the timeout
 
@@ -208,22 +297,22 @@ flat_text_under path key d = flat_optional _ (member_of key d) (flat_text (under
 flat_texts_under : (path key : List ℕ) (d : Data) → Flat (optional (texts_at (under path key)) (member_of key d))
 flat_texts_under path key d = flat_optional _ (member_of key d) (flat_texts (under path key))
 
-flat_intervals_under : (path key : List ℕ) (d : Data) → Flat (optional (intervals_at (under path key)) (member_of key d))
-flat_intervals_under path key d = flat_optional _ (member_of key d) (flat_intervals (under path key))
+flat_names_under : (whole : Data) (path key : List ℕ) (d : Data) → Flat (stated (names_at whole) path key d)
+flat_names_under whole path key d = flat_optional _ (member_of key d) (flat_names whole (under path key))
 
-pub flat_front : (path : List ℕ) (d : Data) → Flat (front_at path d)
+pub flat_front : (whole : Data) (path : List ℕ) (d : Data) → Flat (front_at whole path d)
 unfolding front_at
-flat_front path d =
-    flat_then _ _ (flat_intervals_under path (codes "active_time_intervals") d) (λ active.
+flat_front whole path d =
+    flat_then _ _ (flat_names_under whole path (codes "active_time_intervals") d) (λ active.
     flat_then _ _ (flat_flag_under path (codes "continue") d) (λ continues.
     flat_then _ _ (flat_texts_under path (codes "group_by") d) (λ group_by.
     flat_then _ _ (flat_span_under path (codes "group_interval") d) (λ group_interval.
     flat_then _ _ (flat_span_under path (codes "group_wait") d) (λ group_wait. flat_ok _)))))
 
-pub flat_back : (path : List ℕ) (d : Data) → Flat (back_at path d)
+pub flat_back : (whole : Data) (path : List ℕ) (d : Data) → Flat (back_at whole path d)
 unfolding back_at
-flat_back path d =
-    flat_then _ _ (flat_intervals_under path (codes "mute_time_intervals") d) (λ mute.
+flat_back whole path d =
+    flat_then _ _ (flat_names_under whole path (codes "mute_time_intervals") d) (λ mute.
     flat_then _ _ (flat_text_under path (codes "receiver") d) (λ receiver.
     flat_then _ _ (flat_span_under path (codes "repeat_interval") d) (λ repeat_interval. flat_ok _)))
 

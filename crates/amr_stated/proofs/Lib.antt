@@ -1,3 +1,4 @@
+pub mod Failing
 pub mod FlatParts
 pub mod FlatRoutes
 pub mod KindPlacing

@@ -2,7 +2,7 @@
 use Rattle.std.proofs.Common.{◌≡◌, ℕ, ◌+◌, Bool, true, false, if◌then◌else◌, List, Option, Some, None, Result, Ok, Err, refl}
 use Rattle.serde_json.specs.Data.{Data, Items, no_items, item, Members, no_members, member}
 use Rattle.amr_stated.specs.declared.error.Refusal.{Refusal}
-use Rattle.amr_stated.specs.declared.error.Refusal.TheVariants.{BadConfig, UnknownReceiver, DuplicateReceiver, RootRoute, ZeroInterval, BadGroupBy, TooDeep, TimeIntervals}
+use Rattle.amr_stated.specs.declared.error.Refusal.TheVariants.{BadConfig, UnknownReceiver, DuplicateReceiver, RootRoute, ZeroInterval, BadGroupBy, TooDeep}
 use Rattle.amr_stated.specs.Members.{◌>>=◌, optional, required, each_item, each_member, or_faulty}
 use Rattle.amr_stated.specs.Readings.{Reading, plain, next, if_present, items_in_turn, members_in_turn}
 
@@ -14,7 +14,6 @@ IsOther RootRoute = Unit {0}
 IsOther ZeroInterval = Unit {0}
 IsOther BadGroupBy = Unit {0}
 IsOther TooDeep = ⊥
-IsOther TimeIntervals = Unit {0}
 
 abbrev pub NotDeep : {A : Type 0} → Result A Refusal → Type 0
 NotDeep (Ok x) = Unit {0}

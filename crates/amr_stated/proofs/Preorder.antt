@@ -7,17 +7,17 @@ use Rattle.std.proofs.lemmas.List.{length_push}
 use Rattle.serde_json.specs.Data.{Data, Items, no_items, item}
 use Rattle.amr_stated.specs.declared.error.Refusal.{Refusal}
 use Rattle.amr_stated.specs.declared.route.Route.{Route}
-use Rattle.amr_stated.specs.declared.read_routes.Tree.{Tree}
-use Rattle.amr_stated.specs.declared.read.Walked.{Walked}
+use Rattle.amr_stated.specs.declared.stated.Stated.{Stated}
 use Rattle.amr_stated.specs.Paths.{under, item_path}
-use Rattle.amr_stated.specs.Members.{member_of, optional, members_at, intervals_at}
+use Rattle.amr_stated.specs.Members.{member_of, members_at}
+use Rattle.amr_stated.specs.ReadIntervals.{intervals_at}
 use Rattle.amr_stated.specs.Readings.{Reading, plain, next, value_after, items_in_turn}
 use Rattle.amr_stated.specs.Timeout.{timeout_at}
 use Rattle.amr_stated.specs.ReadMatchers.{matchers_at}
 use Rattle.amr_stated.specs.ReadReceivers.{receivers_at}
 use Rattle.amr_stated.specs.ReadRules.{rules_at}
 use Rattle.amr_stated.specs.RouteParts.{front_at, back_at, children_at}
-use Rattle.amr_stated.specs.ReadRoutes.{own_into, add_route, child_into, tree_from, routes_at, with_route, route_from}
+use Rattle.amr_stated.specs.ReadRoutes.{own_into, add_route, child_into, tree_from, routes_at, route_from}
 use Rattle.amr_stated.specs.Walking.{walked_at}
 
 abbrev pub AreFirst : List Route → Type 0
@@ -53,65 +53,64 @@ first_push routes route first below n parent e =
       | inr (k, same) ↦ omega (arith, k, below parent (ap (λ o. option_map_or (λ (r : Route). r.parent) o None) (sym same) ∙ e))
     ]
 
-own_adds : (path : List ℕ) (parent : Option ℕ) (d : Data) (tree own : Tree) → (own_into path parent d tree).value ≡ Ok own → (route : Route) × (route.parent ≡ parent) × (own.routes ≡ tree.routes ++ route ∷ [])
+own_adds : (whole : Data) (path : List ℕ) (parent : Option ℕ) (d : Data) (routes own : List Route) → (own_into whole path parent d routes).value ≡ Ok own → (route : Route) × (route.parent ≡ parent) × (own ≡ routes ++ route ∷ [])
 unfolding own_into
-own_adds path parent d tree own e =
+own_adds whole path parent d routes own e =
     let a = bind_ok (plain (members_at path d)) _ own e in
-    let b = bind_ok (plain (front_at path d)) _ own a.2 in
+    let b = bind_ok (plain (front_at whole path d)) _ own a.2 in
     let m = bind_ok (matchers_at path (codes "match") (codes "match_re") (codes "matchers") d) _ own b.2 in
-    let c = bind_ok (plain (back_at path d)) _ own m.2 in
-    (route_from parent b.0 m.0 c.0, refl, sym (ap (λ (t : Tree). t.routes) (ok_same (with_route parent b.0 m.0 c.0 tree) own c.2)))
+    let c = bind_ok (plain (back_at whole path d)) _ own m.2 in
+    (route_from parent b.0 m.0 c.0, refl, sym (ok_same _ own c.2))
 
-record Keeps (before after : Tree) : Type 0 where
-  first : AreFirst after.routes
-  more : length before.routes ≤ length after.routes
+record Keeps (before after : List Route) : Type 0 where
+  first : AreFirst after
+  more : length before ≤ length after
 
-items_keep : (left : ℕ) (path : List ℕ) (parent : ℕ)
-    → ((path : List ℕ) (parent : Option ℕ) (d : Data) (tree after : Tree) → (add_route left path parent d tree).value ≡ Ok after → AreFirst tree.routes → ((p : ℕ) → parent ≡ Some p → p < length tree.routes) → Keeps tree after)
-    → (i : ℕ) (ds : Items) (tree after : Tree) → (items_in_turn (child_into left path parent) i ds tree).value ≡ Ok after → AreFirst tree.routes → parent < length tree.routes → Keeps tree after
-items_keep left path parent keeps i no_items tree after e first below =
-    let same = ok_same tree after e in
+items_keep : (whole : Data) (left : ℕ) (path : List ℕ) (parent : ℕ)
+    → ((path : List ℕ) (parent : Option ℕ) (d : Data) (routes after : List Route) → (add_route whole left path parent d routes).value ≡ Ok after → AreFirst routes → ((p : ℕ) → parent ≡ Some p → p < length routes) → Keeps routes after)
+    → (i : ℕ) (ds : Items) (routes after : List Route) → (items_in_turn (child_into whole left path parent) i ds routes).value ≡ Ok after → AreFirst routes → parent < length routes → Keeps routes after
+items_keep whole left path parent keeps i no_items routes after e first below =
+    let same = ok_same routes after e in
     rw (← same) (record { first = first; more = omega arith })
-items_keep left path parent keeps i (item d ds) tree after e first below =
-    let a = bind_ok (child_into left path parent i d tree) _ after e in
-    let one = keeps (item_path (under path (codes "routes")) i) (Some parent) d tree a.0 a.1 first (λ p s. omega (arith, same_Some parent p s, below)) in
-    let rest = items_keep left path parent keeps (i + 1) ds a.0 after a.2 one.first (omega (arith, below, one.more)) in
+items_keep whole left path parent keeps i (item d ds) routes after e first below =
+    let a = bind_ok (child_into whole left path parent i d routes) _ after e in
+    let one = keeps (item_path (under path (codes "routes")) i) (Some parent) d routes a.0 a.1 first (λ p s. omega (arith, same_Some parent p s, below)) in
+    let rest = items_keep whole left path parent keeps (i + 1) ds a.0 after a.2 one.first (omega (arith, below, one.more)) in
     record { first = rest.first; more = omega (arith, one.more, rest.more) }
 
-route_keeps : (left : ℕ) (path : List ℕ) (parent : Option ℕ) (d : Data) (tree after : Tree) → (add_route left path parent d tree).value ≡ Ok after → AreFirst tree.routes → ((p : ℕ) → parent ≡ Some p → p < length tree.routes) → Keeps tree after
+route_keeps : (whole : Data) (left : ℕ) (path : List ℕ) (parent : Option ℕ) (d : Data) (routes after : List Route) → (add_route whole left path parent d routes).value ≡ Ok after → AreFirst routes → ((p : ℕ) → parent ≡ Some p → p < length routes) → Keeps routes after
 unfolding add_route
-route_keeps zero path parent d tree after e first below = cc
-route_keeps (suc left) path parent d tree after e first below =
-    let a = bind_ok (own_into path parent d tree) _ after e in
+route_keeps whole zero path parent d routes after e first below = cc
+route_keeps whole (suc left) path parent d routes after e first below =
+    let a = bind_ok (own_into whole path parent d routes) _ after e in
     let b = bind_ok (plain (children_at path d)) _ after a.2 in
-    let own = own_adds path parent d tree a.0 a.1 in
-    let grown : length a.0.routes ≡ length tree.routes + 1 = ap length own.2 ∙ length_push tree.routes own.0 in
-    let own_first : AreFirst a.0.routes = rw own.2 (first_push tree.routes own.0 first (λ p s. below p (sym own.1 ∙ s))) in
-    let rest = items_keep left path (length tree.routes) (route_keeps left) 0 b.0 a.0 after b.2 own_first (omega (arith, grown)) in
+    let own = own_adds whole path parent d routes a.0 a.1 in
+    let grown : length a.0 ≡ length routes + 1 = ap length own.2 ∙ length_push routes own.0 in
+    let own_first : AreFirst a.0 = rw own.2 (first_push routes own.0 first (λ p s. below p (sym own.1 ∙ s))) in
+    let rest = items_keep whole left path (length routes) (route_keeps whole left) 0 b.0 a.0 after b.2 own_first (omega (arith, grown)) in
     record { first = rest.first; more = omega (arith, grown, rest.more) }
 
-found_ok : (found : Option Data) (tree : Tree) → (tree_from found).value ≡ Ok tree → (d : Data) × ((add_route 32 (codes "route") None d (record { routes = []; intervals = [] })).value ≡ Ok tree)
-found_ok None tree e = cc
-found_ok (Some d) tree e = (d, e)
+found_ok : (whole : Data) (found : Option Data) (routes : List Route) → (tree_from whole found).value ≡ Ok routes → (d : Data) × ((add_route whole 32 (codes "route") None d []).value ≡ Ok routes)
+found_ok whole None routes e = cc
+found_ok whole (Some d) routes e = (d, e)
 
 none_first : AreFirst []
 none_first n parent e = absurd (none-some parent e)
 
-routes_first : (d : Data) (tree : Tree) → (routes_at d).value ≡ Ok tree → AreFirst tree.routes
+routes_first : (d : Data) (routes : List Route) → (routes_at d).value ≡ Ok routes → AreFirst routes
 unfolding routes_at
-routes_first d tree e =
-    let found = found_ok (member_of (codes "route") d) tree e in
-    let start : Tree = record { routes = []; intervals = [] } in
-    (route_keeps 32 (codes "route") None found.0 start tree found.1 none_first (λ p s. absurd (none-some p s))).first
+routes_first d routes e =
+    let found = found_ok d (member_of (codes "route") d) routes e in
+    (route_keeps d 32 (codes "route") None found.0 [] routes found.1 none_first (λ p s. absurd (none-some p s))).first
 
-pub walked_first : (d : Data) (walked : Walked) → (walked_at d).value ≡ Ok walked → AreFirst walked.stated.routes
+pub walked_first : (d : Data) (stated : Stated) → (walked_at d).value ≡ Ok stated → AreFirst stated.routes
 unfolding walked_at
-walked_first d walked e =
-    let timeout = bind_ok (plain (timeout_at d)) _ walked e in
-    let rules = bind_ok (rules_at d) _ walked timeout.2 in
-    let mute = bind_ok (plain (optional (intervals_at (codes "mute_time_intervals")) (member_of (codes "mute_time_intervals") d))) _ walked rules.2 in
-    let receivers = bind_ok (plain (receivers_at d)) _ walked mute.2 in
-    let tree = bind_ok (routes_at d) _ walked receivers.2 in
-    let named = bind_ok (plain (optional (intervals_at (codes "time_intervals")) (member_of (codes "time_intervals") d))) _ walked tree.2 in
-    let same = ok_same _ walked named.2 in
-    rw (← same) (routes_first d tree.0 tree.1)
+walked_first d stated e =
+    let timeout = bind_ok (plain (timeout_at d)) _ stated e in
+    let rules = bind_ok (rules_at d) _ stated timeout.2 in
+    let mute = bind_ok (plain (intervals_at (codes "mute_time_intervals") d [])) _ stated rules.2 in
+    let receivers = bind_ok (plain (receivers_at d)) _ stated mute.2 in
+    let routes = bind_ok (routes_at d) _ stated receivers.2 in
+    let named = bind_ok (plain (intervals_at (codes "time_intervals") d mute.0)) _ stated routes.2 in
+    let same = ok_same _ stated named.2 in
+    rw (← same) (routes_first d routes.0 routes.1)

@@ -4,7 +4,8 @@ use Rattle.std.specs.Option.{option_map_or}
 use Rattle.serde_json.specs.Data.{Data, null, boolean, number, string, array, object, Items, no_items, item}
 use Rattle.serde_json.specs.Find.{get_item}
 use Rattle.amr_stated.specs.Members.{member_of}
-use Rattle.amr_stated.specs.RouteParts.{any_item, list_in, is_deeper, is_too_deep}
+use Rattle.amr_stated.specs.RouteParts.{is_deeper, is_too_deep}
+use Rattle.amr_stated.specs.Members.{any_item, list_in}
 use Rattle.amr_stated.specs.Levels.{StandsAt, Root, Below, HasDeepRoute}
 
 no_truth : {A : Type 0} → false ≡ true → A

@@ -18,9 +18,6 @@ pub record Ends {A : Type 0} (rest whole : Reading A) : Type 0 where
 pub ends_itself : {A : Type 0} (walk : Reading A) → Ends walk walk
 ends_itself walk = record { reads = λ a h. h; stops = λ e h. h }
 
-pub ends_same : {A : Type 0} (rest whole : Reading A) → whole ≡ rest → Ends rest whole
-ends_same rest whole e = rw e (ends_itself rest)
-
 -- past its first part
 pub ends_past : {A B : Type 0} (part : Reading A) (rest : A → Reading B) (whole : Reading B) (a : A) → part.value ≡ Ok a → Ends (next part rest) whole → Ends (rest a) whole
 ends_past part rest whole a read ends =
@@ -53,8 +50,3 @@ pub member_stops : {A : Type 0} (f : List ℕ → Data → A → Reading A) (res
 member_stops f rest more k v a e whole is h ends =
     let left = rw is at ends in
     left.stops e (stops_first e (f (string_bytes k) (view v) a) (members_in_turn f (members_view more)) h)
-
-pub member_done : {A : Type 0} (f : List ℕ → Data → A → Reading A) (rest : List (String Global × Value)) (a : A) (whole : Reading A) → rest ≡ [] → Ends (members_in_turn f (members_view rest) a) whole → whole.value ≡ Ok a
-member_done f rest a whole is ends =
-    let left = rw is at ends in
-    left.reads a refl

@@ -3,6 +3,7 @@ pub mod Levels
 pub mod Members
 pub mod Numbers
 pub mod Paths
+pub mod ReadIntervals
 pub mod ReadMatchers
 pub mod ReadReceivers
 pub mod ReadRoutes

@@ -1,5 +1,5 @@
 -- The shapes of members. `null` counts as absent.
-use Rattle.std.specs.Prelude.{ℕ, ◌+◌, List, [], ◌∷◌, ◌++◌, Bool, true, false, Option, Some, None, Result, Ok, Err}
+use Rattle.std.specs.Prelude.{ℕ, ◌+◌, List, [], ◌∷◌, ◌++◌, Bool, false, ◌||◌, unwrap_or, option_and_then, Option, Some, None, Result, Ok, Err}
 use Rattle.serde_json.specs.Data.{Data, null, boolean, number, string, array, object, Items, no_items, item, Members, no_members, member}
 use Rattle.serde_json.specs.Find.{get, as_str, as_bool, as_array, as_object}
 use Rattle.amr_time.specs.SpanRead.{span_of}
@@ -7,7 +7,7 @@ use Rattle.amr_time.specs.Time.{Span}
 use Rattle.amr_labels.specs.Labels.{Text}
 use Rattle.amr_stated.specs.declared.error.Refusal.{Refusal}
 use Rattle.amr_stated.specs.declared.error.Refusal.TheVariants.{BadConfig}
-use Rattle.amr_stated.specs.Paths.{item_path}
+use Rattle.amr_stated.specs.Paths.{under, item_path}
 
 infixl 10 ◌>>=◌
 abbrev pub ◌>>=◌ : {A B : Type 0} → Result A Refusal → (A → Result B Refusal) → Result B Refusal
@@ -30,6 +30,10 @@ member_of key d = present (get key d)
 abbrev pub optional : {A : Type 0} → (Data → Result A Refusal) → Option Data → Result (Option A) Refusal
 optional reads None = Ok None
 optional reads (Some d) = reads d >>= λ x. Ok (Some x)
+
+-- a member of this shape under a key, which may be absent
+abbrev pub stated : {A : Type 0} → (List ℕ → Data → Result A Refusal) → List ℕ → List ℕ → Data → Result (Option A) Refusal
+stated shape path key d = optional (shape (under path key)) (member_of key d)
 
 -- a member that has to be there
 abbrev pub required : {A : Type 0} → List ℕ → (Data → Result A Refusal) → Option Data → Result A Refusal
@@ -73,14 +77,12 @@ text_into path i d texts = text_at (item_path path i) d >>= λ text. Ok (texts +
 unfoldable pub texts_at : List ℕ → Data → Result (List Text) Refusal
 texts_at path d = items_at path d >>= λ ds. each_item (text_into path) 0 ds []
 
--- an item that isn't null
-abbrev pub item_present : List ℕ → Option Data → Result Bool Refusal
-item_present path None = Err (BadConfig path)
-item_present path (Some d) = Ok true
+-- ---- items that are looked at, whatever their shapes
 
-unfoldable pub interval_into : List ℕ → ℕ → Data → Bool → Result Bool Refusal
-interval_into path i d any = item_present (item_path path i) (present (Some d))
+abbrev pub any_item : (Data → Bool) → Items → Bool
+any_item p no_items = false
+any_item p (item d ds) = p d || any_item p ds
 
--- whether a list of time intervals has one; what they are isn't read
-unfoldable pub intervals_at : List ℕ → Data → Result Bool Refusal
-intervals_at path d = items_at path d >>= λ ds. each_item (interval_into path) 0 ds false
+-- the items of a list, where there is one
+abbrev pub list_in : Option Data → Items
+list_in d = unwrap_or (option_and_then as_array d) no_items

@@ -1,7 +1,7 @@
 -- The numbers of refusals.
 use Rattle.std.specs.Prelude.{ℕ, List, []}
 use Rattle.amr_stated.specs.declared.error.Refusal.{Refusal}
-use Rattle.amr_stated.specs.declared.error.Refusal.TheVariants.{BadConfig, UnknownReceiver, DuplicateReceiver, RootRoute, ZeroInterval, BadGroupBy, TooDeep, TimeIntervals}
+use Rattle.amr_stated.specs.declared.error.Refusal.TheVariants.{BadConfig, UnknownReceiver, DuplicateReceiver, RootRoute, ZeroInterval, BadGroupBy, TooDeep}
 
 -- the number under which a refusal is printed
 abbrev pub number_of : Refusal → ℕ
@@ -12,7 +12,6 @@ number_of RootRoute = 8
 number_of ZeroInterval = 9
 number_of BadGroupBy = 10
 number_of TooDeep = 11
-number_of TimeIntervals = 12
 
 -- the path of a refusal for a shape
 abbrev pub path_in : Refusal → List ℕ
@@ -23,4 +22,3 @@ path_in RootRoute = []
 path_in ZeroInterval = []
 path_in BadGroupBy = []
 path_in TooDeep = []
-path_in TimeIntervals = []

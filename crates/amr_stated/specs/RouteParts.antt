@@ -11,7 +11,8 @@ use Rattle.amr_stated.specs.declared.route.Grouping.TheVariants.{AllLabels, Name
 use Rattle.amr_stated.specs.declared.read_routes.Front.{Front}
 use Rattle.amr_stated.specs.declared.read_routes.Back.{Back}
 use Rattle.amr_stated.specs.Paths.{under}
-use Rattle.amr_stated.specs.Members.{◌>>=◌, member_of, optional, text_at, flag_at, items_at, span_at, texts_at, intervals_at}
+use Rattle.amr_stated.specs.Members.{◌>>=◌, member_of, optional, text_at, flag_at, items_at, span_at, texts_at, stated, any_item, list_in}
+use Rattle.amr_stated.specs.ReadIntervals.{names_at}
 
 -- `["..."]`
 unfoldable pub is_all : List Text → Bool
@@ -28,35 +29,28 @@ grouping_stated None = None
 grouping_stated (Some names) = Some (grouping_of names)
 
 -- the members up to `group_wait`
-unfoldable pub front_at : List ℕ → Data → Result Front Refusal
-front_at path d = do
-  active ← optional (intervals_at (under path (codes "active_time_intervals"))) (member_of (codes "active_time_intervals") d)
-  continues ← optional (flag_at (under path (codes "continue"))) (member_of (codes "continue") d)
-  group_by ← optional (texts_at (under path (codes "group_by"))) (member_of (codes "group_by") d)
-  group_interval ← optional (span_at (under path (codes "group_interval"))) (member_of (codes "group_interval") d)
-  group_wait ← optional (span_at (under path (codes "group_wait"))) (member_of (codes "group_wait") d)
-  Ok (record { has_active = unwrap_or active false; continues = unwrap_or continues false; group_by = grouping_stated group_by; group_interval = group_interval; group_wait = group_wait })
+unfoldable pub front_at : Data → List ℕ → Data → Result Front Refusal
+front_at whole path d = do
+  active ← stated (names_at whole) path (codes "active_time_intervals") d
+  continues ← stated flag_at path (codes "continue") d
+  group_by ← stated texts_at path (codes "group_by") d
+  group_interval ← stated span_at path (codes "group_interval") d
+  group_wait ← stated span_at path (codes "group_wait") d
+  Ok (record { active_time_intervals = unwrap_or active []; continues = unwrap_or continues false; group_by = grouping_stated group_by; group_interval = group_interval; group_wait = group_wait })
 
 -- the members from `mute_time_intervals` up to `repeat_interval`
-unfoldable pub back_at : List ℕ → Data → Result Back Refusal
-back_at path d = do
-  mute ← optional (intervals_at (under path (codes "mute_time_intervals"))) (member_of (codes "mute_time_intervals") d)
-  receiver ← optional (text_at (under path (codes "receiver"))) (member_of (codes "receiver") d)
-  repeat_interval ← optional (span_at (under path (codes "repeat_interval"))) (member_of (codes "repeat_interval") d)
-  Ok (record { has_mute = unwrap_or mute false; receiver = receiver; repeat_interval = repeat_interval })
+unfoldable pub back_at : Data → List ℕ → Data → Result Back Refusal
+back_at whole path d = do
+  mute ← stated (names_at whole) path (codes "mute_time_intervals") d
+  receiver ← stated text_at path (codes "receiver") d
+  repeat_interval ← stated span_at path (codes "repeat_interval") d
+  Ok (record { mute_time_intervals = unwrap_or mute []; receiver = receiver; repeat_interval = repeat_interval })
 
 -- the list of the routes below, which may be absent
 unfoldable pub children_at : List ℕ → Data → Result Items Refusal
 children_at path d = optional (items_at (under path (codes "routes"))) (member_of (codes "routes") d) >>= λ found. Ok (unwrap_or found no_items)
 
 -- ---- levels
-
-abbrev pub any_item : (Data → Bool) → Items → Bool
-any_item p no_items = false
-any_item p (item d ds) = p d || any_item p ds
-
-abbrev pub list_in : Option Data → Items
-list_in d = unwrap_or (option_and_then as_array d) no_items
 
 -- a route has more levels of routes than are left, itself one
 unfoldable pub is_deeper : ℕ → Data → Bool

@@ -9,7 +9,7 @@ use std::alloc::{AllocError, AllocFailed};
 /// Why a value is no configuration.
 #[derive(Debug, Drop)]
 pub enum Refusal {
-    /// A wrong shape, text, duration, matcher or pattern. The path is that of the first such place: keys joined by `.`, places in a
+    /// A wrong shape, text, duration, matcher, pattern or name of a time interval. The path is that of the first such place: keys joined by `.`, places in a
     /// list as `[i]` from 0, as in `route.routes[0].group_wait`.
     BadConfig { path: Text },
     /// A route names a receiver that isn't there.
@@ -24,8 +24,6 @@ pub enum Refusal {
     BadGroupBy,
     /// A route below the 32nd level.
     TooDeep,
-    /// A list of time intervals that isn't empty.
-    TimeIntervals,
 }
 
 impl Refusal {
@@ -41,7 +39,6 @@ impl Refusal {
             Refusal::ZeroInterval => 9,
             Refusal::BadGroupBy => 10,
             Refusal::TooDeep => 11,
-            Refusal::TimeIntervals => 12,
         }
     }
 

@@ -2,9 +2,12 @@
 #![tactic(auto)]
 
 mod error;
+mod interval;
+mod interval_names;
 mod members;
 mod place;
 mod read;
+mod read_intervals;
 mod read_matchers;
 mod read_receivers;
 mod read_routes;
@@ -15,8 +18,9 @@ mod rule;
 mod stated;
 
 pub use error::{ConfigError, Refusal};
+pub use interval::NamedInterval;
 pub use members::same;
-pub use read::{Walked, walk};
+pub use read::walk;
 pub use read_routes::is_too_deep;
 pub use receiver::{Integration, Receiver};
 pub use route::{Grouping, Route};

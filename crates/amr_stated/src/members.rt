@@ -3,9 +3,9 @@ ghost use Rattle.std.specs.Prelude.{◌≡◌, ℕ, Bool, List, option_map};
 ghost use Rattle.std.specs.Ordering.{eq_by_cmp};
 ghost use Rattle.amr_labels.specs.Labels.{text_cmp};
 ghost use Rattle.serde_json.specs.View.{view, items_view};
-ghost use Rattle.amr_stated.specs.Paths.{place_path, under};
+ghost use Rattle.amr_stated.specs.Paths.{place_path};
 ghost use Rattle.amr_stated.specs.Answers.{Gives, Changes};
-ghost use Rattle.amr_stated.specs.Members.{member_of, optional, text_at, flag_at, items_at, span_at, text_into, texts_at, interval_into, intervals_at};
+ghost use Rattle.amr_stated.specs.Members.{member_of, stated, text_at, flag_at, items_at, span_at, text_into, texts_at};
 
 use crate::error::ConfigError;
 use crate::place::Place;
@@ -105,45 +105,13 @@ fn texts(alloc: Global, place: &Place, value: &Value) -> Result<Listing<Text>, C
     Ok(texts)
 }
 
-#[tactic(auto, unfolding(crate::specs::Members::interval_into))]
-fn interval(
-    alloc: Global,
-    place: &Place,
-    index: usize,
-    item: &Value,
-    any: &mut bool,
-) -> Result<(), ConfigError>
-    ensures { Changes (λ b. b) result any.new (interval_into (place_path place.now) index (view item.now) any.old) }
-{
-    match item {
-        Value::Null => Err(Place::Item(place, index).faulty(alloc)),
-        _ => {
-            *any = true;
-            Ok(())
-        }
-    }
-}
-
-/// Whether a list of time intervals has one.
-#[tactic(auto, unfolding(crate::specs::Members::intervals_at))]
-fn intervals(alloc: Global, place: &Place, value: &Value) -> Result<bool, ConfigError>
-    ensures { Gives (λ b. b) result (intervals_at (place_path place.now) (view value.now)) }
-{
-    let items = items(alloc, place, value)?;
-    let mut any = false;
-    for (index, item) in items.iter().enumerate() {
-        interval(alloc, place, index, item, &mut any)?;
-    }
-    Ok(any)
-}
-
 pub(crate) fn flag_member(
     alloc: Global,
     place: &Place,
     value: &Value,
     key: &str,
 ) -> Result<Option<bool>, ConfigError>
-    ensures { Gives (λ b. b) result (optional (flag_at (under (place_path place.now) key.now)) (member_of key.now (view value.now))) }
+    ensures { Gives (λ b. b) result (stated flag_at (place_path place.now) key.now (view value.now)) }
 {
     match member(value, key) {
         Some(found) => Ok(Some(flag(alloc, &Place::Member(place, key), found)?)),
@@ -157,7 +125,7 @@ pub(crate) fn span_member(
     value: &Value,
     key: &str,
 ) -> Result<Option<Span>, ConfigError>
-    ensures { Gives (λ b. b) result (optional (span_at (under (place_path place.now) key.now)) (member_of key.now (view value.now))) }
+    ensures { Gives (λ b. b) result (stated span_at (place_path place.now) key.now (view value.now)) }
 {
     match member(value, key) {
         Some(found) => Ok(Some(span(alloc, &Place::Member(place, key), found)?)),
@@ -171,7 +139,7 @@ pub(crate) fn text_member(
     value: &Value,
     key: &str,
 ) -> Result<Option<Text>, ConfigError>
-    ensures { Gives (λ s. s) result (optional (text_at (under (place_path place.now) key.now)) (member_of key.now (view value.now))) }
+    ensures { Gives (λ s. s) result (stated text_at (place_path place.now) key.now (view value.now)) }
 {
     match member(value, key) {
         Some(found) => {
@@ -188,24 +156,10 @@ pub(crate) fn texts_member(
     value: &Value,
     key: &str,
 ) -> Result<Option<Listing<Text>>, ConfigError>
-    ensures { Gives (λ s. s) result (optional (texts_at (under (place_path place.now) key.now)) (member_of key.now (view value.now))) }
+    ensures { Gives (λ s. s) result (stated texts_at (place_path place.now) key.now (view value.now)) }
 {
     match member(value, key) {
         Some(found) => Ok(Some(texts(alloc, &Place::Member(place, key), found)?)),
-        None => Ok(None),
-    }
-}
-
-pub(crate) fn intervals_member(
-    alloc: Global,
-    place: &Place,
-    value: &Value,
-    key: &str,
-) -> Result<Option<bool>, ConfigError>
-    ensures { Gives (λ b. b) result (optional (intervals_at (under (place_path place.now) key.now)) (member_of key.now (view value.now))) }
-{
-    match member(value, key) {
-        Some(found) => Ok(Some(intervals(alloc, &Place::Member(place, key), found)?)),
         None => Ok(None),
     }
 }

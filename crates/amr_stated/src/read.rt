@@ -1,5 +1,5 @@
 //! What a value states, read from it.
-ghost use Rattle.std.specs.Prelude.{◌≡◌, ◌||◌, codes};
+ghost use Rattle.std.specs.Prelude.{◌≡◌, codes};
 ghost use Rattle.serde_json.specs.View.{view};
 ghost use Rattle.amr_stated.specs.Answers.{Gives, Reads};
 ghost use Rattle.amr_stated.specs.Members.{optional, member_of};
@@ -7,26 +7,16 @@ ghost use Rattle.amr_stated.specs.Timeout.{timeout_in, timeout_stated, timeout_a
 ghost use Rattle.amr_stated.specs.Walking.{walked_at};
 
 use crate::error::ConfigError;
-use crate::members::{intervals_member, member, span_member};
+use crate::members::{member, span_member};
 use crate::place::Place;
+use crate::read_intervals::{read_intervals, read_mute_time_intervals};
 use crate::read_receivers::read_receivers;
 use crate::read_routes::read_routes;
 use crate::read_rules::read_rules;
 use crate::stated::Stated;
-use amr_labels::Listing;
 use amr_time::Span;
 use serde_json::Value;
 use std::alloc::Global;
-
-/// What the walk through a value gives: what it states, and where there are time intervals.
-#[derive(Drop)]
-pub struct Walked {
-    pub stated: Stated,
-    /// Whether each route states time intervals.
-    pub intervals: Listing<bool>,
-    /// Whether there are time intervals beside the routes.
-    pub top_intervals: bool,
-}
 
 #[tactic(auto, unfolding(crate::specs::Timeout::timeout_in))]
 fn timeout(alloc: Global, value: &Value) -> Result<Option<Span>, ConfigError>
@@ -70,34 +60,23 @@ fn read_timeout(alloc: Global, value: &Value) -> Result<Span, ConfigError>
     Ok(stated_timeout(timeout))
 }
 
-/// Whether one of the two is so.
-fn either(one: bool, other: bool) -> bool
-    ensures { result ≡ (one || other) }
-{
-    one || other
-}
-
 /// Goes through the members of a configuration by key in byte order, and through lists in order, up to the first faulty place. Each pattern
 /// is built once, as it is met. A route below the 32nd level is refused where the walk comes to it; `is_too_deep` tells it before.
 #[tactic(auto, unfolding(crate::specs::Walking::walked_at, crate::specs::Readings::next))]
-pub fn walk(alloc: Global, value: &Value) -> Result<Walked, ConfigError>
-    ensures { Reads (λ w. w) result (walked_at (view value.now)) }
+pub fn walk(alloc: Global, value: &Value) -> Result<Stated, ConfigError>
+    ensures { Reads (λ stated. stated) result (walked_at (view value.now)) }
 {
     let resolve_timeout = read_timeout(alloc, value)?;
     let rules = read_rules(alloc, value)?;
-    let mute = intervals_member(alloc, &Place::Top, value, "mute_time_intervals")?;
+    let mute = read_mute_time_intervals(alloc, value)?;
     let receivers = read_receivers(alloc, value)?;
-    let tree = read_routes(alloc, value)?;
-    let named = intervals_member(alloc, &Place::Top, value, "time_intervals")?;
-    let top_intervals = either(mute.unwrap_or(false), named.unwrap_or(false));
-    Ok(Walked {
-        stated: Stated {
-            routes: tree.routes,
-            receivers,
-            rules,
-            resolve_timeout,
-        },
-        intervals: tree.intervals,
-        top_intervals,
+    let routes = read_routes(alloc, value)?;
+    let time_intervals = read_intervals(alloc, value, "time_intervals", mute)?;
+    Ok(Stated {
+        routes,
+        receivers,
+        rules,
+        resolve_timeout,
+        time_intervals,
     })
 }

@@ -7,9 +7,8 @@ ghost use Rattle.amr_stated.specs.RouteParts.{is_all as all_of, grouping_of, gro
 ghost use Rattle.amr_stated.specs.ReadRoutes.{own_into, add_route, routes_at};
 
 use crate::error::{ConfigError, Refusal};
-use crate::members::{
-    flag_member, intervals_member, items, member, same, span_member, text_member, texts_member,
-};
+use crate::interval_names::names_member;
+use crate::members::{flag_member, items, member, same, span_member, text_member, texts_member};
 use crate::place::Place;
 use crate::read_matchers::read_matchers;
 use crate::route::{Grouping, Route};
@@ -18,17 +17,10 @@ use amr_time::Span;
 use serde_json::Value;
 use std::alloc::Global;
 
-/// The routes so far, and whether each states time intervals.
-#[derive(Drop)]
-pub(crate) struct Tree {
-    pub(crate) routes: Listing<Route>,
-    pub(crate) intervals: Listing<bool>,
-}
-
 /// What the members of a route up to `group_wait` state.
 #[derive(Drop)]
 struct Front {
-    has_active: bool,
+    active_time_intervals: Listing<Text>,
     continues: bool,
     group_by: Option<Grouping>,
     group_interval: Option<Span>,
@@ -38,7 +30,7 @@ struct Front {
 /// What the members of a route from `mute_time_intervals` on state.
 #[derive(Drop)]
 struct Back {
-    has_mute: bool,
+    mute_time_intervals: Listing<Text>,
     receiver: Option<Text>,
     repeat_interval: Option<Span>,
 }
@@ -75,16 +67,21 @@ fn stated_grouping(names: Option<Listing<Text>>) -> Option<Grouping>
 }
 
 #[tactic(auto, unfolding(crate::specs::RouteParts::front_at))]
-fn read_front(alloc: Global, place: &Place, value: &Value) -> Result<Front, ConfigError>
-    ensures { Gives (λ front. front) result (front_at (place_path place.now) (view value.now)) }
+fn read_front(
+    alloc: Global,
+    whole: &Value,
+    place: &Place,
+    value: &Value,
+) -> Result<Front, ConfigError>
+    ensures { Gives (λ front. front) result (front_at (view whole.now) (place_path place.now) (view value.now)) }
 {
-    let active = intervals_member(alloc, place, value, "active_time_intervals")?;
+    let active = names_member(alloc, whole, place, value, "active_time_intervals")?;
     let continues = flag_member(alloc, place, value, "continue")?;
     let group_by = texts_member(alloc, place, value, "group_by")?;
     let group_interval = span_member(alloc, place, value, "group_interval")?;
     let group_wait = span_member(alloc, place, value, "group_wait")?;
     Ok(Front {
-        has_active: active.unwrap_or(false),
+        active_time_intervals: active.unwrap_or(Listing::new(alloc)),
         continues: continues.unwrap_or(false),
         group_by: stated_grouping(group_by),
         group_interval,
@@ -93,14 +90,19 @@ fn read_front(alloc: Global, place: &Place, value: &Value) -> Result<Front, Conf
 }
 
 #[tactic(auto, unfolding(crate::specs::RouteParts::back_at))]
-fn read_back(alloc: Global, place: &Place, value: &Value) -> Result<Back, ConfigError>
-    ensures { Gives (λ back. back) result (back_at (place_path place.now) (view value.now)) }
+fn read_back(
+    alloc: Global,
+    whole: &Value,
+    place: &Place,
+    value: &Value,
+) -> Result<Back, ConfigError>
+    ensures { Gives (λ back. back) result (back_at (view whole.now) (place_path place.now) (view value.now)) }
 {
-    let mute = intervals_member(alloc, place, value, "mute_time_intervals")?;
+    let mute = names_member(alloc, whole, place, value, "mute_time_intervals")?;
     let receiver = text_member(alloc, place, value, "receiver")?;
     let repeat_interval = span_member(alloc, place, value, "repeat_interval")?;
     Ok(Back {
-        has_mute: mute.unwrap_or(false),
+        mute_time_intervals: mute.unwrap_or(Listing::new(alloc)),
         receiver,
         repeat_interval,
     })
@@ -110,21 +112,21 @@ fn read_back(alloc: Global, place: &Place, value: &Value) -> Result<Back, Config
 #[tactic(auto, unfolding(crate::specs::ReadRoutes::own_into, crate::specs::Readings::next))]
 fn add_own(
     alloc: Global,
+    whole: &Value,
     place: &Place,
     parent: Option<usize>,
     value: &Value,
-    tree: &mut Tree,
+    routes: &mut Listing<Route>,
 ) -> Result<(), ConfigError>
-    ensures { ReadsInto (λ t. t) result tree.new (own_into (place_path place.now) parent (view value.now) tree.old) }
+    ensures { ReadsInto (λ rs. rs) result routes.new (own_into (view whole.now) (place_path place.now) parent (view value.now) routes.old) }
 {
     if !value.is_object() {
         return Err(place.faulty(alloc));
     }
-    let front = read_front(alloc, place, value)?;
+    let front = read_front(alloc, whole, place, value)?;
     let matchers = read_matchers(alloc, place, "match", "match_re", "matchers", value)?;
-    let back = read_back(alloc, place, value)?;
-    tree.intervals.push(front.has_active || back.has_mute)?;
-    tree.routes.push(Route {
+    let back = read_back(alloc, whole, place, value)?;
+    routes.push(Route {
         parent,
         matchers,
         continues: front.continues,
@@ -133,6 +135,8 @@ fn add_own(
         group_wait: front.group_wait,
         group_interval: front.group_interval,
         repeat_interval: back.repeat_interval,
+        active_time_intervals: front.active_time_intervals,
+        mute_time_intervals: back.mute_time_intervals,
     })?;
     Ok(())
 }
@@ -151,29 +155,31 @@ fn children<'v>(alloc: Global, place: &Place, value: &'v Value) -> Result<&'v [V
 /// Adds a route and those below it, parents first, down to so many levels.
 fn add_route(
     alloc: Global,
+    whole: &Value,
     left: u32,
     place: &Place,
     parent: Option<usize>,
     value: &Value,
-    tree: &mut Tree,
+    routes: &mut Listing<Route>,
 ) -> Result<(), ConfigError>
-    ensures { ReadsInto (λ t. t) result tree.new (add_route left (place_path place.now) parent (view value.now) tree.old) }
+    ensures { ReadsInto (λ rs. rs) result routes.new (add_route (view whole.now) left (place_path place.now) parent (view value.now) routes.old) }
 {
     if left == 0 {
         return Err(ConfigError::Refused(Refusal::TooDeep));
     }
-    let index = tree.routes.len();
-    add_own(alloc, place, parent, value, tree)?;
+    let index = routes.len();
+    add_own(alloc, whole, place, parent, value, routes)?;
     let children = children(alloc, place, value)?;
     let below = Place::Member(&*place, "routes");
     for (i, child) in children.iter().enumerate() {
         add_route(
             alloc,
+            whole,
             left - 1,
             &Place::Item(&below, i),
             Some(index),
             child,
-            tree,
+            routes,
         )?;
     }
     Ok(())
@@ -212,18 +218,15 @@ pub fn is_too_deep(value: &Value) -> bool
 
 /// The routes of a whole configuration, parents first.
 #[tactic(auto, unfolding(crate::specs::ReadRoutes::routes_at))]
-pub(crate) fn read_routes(alloc: Global, value: &Value) -> Result<Tree, ConfigError>
-    ensures { Reads (λ t. t) result (routes_at (view value.now)) }
+pub(crate) fn read_routes(alloc: Global, value: &Value) -> Result<Listing<Route>, ConfigError>
+    ensures { Reads (λ rs. rs) result (routes_at (view value.now)) }
 {
     let top = Place::Top;
     let here = Place::Member(&top, "route");
     let Some(route) = member(value, "route") else {
         return Err(here.faulty(alloc));
     };
-    let mut tree = Tree {
-        routes: Listing::new(alloc),
-        intervals: Listing::new(alloc),
-    };
-    add_route(alloc, 32, &here, None, route, &mut tree)?;
-    Ok(tree)
+    let mut routes = Listing::new(alloc);
+    add_route(alloc, value, 32, &here, None, route, &mut routes)?;
+    Ok(routes)
 }

@@ -44,4 +44,8 @@ pub struct Route {
     pub group_wait: Option<Span>,
     pub group_interval: Option<Span>,
     pub repeat_interval: Option<Span>,
+    /// The names of the time intervals at which the route notifies, or none if it notifies at all times. Children don't inherit them.
+    pub active_time_intervals: Listing<Text>,
+    /// The names of the time intervals at which the route is muted. Children don't inherit them.
+    pub mute_time_intervals: Listing<Text>,
 }

@@ -1,5 +1,6 @@
 //! What a configuration states.
 
+use crate::interval::NamedInterval;
 use crate::receiver::Receiver;
 use crate::route::Route;
 use crate::rule::InhibitRule;
@@ -14,4 +15,6 @@ pub struct Stated {
     pub receivers: Listing<Receiver>,
     pub rules: Listing<InhibitRule>,
     pub resolve_timeout: Span,
+    /// Those of `mute_time_intervals`, then those of `time_intervals`. No two have one name.
+    pub time_intervals: Listing<NamedInterval>,
 }

@@ -1,5 +1,6 @@
 -- The day of the calendar that a day number stands for, by a formula that computes.
-use Rattle.std.specs.Prelude.{ℕ, ◌+◌, ◌-◌, ◌*◌, ◌/◌, ◌%◌, nat_lt, if◌then◌else◌}
+use Rattle.std.specs.Prelude.{ℕ, ◌+◌, ◌-◌, ◌*◌, ◌/◌, ◌%◌, nat_lt, if◌then◌else◌, pos}
+use Rattle.jiff_core.specs.Calendar.{days_in_month}
 
 -- a day of the calendar
 pub record Date : Type 0 where
@@ -26,3 +27,7 @@ date_in_era years day =
 -- the day with this number since 1970
 unfoldable pub date_of : ℕ → Date
 date_of day = date_in_era ((day + 719468) / 146097 * 400) ((day + 719468) % 146097)
+
+-- how many days the date's month has
+abbrev pub month_length : Date → ℕ
+month_length date = days_in_month (pos date.year) date.month

@@ -27,3 +27,14 @@ pub(crate) fn capped(bytes: &[u8], limit: u64) -> u64
     }
     number
 }
+
+/// The number that the bytes stand for as decimal digits, or 2^64 where it is less.
+pub(crate) fn wide_number(bytes: &[u8]) -> u128
+    ensures { result ≡ min 18_446_744_073_709_551_616 (decimal bytes.now) }
+{
+    let mut number: u128 = 0;
+    for byte in bytes {
+        number = (number * 10 + byte.saturating_sub(b'0') as u128).min(18_446_744_073_709_551_616);
+    }
+    number
+}

@@ -3,6 +3,7 @@ ghost use Rattle.std.specs.Prelude.{◌≡◌, ◌<◌, ◌≤◌, ◌^◌, pos,
 ghost use Rattle.std.specs.Result.{result_ok};
 ghost use Rattle.jiff_core.specs.Calendar.{IsEpochDay, IsWithin};
 ghost use Rattle.amr_time.specs.Time.{latest_read};
+ghost use Rattle.amr_time.specs.MomentText.{IsMomentText};
 ghost use Rattle.amr_time.specs.MomentRead.{mark_at, two_at, four_at, day_at, minutes_at, seconds_at, fraction_digits_at, fraction_at, offset_at, time_mark_at, in_range, moment_at};
 
 use crate::digits::{capped, digit_count, is_digit};
@@ -78,7 +79,7 @@ fn day(bytes: &[u8]) -> Option<(i32, &[u8])>
 
 /// Hours and minutes at the front, in minutes.
 #[tactic(auto, unfolding(crate::specs::MomentRead::minutes_at))]
-fn minutes(bytes: &[u8]) -> Option<(u32, &[u8])>
+pub(crate) fn minutes(bytes: &[u8]) -> Option<(u32, &[u8])>
     ensures value { option_map (λ x. (x.0, x.1.now)) result ≡ minutes_at bytes.now }
     ensures bound { IfSome result (λ x. x.0 < 1440) }
 {
@@ -202,6 +203,7 @@ fn moment(bytes: &[u8]) -> Option<Moment>
 /// `T` and `Z` may be in either case, and the second 60 is refused.
 pub fn read_moment(text: &str) -> Result<Moment, BadTime>
     ensures value { result_ok result ≡ moment_at text.now }
+    ensures spelled { IfOk result (λ moment. IsMomentText text.now moment) }
     ensures bound { IfOk result (λ m. m ≤ latest_read) }
 {
     moment(text.as_bytes()).ok_or(BadTime)

@@ -1,8 +1,9 @@
 //! A length of time.
-ghost use Rattle.std.specs.Prelude.{◌≡◌, ◌+◌, ◌*◌, ◌≤◌, All, min, map, length};
+ghost use Rattle.std.specs.Prelude.{◌≡◌, ◌+◌, ◌*◌, ◌≤◌, All, IfOk, min, map, length};
 ghost use Rattle.std.specs.Result.{result_ok};
 ghost use Rattle.amr_time.specs.Time.{longest_span, second, minute, hour};
 ghost use Rattle.amr_time.specs.MomentText.{decimal};
+ghost use Rattle.amr_time.specs.SpanText.{IsSpanText};
 ghost use Rattle.amr_time.specs.SpanRead.{word_of, parts_at, span_of, SameOrTooLong};
 
 use crate::digits::{capped, digit_count, is_digit};
@@ -80,7 +81,8 @@ impl Span {
     /// `m`, `s` and `ms`, each at most once and in this order, as in `1h30m`.
     #[tactic(auto, using(crate::proofs::Durations::same_some, crate::proofs::Durations::too_long, crate::proofs::Durations::same_none), unfolding(crate::specs::SpanRead::span_of))]
     pub fn read(text: &str) -> Result<Span, BadDuration>
-        ensures { result_ok result ≡ span_of text.now }
+        ensures value { result_ok result ≡ span_of text.now }
+        ensures spelled { IfOk result (λ span. IsSpanText text.now span) }
     {
         if text == "0" {
             return Ok(Span::ZERO);

@@ -3,8 +3,8 @@ ghost use Rattle.std.specs.Prelude.{◌≡◌, ◌≤◌, ◌++◌, ◌∷◌, [
 ghost use Rattle.amr_time.specs.Calendar.{date_of};
 ghost use Rattle.amr_time.specs.MomentText.{digit, two_digits, four_digits, nine_digits, fraction_digits, fraction_text, date_text, time_text, moment_text};
 
+use crate::calendar::date_with_number;
 use crate::moments::Moment;
-use jiff_core::civil::Date;
 use std::alloc::{AllocError, Global};
 
 const SECOND: u128 = 1_000_000_000;
@@ -73,17 +73,6 @@ fn push_date(out: &mut String, day: u32) -> Result<(), AllocError>
     out.push('-')?;
     push_two(out, date.2)?;
     Ok(())
-}
-
-/// The year, month and day of the date with that number since 1970-01-01.
-fn date_with_number(day: u32) -> (u32, u32, u32)
-    requires { day ≤ 2_932_896 }
-    ensures { let date = date_of day in result ≡ (date.year, date.month, date.day) }
-{
-    match Date::from_unix_epoch_day(day as i64) {
-        Ok(date) => (date.year as u32, date.month as u32, date.day as u32),
-        Err(_) => unreachable!(),
-    }
 }
 
 fn push_time(out: &mut String, hours: u32, minutes: u32, seconds: u32) -> Result<(), AllocError>

@@ -3,9 +3,7 @@
 
 ghost use Rattle.std.specs.Prelude.{◌≡◌};
 
-#[cfg(test)]
-mod tests;
-
+use amr_lines::{Inlet, Outlet};
 use amr_program::{
     Command, Fault, LONGEST_CONFIG, Unread, check_config, command_of, read_whole, run_script,
     run_session, status_of, write_fault,
@@ -21,7 +19,7 @@ fn main(rt: HostRuntime) -> ExitCode {
         Ok(()) => ExitCode::SUCCESS,
         Err(fault) => {
             // There is nowhere to tell of a fault in telling of a fault.
-            let _ = write_fault(&fault, &mut rt.stderr());
+            let _ = write_fault(&fault, &mut Outlet::new(rt.stderr()));
             ExitCode::from(status_of(&fault))
         }
     }
@@ -53,32 +51,41 @@ fn script_bytes(rt: &HostRuntime, path: &str) -> Result<Vec<u8>, Fault> {
 /// Checks the configuration of a file.
 fn check_file(rt: &HostRuntime, config: &str) -> Result<(), Fault> {
     let config = config_bytes(rt, config)?;
-    check_config(rt.alloc(), config.as_slice(), &mut rt.stdout())
+    check_config(
+        rt.alloc(),
+        config.as_slice(),
+        &mut Outlet::new(rt.stdout()),
+    )
 }
 
 /// Runs the script of one file over the configuration of another.
 fn run_files(rt: &HostRuntime, config: &str, script: &str) -> Result<(), Fault> {
     let config = config_bytes(rt, config)?;
     let script = script_bytes(rt, script)?;
-    let Ok(mut out) = BufWriter::new(rt.alloc(), rt.stdout()) else {
+    let Ok(out) = BufWriter::new(rt.alloc(), rt.stdout()) else {
         return Err(Fault::OutOfMemory);
     };
-    run_script(rt.alloc(), config.as_slice(), script.as_slice(), &mut out)
+    run_script(
+        rt.alloc(),
+        config.as_slice(),
+        script.as_slice(),
+        &mut Outlet::new(out),
+    )
 }
 
 /// Answers the commands of standard input over two files.
 fn session_over(rt: &HostRuntime, config: &str, script: &str) -> Result<(), Fault> {
     let config = config_bytes(rt, config)?;
     let script = script_bytes(rt, script)?;
-    let Ok(mut out) = BufWriter::new(rt.alloc(), rt.stdout()) else {
+    let Ok(out) = BufWriter::new(rt.alloc(), rt.stdout()) else {
         return Err(Fault::OutOfMemory);
     };
     run_session(
         rt.alloc(),
         config.as_slice(),
         script.as_slice(),
-        &mut rt.stdin(),
-        &mut out,
+        &mut Inlet::new(rt.stdin()),
+        &mut Outlet::new(out),
     )
 }
 
@@ -97,7 +104,7 @@ fn words_of(rt: &(impl Env + AllocGlobal)) -> Result<Vec<String>, Fault> {
 /// The bytes of a file, and of a longer one so many.
 fn read_file(rt: &(impl Files + AllocGlobal), path: &str, most: u64) -> Result<Vec<u8>, Unread> {
     let file = fs::open(rt, path).map_err(|e| unopened(&e))?;
-    read_whole(rt.alloc(), &mut file.take(most))
+    read_whole(rt.alloc(), &mut Inlet::new(file.take(most)))
 }
 
 /// Why a file that couldn't be opened isn't read.

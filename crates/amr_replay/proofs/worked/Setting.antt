@@ -23,6 +23,8 @@ root name = record {
   group_wait = None;
   group_interval = None;
   repeat_interval = None;
+  active_time_intervals = [];
+  mute_time_intervals = [];
 }
 
 abbrev pub config_ops : Config
@@ -31,6 +33,7 @@ config_ops = record {
   receivers = record { name = codes "ops"; integrations = record { kind = codes "webhook"; place = 0; send_resolved = true } ∷ [] } ∷ [];
   rules = [];
   resolve_timeout = 5 * minute;
+  time_intervals = [];
 }
 
 abbrev pub alert : List (Text × Text) → Option Moment → Option Moment → PostedAlert

@@ -6,11 +6,11 @@ use Rattle.amr_commands.proofs.conversation.take_turn.Goals as goal
 
 pub returns-in-Err-clause-turned : goal.returns-in-Err-clause-turned
 returns-in-Err-clause-turned g c = λ source start bytes consumed stands.
-    (bytes, Consumes-kept _ _ _ bytes consumed c.in-Err.ensures.1, (_, stands.0, stands.1))
+    (bytes, Consumes-kept _ _ _ bytes consumed c.in-Err.ensures.read.1, (_, stands.0, stands.1))
 
 pub returns-in-Ok-finish-clause-turned : goal.returns-in-Ok-finish-clause-turned
 returns-in-Ok-finish-clause-turned g c = λ source start bytes consumed stands.
-    let read = c.in-Ok-eq0.ensures in let t = c.in-Ok-eq0.field-0-test in (
+    let read = c.in-Ok-eq0.ensures.read in let t = c.in-Ok-eq0.field-0-test in (
       bytes,
       Consumes-nothing _ _ _ bytes _ _ t consumed read.1,
       (read.2 t, MatchResult-at_ok _ _ _ c.in-Ok-finish.is (c.finish.ensures.printed start bytes stands)),
@@ -18,7 +18,7 @@ returns-in-Ok-finish-clause-turned g c = λ source start bytes consumed stands.
 
 pub returns-in-Err-finish-clause-turned : goal.returns-in-Err-finish-clause-turned
 returns-in-Err-finish-clause-turned g c = λ source start bytes consumed stands.
-    let read = c.in-Ok-eq0.ensures in let t = c.in-Ok-eq0.field-0-test in (
+    let read = c.in-Ok-eq0.ensures.read in let t = c.in-Ok-eq0.field-0-test in (
       bytes,
       Consumes-nothing _ _ _ bytes _ _ t consumed read.1,
       inr (MatchResult-at_err _ _ _ c.in-Err-finish.is (c.finish.ensures.printed start bytes stands)),
@@ -26,11 +26,11 @@ returns-in-Err-finish-clause-turned g c = λ source start bytes consumed stands.
 
 pub returns-in-Ok-hear-clause-turned : goal.returns-in-Ok-hear-clause-turned
 returns-in-Ok-hear-clause-turned g c = λ source start bytes consumed stands.
-    let read = c.in-Ok.ensures in
+    let read = c.in-Ok.ensures.read in
     Stands-heard _ source _ _ start _ _ bytes _ _ _ _ c.hear.result _ _ _ refl c.hear.ensures.heard c.in-Ok-hear.is read.1 consumed stands
 
 pub returns-in-Err-hear-clause-turned : goal.returns-in-Err-hear-clause-turned
 returns-in-Err-hear-clause-turned g c = λ source start bytes consumed stands.
-    let read = c.in-Ok.ensures in
+    let read = c.in-Ok.ensures.read in
     let (bytes', consumed', stops) = StopsInside-heard _ source _ _ start _ _ bytes _ _ _ _ c.hear.result _ _ _ refl c.hear.ensures.heard c.in-Err-hear.is read.1 consumed stands in
     (bytes', consumed', inl stops)

@@ -6,8 +6,10 @@ use Rattle.amr_commands.specs.Converse.{Stands}
 use Rattle.amr_commands.proofs.hear.hear.Given as goal
 
 abbrev pub invariant-loop-b : goal.invariant-loop-b
-invariant-loop-b g l =
-    ((incident_of l.session) ≡ (incident_of l.initial.session))
-    × ((start : Option (List ℕ)) (before rest : List ℕ)
-    → Told (incident_of l.initial.session) start (g.W.Write.contents l.initial.out) before l.initial.session.cursor rest → Holds l.initial.line rest
-    → Stands (incident_of l.initial.session) start (g.W.Write.contents l.out) (before ++ take l.b-index l.bytes) l.session.cursor l.line)
+invariant-loop-b g l = record {
+  kept : (incident_of l.session) ≡ (incident_of l.initial.session);
+  stands : (start : Option (List ℕ)) (before rest : List ℕ)
+      → Told (incident_of l.initial.session) start (g.W.Write.contents l.initial.out.writer) before l.initial.session.cursor rest → Holds l.initial.line rest
+      → Stands (incident_of l.initial.session) start (g.W.Write.contents l.out.writer) (before ++ take l.b-index l.bytes) l.session.cursor l.line;
+  failed : l.out.failed ≡ l.initial.out.failed;
+}

@@ -31,22 +31,22 @@ returns-in_err-receivers c =
     rw (p.1, p.2) (stops_later _ _ _ _ c.in_ok-resolve_timeout.ensures (stops_later _ _ _ _ c.in_ok-rules.ensures
     (stops_later _ _ _ _ c.in_ok-mute.ensures (stops_first _ _ _ (stops_plain _ _ c.in_err-receivers.ensures)))))
 
-pub returns-in_err-tree : goal.returns-in_err-tree
+pub returns-in_err-routes : goal.returns-in_err-routes
 unfolding walked_at
-returns-in_err-tree c =
-    let p = err_from_is_err_and c.from_residual-in_err-tree.result c.from_residual-in_err-tree.ensures.1 in
+returns-in_err-routes c =
+    let p = err_from_is_err_and c.from_residual-in_err-routes.result c.from_residual-in_err-routes.ensures.1 in
     rw (p.1, p.2) (stops_later _ _ _ _ c.in_ok-resolve_timeout.ensures (stops_later _ _ _ _ c.in_ok-rules.ensures
-    (stops_later _ _ _ _ c.in_ok-mute.ensures (stops_later _ _ _ _ c.in_ok-receivers.ensures (stops_first _ _ _ c.in_err-tree.ensures)))))
+    (stops_later _ _ _ _ c.in_ok-mute.ensures (stops_later _ _ _ _ c.in_ok-receivers.ensures (stops_first _ _ _ c.in_err-routes.ensures)))))
 
-pub returns-in_err-named : goal.returns-in_err-named
+pub returns-in_err-time_intervals : goal.returns-in_err-time_intervals
 unfolding walked_at
-returns-in_err-named c =
-    let p = err_from_is_err_and c.from_residual-in_err-named.result c.from_residual-in_err-named.ensures.1 in
+returns-in_err-time_intervals c =
+    let p = err_from_is_err_and c.from_residual-in_err-time_intervals.result c.from_residual-in_err-time_intervals.ensures.1 in
     rw (p.1, p.2) (stops_later _ _ _ _ c.in_ok-resolve_timeout.ensures (stops_later _ _ _ _ c.in_ok-rules.ensures
-    (stops_later _ _ _ _ c.in_ok-mute.ensures (stops_later _ _ _ _ c.in_ok-receivers.ensures (stops_later _ _ _ _ c.in_ok-tree.ensures
-    (stops_first _ _ _ (stops_plain _ _ c.in_err-named.ensures)))))))
+    (stops_later _ _ _ _ c.in_ok-mute.ensures (stops_later _ _ _ _ c.in_ok-receivers.ensures (stops_later _ _ _ _ c.in_ok-routes.ensures
+    (stops_first _ _ _ (stops_plain _ _ c.in_err-time_intervals.ensures)))))))
 
 pub returns : goal.returns
 unfolding walked_at next
 returns c =
-    rw (c.in_ok-resolve_timeout.ensures, c.in_ok-rules.ensures, c.in_ok-mute.ensures, c.in_ok-receivers.ensures, c.in_ok-tree.ensures, c.in_ok-named.ensures, c.either-top_intervals.ensures, c.unwrap_or.ensures, c.unwrap_or-2.ensures) refl
+    rw (c.in_ok-resolve_timeout.ensures, c.in_ok-rules.ensures, c.in_ok-mute.ensures, c.in_ok-receivers.ensures, c.in_ok-routes.ensures, c.in_ok-time_intervals.ensures) refl

@@ -1,6 +1,7 @@
 use Rattle.std.proofs.Common.{◌≡◌, ◌-◌, drop}
 use Rattle.serde_json.specs.View.{view, items_view}
-use Rattle.amr_stated.specs.RouteParts.{is_deeper, any_item}
+use Rattle.amr_stated.specs.RouteParts.{is_deeper}
+use Rattle.amr_stated.specs.Members.{any_item}
 use Rattle.amr_stated.proofs.read_routes.+is_deeper.Given as goal
 
 abbrev pub decreases-is_deeper : goal.decreases-is_deeper

@@ -3,4 +3,4 @@ use Rattle.amr_config.proofs.Parents.{parents_first}
 use Rattle.amr_config.proofs.config.Config.read.Goals as goal
 
 pub from_stated-requires : goal.from_stated-requires
-from_stated-requires c = parents_first (view c.args.value.now) c.in_ok-walked.walked c.in_ok-walked.ensures
+from_stated-requires c = parents_first (view c.args.value.now) c.in_ok-stated.stated c.in_ok-stated.ensures

@@ -1,0 +1,120 @@
+//! What no command of the program shows.
+use amr_interner::Interner;
+use amr_labels::{Labels, Text};
+use amr_matchers::{Matchers, ParseError};
+use amr_time::{Moment, Span, next_multiple, write_moment};
+use std::alloc::{AllocError, Global};
+use std::test::Fail;
+
+/// Texts that are no matcher texts, and the place at which no matcher text goes on.
+const FAULTY: [(&str, usize); 26] = [
+    ("foo", 3),
+    ("a b=c", 2),
+    ("{,}", 1),
+    ("a=b,,", 4),
+    ("\u{1c}", 1),
+    (",", 0),
+    ("a= ~b", 3),
+    ("a==b", 2),
+    ("a!b", 2),
+    ("a!", 2),
+    ("a=\"b\\x\"", 5),
+    ("a=\"b\\7\"", 5),
+    ("a=\"b\\'\"", 5),
+    ("a=\"b", 4),
+    ("a='b'", 2),
+    ("a=`b`", 2),
+    ("a=b}", 3),
+    ("{a=b", 4),
+    ("{a=b}c", 5),
+    ("a=\"b\"c", 5),
+    ("a=b\"c\"", 3),
+    ("éé=é=", 7),
+    ("=b", 0),
+    ("\"\"=x", 1),
+    ("a=b c=d", 4),
+    ("c=~\"[\",,", 7),
+];
+
+fn place_of_fault(alloc: Global, text: &str) -> Result<Option<usize>, AllocError> {
+    match Matchers::parse(alloc, text) {
+        Err(ParseError::BadMatcher { at }) => Ok(Some(at)),
+        Err(ParseError::Memory) => Err(AllocError),
+        _ => Ok(None),
+    }
+}
+
+#[test]
+fn faulty_matcher_texts_are_refused_at_their_places(rt: HostRuntime) -> Result<(), Fail> {
+    for (text, place) in &FAULTY {
+        assert_eq!(rt; place_of_fault(rt.alloc(), text)?, Some(*place), "{text}");
+    }
+    Ok(())
+}
+
+/// No event of a script reaches it.
+#[test]
+fn the_last_moment_is_written_and_has_a_multiple(rt: HostRuntime) -> Result<(), Fail> {
+    let last = Moment::from_nanoseconds(253_402_300_799_999_999_999);
+    assert_eq!(rt;
+        write_moment(rt.alloc(), last)?.as_str(),
+        "9999-12-31T23:59:59.999999999Z"
+    );
+    assert_eq!(rt;
+        next_multiple(last, Span::from_seconds(30)),
+        253_402_300_800_000_000_000
+    );
+    Ok(())
+}
+
+/// The set of one label.
+fn label_set(alloc: Global, name: &str) -> Result<Labels, Fail> {
+    let mut pairs = Vec::new(alloc);
+    pairs.push((Text::from_str(alloc, name)?, Text::from_str(alloc, "1")?))?;
+    let found = Labels::of_pairs(alloc, pairs.as_slice())?;
+    Ok(found.ok_or("the name is empty")?)
+}
+
+/// The number of a label set, which is given one where it has none.
+fn number_of(alloc: Global, seen: &mut Interner, name: &str) -> Result<usize, Fail> {
+    let labels = label_set(alloc, name)?;
+    Ok(seen.id_of(&labels)?)
+}
+
+/// Whether a label set has a number, and which.
+fn known_number(alloc: Global, seen: &Interner, name: &str) -> Result<Option<usize>, Fail> {
+    let labels = label_set(alloc, name)?;
+    Ok(seen.find(&labels))
+}
+
+/// Three label sets are seen, the last as the first.
+fn see(alloc: Global, seen: &mut Interner) -> Result<bool, Fail> {
+    let is_new = known_number(alloc, seen, "b")?.is_none();
+    let first = number_of(alloc, seen, "b")?;
+    let second = number_of(alloc, seen, "a")?;
+    let third = number_of(alloc, seen, "b")?;
+    Ok(is_new && first == 0 && second == 1 && third == 0)
+}
+
+/// Whether they are known by their numbers.
+fn are_known(alloc: Global, seen: &Interner) -> Result<bool, Fail> {
+    let number = known_number(alloc, seen, "a")?;
+    Ok(number == Some(1) && seen.len() == 2 && seen.labels_of(1).value_of("a") == "1")
+}
+
+#[test]
+fn label_sets_are_numbered_in_order_of_first_sight(rt: HostRuntime) -> Result<(), Fail> {
+    let mut seen = Interner::new(rt.alloc());
+    assert!(rt; see(rt.alloc(), &mut seen)?);
+    let copy = seen.clone()?;
+    assert!(rt; are_known(rt.alloc(), &copy)?);
+    Ok(())
+}
+
+#[test]
+fn a_copy_of_a_label_set_is_equal(rt: HostRuntime) -> Result<(), Fail> {
+    let labels = label_set(rt.alloc(), "alertname")?;
+    let copy = labels.copy()?;
+    assert!(rt; copy == labels && copy.len() == 1 && copy.value_of("alertname") == "1");
+    Ok(())
+}

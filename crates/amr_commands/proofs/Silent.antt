@@ -1,0 +1,32 @@
+-- An empty line prints nothing.
+use Rattle.std.proofs.Common.{◌≡◌, ℕ, [], ap, sym, subst, inl, inr, refl, arith}
+use Rattle.std.specs.Prelude.{if◌then◌else◌}
+use Rattle.std.proofs.lemmas.Str.{IsUtf8-nil, is_utf8-from_IsUtf8}
+use Rattle.amr_lines.specs.declared.word.Word.TheVariants as word
+use Rattle.amr_command_lines.specs.declared.command.Said.{Said}
+use Rattle.amr_command_lines.specs.declared.command.Said.TheVariants.{Nothing, Malformed}
+use Rattle.amr_command_lines.specs.Parts.{word_in, trimmed}
+use Rattle.amr_command_lines.specs.Command.{word_named, said_in, said_of}
+use Rattle.amr_command_lines.specs.Said.{LineSays}
+use Rattle.amr_commands.specs.Replies.{Incident, MayFindNoMemory, reply_of}
+use Rattle.amr_commands.specs.Talk.{Fate, TooLong, Unheld, Undone, Done, MayBe}
+use Rattle.amr_commands.specs.Laws.{nothing_at, EmptyIsSilent}
+
+empty_says : said_of [] ≡ Nothing
+unfolding said_of said_in
+empty_says = ap (λ b. if b then said_in (trimmed []) else Malformed word.Unknown) (is_utf8-from_IsUtf8 [] IsUtf8-nil)
+
+empty_is_no_word : word_named (word_in (trimmed [])) ≡ word.Unknown
+unfolding word_named
+empty_is_no_word = refl
+
+-- an empty line says nothing
+says_nothing : (said : Said) → LineSays [] said → Nothing ≡ said
+says_nothing said (inl e) = sym (cc (e, empty_says))
+says_nothing said (inr (text, trial, tries)) = absurd (cc (empty_is_no_word, trial))
+
+pub empty_is_silent : EmptyIsSilent
+empty_is_silent incident cursor TooLong long = absurd (omega arith)
+empty_is_silent incident cursor Unheld (some, short) = absurd (omega arith)
+empty_is_silent incident cursor (Undone said) (short, says, takes) = absurd (subst (MayFindNoMemory incident cursor) (sym (says_nothing said says)) takes)
+empty_is_silent incident cursor (Done said) (short, says) = ap (reply_of incident cursor) (sym (says_nothing said says))

@@ -1,0 +1,37 @@
+//! The stages of a flush that take alerts away, in their order.
+ghost use Rattle.std.specs.Prelude.{◌≡◌, IfOk};
+ghost use Rattle.amr_engine.specs.Stages.{taken_away};
+
+use crate::explain::Finding;
+use amr_labels::Labels;
+use amr_rules::{inhibited_by, silenced_by};
+use amr_state::Store;
+use amr_time::Moment;
+use std::alloc::AllocError;
+
+/// The first stage that takes an alert with these labels away from the route: inhibition, active time, mute time, silences.
+#[tactic(auto, unfolding(crate::specs::Stages::taken_away))]
+pub(crate) fn taken_away(
+    store: &Store,
+    at: Moment,
+    route: usize,
+    labels: &Labels,
+) -> Result<Option<Finding>, AllocError>
+    ensures { IfOk result (λ found. found ≡ taken_away store.now at route labels.now) }
+{
+    let alloc = store.alloc();
+    let config = store.config();
+    if let Some((rule, source)) = inhibited_by(alloc, config.rules(), store.alerts(), at, labels)? {
+        return Ok(Some(Finding::Inhibited { rule, source }));
+    }
+    if !config.is_active_at(route, at) {
+        return Ok(Some(Finding::OutsideActive));
+    }
+    if config.is_muted_at(route, at) {
+        return Ok(Some(Finding::TimeMuted));
+    }
+    match silenced_by(alloc, store.silences(), at, labels)? {
+        Some(id) => Ok(Some(Finding::Silenced { id })),
+        None => Ok(None),
+    }
+}

@@ -1,0 +1,114 @@
+-- The outcome of an event, and the state after it, are what the relations say.
+use Rattle.std.specs.Prelude.{◌≡◌, ◌<◌, ◌≤◌, Bool, true, false, List, [], Option, Some, None, Result, Ok, Err, length, drop, nat_le, if◌then◌else◌}
+use Rattle.std.proofs.Common.{refl, sym, ap, ◌∙◌, subst, arith}
+use Rattle.std.specs.declared.cmp.Ordering.{Ordering}
+use Rattle.std.specs.declared.cmp.Ordering.TheVariants.{Less, Equal, Greater}
+use Rattle.std.specs.Ordering.{is_gt, ordering_reverse}
+use Rattle.std.proofs.lemmas.Bool.{le-leb, lt-leb, leb-true}
+use Rattle.amr_time.specs.Time.{Moment}
+use Rattle.amr_events.specs.Events.{Event, Reason}
+use Rattle.amr_state.specs.declared.due.Due.{Due}
+use Rattle.amr_state.specs.State.{State}
+use Rattle.amr_state.specs.Dues.{due_cmp, due_cmp_total, due_cmp-IsAntisymmetric, due_by, least_due, dues, next_due}
+use Rattle.amr_engine.specs.Events.{Accepted, Refused, do_event, outcome_of, outcome_from, after_event, at_moment, skipped_of, move_limit}
+use Rattle.amr_engine.specs.Said.{Does, Refuses, IsIn, IsLeast}
+use Rattle.amr_engine.proofs.MovesLaws.{least_due-empty, least_due-IsLeast, Advances-ends, do_within-Does, Does-do_within}
+use Rattle.amr_engine.proofs.RefusalLaws.{do_within-Refuses, Refuses-do_within}
+use Rattle.amr_replay.specs.Laws.{IsDone, AcceptedIsDone, RefusedIsSaid, StateIsSaid, RefusedIsLeft, NextIsLeast, NoneIsLater}
+
+abbrev Done : Type 0
+Done = Result (List Due × State) Reason
+
+after_done : (s : State) (event : Event) (moves : List Due) (after : State) → do_event s event ≡ Ok (moves, after) → after_event s event ≡ after
+unfolding after_event
+after_done s event moves after e = ap (λ (r : Done). elim r [ Ok done ↦ done.1 | Err reason ↦ s ]) e
+
+after_refused : (s : State) (event : Event) (reason : Reason) → do_event s event ≡ Err reason → after_event s event ≡ s
+unfolding after_event
+after_refused s event reason e = ap (λ (r : Done). elim r [ Ok done ↦ done.1 | Err other ↦ s ]) e
+
+outcome_is : (s : State) (event : Event) (r : Done) → do_event s event ≡ r → outcome_of s event ≡ outcome_from s event r
+unfolding outcome_of
+outcome_is s event r e = ap (outcome_from s event) e
+
+pub state_is_said : StateIsSaid
+state_is_said s event moves after does = after_done s event moves after (Does-do_within move_limit s event moves after does)
+
+pub refused_is_left : RefusedIsLeft
+refused_is_left s event reason refuses = after_refused s event reason (Refuses-do_within move_limit s event reason refuses)
+
+pub refused_is_said : RefusedIsSaid
+refused_is_said s event reason = (
+  λ e. by (do_event s event) refl (sym (outcome_is s event (do_event s event) refl) ∙ e),
+  λ refuses. outcome_is s event (Err reason) (Refuses-do_within move_limit s event reason refuses),
+)
+  where
+    by : (r : Done) → do_event s event ≡ r → outcome_from s event r ≡ Refused reason → Refuses move_limit s event reason
+    by (Ok done) is e = absurd (cc)
+    by (Err other) is e =
+        let same : other ≡ reason = cc in
+        do_within-Refuses move_limit s event reason (is ∙ ap (λ (x : Reason). Err x) same)
+
+pub accepted_is_done : AcceptedIsDone
+accepted_is_done s event count notes skipped = (
+  λ e. by (do_event s event) refl (sym (outcome_is s event (do_event s event) refl) ∙ e),
+  λ d. outcome_is s event (Ok (d.moves, after_event s event)) (Does-do_within move_limit s event d.moves (after_event s event) d.does)
+      ∙ (λ i. Accepted (sym d.count_is i) (sym d.notes_are i) (sym d.skipped_are i)),
+)
+  where
+    by : (r : Done) → do_event s event ≡ r → outcome_from s event r ≡ Accepted count notes skipped → IsDone s event count notes skipped
+    by (Ok (moves, after)) is e =
+        let state : after_event s event ≡ after = after_done s event moves after is in
+        let told : notes ≡ drop (length s.notes) after.notes = cc in
+        record {
+          moves = moves;
+          does = subst (λ (x : State). Does move_limit s event moves x) (sym state) (do_within-Does move_limit s event moves after is);
+          count_is = cc;
+          notes_are = told ∙ ap (λ (x : State). drop (length s.notes) x.notes) (sym state);
+          skipped_are = cc;
+        }
+    by (Err other) is e = absurd (cc)
+
+-- two that go before each other are the same
+alike : (o p : Ordering) → o ≡ ordering_reverse p → is_gt o ≡ false → is_gt p ≡ false → o ≡ Equal
+alike o Less e h k = absurd (cc (ap is_gt e, h))
+alike o Equal e h k = e
+alike o Greater e h k = absurd (cc)
+
+one_least : (a b : Due) (list : List Due) → IsLeast a list → IsLeast b list → a ≡ b
+one_least a b list h k =
+    due_cmp-IsAntisymmetric a b (alike (due_cmp a b) (due_cmp b a) (due_cmp_total.antisymm a b) (h.before_all b k.among) (k.before_all a h.among))
+
+due_by-within : (at : Moment) (due : Due) → due.moment ≤ at → due_by at (Some due) ≡ Some due
+due_by-within at due h = ap (λ b. if b then Some due else None) (le-leb due.moment at h)
+
+due_by-later : (at : Moment) (due : Due) → at < due.moment → due_by at (Some due) ≡ None
+due_by-later at due h = ap (λ b. if b then Some due else None) (lt-leb due.moment at h)
+
+from_due_by : (at : Moment) (least due : Due) (b : Bool) → nat_le least.moment at ≡ b → (if b then Some least else None) ≡ Some due → (least ≡ due) × (least.moment ≤ at)
+from_due_by at least due true is e = (cc, leb-true least.moment at is)
+from_due_by at least due false is e = absurd (cc)
+
+pub next_is_least : NextIsLeast
+unfolding next_due
+next_is_least at s due = (to (least_due (dues s)) refl, from (least_due (dues s)) refl)
+  where
+    to : (o : Option Due) → least_due (dues s) ≡ o → due_by at o ≡ Some due → IsLeast due (dues s) × (due.moment ≤ at)
+    to None is e = absurd (cc)
+    to (Some least) is e =
+        let found = from_due_by at least due (nat_le least.moment at) refl e in
+        subst (λ (x : Due). IsLeast x (dues s) × (x.moment ≤ at)) found.0 (least_due-IsLeast (dues s) least is, found.1)
+
+    from : (o : Option Due) → least_due (dues s) ≡ o → IsLeast due (dues s) × (due.moment ≤ at) → due_by at o ≡ Some due
+    from None is h = absurd (subst (IsIn due) (least_due-empty (dues s) is) (h.0.among))
+    from (Some least) is h =
+        let same : due ≡ least = one_least due least (dues s) h.0 (least_due-IsLeast (dues s) least is) in
+        ap (λ (x : Due). due_by at (Some x)) (sym same) ∙ due_by-within at due h.1
+
+pub none_is_later : NoneIsLater
+unfolding next_due
+none_is_later at s = (λ e. Advances-ends at s [] s (e, refl), from (least_due (dues s)) refl)
+  where
+    from : (o : Option Due) → least_due (dues s) ≡ o → ((due : Due) → IsIn due (dues s) → at < due.moment) → due_by at o ≡ None
+    from None is later = refl
+    from (Some least) is later = due_by-later at least (later least ((least_due-IsLeast (dues s) least is).among))

@@ -1,0 +1,141 @@
+-- The time intervals that a configuration defines, and the names by which routes take them.
+use Rattle.std.specs.Prelude.{ℕ, ◌+◌, List, [], ◌∷◌, ◌++◌, Bool, true, false, ◌||◌, Option, Some, None, Result, Ok, Err, codes, if◌then◌else◌, nat_lt, option_and_then, option_map}
+use Rattle.std.specs.List.{list_any}
+use Rattle.std.specs.Option.{option_or, option_map_or}
+use Rattle.std.specs.Ordering.{eq_by_cmp}
+use Rattle.serde_json.specs.Data.{Data}
+use Rattle.serde_json.specs.Find.{as_str, as_number, as_u64, as_i64}
+use Rattle.amr_labels.specs.Labels.{Text, text_cmp}
+use Rattle.amr_time.specs.IntervalTexts.{time_at, end_time_at, weekdays_at, months_at, years_at, days_at, month_numbered, single, day_numbered}
+use Rattle.amr_time.specs.declared.intervals.TimeRange.{TimeRange}
+use Rattle.amr_time.specs.declared.intervals.Range.{Range}
+use Rattle.amr_time.specs.declared.intervals.DayRange.{DayRange}
+use Rattle.amr_time.specs.declared.intervals.IntervalMember.{IntervalMember}
+use Rattle.amr_stated.specs.declared.error.Refusal.{Refusal}
+use Rattle.amr_stated.specs.declared.error.Refusal.TheVariants.{BadConfig}
+use Rattle.amr_stated.specs.declared.interval.NamedInterval.{NamedInterval}
+use Rattle.amr_stated.specs.declared.read_intervals.Field.{Field}
+use Rattle.amr_stated.specs.declared.read_intervals.Field.TheVariants.{Weekdays, Months, Years}
+use Rattle.amr_stated.specs.Paths.{under, item_path}
+use Rattle.amr_stated.specs.Members.{◌>>=◌, any_item, list_in, member_of, stated, required, each_item, or_faulty, text_at, items_at, members_at}
+
+-- ---- ranges
+
+abbrev pub number_in : Data → Option ℕ
+number_in d = option_and_then as_u64 (as_number d)
+
+-- a weekday is a text; a month or a year is a text or a number
+abbrev pub range_in : Field → Data → Option Range
+range_in Weekdays d = option_and_then weekdays_at (as_str d)
+range_in Months d = option_or (option_and_then months_at (as_str d)) (option_and_then month_numbered (number_in d))
+range_in Years d = option_or (option_and_then years_at (as_str d)) (option_map single (number_in d))
+
+-- a text or a number
+abbrev pub day_range_in : Data → Option DayRange
+day_range_in d = option_or (option_and_then days_at (as_str d)) (option_and_then day_numbered (option_and_then as_i64 (as_number d)))
+
+-- a range of a list, after those before it
+unfoldable pub range_into : {A : Type 0} → (Data → Option A) → List ℕ → ℕ → Data → List A → Result (List A) Refusal
+range_into reads path i d ranges = or_faulty (item_path path i) (reads d) >>= λ range. Ok (ranges ++ range ∷ [])
+
+unfoldable pub ranges_at : {A : Type 0} → (Data → Option A) → List ℕ → Data → Result (List A) Refusal
+ranges_at reads path d = items_at path d >>= λ ds. each_item (range_into reads path) 0 ds []
+
+-- ---- times of the day
+
+-- a text that spells a time
+unfoldable pub time_of : (List ℕ → Option ℕ) → List ℕ → Data → Result ℕ Refusal
+time_of spelled path d = text_at path d >>= λ text. or_faulty path (spelled text)
+
+-- the start comes before the end
+abbrev pub times_from : List ℕ → ℕ → ℕ → Result TimeRange Refusal
+times_from path start end = if nat_lt start end then Ok (record { start = start; end = end }) else Err (BadConfig path)
+
+unfoldable pub time_range_at : List ℕ → Data → Result TimeRange Refusal
+time_range_at path d = do
+  whole ← members_at path d
+  end ← required (under path (codes "end_time")) (time_of end_time_at (under path (codes "end_time"))) (member_of (codes "end_time") d)
+  start ← required (under path (codes "start_time")) (time_of time_at (under path (codes "start_time"))) (member_of (codes "start_time") d)
+  times_from path start end
+
+unfoldable pub time_range_into : List ℕ → ℕ → Data → List TimeRange → Result (List TimeRange) Refusal
+time_range_into path i d ranges = time_range_at (item_path path i) d >>= λ range. Ok (ranges ++ range ∷ [])
+
+unfoldable pub times_at : List ℕ → Data → Result (List TimeRange) Refusal
+times_at path d = items_at path d >>= λ ds. each_item (time_range_into path) 0 ds []
+
+-- ---- intervals
+
+abbrev pub is_utc : Text → Bool
+is_utc text = eq_by_cmp text_cmp text (codes "UTC")
+
+-- `UTC`, since moments are read in UTC
+unfoldable pub location_at : List ℕ → Data → Result Bool Refusal
+location_at path d = text_at path d >>= λ text. if is_utc text then Ok true else Err (BadConfig path)
+
+-- the fields of a member of an interval
+unfoldable pub interval_fields_at : List ℕ → Data → Result IntervalMember Refusal
+interval_fields_at path d = do
+  days_of_month ← stated (ranges_at day_range_in) path (codes "days_of_month") d
+  location ← stated location_at path (codes "location") d
+  months ← stated (ranges_at (range_in Months)) path (codes "months") d
+  times ← stated times_at path (codes "times") d
+  weekdays ← stated (ranges_at (range_in Weekdays)) path (codes "weekdays") d
+  years ← stated (ranges_at (range_in Years)) path (codes "years") d
+  Ok (record { times = times; weekdays = weekdays; days_of_month = days_of_month; months = months; years = years })
+
+unfoldable pub interval_member_at : List ℕ → Data → Result IntervalMember Refusal
+interval_member_at path d = members_at path d >>= λ whole. interval_fields_at path d
+
+unfoldable pub interval_member_into : List ℕ → ℕ → Data → List IntervalMember → Result (List IntervalMember) Refusal
+interval_member_into path i d members = interval_member_at (item_path path i) d >>= λ member. Ok (members ++ member ∷ [])
+
+unfoldable pub interval_members_at : List ℕ → Data → Result (List IntervalMember) Refusal
+interval_members_at path d = items_at path d >>= λ ds. each_item (interval_member_into path) 0 ds []
+
+abbrev pub is_taken : Text → List NamedInterval → Bool
+is_taken name intervals = list_any (λ interval. eq_by_cmp text_cmp interval.name name) intervals
+
+-- a text that no interval before it has as its name
+unfoldable pub new_name_at : List NamedInterval → List ℕ → Data → Result Text Refusal
+new_name_at intervals path d = text_at path d >>= λ name. if is_taken name intervals then Err (BadConfig path) else Ok name
+
+-- a named interval, after those before it
+unfoldable pub interval_at : List NamedInterval → List ℕ → Data → Result NamedInterval Refusal
+interval_at intervals path d = do
+  whole ← members_at path d
+  name ← required (under path (codes "name")) (new_name_at intervals (under path (codes "name"))) (member_of (codes "name") d)
+  members ← required (under path (codes "time_intervals")) (interval_members_at (under path (codes "time_intervals"))) (member_of (codes "time_intervals") d)
+  Ok (record { name = name; interval = record { members = members } })
+
+unfoldable pub interval_into : List ℕ → ℕ → Data → List NamedInterval → Result (List NamedInterval) Refusal
+interval_into path i d intervals = interval_at intervals (item_path path i) d >>= λ interval. Ok (intervals ++ interval ∷ [])
+
+abbrev pub intervals_from : List ℕ → Option Data → List NamedInterval → Result (List NamedInterval) Refusal
+intervals_from path None intervals = Ok intervals
+intervals_from path (Some d) intervals = items_at path d >>= λ ds. each_item (interval_into path) 0 ds intervals
+
+-- the intervals that a list of a whole configuration defines, after those before them
+unfoldable pub intervals_at : List ℕ → Data → List NamedInterval → Result (List NamedInterval) Refusal
+intervals_at key d intervals = intervals_from key (member_of key d) intervals
+
+-- ---- the names at a route
+
+-- an object has the name
+unfoldable pub has_name : Text → Data → Bool
+has_name name d = option_map_or (λ text. eq_by_cmp text_cmp text name) (option_and_then as_str (member_of (codes "name") d)) false
+
+-- a list of a whole configuration has an object with the name
+unfoldable pub defines : List ℕ → Data → Text → Bool
+defines key whole name = any_item (has_name name) (list_in (member_of key whole))
+
+-- one of the two lists of intervals has
+unfoldable pub is_defined : Data → Text → Bool
+is_defined whole name = defines (codes "mute_time_intervals") whole name || defines (codes "time_intervals") whole name
+
+-- a name that the whole configuration defines, after those before it
+unfoldable pub name_into : Data → List ℕ → ℕ → Data → List Text → Result (List Text) Refusal
+name_into whole path i d names = text_at (item_path path i) d >>= λ name. if is_defined whole name then Ok (names ++ name ∷ []) else Err (BadConfig (item_path path i))
+
+unfoldable pub names_at : Data → List ℕ → Data → Result (List Text) Refusal
+names_at whole path d = items_at path d >>= λ ds. each_item (name_into whole path) 0 ds []

@@ -1,0 +1,458 @@
+//! Time intervals, read from a value.
+ghost use Rattle.std.specs.Prelude.{◌≡◌, [], Some, codes};
+ghost use Rattle.std.specs.List.{list_any};
+ghost use Rattle.std.specs.Ordering.{eq_by_cmp};
+ghost use Rattle.serde_json.specs.View.{view};
+ghost use Rattle.amr_labels.specs.Labels.{text_cmp};
+ghost use Rattle.amr_time.specs.IntervalTexts.{time_at, end_time_at};
+ghost use Rattle.amr_stated.specs.Paths.{place_path};
+ghost use Rattle.amr_stated.specs.declared.read_intervals.Field.TheVariants.{Months, Years};
+ghost use Rattle.amr_stated.specs.Answers.{Gives, Changes};
+ghost use Rattle.amr_stated.specs.Members.{stated};
+ghost use Rattle.amr_stated.specs.ReadIntervals.{range_in, day_range_in, range_into, ranges_at, time_of, time_range_at, time_range_into, times_at, location_at, interval_fields_at, interval_member_at, interval_member_into, interval_members_at, is_taken as taken_of, new_name_at, interval_at, interval_into, intervals_from, intervals_at};
+
+use crate::error::ConfigError;
+use crate::interval::NamedInterval;
+use crate::members::{items, member, same, text};
+use crate::place::Place;
+use amr_labels::{Listing, Text};
+use amr_time::{
+    DayRange, IntervalMember, Range, TimeInterval, TimeRange, end_time_of_day, time_of_day,
+};
+use serde_json::Value;
+use std::alloc::Global;
+
+/// The intervals that `mute_time_intervals` of a whole configuration defines.
+pub(crate) fn read_mute_time_intervals(
+    alloc: Global,
+    value: &Value,
+) -> Result<Listing<NamedInterval>, ConfigError>
+    ensures { Gives (λ is. is) result (intervals_at (codes "mute_time_intervals") (view value.now) []) }
+{
+    read_intervals(alloc, value, "mute_time_intervals", Listing::new(alloc))
+}
+
+/// Adds the intervals that the list under a key of a whole configuration defines.
+#[tactic(auto, unfolding(crate::specs::ReadIntervals::intervals_at))]
+pub(crate) fn read_intervals(
+    alloc: Global,
+    value: &Value,
+    key: &str,
+    intervals: Listing<NamedInterval>,
+) -> Result<Listing<NamedInterval>, ConfigError>
+    ensures { Gives (λ is. is) result (intervals_at key.now (view value.now) intervals) }
+{
+    match member(value, key) {
+        Some(found) => with_intervals(alloc, &Place::Member(&Place::Top, key), found, intervals),
+        None => Ok(intervals),
+    }
+}
+
+fn with_intervals(
+    alloc: Global,
+    place: &Place,
+    value: &Value,
+    intervals: Listing<NamedInterval>,
+) -> Result<Listing<NamedInterval>, ConfigError>
+    ensures { Gives (λ is. is) result (intervals_from (place_path place.now) (Some (view value.now)) intervals) }
+{
+    let items = items(alloc, place, value)?;
+    let mut intervals = intervals;
+    for (index, item) in items.iter().enumerate() {
+        add_interval(alloc, place, index, item, &mut intervals)?;
+    }
+    Ok(intervals)
+}
+
+#[tactic(auto, unfolding(crate::specs::ReadIntervals::interval_into))]
+fn add_interval(
+    alloc: Global,
+    place: &Place,
+    index: usize,
+    value: &Value,
+    intervals: &mut Listing<NamedInterval>,
+) -> Result<(), ConfigError>
+    ensures { Changes (λ is. is) result intervals.new (interval_into (place_path place.now) index (view value.now) intervals.old) }
+{
+    let here = Place::Item(place, index);
+    let interval = interval(alloc, &here, value, intervals.as_slice())?;
+    intervals.push(interval)?;
+    Ok(())
+}
+
+#[tactic(auto, unfolding(crate::specs::ReadIntervals::interval_at))]
+fn interval(
+    alloc: Global,
+    place: &Place,
+    value: &Value,
+    before: &[NamedInterval],
+) -> Result<NamedInterval, ConfigError>
+    ensures { Gives (λ i. i) result (interval_at before.now (place_path place.now) (view value.now)) }
+{
+    if !value.is_object() {
+        return Err(place.faulty(alloc));
+    }
+    let name_place = Place::Member(place, "name");
+    let Some(found) = member(value, "name") else {
+        return Err(name_place.faulty(alloc));
+    };
+    let name = new_name(alloc, &name_place, found, before)?;
+    let list_place = Place::Member(place, "time_intervals");
+    let Some(found) = member(value, "time_intervals") else {
+        return Err(list_place.faulty(alloc));
+    };
+    let members = interval_members(alloc, &list_place, found)?;
+    Ok(NamedInterval {
+        name,
+        interval: TimeInterval { members },
+    })
+}
+
+/// A text that no interval before it has as its name.
+#[tactic(auto, unfolding(crate::specs::ReadIntervals::new_name_at))]
+fn new_name(
+    alloc: Global,
+    place: &Place,
+    value: &Value,
+    before: &[NamedInterval],
+) -> Result<Text, ConfigError>
+    ensures { Gives (λ name. name) result (new_name_at before.now (place_path place.now) (view value.now)) }
+{
+    let name = text(alloc, place, value)?;
+    if is_taken(name, before) {
+        return Err(place.faulty(alloc));
+    }
+    Ok(Text::from_str(alloc, name)?)
+}
+
+fn is_taken(name: &str, intervals: &[NamedInterval]) -> bool
+    ensures { result ≡ taken_of name.now intervals.now }
+{
+    intervals
+        .iter()
+        .any(|interval| same(interval.name.as_str(), name))
+}
+
+#[tactic(auto, unfolding(crate::specs::ReadIntervals::interval_members_at))]
+fn interval_members(
+    alloc: Global,
+    place: &Place,
+    value: &Value,
+) -> Result<Listing<IntervalMember>, ConfigError>
+    ensures { Gives (λ ms. ms) result (interval_members_at (place_path place.now) (view value.now)) }
+{
+    let items = items(alloc, place, value)?;
+    let mut members = Listing::new(alloc);
+    for (index, item) in items.iter().enumerate() {
+        add_interval_member(alloc, place, index, item, &mut members)?;
+    }
+    Ok(members)
+}
+
+#[tactic(auto, unfolding(crate::specs::ReadIntervals::interval_member_into))]
+fn add_interval_member(
+    alloc: Global,
+    place: &Place,
+    index: usize,
+    value: &Value,
+    members: &mut Listing<IntervalMember>,
+) -> Result<(), ConfigError>
+    ensures { Changes (λ ms. ms) result members.new (interval_member_into (place_path place.now) index (view value.now) members.old) }
+{
+    let member = interval_member(alloc, &Place::Item(place, index), value)?;
+    members.push(member)?;
+    Ok(())
+}
+
+#[tactic(auto, unfolding(crate::specs::ReadIntervals::interval_member_at))]
+fn interval_member(
+    alloc: Global,
+    place: &Place,
+    value: &Value,
+) -> Result<IntervalMember, ConfigError>
+    ensures { Gives (λ m. m) result (interval_member_at (place_path place.now) (view value.now)) }
+{
+    if !value.is_object() {
+        return Err(place.faulty(alloc));
+    }
+    interval_fields(alloc, place, value)
+}
+
+fn interval_fields(
+    alloc: Global,
+    place: &Place,
+    value: &Value,
+) -> Result<IntervalMember, ConfigError>
+    ensures { Gives (λ m. m) result (interval_fields_at (place_path place.now) (view value.now)) }
+{
+    let days_of_month = days_member(alloc, place, value, "days_of_month")?;
+    let _location = location_member(alloc, place, value, "location")?;
+    let months = ranges_member(alloc, Field::Months, place, value, "months")?;
+    let times = times_member(alloc, place, value, "times")?;
+    let weekdays = ranges_member(alloc, Field::Weekdays, place, value, "weekdays")?;
+    let years = ranges_member(alloc, Field::Years, place, value, "years")?;
+    Ok(IntervalMember {
+        times,
+        weekdays,
+        days_of_month,
+        months,
+        years,
+    })
+}
+
+fn location_member(
+    alloc: Global,
+    place: &Place,
+    value: &Value,
+    key: &str,
+) -> Result<Option<bool>, ConfigError>
+    ensures { Gives (λ l. l) result (stated location_at (place_path place.now) key.now (view value.now)) }
+{
+    match member(value, key) {
+        Some(found) => Ok(Some(location(alloc, &Place::Member(place, key), found)?)),
+        None => Ok(None),
+    }
+}
+
+/// That the location is `UTC`, in which moments are read.
+#[tactic(auto, unfolding(crate::specs::ReadIntervals::location_at))]
+fn location(alloc: Global, place: &Place, value: &Value) -> Result<bool, ConfigError>
+    ensures { Gives (λ b. b) result (location_at (place_path place.now) (view value.now)) }
+{
+    let text = text(alloc, place, value)?;
+    if same(text, "UTC") {
+        Ok(true)
+    } else {
+        Err(place.faulty(alloc))
+    }
+}
+
+/// The fields of an interval whose ranges are read alike.
+#[derive(Clone, Copy)]
+enum Field {
+    Weekdays,
+    Months,
+    Years,
+}
+
+impl Field {
+    /// The range that a value stands for.
+    fn range(self, value: &Value) -> Option<Range>
+        ensures { result ≡ range_in self (view value.now) }
+    {
+        match self {
+            Field::Weekdays => Range::read_weekdays(value.as_str()?),
+            Field::Months => months(value),
+            Field::Years => years(value),
+        }
+    }
+}
+
+fn months(value: &Value) -> Option<Range>
+    ensures { result ≡ range_in Months (view value.now) }
+{
+    match value.as_str() {
+        Some(text) => Range::read_months(text),
+        None => Range::month(value.as_u64()?),
+    }
+}
+
+fn years(value: &Value) -> Option<Range>
+    ensures { result ≡ range_in Years (view value.now) }
+{
+    match value.as_str() {
+        Some(text) => Range::read_years(text),
+        None => Some(Range::single(value.as_u64()?)),
+    }
+}
+
+fn day_range(value: &Value) -> Option<DayRange>
+    ensures { result ≡ day_range_in (view value.now) }
+{
+    match value.as_str() {
+        Some(text) => DayRange::read(text),
+        None => DayRange::day(value.as_i64()?),
+    }
+}
+
+fn ranges_member(
+    alloc: Global,
+    field: Field,
+    place: &Place,
+    value: &Value,
+    key: &str,
+) -> Result<Option<Listing<Range>>, ConfigError>
+    ensures { Gives (λ rs. rs) result (stated (ranges_at (range_in field)) (place_path place.now) key.now (view value.now)) }
+{
+    match member(value, key) {
+        Some(found) => Ok(Some(ranges(alloc, field, &Place::Member(place, key), found)?)),
+        None => Ok(None),
+    }
+}
+
+#[tactic(auto, unfolding(crate::specs::ReadIntervals::ranges_at))]
+fn ranges(
+    alloc: Global,
+    field: Field,
+    place: &Place,
+    value: &Value,
+) -> Result<Listing<Range>, ConfigError>
+    ensures { Gives (λ rs. rs) result (ranges_at (range_in field) (place_path place.now) (view value.now)) }
+{
+    let items = items(alloc, place, value)?;
+    let mut ranges = Listing::new(alloc);
+    for (index, item) in items.iter().enumerate() {
+        add_range(alloc, field, place, index, item, &mut ranges)?;
+    }
+    Ok(ranges)
+}
+
+#[tactic(auto, unfolding(crate::specs::ReadIntervals::range_into))]
+fn add_range(
+    alloc: Global,
+    field: Field,
+    place: &Place,
+    index: usize,
+    value: &Value,
+    ranges: &mut Listing<Range>,
+) -> Result<(), ConfigError>
+    ensures { Changes (λ rs. rs) result ranges.new (range_into (range_in field) (place_path place.now) index (view value.now) ranges.old) }
+{
+    match field.range(value) {
+        Some(range) => {
+            ranges.push(range)?;
+            Ok(())
+        }
+        None => Err(Place::Item(place, index).faulty(alloc)),
+    }
+}
+
+fn days_member(
+    alloc: Global,
+    place: &Place,
+    value: &Value,
+    key: &str,
+) -> Result<Option<Listing<DayRange>>, ConfigError>
+    ensures { Gives (λ rs. rs) result (stated (ranges_at day_range_in) (place_path place.now) key.now (view value.now)) }
+{
+    match member(value, key) {
+        Some(found) => Ok(Some(day_ranges(alloc, &Place::Member(place, key), found)?)),
+        None => Ok(None),
+    }
+}
+
+#[tactic(auto, unfolding(crate::specs::ReadIntervals::ranges_at))]
+fn day_ranges(alloc: Global, place: &Place, value: &Value) -> Result<Listing<DayRange>, ConfigError>
+    ensures { Gives (λ rs. rs) result (ranges_at day_range_in (place_path place.now) (view value.now)) }
+{
+    let items = items(alloc, place, value)?;
+    let mut ranges = Listing::new(alloc);
+    for (index, item) in items.iter().enumerate() {
+        add_day_range(alloc, place, index, item, &mut ranges)?;
+    }
+    Ok(ranges)
+}
+
+#[tactic(auto, unfolding(crate::specs::ReadIntervals::range_into))]
+fn add_day_range(
+    alloc: Global,
+    place: &Place,
+    index: usize,
+    value: &Value,
+    ranges: &mut Listing<DayRange>,
+) -> Result<(), ConfigError>
+    ensures { Changes (λ rs. rs) result ranges.new (range_into day_range_in (place_path place.now) index (view value.now) ranges.old) }
+{
+    match day_range(value) {
+        Some(range) => {
+            ranges.push(range)?;
+            Ok(())
+        }
+        None => Err(Place::Item(place, index).faulty(alloc)),
+    }
+}
+
+fn times_member(
+    alloc: Global,
+    place: &Place,
+    value: &Value,
+    key: &str,
+) -> Result<Option<Listing<TimeRange>>, ConfigError>
+    ensures { Gives (λ rs. rs) result (stated times_at (place_path place.now) key.now (view value.now)) }
+{
+    match member(value, key) {
+        Some(found) => Ok(Some(times(alloc, &Place::Member(place, key), found)?)),
+        None => Ok(None),
+    }
+}
+
+#[tactic(auto, unfolding(crate::specs::ReadIntervals::times_at))]
+fn times(alloc: Global, place: &Place, value: &Value) -> Result<Listing<TimeRange>, ConfigError>
+    ensures { Gives (λ rs. rs) result (times_at (place_path place.now) (view value.now)) }
+{
+    let items = items(alloc, place, value)?;
+    let mut ranges = Listing::new(alloc);
+    for (index, item) in items.iter().enumerate() {
+        add_time_range(alloc, place, index, item, &mut ranges)?;
+    }
+    Ok(ranges)
+}
+
+#[tactic(auto, unfolding(crate::specs::ReadIntervals::time_range_into))]
+fn add_time_range(
+    alloc: Global,
+    place: &Place,
+    index: usize,
+    value: &Value,
+    ranges: &mut Listing<TimeRange>,
+) -> Result<(), ConfigError>
+    ensures { Changes (λ rs. rs) result ranges.new (time_range_into (place_path place.now) index (view value.now) ranges.old) }
+{
+    let range = time_range(alloc, &Place::Item(place, index), value)?;
+    ranges.push(range)?;
+    Ok(())
+}
+
+#[tactic(auto, unfolding(crate::specs::ReadIntervals::time_range_at))]
+fn time_range(alloc: Global, place: &Place, value: &Value) -> Result<TimeRange, ConfigError>
+    ensures { Gives (λ r. r) result (time_range_at (place_path place.now) (view value.now)) }
+{
+    if !value.is_object() {
+        return Err(place.faulty(alloc));
+    }
+    let end_place = Place::Member(place, "end_time");
+    let Some(found) = member(value, "end_time") else {
+        return Err(end_place.faulty(alloc));
+    };
+    let end = end_time(alloc, &end_place, found)?;
+    let start_place = Place::Member(place, "start_time");
+    let Some(found) = member(value, "start_time") else {
+        return Err(start_place.faulty(alloc));
+    };
+    let start = start_time(alloc, &start_place, found)?;
+    if start < end {
+        Ok(TimeRange { start, end })
+    } else {
+        Err(place.faulty(alloc))
+    }
+}
+
+#[tactic(auto, unfolding(crate::specs::ReadIntervals::time_of))]
+fn start_time(alloc: Global, place: &Place, value: &Value) -> Result<u32, ConfigError>
+    ensures { Gives (λ n. n) result (time_of time_at (place_path place.now) (view value.now)) }
+{
+    match time_of_day(text(alloc, place, value)?) {
+        Some(time) => Ok(time),
+        None => Err(place.faulty(alloc)),
+    }
+}
+
+#[tactic(auto, unfolding(crate::specs::ReadIntervals::time_of))]
+fn end_time(alloc: Global, place: &Place, value: &Value) -> Result<u32, ConfigError>
+    ensures { Gives (λ n. n) result (time_of end_time_at (place_path place.now) (view value.now)) }
+{
+    match end_time_of_day(text(alloc, place, value)?) {
+        Some(time) => Ok(time),
+        None => Err(place.faulty(alloc)),
+    }
+}
