@@ -72,6 +72,27 @@ class Collected(WithRoom):
         self.assertIn({"alertname": "Nothing"}, reader.alerts())
 
 
+class Flushes(WithRoom):
+    """Flushes between events, which are found with ticks."""
+
+    def found(self, name: str) -> list[list[str]]:
+        data = data_of(page_of(*files(EXAMPLES / name))[1])
+        return [[data["texts"][number - 1] for number in flat[1::2]] for _, _, flat in data["runs"][0]["flushes"]]
+
+    def test_six_of_two_groups(self) -> None:
+        moments = [f"2024-05-01T10:{minute}:30Z" for minute in ("05", "10", "15")]
+        self.assertEqual(self.found("a-page-that-never-came"), [moments, moments])
+
+    def test_a_night(self) -> None:
+        night = self.found("a-flapping-alert")[0]
+        self.assertEqual(len(night), 101, "two in each of the short times, and each five minutes from 23:00:30 to 07:00:30")
+        self.assertEqual((night[0], night[3], night[4], night[-1]), (
+            "2024-05-01T22:00:30Z", "2024-05-01T22:15:30Z", "2024-05-01T23:00:30Z", "2024-05-02T07:00:30Z"))
+
+    def test_none_hides(self) -> None:
+        self.assertEqual(self.found("first-page"), [])
+
+
 class InPieces(WithRoom):
     """Long parts: in several sessions at once, with lists at some events, and with explanations at some."""
 
