@@ -47,24 +47,35 @@ def flushes_between(source: Source, lines: list[bytes], watched: Watched, room: 
 def _gaps(watched: Watched) -> list[Gap]:
     """Returns the gaps in which a flush may hide: one was due, and half of the way to the next one, or the group's end, was passed too."""
     gaps = []
-    following: Next = {}
+    listed: dict[bytes, tuple[Key, int]] = {}
     for seen in watched.seen:
         if seen.changes is None:
             return []
-        gone, new = (_next(lines) for lines in (seen.changes["groups"].gone, seen.changes["groups"].new))
+        change_ = seen.changes["groups"]
+        gone = dict(listed[line] for line in change_.gone)
         now = nanoseconds(seen.now)
-        hiding = [key for key, due in gone.items() if due <= now and (key not in new or 2 * (now - due) >= new[key] - due)]
-        if hiding and not _is_refused(seen) and seen.cursor >= watched.part.first:
-            gaps.append(Gap(seen.cursor, now, {key: due for key, due in following.items() if due <= now}))
-        for key in gone:
-            following.pop(key, None)
-        following.update(new)
+        is_due = any(due <= now for due in gone.values()) and seen.cursor >= watched.part.first and not _is_refused(seen)
+        before = {key: due for key, due in listed.values() if due <= now} if is_due else {}
+        for line in change_.gone:
+            del listed[line]
+        new = {line: _group(line) for line in change_.new}
+        listed.update(new)
+        if before and _may_hide(gone, dict(new.values()), now):
+            gaps.append(Gap(seen.cursor, now, before))
     return gaps
 
 
+def _may_hide(gone: Next, new: Next, now: int) -> bool:
+    return any(due <= now and (key not in new or 2 * (now - due) >= new[key] - due) for key, due in gone.items())
+
+
+def _group(line: bytes) -> tuple[Key, int]:
+    group = json.loads(line)
+    return KINDS["groups"].key(group), nanoseconds(group["nextFlush"])
+
+
 def _next(lines: list[bytes]) -> Next:
-    groups = [json.loads(line) for line in lines]
-    return {KINDS["groups"].key(group): nanoseconds(group["nextFlush"]) for group in groups}
+    return dict(map(_group, lines))
 
 
 def _is_refused(seen: Seen) -> bool:

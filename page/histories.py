@@ -34,19 +34,23 @@ def histories(watched: Watched, name: str, tables: Tables) -> list[Entry]:
     """Returns the entries that one list had over the part, in the list's order."""
     kind = KINDS[name]
     entries: dict[Key, Entry] = {}
+    keys: dict[bytes, Key] = {}
     for seen in watched.seen:
         if seen.changes is None:
             continue
         change = seen.changes[name]
-        new = {kind.key(entry): entry for entry in map(json.loads, change.new)}
-        for line in change.gone:
-            key = kind.key(json.loads(line))
-            if key not in new:
-                entries[key].values.append((seen.cursor, None))
-        for key, entry in new.items():
+        gone = [keys.pop(line) for line in change.gone]
+        new = set()
+        for line in change.new:
+            entry = json.loads(line)
+            key = keys[line] = kind.key(entry)
+            new.add(key)
             if key not in entries:
                 entries[key] = Entry(kind.write_key(entry, tables), [])
             entries[key].values.append((seen.cursor, kind.write(entry, tables)))
+        for key in gone:
+            if key not in new:
+                entries[key].values.append((seen.cursor, None))
     return [entries[key] for key in sorted(entries)]
 
 

@@ -2,6 +2,7 @@
 from __future__ import annotations
 
 import calendar
+import functools
 import re
 import time
 
@@ -9,6 +10,7 @@ SHAPE = re.compile(r"(\d{4})-(\d\d)-(\d\d)[Tt](\d\d):(\d\d):(\d\d)(?:\.(\d{1,9})
 SECOND = 1_000_000_000
 
 
+@functools.lru_cache(maxsize=65_536)
 def nanoseconds(text: str) -> int:
     """Returns the nanoseconds since 1970 of a moment. Raises ValueError where the text is no moment."""
     found = SHAPE.fullmatch(text)
