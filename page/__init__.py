@@ -1,0 +1,1 @@
+"""Makes one self-contained page of an incident out of what a session of `amreplay` answers."""

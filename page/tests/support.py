@@ -1,0 +1,111 @@
+"""What the tests share: the program, the files, and the session's own lines, asked for plainly."""
+from __future__ import annotations
+
+import json
+import os
+import re
+import subprocess
+import sys
+import tempfile
+import unittest
+from pathlib import Path
+from typing import Any
+
+TOP = Path(__file__).resolve().parents[2]
+EXAMPLES = TOP / "examples"
+PROGRAM = os.environ.get("AMREPLAY_PROGRAM", str(TOP / "amreplay"))
+LISTS = ("alerts", "silences", "groups", "log")
+HOSTILE = (
+    "</script><script>window.hostile=1</script>",
+    "<img src=x onerror='window.hostile=2'>",
+    "\"'`${window.hostile=3}\\",
+    "a\nb\r\tc\u2028d\u2029e",
+    "\u202egnp.elif\u202c \u05d0\u05d1\u05d2",
+    "]]><!--<script>",
+    "__proto__",
+    "constructor",
+    "&lt;b&gt;&#60;",
+    "\u0000\u0007\u007f\u0085\ufeff",
+    "x" * 5000,
+    "\U0001f525 caf\u00e9",
+)
+
+
+class Session:
+    """The session's own answers at each event, each command asked plainly in its turn."""
+
+    def __init__(self, config: Path, script: Path) -> None:
+        self.config, self.script = config, script
+
+    def ask(self, commands: list[str]) -> list[tuple[list[str], dict[str, Any]]]:
+        done = subprocess.run(
+            [PROGRAM, "session", str(self.config), str(self.script)],
+            input="".join(command + "\n" for command in commands).encode(), capture_output=True, check=True,
+        )
+        answers, lines = [], []
+        for line in done.stdout.decode().split("\n")[:-1]:
+            if line.startswith('{"command":'):
+                answers.append((lines, json.loads(line)))
+                lines = []
+            else:
+                lines.append(line)
+        return answers
+
+    def events(self) -> int:
+        return self.ask(["cursor"])[0][1]["events"]
+
+    def at(self, cursor: int) -> dict[str, list[str]]:
+        """Returns the lines of each list at a cursor, and what the event there printed."""
+        commands = [f"seek {max(0, cursor - 1)}", *(["step"] if cursor else []), *LISTS]
+        answers = self.ask(commands)
+        found = {name: lines for name, (lines, _) in zip(LISTS, answers[-4:])}
+        found["printed"] = answers[1][0] if cursor else []
+        return found
+
+    def explained(self, cursor: int, labels: dict[str, str]) -> list[str]:
+        return self.ask([f"seek {cursor}", "explain " + json.dumps(labels)])[1][0]
+
+
+def page_of(*words: Any) -> tuple[int, str, str]:
+    """Runs `incident-page` and returns its status and what it printed."""
+    command = [sys.executable, str(TOP / "incident-page"), *map(str, words), "--program", PROGRAM]
+    done = subprocess.run(command, capture_output=True, check=False)
+    return done.returncode, done.stdout.decode(), done.stderr.decode()
+
+
+def data_of(page: str) -> dict[str, Any]:
+    """Returns the data of a page."""
+    return json.loads(re.search(r'<script type="application/json" id="data">(.*?)</script>', page, re.S)[1])
+
+
+def hostile_files(room: Path) -> tuple[Path, Path]:
+    """Writes a configuration and a script whose texts are hostile wherever a text may stand."""
+    receivers = [{"name": text, "webhook_configs": [{}]} for text in HOSTILE]
+    routes = [{"match": {"n": str(i)}, "receiver": text} for i, text in enumerate(HOSTILE)]
+    route = {"receiver": HOSTILE[0], "group_by": ["alertname", *HOSTILE], "routes": routes, "group_wait": "1s"}
+    at = "2024-05-01T10:00:00Z"
+    alerts = [
+        {"labels": {"alertname": text, "n": str(i), text: text}, "annotations": {text: text}, "startsAt": at, "endsAt": "2024-05-01T10:03:00Z"}
+        for i, text in enumerate(HOSTILE)
+    ]
+    matchers = [{"name": text, "value": text} for text in HOSTILE[:4]]
+    silence = {"matchers": matchers, "startsAt": "2024-05-01T10:00:00Z", "endsAt": "2024-05-01T11:00:00Z"}
+    events = [
+        {"at": at, "alerts": alerts},
+        {"at": at, "silence": silence, "newId": "00000000-0000-4000-8000-000000000001"},
+        {"at": "2024-05-01T10:01:00Z", "tick": True},
+        {"at": "2024-05-01T10:10:00Z", "tick": True},
+    ]
+    config, script = room / "config.json", room / "script.jsonl"
+    config.write_text(json.dumps({"route": route, "receivers": receivers}))
+    script.write_text("".join(json.dumps(event) + "\n" for event in events))
+    return config, script
+
+
+class WithRoom(unittest.TestCase):
+    """A test with a folder of its own."""
+
+    def setUp(self) -> None:
+        room = tempfile.TemporaryDirectory()
+        self.addCleanup(room.cleanup)
+        self.room = Path(room.name)

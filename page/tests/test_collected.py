@@ -1,0 +1,172 @@
+"""What a page has collected, against the session's own lines."""
+from __future__ import annotations
+
+import json
+import random
+import unittest
+from pathlib import Path
+
+from page import differences, states, verdicts
+from page.tables import pairs
+
+from .reader import Reader
+from .support import EXAMPLES, LISTS, Session, TOP, WithRoom, data_of, hostile_files, page_of
+
+NAMES = ("first-page", "a-page-that-never-came", "a-flapping-alert", "a-reload")
+INCIDENTS = (
+    "all-listings", "annotations-in-the-order-of-their-names", "invalid-alerts-are-skipped", "label-sets-in-their-order",
+    "log-entries-in-the-order-of-paths", "matchers-of-silences-by-their-flags", "moments-as-they-are-read-and-written",
+    "refused-events-and-commands", "reloads-and-their-refusals", "siblings-share-log-entries", "silences-that-are-changed",
+    "the-least-silence-that-acts",
+)
+
+
+def files(folder: Path) -> tuple[Path, Path]:
+    return folder / "config.json", folder / "script.jsonl"
+
+
+def files_of_words(folder: Path) -> tuple[Path, Path]:
+    """Returns the files that the words of an incident name."""
+    _, config, script = (folder / "words").read_text().split()
+    return folder / config, folder / script
+
+
+class Collected(WithRoom):
+    def check(self, config: Path, script: Path, *words: str) -> Reader:
+        status, page, faults = page_of(config, script, *words)
+        self.assertEqual((status, faults), (0, ""))
+        reader, session = Reader(data_of(page)), Session(config, script)
+        for cursor in range(reader.first - 1, reader.last + 1):
+            own = session.at(cursor)
+            for name in LISTS:
+                self.assertEqual(reader.listed(name, cursor), own[name], (name, cursor))
+            if cursor >= reader.first:
+                self.assertEqual(reader.printed(cursor), own["printed"], cursor)
+            for labels in reader.alerts():
+                self.assertEqual(reader.explained(cursor, labels), session.explained(cursor, labels), (labels, cursor))
+        return reader
+
+    def test_examples(self) -> None:
+        for name in NAMES:
+            with self.subTest(name):
+                self.check(*files(EXAMPLES / name))
+
+    def test_incidents(self) -> None:
+        for name in INCIDENTS:
+            with self.subTest(name):
+                self.check(*files_of_words(TOP / "incidents" / name))
+
+    def test_hostile_texts(self) -> None:
+        self.check(*hostile_files(self.room))
+
+    def test_a_part(self) -> None:
+        reader = self.check(*files(EXAMPLES / "a-flapping-alert"), "--from", "2", "--to", "3")
+        self.assertEqual((reader.first, reader.last), (2, 3))
+
+    def test_a_part_by_moments(self) -> None:
+        reader = self.check(*files(EXAMPLES / "a-flapping-alert"), "--from", "2024-05-01T22:10:00Z", "--to", "2024-05-02T01:30:00+02:00")
+        self.assertEqual((reader.first, reader.last), (2, 3))
+
+    def test_an_alert_that_is_named_and_not_stored(self) -> None:
+        reader = self.check(*files(EXAMPLES / "first-page"), "--explain", '{"alertname":"Nothing"}')
+        self.assertIn({"alertname": "Nothing"}, reader.alerts())
+
+
+class InPieces(WithRoom):
+    """Long parts: in several sessions at once, with lists at some events, and with explanations at some."""
+
+    def setUp(self) -> None:
+        super().setUp()
+        kept = (states.BYTES_FOR_ONE_SESSION, states.LISTED_BYTES_AT_MOST, verdicts.ALL_AT_MOST, verdicts.FEW)
+        self.addCleanup(self.restore, kept)
+        self.config, self.script = self.room / "config.json", self.room / "script.jsonl"
+        self.config.write_bytes((EXAMPLES / "a-page-that-never-came" / "config.json").read_bytes())
+        self.script.write_text("".join(json.dumps(event) + "\n" for event in mixed_events(60)))
+
+    @staticmethod
+    def restore(kept: tuple[int, ...]) -> None:
+        states.BYTES_FOR_ONE_SESSION, states.LISTED_BYTES_AT_MOST, verdicts.ALL_AT_MOST, verdicts.FEW = kept
+
+    def made(self) -> str:
+        from page import cli
+
+        from .support import PROGRAM
+        return cli.make(cli._options([str(self.config), str(self.script)], PROGRAM))
+
+    def test_pieces_are_the_same_as_one(self) -> None:
+        whole = self.made()
+        states.BYTES_FOR_ONE_SESSION = verdicts.FEW = 0
+        self.assertEqual(self.made(), whole)
+
+    def test_lists_at_some_events(self) -> None:
+        states.LISTED_BYTES_AT_MOST = 30_000
+        reader, session = Reader(data_of(self.made())), Session(self.config, self.script)
+        stops = reader.run["stops"]
+        self.assertTrue(2 < len(stops) < 61 and stops[-1] == 60)
+        for cursor in stops:
+            own = session.at(cursor)
+            for name in LISTS:
+                self.assertEqual(reader.listed(name, cursor), own[name], (name, cursor))
+
+    def test_explanations_where_an_alert_changed(self) -> None:
+        verdicts.ALL_AT_MOST = 0
+        reader, session = Reader(data_of(self.made())), Session(self.config, self.script)
+        self.assertEqual(reader.run["extent"], "changed")
+        answered = 0
+        for cursor in range(61):
+            for labels in reader.alerts():
+                explained = reader.explained(cursor, labels)
+                if explained is not None:
+                    answered += 1
+                    self.assertEqual(explained, session.explained(cursor, labels))
+        self.assertGreater(answered, 30)
+
+
+def mixed_events(count: int) -> list[dict[str, object]]:
+    """Returns posts, silences and ticks over an hour, the same each time."""
+    rng = random.Random(7)
+    events: list[dict[str, object]] = []
+    for i in range(count):
+        at = f"2024-05-01T10:{i % 60:02d}:00Z"
+        labels = {"alertname": f"A{rng.randrange(4)}", "cluster": "eu", "severity": rng.choice(["critical", "warning"])}
+        if i % 7 == 3:
+            silence = {"matchers": [{"name": "alertname", "value": "A1"}], "startsAt": at, "endsAt": "2024-05-01T12:00:00Z"}
+            events.append({"at": at, "silence": silence, "newId": f"00000000-0000-4000-8000-{i:012d}"})
+        elif i % 3 == 0:
+            events.append({"at": at, "tick": True})
+        else:
+            events.append({"at": at, "alerts": [{"labels": labels, "endsAt": f"2024-05-01T10:{rng.randrange(i % 60, 60):02d}:30Z"}]})
+    return events
+
+
+class Differences(unittest.TestCase):
+    def test_against_sets(self) -> None:
+        kept = differences.FIRST_BLOCK, differences.LARGEST_BLOCK, differences.MANY_LINES
+        self.addCleanup(lambda: self.restore(kept))
+        self.restore((4, 16, 4))
+        rng = random.Random(1)
+        for _ in range(3000):
+            before = {key: rng.randrange(3) for key in rng.sample(range(40), rng.randrange(20))}
+            after = dict(before)
+            for _ in range(rng.randrange(6)):
+                after[rng.randrange(40)] = rng.randrange(3)
+                after.pop(rng.randrange(40), None)
+            old, new = listing(before), listing(after)
+            change = differences.change(old, new)
+            self.assertEqual(sorted(change.gone), sorted(set(differences.lines_of(old)) - set(differences.lines_of(new))))
+            self.assertEqual(sorted(change.new), sorted(set(differences.lines_of(new)) - set(differences.lines_of(old))))
+
+    @staticmethod
+    def restore(kept: tuple[int, int, int]) -> None:
+        differences.FIRST_BLOCK, differences.LARGEST_BLOCK, differences.MANY_LINES = kept
+
+
+def listing(entries: dict[int, int]) -> bytes:
+    return b"".join(b"%02d%s=%d\n" % (key, b"x" * (key % 7), entries[key]) for key in sorted(entries))
+
+
+class Order(unittest.TestCase):
+    def test_labels_go_by_bytes(self) -> None:
+        texts = ["\ud7ff", "\ue000", "\U0001f525", "z", "Z", ""]
+        self.assertEqual(sorted(texts), sorted(texts, key=str.encode))
+        self.assertEqual(pairs({"b": "1", "a": "2"}), (("a", "2"), ("b", "1")))

@@ -1,0 +1,58 @@
+"""Does a task over the events of a part in several processes, each with a session of its own."""
+from __future__ import annotations
+
+import multiprocessing
+import os
+from dataclasses import dataclass
+from typing import Any, Callable, TypeVar
+
+from .progress import Progress
+
+PIECES = 4
+POLL_SECONDS = 0.1
+Result = TypeVar("Result")
+_done: Any = None
+
+
+@dataclass(frozen=True)
+class Part:
+    """The events from `first` to `last`, both included, counted from 1."""
+
+    first: int
+    last: int
+
+    def __len__(self) -> int:
+        return self.last - self.first + 1
+
+    def cut(self, count: int) -> list[Part]:
+        """Returns at most `count` parts, which are this one in order. An empty part is one part."""
+        count = max(1, min(count, len(self)))
+        edges = [self.first + len(self) * i // count for i in range(count + 1)]
+        return [Part(start, end - 1) for start, end in zip(edges, edges[1:])]
+
+
+def count_done() -> None:
+    """Counts one event as done. A task calls it after each event."""
+    if _done is not None:
+        with _done.get_lock():
+            _done.value += 1
+
+
+def over(task: Callable[..., Result], part: Part, words: list[tuple[Any, ...]], name: str, progress: Progress) -> list[Result]:
+    """Returns what the task gives for each tuple of words. More than one are done at once, in processes."""
+    global _done
+    _done = multiprocessing.Value("q", 0)
+    if len(words) == 1:
+        return [task(*words[0])]
+    count = max(1, min(len(words), os.cpu_count() or 1))
+    with multiprocessing.Pool(count, _share, (_done,)) as pool:
+        waiting = pool.starmap_async(task, words, chunksize=1)
+        while not waiting.ready():
+            waiting.wait(POLL_SECONDS)
+            progress.draw(name, _done.value, len(part))
+        return waiting.get()
+
+
+def _share(done: Any) -> None:
+    global _done
+    _done = done
