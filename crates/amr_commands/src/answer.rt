@@ -61,7 +61,8 @@ pub(crate) fn write_answer<W: Write>(
     cursor: usize,
     answer: &Answer,
 ) -> Result<(), WriteFailed>
-    ensures written { WritesText (W.contents out.old.writer) (W.contents out.new.writer) result (answer_text cursor answer.now) }
+    ensures written { WritesText (W.contents out.old.writer) (W.contents out.new.writer)
+        result (answer_text cursor answer.now) }
     ensures failed { FailsAt result out.old.failed out.new.failed }
 {
     match answer {
