@@ -3,7 +3,9 @@ ghost use Rattle.std.specs.Prelude.{◌≡◌};
 ghost use Rattle.amr_lines.specs.Outlet.{WritesText, FailsAt};
 ghost use Rattle.amr_commands.specs.Answer.{refusal_number, answer_text};
 
-use amr_lines::{Outlet, Word, WriteFailed, write_back, write_backward_seek, write_refused, write_whole};
+use amr_lines::{
+    Outlet, Word, WriteFailed, write_back, write_backward_seek, write_refused, write_whole,
+};
 use std::io::Write;
 
 /// Why a command is refused.

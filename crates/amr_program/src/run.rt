@@ -61,7 +61,11 @@ fn write_event<W: Write>(
 }
 
 /// Steps a session from its start to its end, and writes each event's lines.
-fn write_events<W: Write>(alloc: Global, session: &mut Session, out: &mut Outlet<W>) -> Result<(), Stopped>
+fn write_events<W: Write>(
+    alloc: Global,
+    session: &mut Session,
+    out: &mut Outlet<W>,
+) -> Result<(), Stopped>
     requires { session.old ≡ at_cursor session.old.config session.old.events 0 }
     ensures left { RunLeaves (W.contents out.old.writer) (W.contents out.new.writer)
         session.old.config session.old.events result }
@@ -78,7 +82,11 @@ fn write_events<W: Write>(alloc: Global, session: &mut Session, out: &mut Outlet
 }
 
 /// The same, and hands on what the writer holds back, also where memory stops the run.
-fn write_run<W: Write>(alloc: Global, session: &mut Session, out: &mut Outlet<W>) -> Result<(), Stopped>
+fn write_run<W: Write>(
+    alloc: Global,
+    session: &mut Session,
+    out: &mut Outlet<W>,
+) -> Result<(), Stopped>
     requires { session.old ≡ at_cursor session.old.config session.old.events 0 }
     ensures left { RunLeaves (W.contents out.old.writer) (W.contents out.new.writer)
         session.old.config session.old.events result }
