@@ -4,6 +4,7 @@ from __future__ import annotations
 import argparse
 import json
 import os
+import stat
 import sys
 import tempfile
 from dataclasses import dataclass
@@ -94,23 +95,35 @@ class Collected:
 
 
 def _collected(options: argparse.Namespace, wanted: Wanted) -> Collected:
-    source = Source(options.program, options.config, options.script)
+    source = Source(options.program, _readable(options.config, wanted.room), _readable(options.script, wanted.room))
+    other = Source(options.program, _readable(options.against, wanted.room), source.script) if options.against is not None else None
     count = count_events(source)
-    if options.against is not None:
-        count_events(Source(options.program, options.against, options.script))
-    lines = lines_of(Path(options.script).read_bytes())
+    if other is not None:
+        count_events(other)
+    lines = lines_of(Path(source.script).read_bytes())
     whole = _part(options, lines, count)
     part = Part(whole.first, min(whole.last, whole.first + EVENTS_AT_MOST - 1))
     trial = _trial(source, options.tried) if options.tried is not None else None
     runs, kinds = [collect(_name(options.config), source, lines, part, wanted)], ["as it was"]
-    if options.against is not None:
-        other = Source(options.program, options.against, options.script)
+    if other is not None:
         runs.append(collect(_name(options.against), other, lines, part, wanted))
         kinds.append("against")
     if trial is not None and part.first - 1 <= trial.cursor <= part.last:
-        runs.append(_with_tried(options, lines, part, trial, wanted))
+        runs.append(_with_tried(options, source, lines, part, trial, wanted))
         kinds.append("tried")
     return Collected(runs, kinds, trial, count, whole)
+
+
+def _readable(path: str, room: Path) -> str:
+    """Returns a path that can be read more than once: that of a copy, where a pipe was named."""
+    try:
+        if not stat.S_ISFIFO(os.stat(path).st_mode):
+            return path
+        copy = room / f"copy-{len(list(room.iterdir()))}"
+        copy.write_bytes(Path(path).read_bytes())
+        return str(copy)
+    except OSError:
+        return path
 
 
 def _part(options: argparse.Namespace, lines: list[bytes], count: int) -> Part:
@@ -148,13 +161,14 @@ def _trial(source: Source, text: str) -> Trial:
     return Trial(event, answer.last["cursor"], answer.last["moves"], answer.lines)
 
 
-def _with_tried(options: argparse.Namespace, lines: list[bytes], part: Part, trial: Trial, wanted: Wanted) -> Run:
+def _with_tried(
+    options: argparse.Namespace, source: Source, lines: list[bytes], part: Part, trial: Trial, wanted: Wanted
+) -> Run:
     """Collects the run of the script with the tried event in its place."""
     lines = [*lines[: trial.cursor], options.tried.replace("\n", " ").encode(), *lines[trial.cursor :]]
     script = wanted.room / "tried.jsonl"
     script.write_bytes(b"\n".join(lines) + b"\n")
-    source = Source(options.program, options.config, str(script))
-    run = collect("with the tried event", source, lines, Part(part.first, part.last + 1), wanted)
+    run = collect("with the tried event", Source(source.program, source.config, str(script)), lines, Part(part.first, part.last + 1), wanted)
     run.tried = trial.cursor + 1
     return run
 

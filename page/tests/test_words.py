@@ -2,7 +2,10 @@
 from __future__ import annotations
 
 import json
+import os
+import pty
 import subprocess
+import sys
 import unittest
 
 from page.compare import compare
@@ -124,6 +127,24 @@ class Written(WithRoom):
         self.assertEqual(page_of(*words, "--output", output), (0, "", ""))
         self.assertEqual(output.read_text(), text)
         self.assertEqual([each.name for each in self.room.iterdir()], ["page.html"])
+
+    def test_files_from_pipes(self) -> None:
+        words = (NEVER / "config.json", NEVER / "script.jsonl")
+        command = 'exec "$0" "$1" <(cat "$2") <(cat "$3") --program "$4"'
+        page_file = str(EXAMPLES.parent / "incident-page")
+        done = subprocess.run(["bash", "-c", command, sys.executable, page_file, *map(str, words), PROGRAM], capture_output=True, check=True)
+        self.assertEqual(data_of(done.stdout.decode())["runs"][0]["events"], data_of(page_of(*words)[1])["runs"][0]["events"])
+
+    def test_a_bar_on_a_terminal(self) -> None:
+        reader, terminal = pty.openpty()
+        command = [sys.executable, str(EXAMPLES.parent / "incident-page"), str(NEVER / "config.json"), str(NEVER / "script.jsonl")]
+        done = subprocess.run([*command, "--program", PROGRAM], stdout=subprocess.DEVNULL, stderr=terminal, check=True)
+        told = os.read(reader, 1 << 16)
+        os.close(reader)
+        os.close(terminal)
+        self.assertEqual(done.returncode, 0)
+        self.assertIn(b"] 4 of 4", told)
+        self.assertTrue(told.endswith(b"\x1b[K"), "the bar is wiped away")
 
     def test_an_empty_script(self) -> None:
         (self.room / "script.jsonl").write_text("\n \n")
