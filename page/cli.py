@@ -14,7 +14,7 @@ from . import document
 from .compare import compare
 from .moments import nanoseconds
 from .progress import Progress
-from .runs import Run, Thinning, act, collect, note, notes_of, outcome, written
+from .runs import Run, Thinning, Wanted, act, collect, note, notes_of, outcome, written
 from .script import Event, event_of, lines_of
 from .session import Fault, Source, answers_of
 from .states import count_events
@@ -51,7 +51,7 @@ def make(options: argparse.Namespace) -> str:
     progress = Progress()
     try:
         with tempfile.TemporaryDirectory() as room:
-            return _fitting(_collected(options, Path(room), progress), options)
+            return _fitting(_collected(options, Wanted(options.named, Path(room), progress)), options)
     finally:
         progress.clear()
 
@@ -93,24 +93,24 @@ class Collected:
     wanted: Part
 
 
-def _collected(options: argparse.Namespace, room: Path, progress: Progress) -> Collected:
+def _collected(options: argparse.Namespace, wanted: Wanted) -> Collected:
     source = Source(options.program, options.config, options.script)
     count = count_events(source)
     if options.against is not None:
         count_events(Source(options.program, options.against, options.script))
     lines = lines_of(Path(options.script).read_bytes())
-    wanted = _part(options, lines, count)
-    part = Part(wanted.first, min(wanted.last, wanted.first + EVENTS_AT_MOST - 1))
+    whole = _part(options, lines, count)
+    part = Part(whole.first, min(whole.last, whole.first + EVENTS_AT_MOST - 1))
     trial = _trial(source, options.tried) if options.tried is not None else None
-    runs, kinds = [collect(_name(options.config), source, lines, part, options.named, progress)], ["as it was"]
+    runs, kinds = [collect(_name(options.config), source, lines, part, wanted)], ["as it was"]
     if options.against is not None:
         other = Source(options.program, options.against, options.script)
-        runs.append(collect(_name(options.against), other, lines, part, options.named, progress))
+        runs.append(collect(_name(options.against), other, lines, part, wanted))
         kinds.append("against")
     if trial is not None and part.first - 1 <= trial.cursor <= part.last:
-        runs.append(_with_tried(options, lines, part, trial, room, progress))
+        runs.append(_with_tried(options, lines, part, trial, wanted))
         kinds.append("tried")
-    return Collected(runs, kinds, trial, count, wanted)
+    return Collected(runs, kinds, trial, count, whole)
 
 
 def _part(options: argparse.Namespace, lines: list[bytes], count: int) -> Part:
@@ -148,15 +148,13 @@ def _trial(source: Source, text: str) -> Trial:
     return Trial(event, answer.last["cursor"], answer.last["moves"], answer.lines)
 
 
-def _with_tried(
-    options: argparse.Namespace, lines: list[bytes], part: Part, trial: Trial, room: Path, progress: Progress
-) -> Run:
+def _with_tried(options: argparse.Namespace, lines: list[bytes], part: Part, trial: Trial, wanted: Wanted) -> Run:
     """Collects the run of the script with the tried event in its place."""
     lines = [*lines[: trial.cursor], options.tried.replace("\n", " ").encode(), *lines[trial.cursor :]]
-    script = room / "script.jsonl"
+    script = wanted.room / "tried.jsonl"
     script.write_bytes(b"\n".join(lines) + b"\n")
     source = Source(options.program, options.config, str(script))
-    run = collect("with the tried event", source, lines, Part(part.first, part.last + 1), options.named, progress)
+    run = collect("with the tried event", source, lines, Part(part.first, part.last + 1), wanted)
     run.tried = trial.cursor + 1
     return run
 

@@ -3,10 +3,11 @@ from __future__ import annotations
 
 import json
 from dataclasses import dataclass
+from pathlib import Path
 from typing import Any
 
-from . import histories
-from .histories import Entry
+from . import flushes, histories
+from .histories import Entry, Key
 from .progress import Progress
 from .script import ACTS, Event, event_of
 from .session import Source
@@ -24,6 +25,7 @@ class Run:
     watched: Watched
     events: list[Event]
     explained: Explained
+    flushes: dict[Key, list[tuple[int, str]]]
     tried: int | None = None
 
 
@@ -35,12 +37,22 @@ class Thinning:
     named_alone: bool = False
 
 
-def collect(name: str, source: Source, lines: list[bytes], part: Part, named: list[Pairs], progress: Progress) -> Run:
+@dataclass(frozen=True)
+class Wanted:
+    """What is collected of each run: the alerts that are named, with a folder for scripts with ticks, and where progress is drawn."""
+
+    named: list[Pairs]
+    room: Path
+    progress: Progress
+
+
+def collect(name: str, source: Source, lines: list[bytes], part: Part, wanted: Wanted) -> Run:
     """Collects a run over the part. The lines are those of the script's events."""
-    watched = watch(source, part, progress, f"{name}: states")
-    explained = explain(source, watched, named, progress, f"{name}: explanations")
+    watched = watch(source, part, wanted.progress, f"{name}: states")
+    explained = explain(source, watched, wanted.named, wanted.progress, f"{name}: explanations")
     events = [event_of(line) for line in lines[part.first - 1 : part.last]]
-    return Run(name, watched, events, explained)
+    between = flushes.flushes_between(source, lines, watched, wanted.room)
+    return Run(name, watched, events, explained, between)
 
 
 def notes_of(run: Run) -> list[tuple[int, dict[str, Any]]]:
@@ -65,6 +77,7 @@ def written(run: Run, thinning: Thinning, tables: Tables) -> dict[str, Any]:
         "silences": [[*entry.key, _flat(entry.values)] for entry in lists["silences"]],
         "groups": [[*entry.key, _flat(_members_as_differences(entry))] for entry in lists["groups"]],
         "log": [[*entry.key, _flat(entry.values)] for entry in lists["log"]],
+        "flushes": flushes.written(run.flushes, tables),
         **_why(run.explained, thinning.named_alone, tables),
     }
 

@@ -34,7 +34,7 @@ function eventMark(run, event, i) {
 }
 
 function eventLane(run) {
-  return lane("events", "what happened", () => ({ marks: run.events.map((event, i) => eventMark(run, event, i)).filter((each) => each.time) }));
+  return lane("events", "all events", () => ({ marks: run.events.map((event, i) => eventMark(run, event, i)).filter((each) => each.time) }));
 }
 
 function exceptionLanes(run) {
@@ -134,16 +134,18 @@ function spanText(from, to) {
 
 const isoOf = (time) => new Date(time).toISOString().replace(".000Z", "Z");
 
-// The flushes that can be seen: a next flush that was listed and then passed, and those that made a notification.
+// The flushes of a group: a next flush that was listed and then passed, those that were found between events, and those that told.
 function flushesOf(run, entry) {
   const flushes = new Map();
+  const add = (moment, cursor) => flushes.set(moment, mark(millisecondsOf(moment), "flush", `${when(moment)} flush of this group`, cursor));
   entry.values.forEach((value, i) => {
     const before = i > 0 ? entry.values[i - 1] : null;
-    const cursor = entry.cursors[i];
-    if (value && before && value.nextFlush !== before.nextFlush && millisecondsOf(before.nextFlush) <= timeAt(run, cursor)) {
-      flushes.set(before.nextFlush, mark(millisecondsOf(before.nextFlush), "flush", `${when(before.nextFlush)} flush of this group`, cursor));
+    if (value && before && value.nextFlush !== before.nextFlush && millisecondsOf(before.nextFlush) <= timeAt(run, entry.cursors[i])) {
+      add(before.nextFlush, entry.cursors[i]);
     }
   });
+  const between = run.flushes.get(`${entry.route} ${entry.set}`) || [];
+  for (let i = 0; i < between.length; i += 2) add(textOf(between[i + 1]), between[i]);
   for (const note of run.notes) {
     if (note.route !== entry.route || note.group !== entry.set) continue;
     flushes.set(note.at, mark(note.time, "told", `Flush of this group, told: ${noteText(note)}`, note.cursor, note));
@@ -164,7 +166,8 @@ function silenceLane(run, entry) {
     return { spans };
   };
   const last = entry.values.filter((value) => value).pop();
-  return lane("silence", matchersText(last.matchers), made, `silence ${entry.id}`);
+  const short = last.matchers.map((matcher) => seen(matcher.value)).join(", ");
+  return { ...lane("silence", matchersText(last.matchers), made, `silence ${entry.id}`), short };
 }
 
 // What the comparison says: for a run, the places of notifications that it has alone or moved, and those of the other that it lacks.

@@ -142,6 +142,7 @@ class Run {
     }
     this.lists = {};
     for (const [name, [keyOf, valueOf]] of Object.entries(READERS)) this.lists[name] = entriesOf(raw[name], keyOf, valueOf);
+    this.flushes = new Map(raw.flushes.map(([route, set, flat]) => [`${route} ${set}`, flat]));
     this.verdicts = raw.verdicts.map(verdictOf);
     this.answers = raw.answers;
     this.why = new Map(raw.why.map(([set, always, flat]) => {

@@ -1,5 +1,5 @@
 // The panel: what the last event was and printed, and the lists at the cursor, with what changed.
-const ROWS = 60;
+const ROWS = 40;
 const BADGES = { new: "new", changed: "changed", gone: "gone" };
 
 class Panel {

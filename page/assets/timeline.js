@@ -229,6 +229,8 @@ class Timeline {
   }
 
   drawBunch({ x, marks }, y, kind, hasRoom) {
+    const shapes = new Set(marks.map((each) => each.shape));
+    const mixed = shapes.has("firing") && shapes.has("resolved");
     const strongest = marks.find((each) => each.note && each.shape !== "flush") || marks.find((each) => each.shape !== "tick") || marks[0];
     const here = marks.some((each) => each.cursor === this.app.cursor);
     const first = marks.find((each) => each.cursor === this.app.cursor) || marks[0];
@@ -238,8 +240,8 @@ class Timeline {
     const compared = strongest.note && kind === "receiver" ? this.comparedRing(strongest.note, x, middle) : null;
     const number = marks.length > 1 && hasRoom && kind !== "group" ? svg("text", { class: "bunch", x: x + 7, y: y + 10 }, marks.length > 99 ? "99+" : marks.length) : null;
     return this.target({ name: names.join("\n"), cursor: first.cursor, x },
-      svg("g", { class: `mark ${strongest.shape}${here ? " here" : ""}`, role: "img", "aria-label": names.join("; ") },
-        svg("rect", { class: "hit", x: x - 7, y, width: 14, height: LANE_HEIGHT }), shapeOf(strongest.shape, x, middle), compared, number));
+      svg("g", { class: `mark ${mixed ? "both" : strongest.shape}${here ? " here" : ""}`, role: "img", "aria-label": names.join("; ") },
+        svg("rect", { class: "hit", x: x - 7, y, width: 14, height: LANE_HEIGHT }), shapeOf(mixed ? "both" : strongest.shape, x, middle), compared, number));
   }
 
   comparedRing(note, x, y) {

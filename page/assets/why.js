@@ -23,7 +23,7 @@ class WhyView {
   chooser() {
     const { run, chosen } = this.app;
     const sets = inOrder([...run.why.keys()]);
-    if (sets.length < 2 || sets.length > 500) return null;
+    if (!sets.length || sets.length > 500) return null;
     const select = el("select", { "aria-label": "Choose an alert", onchange: () => this.app.choose(Number(select.value)) },
       !run.why.has(chosen) && el("option", { value: chosen, selected: true }, labelsText(chosen, 80)),
       sets.map((set) => el("option", { value: set, selected: set === chosen }, labelsText(set, 80))));

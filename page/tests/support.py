@@ -51,19 +51,22 @@ class Session:
                 lines.append(line)
         return answers
 
-    def events(self) -> int:
-        return self.ask(["cursor"])[0][1]["events"]
+    def states(self) -> list[dict[str, list[str]]]:
+        """Returns the lines of each list at each cursor from 0 on, and what the event there printed."""
+        count = self.ask(["cursor"])[0][1]["events"]
+        answers = self.ask([*LISTS, *(command for _ in range(count) for command in ("step", *LISTS))])
+        states = [dict(zip(LISTS, [lines for lines, _ in answers[:4]]), printed=[])]
+        for i in range(4, len(answers), 5):
+            lines = [each for each, _ in answers[i : i + 5]]
+            states.append(dict(zip(LISTS, lines[1:]), printed=lines[0]))
+        return states
 
-    def at(self, cursor: int) -> dict[str, list[str]]:
-        """Returns the lines of each list at a cursor, and what the event there printed."""
-        commands = [f"seek {max(0, cursor - 1)}", *(["step"] if cursor else []), *LISTS]
-        answers = self.ask(commands)
-        found = {name: lines for name, (lines, _) in zip(LISTS, answers[-4:])}
-        found["printed"] = answers[1][0] if cursor else []
-        return found
-
-    def explained(self, cursor: int, labels: dict[str, str]) -> list[str]:
-        return self.ask([f"seek {cursor}", "explain " + json.dumps(labels)])[1][0]
+    def explanations(self, alerts: list[dict[str, str]], count: int) -> list[list[list[str]]]:
+        """Returns the explanation of each alert at each cursor from 0 to a count."""
+        asked = ["explain " + json.dumps(labels) for labels in alerts]
+        answers = [lines for lines, _ in self.ask([*asked, *(command for _ in range(count) for command in ("step", *asked))])]
+        size = len(asked)
+        return [answers[:size]] + [answers[size + 1 + i * (size + 1) :][:size] for i in range(count)]
 
 
 def page_of(*words: Any) -> tuple[int, str, str]:

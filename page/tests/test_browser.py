@@ -3,11 +3,10 @@ from __future__ import annotations
 
 import json
 import unittest
-from pathlib import Path
 from typing import Any
 
 from .browser import Browser, chromium
-from .support import EXAMPLES, HOSTILE, LISTS, Session, WithRoom, hostile_files, page_of
+from .support import EXAMPLES, HOSTILE, Session, WithRoom, hostile_files, page_of
 
 NAMES = ("first-page", "a-page-that-never-came", "a-flapping-alert", "a-reload")
 # Opens what is folded, and answers the lines that are shown, by section.
@@ -18,7 +17,12 @@ SHOWN = """(async () => {
   await new Promise((done) => requestAnimationFrame(() => requestAnimationFrame(done)));
   const lines = (selector) => [...document.querySelectorAll(selector + " pre div")].map((line) => line.textContent);
   return { groups: lines("#groups"), alerts: lines("#alerts"), silences: lines("#silences"), log: lines("#log"),
-    printed: lines(".event"), why: lines("#why"), place: document.querySelector("#place").textContent };
+    printed: lines(".event"), trial: lines("#whatif") };
+})()"""
+WHY = """(async () => {
+  document.querySelector("#why details.lines").open = true;
+  await new Promise((done) => setTimeout(done, 0));
+  return [...document.querySelectorAll("#why pre div")].map((line) => line.textContent);
 })()"""
 CHOSEN = 'document.querySelector("#why select")'
 
@@ -53,25 +57,26 @@ class InBrowser(WithRoom):
 
     def check_states(self, session: Session) -> None:
         """Steps from the start by keys, and compares what is shown with the session's lines, explanations included."""
-        events = session.events()
+        states, alerts = session.states(), self.alerts()
+        explanations = session.explanations(alerts, len(states) - 1)
         self.browser.key("Home")
-        for cursor in range(events + 1):
-            shown, own = self.browser.value(SHOWN), session.at(cursor)
-            for name in (*LISTS, "printed"):
-                self.assertEqual(shown[name], own[name], (name, cursor))
-            self.check_explanations(session, cursor)
+        for cursor, own in enumerate(states):
+            shown = self.browser.value(SHOWN)
+            self.assertEqual({name: shown[name] for name in own}, own, cursor)
+            for i, lines in enumerate(explanations[cursor]):
+                self.browser.value(f'{CHOSEN}.selectedIndex = {i}; {CHOSEN}.dispatchEvent(new Event("change"))')
+                self.assertEqual(self.browser.value(WHY), lines, (cursor, alerts[i]))
             self.browser.key("ArrowRight")
-        self.assertTrue(self.place().startswith(f"event {events} of {events}"))
+        self.assertTrue(self.place().startswith(f"event {len(states) - 1} of {len(states) - 1}"))
         self.assertEqual(self.browser.faults(), [])
 
-    def check_explanations(self, session: Session, cursor: int) -> None:
-        for i in range(self.browser.value(f"{CHOSEN} ? {CHOSEN}.options.length : 0")):
-            self.browser.value(f'{CHOSEN}.selectedIndex = {i}; {CHOSEN}.dispatchEvent(new Event("change"))')
-            chosen = self.browser.value(f"Number({CHOSEN}.value)")
-            flat = self.browser.value(f'(() => {{ const d = JSON.parse(document.getElementById("data").textContent);'
-                                      f"return d.sets[{chosen}].map((n) => d.texts[n - 1]); }})()")
-            labels = dict(zip(flat[::2], flat[1::2]))
-            self.assertEqual(self.browser.value(SHOWN)["why"], session.explained(cursor, labels), (cursor, labels))
+    def alerts(self) -> list[dict[str, str]]:
+        """Returns the label sets of the alerts that can be chosen, in their order."""
+        flat = self.browser.value(f"""(() => {{
+          const data = JSON.parse(document.getElementById("data").textContent);
+          return {CHOSEN} ? [...{CHOSEN}.options].map((each) => data.sets[Number(each.value)].map((n) => data.texts[n - 1])) : [];
+        }})()""")
+        return [dict(zip(each[::2], each[1::2])) for each in flat]
 
     def test_states_of_examples(self) -> None:
         for name in NAMES:
@@ -185,7 +190,7 @@ class InBrowser(WithRoom):
 
     def test_a_tried_event(self) -> None:
         session = self.example("a-page-that-never-came", "--try", '{"at":"2024-05-01T10:00:30Z","tick":true}')
-        shown = self.browser.value(SHOWN.replace('why: lines("#why")', 'trial: lines("#whatif")'))
+        shown = self.browser.value(SHOWN)
         event = '{"at":"2024-05-01T10:00:30Z","tick":true}'
         self.assertEqual(shown["trial"], session.ask(["seek 2", f"trial {event}"])[1][0])
         self.assertEqual(self.browser.faults(), [])

@@ -36,14 +36,14 @@ class Collected(WithRoom):
         status, page, faults = page_of(config, script, *words)
         self.assertEqual((status, faults), (0, ""))
         reader, session = Reader(data_of(page)), Session(config, script)
+        states, alerts = session.states(), reader.alerts()
+        explanations = session.explanations(alerts, reader.last)
         for cursor in range(reader.first - 1, reader.last + 1):
-            own = session.at(cursor)
             for name in LISTS:
-                self.assertEqual(reader.listed(name, cursor), own[name], (name, cursor))
+                self.assertEqual(reader.listed(name, cursor), states[cursor][name], (name, cursor))
             if cursor >= reader.first:
-                self.assertEqual(reader.printed(cursor), own["printed"], cursor)
-            for labels in reader.alerts():
-                self.assertEqual(reader.explained(cursor, labels), session.explained(cursor, labels), (labels, cursor))
+                self.assertEqual(reader.printed(cursor), states[cursor]["printed"], cursor)
+            self.assertEqual([reader.explained(cursor, labels) for labels in alerts], explanations[cursor], cursor)
         return reader
 
     def test_examples(self) -> None:
@@ -70,6 +70,27 @@ class Collected(WithRoom):
     def test_an_alert_that_is_named_and_not_stored(self) -> None:
         reader = self.check(*files(EXAMPLES / "first-page"), "--explain", '{"alertname":"Nothing"}')
         self.assertIn({"alertname": "Nothing"}, reader.alerts())
+
+
+class Flushes(WithRoom):
+    """Flushes between events, which are found with ticks."""
+
+    def found(self, name: str) -> list[list[str]]:
+        data = data_of(page_of(*files(EXAMPLES / name))[1])
+        return [[data["texts"][number - 1] for number in flat[1::2]] for _, _, flat in data["runs"][0]["flushes"]]
+
+    def test_six_of_two_groups(self) -> None:
+        moments = [f"2024-05-01T10:{minute}:30Z" for minute in ("05", "10", "15")]
+        self.assertEqual(self.found("a-page-that-never-came"), [moments, moments])
+
+    def test_a_night(self) -> None:
+        night = self.found("a-flapping-alert")[0]
+        self.assertEqual(len(night), 101, "two in each of the short times, and each five minutes from 23:00:30 to 07:00:30")
+        self.assertEqual((night[0], night[3], night[4], night[-1]), (
+            "2024-05-01T22:00:30Z", "2024-05-01T22:15:30Z", "2024-05-01T23:00:30Z", "2024-05-02T07:00:30Z"))
+
+    def test_none_hides(self) -> None:
+        self.assertEqual(self.found("first-page"), [])
 
 
 class InPieces(WithRoom):
@@ -103,22 +124,22 @@ class InPieces(WithRoom):
         reader, session = Reader(data_of(self.made())), Session(self.config, self.script)
         stops = reader.run["stops"]
         self.assertTrue(2 < len(stops) < 61 and stops[-1] == 60)
+        own = session.states()
         for cursor in stops:
-            own = session.at(cursor)
             for name in LISTS:
-                self.assertEqual(reader.listed(name, cursor), own[name], (name, cursor))
+                self.assertEqual(reader.listed(name, cursor), own[cursor][name], (name, cursor))
 
     def test_explanations_where_an_alert_changed(self) -> None:
         verdicts.ALL_AT_MOST = 0
         reader, session = Reader(data_of(self.made())), Session(self.config, self.script)
         self.assertEqual(reader.run["extent"], "changed")
         answered = 0
-        for cursor in range(61):
-            for labels in reader.alerts():
+        for cursor, own in enumerate(session.explanations(reader.alerts(), 60)):
+            for labels, lines in zip(reader.alerts(), own):
                 explained = reader.explained(cursor, labels)
                 if explained is not None:
                     answered += 1
-                    self.assertEqual(explained, session.explained(cursor, labels))
+                    self.assertEqual(explained, lines)
         self.assertGreater(answered, 30)
 
 

@@ -3,7 +3,9 @@ ghost use Rattle.std.specs.Prelude.{◌≡◌};
 ghost use Rattle.amr_lines.specs.Outlet.{WritesText, FailsAt};
 ghost use Rattle.amr_commands.specs.Answer.{refusal_number, answer_text};
 
-use amr_lines::{Outlet, Word, WriteFailed, write_back, write_backward_seek, write_refused, write_whole};
+use amr_lines::{
+    Outlet, Word, WriteFailed, write_back, write_backward_seek, write_refused, write_whole,
+};
 use std::io::Write;
 
 /// Why a command is refused.
@@ -61,7 +63,8 @@ pub(crate) fn write_answer<W: Write>(
     cursor: usize,
     answer: &Answer,
 ) -> Result<(), WriteFailed>
-    ensures written { WritesText (W.contents out.old.writer) (W.contents out.new.writer) result (answer_text cursor answer.now) }
+    ensures written { WritesText (W.contents out.old.writer) (W.contents out.new.writer)
+        result (answer_text cursor answer.now) }
     ensures failed { FailsAt result out.old.failed out.new.failed }
 {
     match answer {

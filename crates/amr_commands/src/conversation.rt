@@ -41,7 +41,8 @@ fn read_once<R: Read>(commands: &mut Inlet<R>, chunk: &mut [u8]) -> Result<usize
         × (n ≡ 0 → IsAtEnd (R.remaining commands.new.reader)))
         (λ broken. (broken ≡ Broken.Reading)
         × Keeps (R.remaining commands.old.reader) (R.remaining commands.new.reader)) }
-    ensures counted { CountsCall result commands.old.failed commands.new.failed commands.old.calls commands.new.calls }
+    ensures counted { CountsCall result commands.old.failed commands.new.failed commands.old.calls
+        commands.new.calls }
 {
     match commands.read(chunk) {
         Ok(n) => Ok(n),
@@ -78,11 +79,13 @@ fn take_turn<R: Read, W: Write>(
 ) -> Result<Turn, Broken>
     requires { 0 < length chunk.old }
     ensures kept { incident_of session.new ≡ incident_of session.old }
-    ensures turned { Turns (incident_of session.old) (R.remaining commands.old.reader) (R.remaining commands.new.reader)
+    ensures turned { Turns (incident_of session.old) (R.remaining commands.old.reader)
+        (R.remaining commands.new.reader)
         (W.contents out.old.writer) (W.contents out.new.writer) session.old.cursor session.new.cursor
         line.old line.new result }
     ensures counted { CountsTurn result commands.old.calls commands.new.calls }
-    ensures ended { EndsBy result commands.old.failed commands.new.failed commands.new.calls out.old.failed out.new.failed }
+    ensures ended { EndsBy result commands.old.failed commands.new.failed commands.new.calls
+        out.old.failed out.new.failed }
 {
     match read_once(commands, chunk) {
         Err(_) => Err(Broken::Reading),
@@ -108,9 +111,11 @@ pub fn converse<R: Read, W: Write>(
     out: &mut Outlet<W>,
 ) -> Result<(), Broken>
     requires { session.old.cursor ≡ 0 }
-    ensures conversed { Converses (incident_of session.old) (R.remaining commands.old.reader) (R.remaining commands.new.reader)
+    ensures conversed { Converses (incident_of session.old) (R.remaining commands.old.reader)
+        (R.remaining commands.new.reader)
         (W.contents out.old.writer) (W.contents out.new.writer) result }
-    ensures ended { EndsBy result commands.old.failed commands.new.failed commands.new.calls out.old.failed out.new.failed }
+    ensures ended { EndsBy result commands.old.failed commands.new.failed commands.new.calls
+        out.old.failed out.new.failed }
 {
     let mut line = Line::new(alloc);
     let mut chunk = [0u8; CHUNK];

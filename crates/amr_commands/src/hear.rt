@@ -20,7 +20,8 @@ fn hear_byte<W: Write>(
     out: &mut Outlet<W>,
 ) -> Result<(), WriteFailed>
     ensures kept { incident_of session.new ≡ incident_of session.old }
-    ensures heard { Hears (incident_of session.old) (W.contents out.old.writer) session.old.cursor line.old
+    ensures heard { Hears (incident_of session.old) (W.contents out.old.writer)
+        session.old.cursor line.old
         (W.contents out.new.writer) session.new.cursor line.new result (b ∷ []) }
     ensures failed { FailsAt result out.old.failed out.new.failed }
 {
@@ -42,7 +43,8 @@ pub(crate) fn hear<W: Write>(
     out: &mut Outlet<W>,
 ) -> Result<(), WriteFailed>
     ensures kept { incident_of session.new ≡ incident_of session.old }
-    ensures heard { Hears (incident_of session.old) (W.contents out.old.writer) session.old.cursor line.old
+    ensures heard { Hears (incident_of session.old) (W.contents out.old.writer)
+        session.old.cursor line.old
         (W.contents out.new.writer) session.new.cursor line.new result bytes.now }
     ensures failed { FailsAt result out.old.failed out.new.failed }
 {

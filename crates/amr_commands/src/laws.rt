@@ -1,7 +1,7 @@
 //! Laws of what a session prints, as functions that do nothing.
 ghost use Rattle.amr_commands.specs.Laws.{EmptyIsSilent};
 
-/// An empty line prints nothing, whatever becomes of it. So does what stands behind the last line feed, if that is empty.
+/// Says that an empty line prints nothing, whatever becomes of it. So the end of the commands prints nothing if no byte follows the last line feed.
 pub fn an_empty_line_prints_nothing()
     ensures { EmptyIsSilent }
 {}

@@ -1,7 +1,6 @@
 -- A configuration, from the value that it is read from.
-use Rattle.std.specs.Prelude.{ℕ, List, Option, Some, None, Result, Ok, Err, if◌then◌else◌}
+use Rattle.std.specs.Prelude.{Option, Some, None, Result, Ok, Err, if◌then◌else◌}
 use Rattle.serde_json.specs.Data.{Data}
-use Rattle.amr_labels.specs.Labels.{Text}
 use Rattle.amr_stated.specs.declared.error.Refusal.{Refusal}
 use Rattle.amr_stated.specs.declared.error.Refusal.TheVariants.{TooDeep}
 use Rattle.amr_stated.specs.declared.stated.Stated.{Stated}

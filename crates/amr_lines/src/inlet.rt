@@ -39,8 +39,10 @@ impl<R: Read> Inlet<R> {
     /// Reads once. Every error of the reader ends reading, an interrupted call too, and so does the number of the call.
     pub fn read(&mut self, chunk: &mut [u8]) -> Result<usize, ReadFailed>
         ensures bound { ReadsAtMost result chunk.new }
-        ensures bytes { ReadConsumes (R.remaining self.old.reader) (R.remaining self.new.reader) result chunk.new }
-        ensures counted { CountsCall result self.old.failed self.new.failed self.old.calls self.new.calls }
+        ensures bytes { ReadConsumes (R.remaining self.old.reader) (R.remaining self.new.reader)
+            result chunk.new }
+        ensures counted { CountsCall result self.old.failed self.new.failed
+            self.old.calls self.new.calls }
     {
         if self.calls + 1 == LAST_CALL {
             return Err(ReadFailed);

@@ -85,7 +85,8 @@ pub fn write_refused<W: Write>(
     cursor: usize,
     reason: u64,
 ) -> Result<(), WriteFailed>
-    ensures written { WritesText (W.contents out.old.writer) (W.contents out.new.writer) result (refused_line word cursor reason) }
+    ensures written { WritesText (W.contents out.old.writer) (W.contents out.new.writer)
+        result (refused_line word cursor reason) }
     ensures failed { FailsAt result out.old.failed out.new.failed }
 {
     let mut cursor_digits = Buffer::new();
@@ -106,7 +107,8 @@ pub fn write_refused<W: Write>(
 
 /// Writes the line of a step back. It takes no memory.
 pub fn write_back<W: Write>(out: &mut Outlet<W>, cursor: usize) -> Result<(), WriteFailed>
-    ensures written { WritesText (W.contents out.old.writer) (W.contents out.new.writer) result (cursor_line Back cursor) }
+    ensures written { WritesText (W.contents out.old.writer) (W.contents out.new.writer)
+        result (cursor_line Back cursor) }
     ensures failed { FailsAt result out.old.failed out.new.failed }
 {
     let mut digits = Buffer::new();
@@ -126,7 +128,8 @@ pub fn write_backward_seek<W: Write>(
     word: Word,
     cursor: usize,
 ) -> Result<(), WriteFailed>
-    ensures written { WritesText (W.contents out.old.writer) (W.contents out.new.writer) result (moves_line word cursor 0) }
+    ensures written { WritesText (W.contents out.old.writer) (W.contents out.new.writer)
+        result (moves_line word cursor 0) }
     ensures failed { FailsAt result out.old.failed out.new.failed }
 {
     let mut digits = Buffer::new();

@@ -32,7 +32,8 @@ impl<W: Write> Outlet<W> {
     fn write_once(&mut self, bytes: &[u8]) -> Result<usize, WriteFailed>
         ensures bound { WritesAtMost result bytes.now }
         ensures some { IfOk result (λ taken. taken ≢ 0) }
-        ensures bytes { WriteAppends (W.contents self.old.writer) (W.contents self.new.writer) result bytes.now }
+        ensures bytes { WriteAppends (W.contents self.old.writer) (W.contents self.new.writer)
+            result bytes.now }
         ensures failed { FailsAt result self.old.failed self.new.failed }
     {
         match self.writer.write(bytes) {
@@ -48,7 +49,8 @@ impl<W: Write> Outlet<W> {
 /// Writes all the bytes, a part at a time if the writer takes only a part. Every error of the writer ends it, an
 /// interrupted write too, and so does a write that takes no byte.
 pub fn write_whole<W: Write>(out: &mut Outlet<W>, bytes: &[u8]) -> Result<(), WriteFailed>
-    ensures written { WritesText (W.contents out.old.writer) (W.contents out.new.writer) result bytes.now }
+    ensures written { WritesText (W.contents out.old.writer) (W.contents out.new.writer)
+        result bytes.now }
     ensures failed { FailsAt result out.old.failed out.new.failed }
 {
     let mut rest = bytes;
@@ -75,7 +77,8 @@ pub fn flush<W: Write>(out: &mut Outlet<W>) -> Result<(), WriteFailed>
 
 /// Writes the parts, one after the other.
 pub fn write_parts<W: Write>(out: &mut Outlet<W>, parts: &[&[u8]]) -> Result<(), WriteFailed>
-    ensures written { WritesText (W.contents out.old.writer) (W.contents out.new.writer) result (flat_map (λ part. part.now) parts.now) }
+    ensures written { WritesText (W.contents out.old.writer) (W.contents out.new.writer)
+        result (flat_map (λ part. part.now) parts.now) }
     ensures failed { FailsAt result out.old.failed out.new.failed }
 {
     for part in parts {

@@ -37,7 +37,8 @@ pub fn check_config<W: Write>(
     config: &[u8],
     out: &mut Outlet<W>,
 ) -> Result<(), Fault>
-    ensures left { CheckLeaves (W.contents out.old.writer) (W.contents out.new.writer) config.now result }
+    ensures left { CheckLeaves (W.contents out.old.writer) (W.contents out.new.writer) config.now
+        result }
     ensures ended { EndsBy result out.old.failed out.new.failed }
 {
     let config = read_config(alloc, config)?;

@@ -117,14 +117,16 @@ ghost use Rattle.amr_program.specs.Faults.{fault_line, fault_name, config_name a
 
 /// Writes the fault's line.
 pub fn write_fault<W: Write>(fault: &Fault, out: &mut Outlet<W>) -> Result<(), WriteFailed>
-    ensures written { WritesText (W.contents out.old.writer) (W.contents out.new.writer) result (fault_line fault.now) }
+    ensures written { WritesText (W.contents out.old.writer) (W.contents out.new.writer)
+        result (fault_line fault.now) }
     ensures failed { FailsAt result out.old.failed out.new.failed }
 {
     write_line(name_of(fault), &place_of(fault), out)
 }
 
 fn write_line<W: Write>(name: &str, place: &Place, out: &mut Outlet<W>) -> Result<(), WriteFailed>
-    ensures written { WritesText (W.contents out.old.writer) (W.contents out.new.writer) result (line_with_place name.now (place_seen place.now)) }
+    ensures written { WritesText (W.contents out.old.writer) (W.contents out.new.writer)
+        result (line_with_place name.now (place_seen place.now)) }
     ensures failed { FailsAt result out.old.failed out.new.failed }
 {
     match place {

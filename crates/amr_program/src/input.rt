@@ -43,7 +43,8 @@ impl From<ReadFailed> for Unread {
 ///
 /// Reading ends at the call of read numbered 1,099,511,627,776, as at an error of the reader.
 pub fn read_whole<R: Read>(alloc: Global, inlet: &mut Inlet<R>) -> Result<Vec<u8>, Unread>
-    ensures consumed { IfOk result (λ bytes. Consumes (R.remaining inlet.old.reader) (R.remaining inlet.new.reader) bytes.items) }
+    ensures consumed { IfOk result (λ bytes. Consumes (R.remaining inlet.old.reader)
+        (R.remaining inlet.new.reader) bytes.items) }
     ensures at_end { IfOk result (λ bytes. IsAtEnd (R.remaining inlet.new.reader)) }
     ensures ended { MatchResult result
         (λ _. inlet.new.failed ≡ inlet.old.failed)

@@ -51,7 +51,8 @@ fn write_event<W: Write>(
     outcome: &Outcome,
     out: &mut Outlet<W>,
 ) -> Result<(), Stopped>
-    ensures left { Leaves (W.contents out.old.writer) (W.contents out.new.writer) (event_lines event (outcome_view outcome.now)) result }
+    ensures left { Leaves (W.contents out.old.writer) (W.contents out.new.writer)
+        (event_lines event (outcome_view outcome.now)) result }
     ensures stopped { StoppedBy result out.old.failed out.new.failed }
 {
     let text = event_text(alloc, event, outcome)?;
@@ -60,9 +61,14 @@ fn write_event<W: Write>(
 }
 
 /// Steps a session from its start to its end, and writes each event's lines.
-fn write_events<W: Write>(alloc: Global, session: &mut Session, out: &mut Outlet<W>) -> Result<(), Stopped>
+fn write_events<W: Write>(
+    alloc: Global,
+    session: &mut Session,
+    out: &mut Outlet<W>,
+) -> Result<(), Stopped>
     requires { session.old ≡ at_cursor session.old.config session.old.events 0 }
-    ensures left { RunLeaves (W.contents out.old.writer) (W.contents out.new.writer) session.old.config session.old.events result }
+    ensures left { RunLeaves (W.contents out.old.writer) (W.contents out.new.writer)
+        session.old.config session.old.events result }
     ensures stopped { StoppedBy result out.old.failed out.new.failed }
 {
     for number in 0..session.events() {
@@ -76,9 +82,14 @@ fn write_events<W: Write>(alloc: Global, session: &mut Session, out: &mut Outlet
 }
 
 /// The same, and hands on what the writer holds back, also where memory stops the run.
-fn write_run<W: Write>(alloc: Global, session: &mut Session, out: &mut Outlet<W>) -> Result<(), Stopped>
+fn write_run<W: Write>(
+    alloc: Global,
+    session: &mut Session,
+    out: &mut Outlet<W>,
+) -> Result<(), Stopped>
     requires { session.old ≡ at_cursor session.old.config session.old.events 0 }
-    ensures left { RunLeaves (W.contents out.old.writer) (W.contents out.new.writer) session.old.config session.old.events result }
+    ensures left { RunLeaves (W.contents out.old.writer) (W.contents out.new.writer)
+        session.old.config session.old.events result }
     ensures stopped { StoppedBy result out.old.failed out.new.failed }
 {
     let ended = write_events(alloc, session, out);
@@ -96,7 +107,8 @@ pub fn run_script<W: Write>(
     script: &[u8],
     out: &mut Outlet<W>,
 ) -> Result<(), Fault>
-    ensures left { FilesLeave (W.contents out.old.writer) (W.contents out.new.writer) config.now script.now result }
+    ensures left { FilesLeave (W.contents out.old.writer) (W.contents out.new.writer)
+        config.now script.now result }
     ensures ended { EndsBy result out.old.failed out.new.failed }
 {
     let mut session = open_session(alloc, config, script)?;

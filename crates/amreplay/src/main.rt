@@ -51,11 +51,7 @@ fn script_bytes(rt: &HostRuntime, path: &str) -> Result<Vec<u8>, Fault> {
 /// Checks the configuration of a file.
 fn check_file(rt: &HostRuntime, config: &str) -> Result<(), Fault> {
     let config = config_bytes(rt, config)?;
-    check_config(
-        rt.alloc(),
-        config.as_slice(),
-        &mut Outlet::new(rt.stdout()),
-    )
+    check_config(rt.alloc(), config.as_slice(), &mut Outlet::new(rt.stdout()))
 }
 
 /// Runs the script of one file over the configuration of another.
