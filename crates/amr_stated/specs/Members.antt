@@ -40,6 +40,10 @@ abbrev pub required : {A : Type 0} → List ℕ → (Data → Result A Refusal) 
 required path reads None = Err (BadConfig path)
 required path reads (Some d) = reads d
 
+-- a member of this shape under a key, which has to be there
+abbrev pub needed : {A : Type 0} → (List ℕ → Data → Result A Refusal) → List ℕ → List ℕ → Data → Result A Refusal
+needed shape path key d = required (under path key) (shape (under path key)) (member_of key d)
+
 -- each item, from the i-th on, taken into what the ones before gave
 abbrev pub each_item : {A : Type 0} → (ℕ → Data → A → Result A Refusal) → ℕ → Items → A → Result A Refusal
 each_item f i no_items a = Ok a

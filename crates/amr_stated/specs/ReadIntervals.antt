@@ -16,8 +16,8 @@ use Rattle.amr_stated.specs.declared.error.Refusal.TheVariants.{BadConfig}
 use Rattle.amr_stated.specs.declared.interval.NamedInterval.{NamedInterval}
 use Rattle.amr_stated.specs.declared.read_intervals.Field.{Field}
 use Rattle.amr_stated.specs.declared.read_intervals.Field.TheVariants.{Weekdays, Months, Years}
-use Rattle.amr_stated.specs.Paths.{under, item_path}
-use Rattle.amr_stated.specs.Members.{◌>>=◌, any_item, list_in, member_of, stated, required, each_item, or_faulty, text_at, items_at, members_at}
+use Rattle.amr_stated.specs.Paths.{item_path}
+use Rattle.amr_stated.specs.Members.{◌>>=◌, any_item, list_in, member_of, stated, needed, each_item, or_faulty, text_at, items_at, members_at}
 
 -- ---- ranges
 
@@ -54,8 +54,8 @@ times_from path start end = if nat_lt start end then Ok (record { start = start;
 unfoldable pub time_range_at : List ℕ → Data → Result TimeRange Refusal
 time_range_at path d = do
   whole ← members_at path d
-  end ← required (under path (codes "end_time")) (time_of end_time_at (under path (codes "end_time"))) (member_of (codes "end_time") d)
-  start ← required (under path (codes "start_time")) (time_of time_at (under path (codes "start_time"))) (member_of (codes "start_time") d)
+  end ← needed (time_of end_time_at) path (codes "end_time") d
+  start ← needed (time_of time_at) path (codes "start_time") d
   times_from path start end
 
 unfoldable pub time_range_into : List ℕ → ℕ → Data → List TimeRange → Result (List TimeRange) Refusal
@@ -104,8 +104,8 @@ new_name_at intervals path d = text_at path d >>= λ name. if is_taken name inte
 unfoldable pub interval_at : List NamedInterval → List ℕ → Data → Result NamedInterval Refusal
 interval_at intervals path d = do
   whole ← members_at path d
-  name ← required (under path (codes "name")) (new_name_at intervals (under path (codes "name"))) (member_of (codes "name") d)
-  members ← required (under path (codes "time_intervals")) (interval_members_at (under path (codes "time_intervals"))) (member_of (codes "time_intervals") d)
+  name ← needed (new_name_at intervals) path (codes "name") d
+  members ← needed interval_members_at path (codes "time_intervals") d
   Ok (record { name = name; interval = record { members = members } })
 
 unfoldable pub interval_into : List ℕ → ℕ → Data → List NamedInterval → Result (List NamedInterval) Refusal

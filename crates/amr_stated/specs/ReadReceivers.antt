@@ -11,7 +11,7 @@ use Rattle.amr_stated.specs.declared.receiver.Integration.{Integration}
 use Rattle.amr_stated.specs.declared.receiver.Receiver.{Receiver}
 use Rattle.amr_stated.specs.declared.read_receivers.Kind.{Kind}
 use Rattle.amr_stated.specs.Paths.{under, item_path}
-use Rattle.amr_stated.specs.Members.{◌>>=◌, present, member_of, optional, required, or_faulty, each_item, each_member, text_at, flag_at, items_at, members_at}
+use Rattle.amr_stated.specs.Members.{◌>>=◌, present, optional, stated, needed, or_faulty, each_item, each_member, text_at, flag_at, items_at, members_at}
 
 abbrev pub same_text : Text → Text → Bool
 same_text = eq_by_cmp text_cmp
@@ -32,8 +32,8 @@ default_of kind = if is_sender kind then Some true else (if is_keeper kind then 
 unfoldable pub entry_into : Text → List ℕ → ℕ → Data → List Integration → Result (List Integration) Refusal
 entry_into kind path i d integrations = do
   whole ← members_at (item_path path i) d
-  stated ← optional (flag_at (under (item_path path i) (codes "send_resolved"))) (member_of (codes "send_resolved") d)
-  sends ← or_faulty (item_path path i) (option_or stated (default_of kind))
+  said ← stated flag_at (item_path path i) (codes "send_resolved") d
+  sends ← or_faulty (item_path path i) (option_or said (default_of kind))
   Ok (integrations ++ record { kind = kind; place = i; send_resolved = sends } ∷ [])
 
 unfoldable pub entries_at : Text → List ℕ → Data → Result (List Integration) Refusal
@@ -81,7 +81,7 @@ name_at path d = text_at path d >>= λ text. if length text == 0 then Err (BadCo
 unfoldable pub receiver_at : List ℕ → Data → Result Receiver Refusal
 receiver_at path d = do
   first ← kinds_at true path d []
-  name ← required (under path (codes "name")) (name_at (under path (codes "name"))) (member_of (codes "name") d)
+  name ← needed name_at path (codes "name") d
   all ← kinds_at false path d first
   Ok (record { name = name; integrations = flat_map (λ kind. kind.integrations) all })
 
@@ -93,4 +93,4 @@ receivers_list path d = items_at path d >>= λ ds. each_item (receiver_into path
 
 -- the receivers of a whole configuration, which may be absent
 unfoldable pub receivers_at : Data → Result (List Receiver) Refusal
-receivers_at d = optional (receivers_list (codes "receivers")) (member_of (codes "receivers") d) >>= λ found. Ok (unwrap_or found [])
+receivers_at d = stated receivers_list [] (codes "receivers") d >>= λ found. Ok (unwrap_or found [])

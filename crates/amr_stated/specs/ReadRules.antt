@@ -2,15 +2,15 @@
 use Rattle.std.specs.Prelude.{ℕ, List, [], ◌∷◌, ◌++◌, Option, Some, None, Ok, codes, unwrap_or}
 use Rattle.serde_json.specs.Data.{Data}
 use Rattle.amr_stated.specs.declared.rule.InhibitRule.{InhibitRule}
-use Rattle.amr_stated.specs.Paths.{under, item_path}
-use Rattle.amr_stated.specs.Members.{member_of, optional, items_at, members_at, texts_at}
+use Rattle.amr_stated.specs.Paths.{item_path}
+use Rattle.amr_stated.specs.Members.{member_of, stated, items_at, members_at, texts_at}
 use Rattle.amr_stated.specs.Readings.{Reading, plain, ◌>>=◌, items_in_turn}
 use Rattle.amr_stated.specs.ReadMatchers.{matchers_at}
 
 unfoldable pub rule_at : List ℕ → Data → Reading InhibitRule
 rule_at path d = do
   whole ← plain (members_at path d)
-  equal ← plain (optional (texts_at (under path (codes "equal"))) (member_of (codes "equal") d))
+  equal ← plain (stated texts_at path (codes "equal") d)
   source ← matchers_at path (codes "source_match") (codes "source_match_re") (codes "source_matchers") d
   target ← matchers_at path (codes "target_match") (codes "target_match_re") (codes "target_matchers") d
   plain (Ok (record { source = source; target = target; equal = unwrap_or equal [] }))

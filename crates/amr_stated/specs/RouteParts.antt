@@ -10,8 +10,7 @@ use Rattle.amr_stated.specs.declared.route.Grouping.{Grouping}
 use Rattle.amr_stated.specs.declared.route.Grouping.TheVariants.{AllLabels, Named}
 use Rattle.amr_stated.specs.declared.read_routes.Front.{Front}
 use Rattle.amr_stated.specs.declared.read_routes.Back.{Back}
-use Rattle.amr_stated.specs.Paths.{under}
-use Rattle.amr_stated.specs.Members.{◌>>=◌, member_of, optional, text_at, flag_at, items_at, span_at, texts_at, stated, any_item, list_in}
+use Rattle.amr_stated.specs.Members.{◌>>=◌, member_of, text_at, flag_at, items_at, span_at, texts_at, stated, any_item, list_in}
 use Rattle.amr_stated.specs.ReadIntervals.{names_at}
 
 -- `["..."]`
@@ -48,7 +47,7 @@ back_at whole path d = do
 
 -- the list of the routes below, which may be absent
 unfoldable pub children_at : List ℕ → Data → Result Items Refusal
-children_at path d = optional (items_at (under path (codes "routes"))) (member_of (codes "routes") d) >>= λ found. Ok (unwrap_or found no_items)
+children_at path d = stated items_at path (codes "routes") d >>= λ found. Ok (unwrap_or found no_items)
 
 -- ---- levels
 

@@ -3,12 +3,11 @@ use Rattle.std.specs.Prelude.{◌*◌, [], Option, Some, None, Result, Ok, codes
 use Rattle.serde_json.specs.Data.{Data}
 use Rattle.amr_time.specs.Time.{Span, minute}
 use Rattle.amr_stated.specs.declared.error.Refusal.{Refusal}
-use Rattle.amr_stated.specs.Members.{◌>>=◌, member_of, optional, members_at, span_at}
-use Rattle.amr_stated.specs.Paths.{under}
+use Rattle.amr_stated.specs.Members.{◌>>=◌, member_of, optional, stated, members_at, span_at}
 
 -- what the member `global` states
 unfoldable pub timeout_in : Data → Result (Option Span) Refusal
-timeout_in d = members_at (codes "global") d >>= λ whole. optional (span_at (under (codes "global") (codes "resolve_timeout"))) (member_of (codes "resolve_timeout") d)
+timeout_in d = members_at (codes "global") d >>= λ whole. stated span_at (codes "global") (codes "resolve_timeout") d
 
 abbrev pub timeout_stated : Option (Option Span) → Span
 timeout_stated None = 5 * minute
