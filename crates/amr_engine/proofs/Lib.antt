@@ -5,4 +5,3 @@ pub mod RefusalLaws
 pub mod Cascade
 pub mod Endings
 pub mod Acting
-pub mod Deciding

@@ -6,6 +6,7 @@ ghost use Rattle.std.specs.Cmp.Rules.{comparing};
 ghost use Rattle.std.specs.Ordering.{as_partial_cmp, nat_cmp, eq_by_cmp};
 ghost use Rattle.amr_events.specs.Ids.{id_of, id_text};
 
+use amr_tables::Key;
 use std::alloc::{AllocError, Global};
 use std::cmp::Ordering;
 use std::marker::Model;
@@ -104,4 +105,10 @@ impl PartialOrd for SilenceId {
     fn partial_cmp(&self, other: &SilenceId) -> Option<Ordering> {
         Some(self.cmp(other))
     }
+}
+
+impl Key for SilenceId {
+    ghost use Rattle.std.specs.FinMap.{nat_cmp-IsAntisymmetric};
+
+    ghost exact = { nat_cmp-IsAntisymmetric };
 }

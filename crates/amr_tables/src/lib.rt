@@ -5,6 +5,7 @@
 mod entries;
 mod journal;
 mod keyed;
+mod keys;
 
 mod marks;
 mod slots;

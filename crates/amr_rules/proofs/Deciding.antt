@@ -13,15 +13,6 @@ use Rattle.amr_rules.specs.Silences.{Silences, decided_post, named_silence, name
 abbrev pub IsDecision : Moment → PostedSilence → Silences → Option Posting → Type 0
 IsDecision now posted silences posting = ok_or posting 17 ≡ decided_post now posted (named_silence posted silences)
 
--- what was answered for the parts of a post
-pub is_decision : (now : Moment) (posted : PostedSilence) (silences : Silences) (posting : Option Posting) (matchers : Option (List Matcher)) (old : Option Silence)
-    → matchers ≡ posted.matchers → old ≡ named_silence posted silences
-    → ok_or posting 17 ≡ decided_post now (record { id = posted.id; new_id = posted.new_id; matchers = matchers; starts_at = posted.starts_at; ends_at = posted.ends_at }) old
-    → IsDecision now posted silences posting
-is_decision now posted silences posting matchers old same named is =
-    is ∙ ap (λ (m : Option (List Matcher)). decided_post now (record { id = posted.id; new_id = posted.new_id; matchers = m; starts_at = posted.starts_at; ends_at = posted.ends_at }) old) same
-    ∙ ap (decided_post now posted) named
-
 -- whether the named silence is missing
 pub is_missing : (old : Option (Bor Silence)) (named : Option Silence) → option_copied old ≡ named → is_none named ≡ not (is_some old)
 is_missing None named e = sym (ap is_none e)
