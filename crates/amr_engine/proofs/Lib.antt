@@ -4,4 +4,5 @@ pub mod TickLaws
 pub mod RefusalLaws
 pub mod Cascade
 pub mod Endings
-pub mod Acting
+pub mod Preparing
+pub mod Parted

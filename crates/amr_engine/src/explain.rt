@@ -6,9 +6,10 @@ ghost use Rattle.amr_config.specs.Routing.{chosen};
 ghost use Rattle.amr_engine.specs.Explain.{waiting, inhibited_or_silenced, logged, heard, finding, clock_of, kind_and_place, verdict_at, verdicts_at, verdicts_of_stored, verdicts};
 
 use crate::flush::log_key;
+use crate::muter::{Muter, muted_by};
 use amr_events::SilenceId;
 use amr_labels::{Labels, Text};
-use amr_rules::{Alert, LogEntry, inhibited_by, silenced_by};
+use amr_rules::{Alert, LogEntry};
 use amr_state::{Clock, Spot, Store, group_spot};
 use amr_stated::Integration;
 use amr_time::Moment;
@@ -65,17 +66,12 @@ fn waiting(clock: &Clock) -> Option<Finding>
 
 /// A rule inhibits the alert, or else a silence silences it.
 fn inhibited_or_silenced(store: &Store, labels: &Labels) -> Result<Option<Finding>, AllocError>
-    ensures { IfOk result (λ found. found ≡ inhibited_or_silenced store.now labels.now) }
+    ensures { IfOk result (λ found. found ≡ inhibited_or_silenced store.now.state labels.now) }
 {
-    let alloc = store.alloc();
-    let now = store.moment();
-    let rules = store.config().rules();
-    if let Some((rule, source)) = inhibited_by(alloc, rules, store.alerts(), now, labels)? {
-        return Ok(Some(Finding::Inhibited { rule, source }));
-    }
-    match silenced_by(alloc, store.silences(), now, labels)? {
-        Some(id) => Ok(Some(Finding::Silenced { id })),
+    match muted_by(store, store.moment(), labels)? {
         None => Ok(None),
+        Some(Muter::Rule { rule, source }) => Ok(Some(Finding::Inhibited { rule, source })),
+        Some(Muter::Silence { id }) => Ok(Some(Finding::Silenced { id })),
     }
 }
 
@@ -99,7 +95,7 @@ fn heard(
     clock: &Clock,
     integration: Option<&Integration>,
 ) -> Result<Finding, AllocError>
-    ensures { IfOk result (λ found. found ≡ heard store.now group.now labels.now clock.now (option_copied integration.entry)) }
+    ensures { IfOk result (λ found. found ≡ heard store.now.state group.now labels.now clock.now (option_copied integration.entry)) }
 {
     match integration {
         None => Ok(Finding::Nowhere),
@@ -118,7 +114,7 @@ fn first_finding(
     integration: Option<&Integration>,
     clock: &Clock,
 ) -> Result<Finding, AllocError>
-    ensures { IfOk result (λ found. found ≡ finding store.now group.now labels.now (option_copied integration.entry) clock.now) }
+    ensures { IfOk result (λ found. found ≡ finding store.now.state group.now labels.now (option_copied integration.entry) clock.now) }
 {
     if let Some(found) = waiting(clock) {
         return Ok(found);
@@ -147,7 +143,7 @@ fn verdict_at(
     clock: &Clock,
     integration: Option<&Integration>,
 ) -> Result<Verdict, AllocError>
-    ensures { IfOk result (λ verdict. verdict ≡ verdict_at store.now group.now labels.now clock.now (option_copied integration.entry)) }
+    ensures { IfOk result (λ verdict. verdict ≡ verdict_at store.now.state group.now labels.now clock.now (option_copied integration.entry)) }
 {
     Ok(Verdict::AtRoute {
         route: group.route,
@@ -159,7 +155,7 @@ fn verdict_at(
 
 /// The clock of a group.
 fn clock_of(store: &Store, group: &Spot) -> Clock
-    ensures { result ≡ clock_of store.now group.now }
+    ensures { result ≡ clock_of store.now.state group.now }
 {
     match store.clocks().get(group) {
         Some(clock) => *clock,
@@ -178,7 +174,7 @@ fn add_verdicts(
     route: usize,
     found: &mut Vec<Verdict>,
 ) -> Result<(), AllocError>
-    ensures { OnOk result (found.new.items ≡ found.old.items ++ verdicts_at store.now labels.now route) }
+    ensures { OnOk result (found.new.items ≡ found.old.items ++ verdicts_at store.now.state labels.now route) }
 {
     let group = group_spot(store.alloc(), store.config(), route, labels)?;
     let clock = clock_of(store, &group);
@@ -195,7 +191,7 @@ fn add_verdicts(
 
 /// The answers for each route that takes the alert.
 fn verdicts_of_routes(store: &Store, labels: &Labels) -> Result<Vec<Verdict>, AllocError>
-    ensures { IfOk result (λ found. found.items ≡ flat_map (verdicts_at store.now labels.now) (chosen store.now.config labels.now)) }
+    ensures { IfOk result (λ found. found.items ≡ flat_map (verdicts_at store.now.state labels.now) (chosen store.now.state.config labels.now)) }
 {
     let routes = store.config().routes_of(store.alloc(), labels)?;
     let mut found = Vec::new(store.alloc());
@@ -211,7 +207,7 @@ fn verdicts_of_stored(
     labels: &Labels,
     alert: Option<&Alert>,
 ) -> Result<Vec<Verdict>, AllocError>
-    ensures { IfOk result (λ found. found.items ≡ verdicts_of_stored store.now labels.now (option_copied alert.entry)) }
+    ensures { IfOk result (λ found. found.items ≡ verdicts_of_stored store.now.state labels.now (option_copied alert.entry)) }
 {
     match alert {
         None => Ok(vec![in store.alloc(); Verdict::Unknown]?),
@@ -225,7 +221,7 @@ fn verdicts_of_stored(
 /// The answers to the question why, asked at the state's moment.
 #[tactic(auto, unfolding(crate::specs::Explain::verdicts))]
 pub(crate) fn verdicts(store: &Store, labels: &Labels) -> Result<Vec<Verdict>, AllocError>
-    ensures { IfOk result (λ found. found.items ≡ verdicts store.now labels.now) }
+    ensures { IfOk result (λ found. found.items ≡ verdicts store.now.state labels.now) }
 {
     verdicts_of_stored(store, labels, store.alerts().get(labels))
 }

@@ -3,6 +3,7 @@
 ghost use Rattle.std.specs.Prelude.{◌≡◌};
 
 use amr_labels::{Exact, Labels};
+use amr_tables::Key;
 use std::alloc::AllocError;
 
 /// An alert that is placed on a route, or a group: a route with a label set.
@@ -27,4 +28,10 @@ impl Clone for Spot {
 
 impl Exact for Spot {
     ghost exact = { λ x y same. same };
+}
+
+impl Key for Spot {
+    ghost use Rattle.amr_state.specs.State.{spot_cmp-IsAntisymmetric};
+
+    ghost exact = { spot_cmp-IsAntisymmetric };
 }
