@@ -6,3 +6,4 @@ pub mod Cascade
 pub mod Endings
 pub mod Preparing
 pub mod Parted
+pub mod Settling

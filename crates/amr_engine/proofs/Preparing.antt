@@ -27,7 +27,7 @@ use Rattle.amr_engine.specs.declared.prepare.Prepared.TheVariants as prepared
 use Rattle.amr_engine.specs.Events.{after_act, at_moment, on_ok, put, put_all, valid_alerts, skipped_from, with_silences, with_config}
 use Rattle.amr_engine.specs.Prepared.{Does, Stays, IsPrepared}
 
-abbrev Valid : Type 0
+abbrev pub Valid : Type 0
 Valid = List (LabelSet × Alert)
 
 zero_is : (n : ℕ) → (n == 0) ≡ true → n ≡ 0

@@ -3,6 +3,7 @@ ghost use Rattle.std.specs.Prelude.{◌≡◌, ◌++◌, IfOk, OnOk, option_map}
 ghost use Rattle.std.specs.Option.{option_copied};
 ghost use Rattle.std.specs.List.{flat_map};
 ghost use Rattle.amr_config.specs.Routing.{chosen};
+ghost use Rattle.amr_engine.specs.Muters.{finding_by};
 ghost use Rattle.amr_engine.specs.Explain.{waiting, inhibited_or_silenced, logged, heard, finding, clock_of, kind_and_place, verdict_at, verdicts_at, verdicts_of_stored, verdicts};
 
 use crate::flush::log_key;
@@ -70,8 +71,17 @@ fn inhibited_or_silenced(store: &Store, labels: &Labels) -> Result<Option<Findin
 {
     match muted_by(store, store.moment(), labels)? {
         None => Ok(None),
-        Some(Muter::Rule { rule, source }) => Ok(Some(Finding::Inhibited { rule, source })),
-        Some(Muter::Silence { id }) => Ok(Some(Finding::Silenced { id })),
+        Some(muter) => Ok(Some(finding_by(muter))),
+    }
+}
+
+/// Returns the finding that something mutes the alert.
+fn finding_by(muter: Muter) -> Finding
+    ensures { result ≡ finding_by muter }
+{
+    match muter {
+        Muter::Rule { rule, source } => Finding::Inhibited { rule, source },
+        Muter::Silence { id } => Finding::Silenced { id },
     }
 }
 

@@ -338,7 +338,7 @@ fn drop_resolved(
 {
     forget_resolved(store, at, group, members)?;
     if are_resolved(at, members) {
-        mark_empty(store, at, group)?;
+        return mark_empty(store, at, group);
     }
     Ok(())
 }

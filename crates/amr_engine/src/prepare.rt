@@ -63,7 +63,8 @@ fn prepare_post(
 {
     let timeout = store.config().resolve_timeout();
     let sifted = sift(store.alloc(), at, timeout, posted)?;
-    if sifted.valid.is_empty() {
+    let valid = sifted.valid.as_slice();
+    if valid.is_empty() {
         return Ok(Err(Reason::BadAlert));
     }
     Ok(Ok(Prepared::Put(sifted)))
