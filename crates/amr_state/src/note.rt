@@ -109,14 +109,14 @@ impl PartialOrd for LogKey {
     }
 }
 
-impl Exact for LogKey {
-    ghost exact = { λ x y same. same };
-}
-
 impl Key for LogKey {
     ghost use Rattle.amr_state.specs.State.{log_key_cmp-IsAntisymmetric};
 
     ghost exact = { log_key_cmp-IsAntisymmetric };
+}
+
+impl Exact for LogKey {
+    ghost exact = { λ x y same. same };
 }
 
 /// What a note tells of an alert that fires.

@@ -26,12 +26,12 @@ impl Clone for Spot {
     }
 }
 
-impl Exact for Spot {
-    ghost exact = { λ x y same. same };
-}
-
 impl Key for Spot {
     ghost use Rattle.amr_state.specs.State.{spot_cmp-IsAntisymmetric};
 
     ghost exact = { spot_cmp-IsAntisymmetric };
+}
+
+impl Exact for Spot {
+    ghost exact = { λ x y same. same };
 }

@@ -1,12 +1,12 @@
 -- Values under numbered keys.
-use Rattle.std.specs.Prelude.{◌≡◌, ℕ, Bool, false, List, Option, Some, is_some, option_map, option_and_then, unwrap_or, ◌<◌, T, length, refl, slice_set, slice_get}
+use Rattle.std.specs.Prelude.{◌≡◌, ℕ, Bool, false, List, Option, None, Some, if◌then◌else◌, is_some, option_map, option_and_then, unwrap_or, ◌<◌, ◌≤◌, T, length, refl, slice_set, slice_get}
 use Rattle.std.specs.Option.{option_map_or}
 use Rattle.std.specs.List.{filter_map}
 use Rattle.std.specs.declared.cmp.Ordering.{Ordering}
 use Rattle.std.specs.Ordering.{eq_by_cmp}
 use Rattle.std.specs.FinMap.{find, is_sorted}
 use Rattle.std.specs.Coded.{Coded, code_by, coded×, coded_ℕ, coded_bool, coded_list, coded_option}
-use Rattle.amr_labels.specs.Map.{Map, from_sorted}
+use Rattle.amr_labels.specs.Map.{Map, from_sorted, get}
 use Rattle.amr_tables.specs.Places.{value_at}
 use Rattle.amr_tables.specs.Marked.{is_marked}
 
@@ -45,9 +45,14 @@ module _ {K V : Type 0} where
     unfoldable pub shown : Numbered K V → Map R V
     shown t = from_sorted (filter_map (entry_at t.cells) t.numbers)
 
-    -- keys strictly rise, each number has a place and a mark, and no two keys have one number
+    -- what a change of the key's value enters into the open record: what is there, unless the place is entered already
+    unfoldable pub entry_of : Numbered K V → K → Option (Option V)
+    entry_of t key = if is_entered t key then None else Some (get (shown t) key)
+
+    -- keys strictly rise, each number has a place, no two keys have one number, and no mark is beside the places
     pub record IsNumbering (t : Numbered K V) : Type 0 where
       pub sorted : T (is_sorted R t.numbers)
       pub within : (key : K) (n : ℕ) → find R key t.numbers ≡ Some n → n < length t.cells
       pub apart : (key other : K) (n : ℕ) → find R key t.numbers ≡ Some n → find R other t.numbers ≡ Some n → T (eq_by_cmp R other key)
-      pub marks : length t.marks ≡ length t.cells
+      pub marked : length t.cells ≤ length t.marks
+      pub spare : (n : ℕ) → length t.cells ≤ n → is_marked t.marks n ≡ false
