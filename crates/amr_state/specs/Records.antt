@@ -1,5 +1,5 @@
 -- The records of events: what each displaced, and how it is put back.
-use Rattle.std.specs.Prelude.{◌≡◌, ℕ, Bool, true, false, List, [], ◌∷◌, ◌++◌, Option, take, length}
+use Rattle.std.specs.Prelude.{◌≡◌, ◌≤◌, ◌⊎◌, ℕ, Bool, true, false, List, [], ◌∷◌, ◌++◌, Option, take, length}
 use Rattle.std.specs.List.{list_any}
 use Rattle.std.specs.Ordering.{nat_cmp, eq_by_cmp}
 use Rattle.amr_labels.specs.Map.{get, set}
@@ -55,6 +55,16 @@ has_entry entries place = list_any (same_place place) entries
 abbrev pub IsNoNote : Displaced → Type 0
 IsNoNote (WasNotes count) = ⊥
 IsNoNote _ = Unit {0}
+
+-- an entry with at most this many notifications
+abbrev pub IsNotesWithin : ℕ → Displaced → Type 0
+IsNotesWithin n (WasNotes count) = count ≤ n
+IsNotesWithin n _ = ⊥
+
+-- a record has an entry for the notifications, made when there were no more than there are now
+unfoldable pub NotesEntered : List Displaced → State → Type 0
+NotesEntered [] s = ⊥
+NotesEntered (first ∷ rest) s = IsNotesWithin (length s.notes) first ⊎ NotesEntered rest s
 
 -- the state before records, the oldest first, by the state after them
 unfoldable pub before_all : List (List Displaced) → State → State

@@ -1,6 +1,7 @@
 //! The state of an Alertmanager: each kind of change of it, alerts in groups, what is due, and what is seen of it.
 #![tactic(auto)]
 
+mod displaced;
 mod due;
 mod log_map;
 mod members;
@@ -11,6 +12,7 @@ mod spot_map;
 mod store;
 pub mod views;
 
+pub use displaced::Displaced;
 pub use due::{Due, Kind, next_due};
 pub use log_map::LogMap;
 pub use members::{Member, members_of};

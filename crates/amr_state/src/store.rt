@@ -1,190 +1,233 @@
-//! The state in tables of places, and the journal of what the events displaced in them.
-ghost use Rattle.std.specs.Prelude.{◌≡◌, ◌≤◌, ◌<◌, ◌++◌, ◌∷◌, [], length, OnOk};
+//! The state, and each kind of change of it.
+ghost use Rattle.std.specs.Prelude.{◌≡◌, ◌≤◌, ◌++◌, ◌∷◌, [], OnOk, OnErr, IfOk};
 ghost use Rattle.amr_labels.specs.Map as map;
-ghost use Rattle.amr_tables.specs.Numbered.{shown};
 ghost use Rattle.amr_time.specs.Time.{latest_read};
 ghost use Rattle.amr_state.specs.State.{start};
-ghost use Rattle.amr_state.specs.Records.{IsNoNote, put_back_one};
-ghost use Rattle.amr_state.specs.Kept.{undone};
 
-use crate::displaced::Displaced;
+use crate::log_map::LogMap;
 use crate::note::{Clock, LogKey, Note};
 use crate::spot::Spot;
+use crate::spot_map::SpotMap;
 use amr_config::Config;
 use amr_events::SilenceId;
-use amr_labels::{Labels, Listing, Shared};
-use amr_rules::{Alert, LogEntry, Silence};
-use amr_tables::{Journal, Keyed};
+use amr_labels::{LabelMap, Labels, Listing, Shared};
+use amr_rules::{Alert, LogEntry, Silence, SilenceMap};
 use amr_time::Moment;
 use std::alloc::{AllocError, Global};
 use std::marker::Model;
 
-/// The state of the replayed instance. What a change displaces is entered into the open record of the journal, once for each place, so that the
-/// event can be undone without memory.
+/// The state of the replayed instance. Contracts see it as a value.
 #[derive(Drop)]
 pub struct Store {
     alloc: Global,
     moment: Moment,
     config: Config,
-    alerts: Keyed<Labels, Alert>,
-    silences: Keyed<SilenceId, Silence>,
-    placements: Keyed<Spot, Alert>,
-    clocks: Keyed<Spot, Clock>,
-    log: Keyed<LogKey, LogEntry>,
+    alerts: LabelMap<Alert>,
+    silences: SilenceMap,
+    placements: SpotMap<Alert>,
+    clocks: SpotMap<Clock>,
+    log: LogMap,
     notes: Listing<Shared<Note>>,
-    /// Whether the open record has the number of notifications.
-    are_notes_entered: bool,
-    journal: Journal<Displaced>,
+}
+
+impl Model for Store {
+    ghost use Rattle.std.specs.Prelude.{◌≤◌};
+    ghost use Rattle.std.specs.Coded.{codes};
+    ghost use Rattle.amr_labels.specs.Map as map;
+    ghost use Rattle.amr_time.specs.Time.{latest_read};
+    ghost use Rattle.amr_state.specs.State.{State};
+
+    ghost Value = { State };
+
+    ghost coded = { Prim.hlevel (codes, map.code) };
+
+    ghost use Rattle.amr_state.specs.Stored.{state_of};
+
+    ghost view = { state_of };
+
+    ghost invariant = { λ store. store.moment ≤ latest_read };
+}
+
+impl Clone for Store {
+    ghost is_clone = { λ a b. b ≡ a };
+
+    fn clone(&self) -> Result<Store, AllocError> {
+        Ok(Store {
+            alloc: self.alloc,
+            moment: self.moment,
+            config: self.config.clone()?,
+            alerts: self.alerts.clone()?,
+            silences: self.silences.clone()?,
+            placements: self.placements.clone()?,
+            clocks: self.clocks.clone()?,
+            log: self.log.clone()?,
+            notes: self.notes.clone()?,
+        })
+    }
 }
 
 impl Store {
-    /// The state at the start, without a record.
+    /// The state at the start.
     pub fn new(alloc: Global, config: Config) -> Store
-        ensures state { result.state ≡ start config }
-        ensures current { result.current ≡ [] }
-        ensures records { result.records ≡ [] }
+        ensures { result ≡ start config }
+    {
+        Store {
+            alloc,
+            moment: Moment::START,
+            config,
+            alerts: LabelMap::new(alloc),
+            silences: SilenceMap::new(alloc),
+            placements: SpotMap::new(alloc),
+            clocks: SpotMap::new(alloc),
+            log: LogMap::new(alloc),
+            notes: Listing::new(alloc),
+        }
+    }
 
-    // ---- the journal
-
-    /// Makes room for one more record.
-    pub fn begin(&mut self) -> Result<(), AllocError>
-        ensures room { OnOk result (0 < self.new.room) }
-        ensures state { self.new.state ≡ self.old.state }
-        ensures current { self.new.current ≡ self.old.current }
-        ensures records { self.new.records ≡ self.old.records }
-
-    /// Closes the open record. It takes no memory.
-    pub fn close(&mut self)
-        requires { 0 < self.old.room }
-        ensures state { self.new.state ≡ self.old.state }
-        ensures current { self.new.current ≡ [] }
-        ensures records { self.new.records ≡ self.old.records ++ self.old.current ∷ [] }
-
-    /// Opens the last record again.
-    pub fn reopen(&mut self)
-        requires some { 0 < length self.old.records }
-        requires empty { self.old.current ≡ [] }
-        ensures state { self.new.state ≡ self.old.state }
-        ensures records { self.old.records ≡ self.new.records ++ self.new.current ∷ [] }
-
-    /// Puts the last entry of the open record back. It takes no memory.
-    pub fn undo_entry(&mut self)
-        requires { 0 < length self.old.current }
-        ensures kept { undone self.new ≡ undone self.old }
-        ensures shorter { length self.new.current + 1 ≡ length self.old.current }
-
-    /// Puts the whole open record back. It takes no memory.
-    pub fn undo_open(&mut self)
-        ensures { self.new ≡ undone self.old }
-
-    /// Drops all records.
-    pub fn forget(&mut self)
-        ensures state { self.new.state ≡ self.old.state }
-        ensures current { self.new.current ≡ self.old.current }
-        ensures records { self.new.records ≡ [] }
-
-    /// Returns how many records there are.
-    pub fn records(&self) -> usize
-        ensures { result ≡ length self.now.records }
-
-    /// Returns how many entries the record number `index` has, from 0.
-    pub fn record_len(&self, index: usize) -> usize
-        requires { index < length self.now.records }
-        ensures { option_map length (slice_get self.now.records index) ≡ Some result }
-
-    // ---- the state
-
-    /// The allocator.
-    pub fn alloc(&self) -> Global
+    /// What memory is taken from.
+    pub fn alloc(&self) -> Global {
+        self.alloc
+    }
 
     /// The clock: the moment of the last event that was accepted.
     pub fn moment(&self) -> Moment
-        ensures value { result ≡ self.now.state.moment }
-        ensures bound { self.now.state.moment ≤ latest_read }
+        ensures value { result ≡ self.now.moment }
+        ensures bound { self.now.moment ≤ latest_read }
+    {
+        self.moment
+    }
 
     /// The configuration in force.
     pub fn config(&self) -> &Config
-        ensures { result.now ≡ self.now.state.config }
+        ensures { result.now ≡ self.now.config }
+    {
+        &self.config
+    }
 
     /// The stored alerts, under their labels.
-    pub fn alerts(&self) -> &Keyed<Labels, Alert>
-        ensures { shown label_set_cmp result.now ≡ self.now.state.alerts }
+    pub fn alerts(&self) -> &LabelMap<Alert>
+        ensures { result.now ≡ self.now.alerts }
+    {
+        &self.alerts
+    }
 
     /// The silences, under their ids.
-    pub fn silences(&self) -> &Keyed<SilenceId, Silence>
-        ensures { shown nat_cmp result.now ≡ self.now.state.silences }
+    pub fn silences(&self) -> &SilenceMap
+        ensures { result.now ≡ self.now.silences }
+    {
+        &self.silences
+    }
 
-    /// The members of all groups, under their routes and labels.
-    pub(crate) fn placements(&self) -> &Keyed<Spot, Alert>
-        ensures { shown spot_cmp result.now ≡ self.now.state.placements }
+    pub(crate) fn placements(&self) -> &SpotMap<Alert>
+        ensures { result.now ≡ self.now.placements }
+    {
+        &self.placements
+    }
 
-    /// The timers of the groups.
-    pub fn clocks(&self) -> &Keyed<Spot, Clock>
-        ensures { shown spot_cmp result.now ≡ self.now.state.clocks }
+    /// The clocks of the groups.
+    pub fn clocks(&self) -> &SpotMap<Clock>
+        ensures { result.now ≡ self.now.clocks }
+    {
+        &self.clocks
+    }
 
     /// The notification log.
-    pub fn log(&self) -> &Keyed<LogKey, LogEntry>
-        ensures { shown log_key_cmp result.now ≡ self.now.state.log }
+    pub fn log(&self) -> &LogMap
+        ensures { result.now ≡ self.now.log }
+    {
+        &self.log
+    }
 
-    /// All notifications so far, in order.
+    /// All notes so far, in order.
     pub fn notes(&self) -> &[Shared<Note>]
-        ensures { result.now ≡ self.now.state.notes }
+        ensures { result.now ≡ self.now.notes }
+    {
+        self.notes.as_slice()
+    }
 
-    // ---- changes
-
-    /// Advances the clock to a moment.
-    pub fn set_moment(&mut self, at: Moment) -> Result<(), AllocError>
+    /// The clock goes on.
+    pub fn set_moment(&mut self, at: Moment)
         requires { at ≤ latest_read }
-        ensures ok { OnOk result (self.new.state ≡ record self.old.state { moment = at }) }
-        ensures kept { undone self.new ≡ undone self.old }
+        ensures { self.new ≡ record self.old { moment = at } }
+    {
+        self.moment = at;
+    }
 
-    /// Stores an alert.
-    pub fn insert_alert(&mut self, labels: &Labels, alert: Alert) -> Result<(), AllocError>
-        ensures ok { OnOk result (self.new.state ≡ record self.old.state { alerts = map.insert self.old.state.alerts labels.now alert }) }
-        ensures kept { undone self.new ≡ undone self.old }
+    /// An alert is stored.
+    pub fn insert_alert(&mut self, labels: Labels, alert: Alert) -> Result<(), AllocError>
+        ensures { OnOk result (self.new ≡ record self.old { alerts = map.insert self.old.alerts labels alert }) }
+    {
+        self.alerts.insert(labels, alert)
+    }
 
-    /// Removes a stored alert.
-    pub fn remove_alert(&mut self, labels: &Labels) -> Result<(), AllocError>
-        ensures ok { OnOk result (self.new.state ≡ record self.old.state { alerts = map.remove self.old.state.alerts labels.now }) }
-        ensures kept { undone self.new ≡ undone self.old }
+    /// A stored alert is removed.
+    pub fn remove_alert(&mut self, labels: &Labels)
+        ensures { self.new ≡ record self.old { alerts = map.remove self.old.alerts labels.now } }
+    {
+        let _ = self.alerts.remove(labels);
+    }
 
-    /// Adds a copy of an alert to a group.
-    pub(crate) fn place_copy(&mut self, spot: &Spot, alert: Alert) -> Result<(), AllocError>
-        ensures ok { OnOk result (self.new.state ≡ record self.old.state { placements = map.insert self.old.state.placements spot.now alert }) }
-        ensures kept { undone self.new ≡ undone self.old }
+    /// A copy of an alert becomes a member.
+    pub(crate) fn place_copy(&mut self, spot: Spot, alert: Alert) -> Result<(), AllocError>
+        ensures { OnOk result (self.new ≡ record self.old { placements = map.insert self.old.placements spot alert }) }
+    {
+        self.placements.insert(spot, alert)
+    }
 
-    /// Removes an alert from its group.
-    pub fn remove_copy(&mut self, spot: &Spot) -> Result<(), AllocError>
-        ensures ok { OnOk result (self.new.state ≡ record self.old.state { placements = map.remove self.old.state.placements spot.now }) }
-        ensures kept { undone self.new ≡ undone self.old }
+    /// A member leaves.
+    pub fn remove_copy(&mut self, spot: &Spot)
+        ensures { self.new ≡ record self.old { placements = map.remove self.old.placements spot.now } }
+    {
+        self.placements.remove(spot)
+    }
 
-    /// Sets a group's timer.
-    pub fn set_clock(&mut self, group: &Spot, clock: Clock) -> Result<(), AllocError>
-        ensures ok { OnOk result (self.new.state ≡ record self.old.state { clocks = map.insert self.old.state.clocks group.now clock }) }
-        ensures kept { undone self.new ≡ undone self.old }
+    /// A group's clock is set.
+    pub fn set_clock(&mut self, group: Spot, clock: Clock) -> Result<(), AllocError>
+        ensures { OnOk result (self.new ≡ record self.old { clocks = map.insert self.old.clocks group clock }) }
+    {
+        // Built from its parts, so that the proof is told of the `Option` among them.
+        let clock = Clock {
+            empty_since: clock.empty_since,
+            ..clock
+        };
+        self.clocks.insert(group, clock)
+    }
 
-    /// Removes a group.
-    pub fn remove_clock(&mut self, group: &Spot) -> Result<(), AllocError>
-        ensures ok { OnOk result (self.new.state ≡ record self.old.state { clocks = map.remove self.old.state.clocks group.now }) }
-        ensures kept { undone self.new ≡ undone self.old }
+    /// A group is removed.
+    pub fn remove_clock(&mut self, group: &Spot)
+        ensures { self.new ≡ record self.old { clocks = map.remove self.old.clocks group.now } }
+    {
+        self.clocks.remove(group)
+    }
 
-    /// Stores a silence.
+    /// A silence is stored.
     pub fn insert_silence(&mut self, id: SilenceId, silence: Silence) -> Result<(), AllocError>
-        ensures ok { OnOk result (self.new.state ≡ record self.old.state { silences = map.insert self.old.state.silences id silence }) }
-        ensures kept { undone self.new ≡ undone self.old }
+        ensures { OnOk result (self.new ≡ record self.old { silences = map.insert self.old.silences id silence }) }
+    {
+        self.silences.insert(id, silence)
+    }
 
-    /// Puts another configuration in force, and removes all groups and their members.
-    pub fn replace_config(&mut self, config: Config) -> Result<(), AllocError>
-        ensures ok { OnOk result (self.new.state ≡ record self.old.state { config = config; placements = map.empty; clocks = map.empty }) }
-        ensures kept { undone self.new ≡ undone self.old }
+    /// The configuration is another one, and all groups go with the old one.
+    pub fn replace_config(&mut self, config: Config)
+        ensures { self.new ≡ record self.old { config = config; placements = map.empty; clocks = map.empty } }
+    {
+        self.config = config;
+        self.placements = SpotMap::new(self.alloc);
+        self.clocks = SpotMap::new(self.alloc);
+    }
 
-    /// Writes an entry of the notification log.
-    pub fn write_log(&mut self, key: &LogKey, entry: LogEntry) -> Result<(), AllocError>
-        ensures ok { OnOk result (self.new.state ≡ record self.old.state { log = map.insert self.old.state.log key.now entry }) }
-        ensures kept { undone self.new ≡ undone self.old }
+    /// An entry of the notification log is written.
+    pub fn write_log(&mut self, key: LogKey, entry: LogEntry) -> Result<(), AllocError>
+        ensures { OnOk result (self.new ≡ record self.old { log = map.insert self.old.log key entry }) }
+    {
+        self.log.insert(key, entry)
+    }
 
-    /// Appends a notification.
+    /// A note is appended.
     pub fn append_note(&mut self, note: Note) -> Result<(), AllocError>
-        ensures ok { OnOk result (self.new.state ≡ record self.old.state { notes = self.old.state.notes ++ note ∷ [] }) }
-        ensures kept { undone self.new ≡ undone self.old }
+        ensures { OnOk result (self.new ≡ record self.old { notes = self.old.notes ++ note ∷ [] }) }
+    {
+        let note = Shared::new(self.alloc, note)?;
+        self.notes.push(note)
+    }
 }
