@@ -1,14 +1,7 @@
--- What an event comes to, from what was found of it.
-use Rattle.std.proofs.Common.{◌≡◌, true, false, ℕ, List, [], ◌∷◌, Option, None, Some, Result, Ok, Err, length, drop, refl, sym, ap, ◌∙◌, arith}
+-- What becomes of an event, from what was found of it.
+use Rattle.std.proofs.Common.{◌≡◌, true, false, ℕ, List, [], ◌∷◌, Option, None, Some, Result, Ok, Err, length, drop, refl, sym, ap, subst, ◌∙◌}
 use Rattle.std.specs.Prelude.{if◌then◌else◌, nat_lt, ◌==◌}
-use Rattle.std.proofs.lemmas.Bool.{false≢true}
-use Rattle.std.proofs.lemmas.Bool.Decides.{nat_tests}
-use Rattle.std.specs.List.{fold, filter_map}
-use Rattle.amr_time.specs.Time.{Moment, Span}
-use Rattle.amr_labels.specs.Labels.{LabelSet}
-use Rattle.amr_rules.specs.declared.alert.Alert.{Alert}
-use Rattle.amr_rules.specs.Alerts.{completed}
-use Rattle.amr_events.specs.declared.event.PostedAlert.{PostedAlert}
+use Rattle.amr_time.specs.Time.{Moment}
 use Rattle.amr_events.specs.Events.{Event, Act, Reason}
 use Rattle.amr_events.specs.Acts.{event_at}
 use Rattle.amr_state.specs.declared.due.Due.{Due}
@@ -16,11 +9,14 @@ use Rattle.amr_state.specs.State.{State}
 use Rattle.amr_state.specs.Dues.{next_due}
 use Rattle.amr_engine.specs.Moves.{move, advance}
 use Rattle.amr_engine.specs.Events.{do_within, do_event, after_event, outcome_of, outcome_from, skipped_of, skipped_from, judge, finish, after_act, put_all, put, valid_alerts, at_moment, on_ok, move_limit}
-use Rattle.amr_engine.specs.Neutral.{tick_at}
 use Rattle.amr_engine.specs.Outcomes.{acceptance, refusal}
-use Rattle.amr_engine.specs.Applied.{ComesTo, post_at, run_moved}
+use Rattle.amr_engine.specs.Applied.{ComesTo, run_moved}
+use Rattle.amr_engine.specs.Prepared.{IsPrepared, Does, Stays, performed, skipped_by}
+use Rattle.amr_engine.specs.declared.prepare.Prepared as prepare
+use Rattle.amr_events.specs.declared.reason.Reason as code
+use Rattle.amr_events.specs.Reasons.{reason_number}
 use Rattle.amr_engine.proofs.RunsLaws.{run_within-sound}
-use Rattle.amr_engine.proofs.TickLaws.{advances_keep}
+use Rattle.amr_engine.proofs.TickLaws.{Judged, advances_keep}
 
 -- a refused event leaves the state
 pub is_refused : (s : State) (event : Event) (reason : Reason) → do_event s event ≡ Err reason → ComesTo s event s (refusal reason)
@@ -67,111 +63,69 @@ some_run at (Some r) count next e =
     let parts : ◌≡◌ {A = ℕ × State} (count, next) (length r.0, at_moment at r.1) = cc in
     record { moves = r.0; moved = r.1; ran = refl; counted = ap (λ (p : ℕ × State). p.0) parts; ends = ap (λ (p : ℕ × State). p.1) parts }
 
--- a tick
-pub tick_over : (s : State) (at : Moment) → nat_lt at s.moment ≡ false → None ≡ run_moved at (advance move_limit at s) → do_event s (event_at at Act.Tick) ≡ Err 21
-unfolding after_act
-tick_over s at h over = not_past s (event_at at Act.Tick) h ∙ ap (finish (event_at at Act.Tick)) (none_run at (advance move_limit at s) over)
+-- the act has a reason against it
+pub act_refused : (s : State) (at : Moment) (act : Act) (reason : Reason) → nat_lt at s.moment ≡ false
+    → after_act (at_moment at s) act ≡ Err reason → ComesTo s (event_at at act) s (refusal reason)
+act_refused s at act reason h own =
+    is_refused s (event_at at act) reason (not_past s (event_at at act) h ∙ ap (judge move_limit s (event_at at act)) own)
 
-pub tick_done : (s : State) (at : Moment) (count : ℕ) (next : State) → nat_lt at s.moment ≡ false → (r : Ran at (advance move_limit at s) count next) → do_event s (event_at at Act.Tick) ≡ Ok (r.moves, next)
-unfolding after_act
-tick_done s at count next h r =
-    not_past s (event_at at Act.Tick) h ∙ ap (finish (event_at at Act.Tick)) r.ran ∙ ap (λ (x : State). Ok (r.moves, x)) (sym r.ends)
+-- too many moves are due
+pub act_is_over : (s : State) (at : Moment) (act : Act) (at_once : State) → nat_lt at s.moment ≡ false
+    → after_act (at_moment at s) act ≡ Ok at_once → None ≡ run_moved at (advance move_limit at s) → ComesTo s (event_at at act) s (refusal 21)
+act_is_over s at act at_once h own over =
+    is_refused s (event_at at act) 21
+    (not_past s (event_at at act) h ∙ ap (judge move_limit s (event_at at act)) own ∙ ap (finish (event_at at act)) (none_run at (advance move_limit at s) over))
 
--- a post
-abbrev Valid : Type 0
-Valid = List (LabelSet × Alert)
-
-pub post_bad : (s : State) (at : Moment) (posted : List PostedAlert) → nat_lt at s.moment ≡ false → valid_alerts (at_moment at s) posted ≡ [] → do_event s (event_at at (Act.Post posted)) ≡ Err 16
-unfolding after_act
-post_bad s at posted h none =
-    not_past s (event_at at (Act.Post posted)) h ∙ ap (λ (v : Valid). judge move_limit s (event_at at (Act.Post posted)) (put_all (at_moment at s) v)) none
-
-some_valid : (s t : State) (event : Event) (v : Valid) (r : Option (List Due × State)) → (v ≡ [] → ⊥)
-    → judge move_limit s event (put_all t v) ≡ finish event (advance move_limit event.at s)
-some_valid s t event [] r h = absurd (h refl)
-some_valid s t event (x ∷ v) r h = refl
-
-pub post_over : (s : State) (at : Moment) (posted : List PostedAlert) → nat_lt at s.moment ≡ false → (valid_alerts (at_moment at s) posted ≡ [] → ⊥)
-    → None ≡ run_moved at (advance move_limit at s) → do_event s (event_at at (Act.Post posted)) ≡ Err 21
-unfolding after_act
-post_over s at posted h some over =
-    not_past s (event_at at (Act.Post posted)) h ∙ some_valid s (at_moment at s) (event_at at (Act.Post posted)) (valid_alerts (at_moment at s) posted) None some
-    ∙ ap (finish (event_at at (Act.Post posted))) (none_run at (advance move_limit at s) over)
-
-put_some : (s : State) (v : Valid) → (v ≡ [] → ⊥) → put_all s v ≡ Ok (fold put s v)
-put_some s [] h = absurd (h refl)
-put_some s (x ∷ v) h = refl
-
--- the moves leave the configuration, and so the alerts that are valid
-same_valid : (s moved : State) (at : Moment) (moves : List Due) (posted : List PostedAlert) → advance move_limit at s ≡ Some (moves, moved)
-    → valid_alerts (at_moment at moved) posted ≡ valid_alerts (at_moment at s) posted
-same_valid s moved at moves posted e =
-    let run = run_within-sound (next_due at) move move_limit s moves moved e in
-    ap (λ (by : _). filter_map (completed at by.1.resolve_timeout) posted) (advances_keep at moves s moved run.0)
-
-pub post_done : (s : State) (at : Moment) (posted : List PostedAlert) (count : ℕ) (next : State) → nat_lt at s.moment ≡ false → (valid_alerts (at_moment at s) posted ≡ [] → ⊥)
-    → (r : Ran at (advance move_limit at s) count next) → do_event s (event_at at (Act.Post posted)) ≡ Ok (r.moves, fold put next (valid_alerts (at_moment at s) posted))
-unfolding after_act
-post_done s at posted count next h some r =
-    let event : Event = event_at at (Act.Post posted) in
-    let same : valid_alerts (at_moment at r.moved) posted ≡ valid_alerts (at_moment at s) posted = same_valid s r.moved at r.moves posted r.ran in
-    not_past s event h ∙ some_valid s (at_moment at s) event (valid_alerts (at_moment at s) posted) None some
-    ∙ ap (finish event) r.ran
-    ∙ ap (λ (v : Valid). on_ok (λ end. (r.moves, end)) (put_all (at_moment at r.moved) v)) same
-    ∙ ap (on_ok (λ end. (r.moves, end))) (put_some (at_moment at r.moved) (valid_alerts (at_moment at s) posted) some)
-    ∙ ap (λ (x : State). Ok (r.moves, fold put x (valid_alerts (at_moment at s) posted))) (sym r.ends)
-
-zero_is : (n : ℕ) → (n == 0) ≡ true → n ≡ 0
-zero_is n e = grind (arith, nat_tests)
-
-pub none_left : {A : Type 0} (xs : List A) → (length xs == 0) ≡ true → xs ≡ []
-none_left [] e = refl
-none_left (x ∷ xs) e = absurd (omega (arith, zero_is (length (x ∷ xs)) e))
-
-pub some_left : {A : Type 0} (xs : List A) → (length xs == 0) ≡ false → xs ≡ [] → ⊥
-some_left xs e none = false≢true (sym e ∙ ap (λ ys. length ys == 0) none)
-
--- a tick for which too many moves are due
-pub tick_refused : (s : State) (at : Moment) → nat_lt at s.moment ≡ false → None ≡ run_moved at (advance move_limit at s) → ComesTo s (tick_at at) s (refusal 21)
-tick_refused s at h over = is_refused s (tick_at at) 21 (tick_over s at h over)
-
--- a tick that is accepted
-pub tick_accepted : (s : State) (at : Moment) (count : ℕ) (next : State) (skipped : List ℕ) → nat_lt at s.moment ≡ false → Some (count, next) ≡ run_moved at (advance move_limit at s)
-    → skipped ≡ [] → ComesTo s (tick_at at) next (acceptance count (drop (length s.notes) next.notes) skipped)
-tick_accepted s at count next skipped h ran none =
+-- the act is done after the moves
+pub act_accepted : (s : State) (at : Moment) (act : Act) (at_once : State) (count : ℕ) (next done : State) (skipped : List ℕ) → nat_lt at s.moment ≡ false
+    → after_act (at_moment at s) act ≡ Ok at_once → Some (count, next) ≡ run_moved at (advance move_limit at s) → after_act next act ≡ Ok done
+    → skipped ≡ skipped_of (at_moment at s) act → ComesTo s (event_at at act) done (acceptance count (drop (length s.notes) done.notes) skipped)
+act_accepted s at act at_once count next done skipped h own ran acted none =
+    let event : Event = event_at at act in
     let r = some_run at (advance move_limit at s) count next ran in
-    is_accepted s (tick_at at) r.moves next count skipped (tick_done s at count next h r) r.counted none
+    is_accepted s event r.moves done count skipped
+    (not_past s event h ∙ ap (judge move_limit s event) own ∙ ap (finish event) r.ran
+    ∙ ap (λ (x : State). on_ok (λ end. (r.moves, end)) (after_act x act)) (sym r.ends) ∙ ap (on_ok (λ end. (r.moves, end))) acted) r.counted none
 
--- what is valid and what is skipped of a post, by the timeout of the configuration in force
-valid_is : (s : State) (at : Moment) (timeout : Span) (posted : List PostedAlert) (valid : Valid) → timeout ≡ s.config.resolve_timeout
-    → valid ≡ filter_map (completed at timeout) posted → valid ≡ valid_alerts (at_moment at s) posted
-valid_is s at timeout posted valid same is = is ∙ ap (λ (t : Span). filter_map (completed at t) posted) same
+stays_after : (s : State) (at : Moment) (run : Option (List Due × State)) (count : ℕ) (next : State) → advance move_limit at s ≡ run → Some (count, next) ≡ run_moved at run → Stays s at next
+stays_after s at run count next is ran =
+    let r = some_run at run count next ran in
+    let sound = run_within-sound (next_due at) move move_limit s r.moves r.moved (is ∙ r.ran) in
+    let kept = advances_keep at r.moves s r.moved sound.0 in
+    record {
+      silences = ap (λ (x : State). x.silences) r.ends ∙ ap (λ (by : Judged). by.0) kept;
+      config = ap (λ (x : State). x.config) r.ends ∙ ap (λ (by : Judged). by.1) kept;
+      moment = ap (λ (x : State). x.moment) r.ends;
+    }
 
--- a post without a valid alert
-pub post_invalid : (s : State) (at : Moment) (timeout : Span) (posted : List PostedAlert) (valid : Valid) → nat_lt at s.moment ≡ false
-    → timeout ≡ s.config.resolve_timeout → valid ≡ filter_map (completed at timeout) posted → (length valid == 0) ≡ true → ComesTo s (post_at at posted) s (refusal 16)
-post_invalid s at timeout posted valid h same is none =
-    is_refused s (post_at at posted) 16 (post_bad s at posted h (sym (valid_is s at timeout posted valid same is) ∙ none_left valid none))
+-- what the moves leave
+pub stays : (s : State) (at : Moment) (count : ℕ) (next : State) → Some (count, next) ≡ run_moved at (advance move_limit at s) → Stays s at next
+stays s at count next ran = stays_after s at (advance move_limit at s) count next refl ran
 
--- a post for which too many moves are due
-pub post_refused : (s : State) (at : Moment) (timeout : Span) (posted : List PostedAlert) (valid : Valid) → nat_lt at s.moment ≡ false
-    → timeout ≡ s.config.resolve_timeout → valid ≡ filter_map (completed at timeout) posted → (length valid == 0) ≡ false
-    → None ≡ run_moved at (advance move_limit at s) → ComesTo s (post_at at posted) s (refusal 21)
-post_refused s at timeout posted valid h same is some over =
-    is_refused s (post_at at posted) 21 (post_over s at posted h (λ e. some_left valid some (valid_is s at timeout posted valid same is ∙ e)) over)
+at_first : (s : State) (at : Moment) → Stays s at (at_moment at s)
+at_first s at = record { silences = refl; config = refl; moment = refl }
 
--- a post that is accepted
-pub post_accepted : (s : State) (at : Moment) (timeout : Span) (posted : List PostedAlert) (valid : Valid) (skipped : List ℕ) (count : ℕ) (next done : State)
-    → nat_lt at s.moment ≡ false → timeout ≡ s.config.resolve_timeout → valid ≡ filter_map (completed at timeout) posted → skipped ≡ skipped_from 1 at timeout posted → (length valid == 0) ≡ false
-    → Some (count, next) ≡ run_moved at (advance move_limit at s) → done ≡ fold put next valid
-    → ComesTo s (post_at at posted) done (acceptance count (drop (length s.notes) done.notes) skipped)
-post_accepted s at timeout posted valid skipped count next done h same is left some ran stored =
-    let r = some_run at (advance move_limit at s) count next ran in
-    let all : valid ≡ valid_alerts (at_moment at s) posted = valid_is s at timeout posted valid same is in
-    let acted : done ≡ fold put next (valid_alerts (at_moment at s) posted) = stored ∙ ap (λ (v : Valid). fold put next v) all in
-    is_accepted s (post_at at posted) r.moves done count skipped
-    (post_done s at posted count next h (λ e. some_left valid some (all ∙ e)) r ∙ ap (λ (x : State). Ok (r.moves, x)) (sym acted)) r.counted
-    (left ∙ ap (λ (t : Span). skipped_from 1 at t posted) same)
+module _ (s : State) (event : Event) (at : Moment) (act : Act) (at_is : at ≡ event.at) (act_is : act ≡ event.act) (h : nat_lt at s.moment ≡ false) where
+  the_event : event_at at act ≡ event
+  the_event = λ i. event_at (at_is i) (act_is i)
+
+  -- the act has its own reason against it
+  pub refused_by_act : (reason : code.Reason) → IsPrepared s at act (Err reason) → ComesTo s event s (refusal (reason_number reason))
+  unfolding the_event
+  refused_by_act reason own = subst (λ (e : Event). ComesTo s e s (refusal (reason_number reason))) the_event (act_refused s at act (reason_number reason) h own)
+
+  -- too many moves are due
+  pub refused_by_moves : (prepared : prepare.Prepared) → Does s at act prepared → None ≡ run_moved at (advance move_limit at s) → ComesTo s event s (refusal 21)
+  refused_by_moves prepared does over =
+      subst (λ (e : Event). ComesTo s e s (refusal 21)) the_event (act_is_over s at act (performed prepared (at_moment at s)) h (does.does (at_moment at s) (at_first s at)) over)
+
+  -- the act is done after the moves
+  pub done_after_moves : (prepared : prepare.Prepared) (count : ℕ) (next done : State) (skipped : List ℕ) → Does s at act prepared → Some (count, next) ≡ run_moved at (advance move_limit at s)
+      → done ≡ performed prepared next → skipped ≡ skipped_by prepared → ComesTo s event done (acceptance count (drop (length s.notes) done.notes) skipped)
+  done_after_moves prepared count next done skipped does ran acted left =
+      subst (λ (e : Event). ComesTo s e done (acceptance count (drop (length s.notes) done.notes) skipped)) the_event
+      (act_accepted s at act (performed prepared (at_moment at s)) count next done skipped h (does.does (at_moment at s) (at_first s at)) ran
+      (does.does next (stays s at count next ran) ∙ ap (λ (x : State). Ok x) (sym acted)) (left ∙ does.skips))
 
 -- an event that is past
 pub past_refused : (s : State) (event : Event) → nat_lt event.at s.moment ≡ true → ComesTo s event s (refusal 20)

@@ -4,5 +4,6 @@ pub mod TickLaws
 pub mod RefusalLaws
 pub mod Cascade
 pub mod Endings
-pub mod Acting
-pub mod Deciding
+pub mod Preparing
+pub mod Parted
+pub mod Settling

@@ -2,34 +2,16 @@
 use Rattle.std.specs.Prelude.{◌≡◌, ℕ, List, Option, Result, Ok, Err, length, drop}
 use Rattle.std.specs.Option.{option_map}
 use Rattle.amr_time.specs.Time.{Moment}
-use Rattle.amr_config.specs.Config.{Config}
-use Rattle.amr_events.specs.declared.event.PostedAlert.{PostedAlert}
-use Rattle.amr_events.specs.declared.event.PostedSilence.{PostedSilence}
-use Rattle.amr_events.specs.Events.{Event, Act, Reason}
+use Rattle.amr_events.specs.Events.{Event}
 use Rattle.amr_events.specs.declared.reason.Reason as code
 use Rattle.amr_events.specs.Reasons.{reason_number}
-use Rattle.amr_events.specs.Acts.{event_at}
 use Rattle.amr_state.specs.declared.due.Due.{Due}
 use Rattle.amr_state.specs.State.{State}
 use Rattle.amr_engine.specs.declared.apply.Done.{Done}
 use Rattle.amr_engine.specs.Events.{Outcome, after_event, outcome_of, at_moment}
-use Rattle.amr_engine.specs.Outcomes.{acceptance, refusal}
-
--- alerts are posted at a moment
-abbrev pub post_at : Moment → List PostedAlert → Event
-post_at at posted = event_at at (Act.Post posted)
-
--- a silence is posted at a moment
-abbrev pub silence_at : Moment → PostedSilence → Event
-silence_at at posted = event_at at (Act.Silence posted)
-
--- the silence with the id is expired at a moment
-abbrev pub expiry_at : Moment → ℕ → Event
-expiry_at at id = event_at at (Act.Expire id)
-
--- a configuration that was read, or refused, comes at a moment
-abbrev pub reload_at : Moment → Result Config Reason → Event
-reload_at at config = event_at at (Act.Reload config)
+use Rattle.amr_engine.specs.Outcomes.{acceptance, refusal, outcome_view}
+use Rattle.amr_engine.specs.declared.outcome.Outcome as code_outcome
+use Rattle.amr_engine.specs.declared.outcome.Outcome.TheVariants.{Accepted, Refused}
 
 -- how many moves there were, and the state after them with the clock at the moment
 abbrev pub run_moved : Moment → Option (List Due × State) → Option (ℕ × State)
@@ -53,3 +35,12 @@ told_of s next (Err reason) = refusal (reason_number reason)
 -- what was done, on the way to the next state, is what the event comes to
 abbrev pub IsDone : State → Event → State → Result Done code.Reason → Type 0
 IsDone s event next done = ComesTo s event (state_left s next done) (told_of s next done)
+
+-- the state that an outcome leaves: the next one if the event is accepted, and else the one before
+abbrev pub state_after : State → State → code_outcome.Outcome → State
+state_after s next (Accepted moves notes skipped) = next
+state_after s next (Refused reason) = s
+
+-- the next state, where the outcome accepts the event, is what the event leads to
+abbrev pub Leads : State → Event → State → code_outcome.Outcome → Type 0
+Leads s event next outcome = ComesTo s event (state_after s next outcome) (outcome_view outcome)

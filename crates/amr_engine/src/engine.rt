@@ -1,13 +1,16 @@
-//! The engine: a state, and the whole states before the events that it passed.
-ghost use Rattle.std.specs.Prelude.{◌≡◌, ◌<◌, List, [], ◌∷◌, ◌++◌, length, IfOk, OnOk, OnErr};
+//! The engine: a state, and the records by which the events that it passed can be undone.
+ghost use Rattle.std.specs.Prelude.{◌≡◌, ◌<◌, List, [], ◌∷◌, ◌++◌, length, IfOk, OnOk, OnErr, Some, option_map, slice_get};
 ghost use Rattle.amr_state.specs.State.{start};
+ghost use Rattle.amr_state.specs.Records.{put_back};
+ghost use Rattle.amr_state.specs.declared.displaced.Displaced.{Displaced};
 ghost use Rattle.amr_engine.specs.Events.{after_event, outcome_of};
 ghost use Rattle.amr_engine.specs.Outcomes.{outcome_view};
+ghost use Rattle.amr_engine.specs.Kept.{Records, RecordOf};
 ghost use Rattle.amr_state.specs.Seen.{groups_of};
 ghost use Rattle.amr_engine.specs.Explain.{verdicts};
 ghost use Rattle.amr_labels.specs.Map.{entries};
 
-use crate::apply::apply_to;
+use crate::apply::attempt;
 use crate::explain::{self, Verdict};
 use crate::outcome::Outcome;
 use amr_config::Config;
@@ -18,25 +21,27 @@ use amr_state::{Group, LogKey, Note, Store, views};
 use amr_time::Moment;
 use std::alloc::{AllocError, Global};
 use std::marker::Model;
-use std::mem;
 
-/// A replayed instance, with what it takes to undo each event that it passed.
+/// A replayed instance, with a record for each event that it passed, by which the event can be undone.
 #[derive(Drop)]
 pub struct Engine {
     store: Store,
-    past: Vec<Store>,
 }
 
 impl Model for Engine {
     ghost use Rattle.std.specs.Coded.{codes};
+    ghost use Rattle.std.specs.Prelude.{◌≡◌, []};
     ghost use Rattle.amr_labels.specs.Map as map;
+    ghost use Rattle.amr_state.specs.Records.{befores};
     ghost use Rattle.amr_state.specs.Steps.{Steps};
 
     ghost Value = { Steps };
 
     ghost coded = { Prim.hlevel (codes, map.code) };
 
-    ghost view = { λ engine. record { state = engine.store; past = engine.past.items } };
+    ghost view = { λ engine. record { state = engine.store.state; past = befores engine.store.records engine.store.state; records = engine.store.records } };
+
+    ghost invariant = { λ engine. engine.store.current ≡ [] };
 }
 
 impl Engine {
@@ -44,36 +49,69 @@ impl Engine {
     pub fn new(alloc: Global, config: Config) -> Engine
         ensures state { result.state ≡ start config }
         ensures past { result.past ≡ [] }
+        ensures records { result.records ≡ [] }
     {
         Engine {
             store: Store::new(alloc, config),
-            past: Vec::new(alloc),
         }
     }
 
-    /// Applies an event, and keeps the state before it. A refused event changes nothing, and is kept alike.
+    /// Applies an event, and records what it displaces. A refused event changes nothing, and has an empty record.
     pub fn apply(&mut self, event: &Event) -> Result<Outcome, AllocError>
         ensures outcome { IfOk result (λ outcome. outcome_view outcome ≡ outcome_of self.old.state event.now) }
         ensures state { OnOk result (self.new.state ≡ after_event self.old.state event.now) }
         ensures past { OnOk result (self.new.past ≡ self.old.past ++ self.old.state ∷ []) }
+        ensures record_kept { IfOk result (λ outcome. (r : List Displaced) × RecordOf self.old self.new outcome r) }
         ensures err { OnErr result (self.new ≡ self.old) }
     {
-        self.past.reserve(1)?;
-        let mut next = self.store.clone()?;
-        let outcome = apply_to(&mut next, &self.store, event)?;
-        let before = mem::replace(&mut self.store, next);
-        self.past.push_reserved(before);
-        Ok(outcome)
+        self.store.begin()?;
+        match attempt(&mut self.store, event) {
+            Ok(outcome) => {
+                if outcome.is_refused() {
+                    self.store.undo_open();
+                }
+                self.store.close();
+                Ok(outcome)
+            }
+            Err(error) => {
+                self.store.undo_open();
+                Err(error)
+            }
+        }
     }
 
     /// Undoes the last event. It takes no memory.
     pub fn undo_last(&mut self)
         requires { 0 < length self.old.past }
-        ensures { self.old.past ≡ self.new.past ++ self.new.state ∷ [] }
+        ensures past { self.old.past ≡ self.new.past ++ self.new.state ∷ [] }
+        ensures records { (last : List Displaced) × (self.old.records ≡ self.new.records ++ last ∷ []) }
     {
-        if let Some(before) = self.past.pop() {
-            self.store = before;
-        }
+        self.store.reopen();
+        self.store.undo_open();
+    }
+
+    /// Returns how many records there are.
+    pub fn records(&self) -> usize
+        ensures { result ≡ length self.now.records }
+    {
+        self.store.records()
+    }
+
+    /// Returns how many entries the record number `index` has, from 0.
+    pub fn record_len(&self, index: usize) -> usize
+        requires { index < length self.now.records }
+        ensures { option_map length (slice_get self.now.records index) ≡ Some result }
+    {
+        self.store.record_len(index)
+    }
+
+    /// Drops all records. The events passed so far can't be undone then.
+    pub fn forget(&mut self)
+        ensures state { self.new.state ≡ self.old.state }
+        ensures past { self.new.past ≡ [] }
+        ensures records { self.new.records ≡ [] }
+    {
+        self.store.forget();
     }
 
     /// The stored alerts, by labels.

@@ -88,7 +88,7 @@ fn heard(
     clock: &Clock,
     integration: Option<&Integration>,
 ) -> Result<Finding, AllocError>
-    ensures { IfOk result (λ found. found ≡ heard store.now group.now labels.now clock.now (option_copied integration.entry)) }
+    ensures { IfOk result (λ found. found ≡ heard store.now.state group.now labels.now clock.now (option_copied integration.entry)) }
 {
     match integration {
         None => Ok(Finding::Nowhere),
@@ -107,7 +107,7 @@ fn first_finding(
     integration: Option<&Integration>,
     clock: &Clock,
 ) -> Result<Finding, AllocError>
-    ensures { IfOk result (λ found. found ≡ finding store.now group.now labels.now (option_copied integration.entry) clock.now) }
+    ensures { IfOk result (λ found. found ≡ finding store.now.state group.now labels.now (option_copied integration.entry) clock.now) }
 {
     if let Some(found) = waiting(clock) {
         return Ok(found);
@@ -136,7 +136,7 @@ fn verdict_at(
     clock: &Clock,
     integration: Option<&Integration>,
 ) -> Result<Verdict, AllocError>
-    ensures { IfOk result (λ verdict. verdict ≡ verdict_at store.now group.now labels.now clock.now (option_copied integration.entry)) }
+    ensures { IfOk result (λ verdict. verdict ≡ verdict_at store.now.state group.now labels.now clock.now (option_copied integration.entry)) }
 {
     Ok(Verdict::AtRoute {
         route: group.route,
@@ -148,7 +148,7 @@ fn verdict_at(
 
 /// The clock of a group.
 fn clock_of(store: &Store, group: &Spot) -> Clock
-    ensures { result ≡ clock_of store.now group.now }
+    ensures { result ≡ clock_of store.now.state group.now }
 {
     match store.clocks().get(group) {
         Some(clock) => *clock,
@@ -167,7 +167,7 @@ fn add_verdicts(
     route: usize,
     found: &mut Vec<Verdict>,
 ) -> Result<(), AllocError>
-    ensures { OnOk result (found.new.items ≡ found.old.items ++ verdicts_at store.now labels.now route) }
+    ensures { OnOk result (found.new.items ≡ found.old.items ++ verdicts_at store.now.state labels.now route) }
 {
     let group = group_spot(store.alloc(), store.config(), route, labels)?;
     let clock = clock_of(store, &group);
@@ -184,7 +184,7 @@ fn add_verdicts(
 
 /// The answers for each route that takes the alert.
 fn verdicts_of_routes(store: &Store, labels: &Labels) -> Result<Vec<Verdict>, AllocError>
-    ensures { IfOk result (λ found. found.items ≡ flat_map (verdicts_at store.now labels.now) (chosen store.now.config labels.now)) }
+    ensures { IfOk result (λ found. found.items ≡ flat_map (verdicts_at store.now.state labels.now) (chosen store.now.state.config labels.now)) }
 {
     let routes = store.config().routes_of(store.alloc(), labels)?;
     let mut found = Vec::new(store.alloc());
@@ -200,7 +200,7 @@ fn verdicts_of_stored(
     labels: &Labels,
     alert: Option<&Alert>,
 ) -> Result<Vec<Verdict>, AllocError>
-    ensures { IfOk result (λ found. found.items ≡ verdicts_of_stored store.now labels.now (option_copied alert.entry)) }
+    ensures { IfOk result (λ found. found.items ≡ verdicts_of_stored store.now.state labels.now (option_copied alert.entry)) }
 {
     match alert {
         None => Ok(vec![in store.alloc(); Verdict::Unknown]?),
@@ -214,7 +214,7 @@ fn verdicts_of_stored(
 /// The answers to the question why, asked at the state's moment.
 #[tactic(auto, unfolding(crate::specs::Explain::verdicts))]
 pub(crate) fn verdicts(store: &Store, labels: &Labels) -> Result<Vec<Verdict>, AllocError>
-    ensures { IfOk result (λ found. found.items ≡ verdicts store.now labels.now) }
+    ensures { IfOk result (λ found. found.items ≡ verdicts store.now.state labels.now) }
 {
     verdicts_of_stored(store, labels, store.alerts().get(labels))
 }

@@ -1,6 +1,7 @@
 //! The moves up to a moment.
 ghost use Rattle.std.specs.Prelude.{◌≡◌, ◌≤◌, OnOk, IfOk};
 ghost use Rattle.amr_time.specs.Time.{latest_read};
+ghost use Rattle.amr_state.specs.Kept.{undone};
 ghost use Rattle.amr_engine.specs.Moves.{move, advance, counted_run, moves_to};
 ghost use Rattle.amr_engine.specs.Events.{move_limit};
 
@@ -15,7 +16,8 @@ const MOST_MOVES: usize = 10_000;
 /// A move makes the change at its own moment.
 fn make(store: &mut Store, due: Due) -> Result<(), AllocError>
     requires { due.moment ≤ latest_read }
-    ensures { OnOk result (store.new ≡ move due store.old) }
+    ensures ok { OnOk result (store.new.state ≡ move due store.old.state) }
+    ensures kept { undone store.new ≡ undone store.old }
 {
     let Due {
         moment,
@@ -24,14 +26,8 @@ fn make(store: &mut Store, due: Due) -> Result<(), AllocError>
         labels,
     } = due;
     match kind {
-        Kind::AlertRemoval => {
-            store.remove_alert(&labels);
-            Ok(())
-        }
-        Kind::GroupRemoval => {
-            store.remove_clock(&Spot { route, labels });
-            Ok(())
-        }
+        Kind::AlertRemoval => store.remove_alert(&labels),
+        Kind::GroupRemoval => store.remove_clock(&Spot { route, labels }),
         Kind::GroupFlush => {
             let at = Moment::from_nanoseconds(moment);
             flush(store, at, &Spot { route, labels })
@@ -42,7 +38,8 @@ fn make(store: &mut Store, due: Due) -> Result<(), AllocError>
 /// Makes all moves due at or before a moment, and counts them; none where there are more than an event may make.
 pub(crate) fn advance(store: &mut Store, at: Moment) -> Result<Option<usize>, AllocError>
     requires { at ≤ latest_read }
-    ensures { IfOk result (λ made. moves_to store.new made ≡ counted_run (advance move_limit at store.old)) }
+    ensures ok { IfOk result (λ made. moves_to store.new.state made ≡ counted_run (advance move_limit at store.old.state)) }
+    ensures kept { undone store.new ≡ undone store.old }
 {
     for made in 0..MOST_MOVES {
         match next_due(store, at)? {

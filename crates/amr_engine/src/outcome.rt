@@ -1,4 +1,5 @@
 //! What an event comes to.
+ghost use Rattle.std.specs.Prelude.{◌≡◌};
 
 use amr_events::Reason;
 use amr_labels::{Listing, Shared};
@@ -17,4 +18,18 @@ pub enum Outcome {
     },
     /// The event changes nothing.
     Refused(Reason),
+}
+
+ghost use Rattle.amr_engine.specs.Refusals.{is_refused};
+
+impl Outcome {
+    /// Returns whether the event was refused.
+    pub fn is_refused(&self) -> bool
+        ensures { result ≡ is_refused self.now }
+    {
+        match self {
+            Outcome::Accepted { .. } => false,
+            Outcome::Refused(_) => true,
+        }
+    }
 }

@@ -4,6 +4,7 @@ ghost use Rattle.std.specs.List.{fold, filter_map};
 ghost use Rattle.amr_labels.specs.Map as map;
 ghost use Rattle.amr_time.specs.Time.{before_year_10000};
 ghost use Rattle.amr_rules.specs.Alerts.{completed, joined};
+ghost use Rattle.amr_state.specs.Kept.{undone};
 ghost use Rattle.amr_engine.specs.Events.{put, skipped_from};
 
 use amr_events::PostedAlert;
@@ -45,7 +46,7 @@ pub(crate) fn sift(
 /// What is stored of a new alert.
 #[tactic(auto, unfolding(amr_rules::specs::Alerts::joined))]
 fn joined(store: &Store, labels: &Labels, alert: Alert) -> Alert
-    ensures { result ≡ joined store.now.moment (map.get store.now.alerts labels.now) alert }
+    ensures { result ≡ joined store.now.state.moment (map.get store.now.state.alerts labels.now) alert }
 {
     match store.alerts().get(labels) {
         Some(stored) => merge(store.moment(), stored, alert),
@@ -56,16 +57,18 @@ fn joined(store: &Store, labels: &Labels, alert: Alert) -> Alert
 /// A valid alert is joined with the stored one of its labels, stored and placed.
 #[tactic(auto, unfolding(crate::specs::Events::put))]
 fn put(store: &mut Store, labels: &Labels, alert: Alert) -> Result<(), AllocError>
-    ensures { OnOk result (store.new ≡ put store.old (labels.now, alert)) }
+    ensures ok { OnOk result (store.new.state ≡ put store.old.state (labels.now, alert)) }
+    ensures kept { undone store.new ≡ undone store.old }
 {
     let stored = joined(store, labels, alert);
-    store.insert_alert(labels.clone()?, stored.clone()?)?;
+    store.insert_alert(labels, stored.clone()?)?;
     place(store, labels, &stored)
 }
 
 /// The valid alerts are stored, in order.
 pub(crate) fn put_all(store: &mut Store, valid: &[(Labels, Alert)]) -> Result<(), AllocError>
-    ensures { OnOk result (store.new ≡ fold put store.old valid.now) }
+    ensures ok { OnOk result (store.new.state ≡ fold put store.old.state valid.now) }
+    ensures kept { undone store.new ≡ undone store.old }
 {
     for (labels, alert) in valid {
         put(store, labels, alert.clone()?)?;

@@ -2,6 +2,7 @@
 ghost use Rattle.std.specs.Prelude.{◌≡◌, OnOk};
 ghost use Rattle.std.specs.List.{fold};
 ghost use Rattle.amr_state.specs.State.{place};
+ghost use Rattle.amr_state.specs.Kept.{undone};
 ghost use Rattle.amr_engine.specs.Events.{with_config};
 
 use amr_config::Config;
@@ -12,7 +13,8 @@ use std::alloc::AllocError;
 
 /// The alerts become members on their chosen routes, in order.
 fn place_all(store: &mut Store, alerts: &[(Labels, Alert)]) -> Result<(), AllocError>
-    ensures { OnOk result (store.new ≡ fold place store.old alerts.now) }
+    ensures ok { OnOk result (store.new.state ≡ fold place store.old.state alerts.now) }
+    ensures kept { undone store.new ≡ undone store.old }
 {
     for (labels, alert) in alerts {
         place(store, labels, alert)?;
@@ -24,9 +26,10 @@ fn place_all(store: &mut Store, alerts: &[(Labels, Alert)]) -> Result<(), AllocE
 /// tree, resolved ones too.
 #[tactic(auto, unfolding(crate::specs::Events::with_config))]
 pub(crate) fn reload(store: &mut Store, config: Config) -> Result<(), AllocError>
-    ensures { OnOk result (store.new ≡ with_config store.old config) }
+    ensures ok { OnOk result (store.new.state ≡ with_config store.old.state config) }
+    ensures kept { undone store.new ≡ undone store.old }
 {
-    store.replace_config(config);
     let alerts = views::alerts(store)?;
+    store.replace_config(config)?;
     place_all(store, alerts.as_slice())
 }

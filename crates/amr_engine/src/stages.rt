@@ -17,7 +17,7 @@ pub(crate) fn taken_away(
     route: usize,
     labels: &Labels,
 ) -> Result<Option<Finding>, AllocError>
-    ensures { IfOk result (λ found. found ≡ taken_away store.now at route labels.now) }
+    ensures { IfOk result (λ found. found ≡ taken_away store.now.state at route labels.now) }
 {
     let alloc = store.alloc();
     let config = store.config();

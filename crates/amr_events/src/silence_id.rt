@@ -7,6 +7,8 @@ ghost use Rattle.std.specs.Ordering.{as_partial_cmp, nat_cmp, eq_by_cmp};
 ghost use Rattle.amr_events.specs.Ids.{id_of, id_text};
 
 use std::alloc::{AllocError, Global};
+use amr_labels::Exact;
+use amr_tables::Key;
 use std::cmp::Ordering;
 use std::marker::Model;
 use uuid::Uuid;
@@ -90,4 +92,14 @@ impl PartialOrd for SilenceId {
     fn partial_cmp(&self, other: &SilenceId) -> Option<Ordering> {
         Some(self.cmp(other))
     }
+}
+
+impl Exact for SilenceId {
+    ghost exact = { λ x y same. same };
+}
+
+impl Key for SilenceId {
+    ghost use Rattle.std.specs.FinMap.{nat_cmp-IsAntisymmetric};
+
+    ghost exact = { nat_cmp-IsAntisymmetric };
 }

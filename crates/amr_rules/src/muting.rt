@@ -1,18 +1,19 @@
 //! What mutes an alert: inhibition rules with their sources, and silences.
 ghost use Rattle.std.specs.Prelude.{◌≡◌, ◌&&◌, IfOk, is_some};
 ghost use Rattle.std.specs.Option.{option_copied};
-ghost use Rattle.std.specs.Ordering.{eq_by_cmp};
-ghost use Rattle.amr_labels.specs.Labels.{text_cmp, value_of};
+ghost use Rattle.std.specs.Ordering.{eq_by_cmp, nat_cmp};
+ghost use Rattle.amr_labels.specs.Labels.{text_cmp, label_set_cmp, value_of};
 ghost use Rattle.amr_matchers.specs.Matchers.{all_hold};
+ghost use Rattle.amr_tables.specs.Numbered.{shown};
 ghost use Rattle.amr_config.specs.Config.{Config};
 ghost use Rattle.amr_rules.specs.Muting.{agree_on, rule_mutes, inhibits, is_inhibited, inhibitor_by, inhibition_from, silences_labels, is_silenced, silencer_of};
 
 use crate::alert::Alert;
 use crate::silence::Silence;
-use crate::silence_map::SilenceMap;
 use amr_events::SilenceId;
-use amr_labels::{LabelMap, Labels, Text};
+use amr_labels::{Labels, Text};
 use amr_stated::InhibitRule;
+use amr_tables::Keyed;
 use amr_time::Moment;
 use std::alloc::{AllocError, Global};
 use std::cmp::Ordering;
@@ -90,10 +91,10 @@ fn inhibitor_by<'a>(
     alloc: Global,
     now: Moment,
     target: &Labels,
-    alerts: &'a LabelMap<Alert>,
+    alerts: &'a Keyed<Labels, Alert>,
     rule: &InhibitRule,
 ) -> Result<Option<&'a Labels>, AllocError>
-    ensures { IfOk result (λ found. option_copied found ≡ inhibitor_by now target.now alerts.now rule.now) }
+    ensures { IfOk result (λ found. option_copied found ≡ inhibitor_by now target.now (shown label_set_cmp alerts.now) rule.now) }
 {
     for (source, alert) in alerts.iter() {
         if inhibits(alloc, now, rule, source, alert, target)? {
@@ -108,13 +109,13 @@ fn inhibitor_by<'a>(
 pub fn inhibited_by(
     alloc: Global,
     rules: &[InhibitRule],
-    alerts: &LabelMap<Alert>,
+    alerts: &Keyed<Labels, Alert>,
     now: Moment,
     target: &Labels,
 ) -> Result<Option<(usize, Labels)>, AllocError>
-    ensures named { IfOk result (λ found. found ≡ inhibition_from 0 now target.now alerts.now rules.now) }
+    ensures named { IfOk result (λ found. found ≡ inhibition_from 0 now target.now (shown label_set_cmp alerts.now) rules.now) }
     ensures exactly { IfOk result (λ found.
-        (config : Config) → config.rules ≡ rules.now → is_inhibited config alerts.now now target.now ≡ is_some found) }
+        (config : Config) → config.rules ≡ rules.now → is_inhibited config (shown label_set_cmp alerts.now) now target.now ≡ is_some found) }
 {
     for (place, rule) in rules.iter().enumerate() {
         if let Some(source) = inhibitor_by(alloc, now, target, alerts, rule)? {
@@ -142,12 +143,12 @@ fn silences_labels(
 /// The least id of a silence that mutes labels at a moment. None where no silence does.
 pub fn silenced_by(
     alloc: Global,
-    silences: &SilenceMap,
+    silences: &Keyed<SilenceId, Silence>,
     now: Moment,
     labels: &Labels,
 ) -> Result<Option<SilenceId>, AllocError>
-    ensures named { IfOk result (λ found. found ≡ silencer_of now labels.now silences.now) }
-    ensures exactly { IfOk result (λ found. is_silenced silences.now now labels.now ≡ is_some found) }
+    ensures named { IfOk result (λ found. found ≡ silencer_of now labels.now (shown nat_cmp silences.now)) }
+    ensures exactly { IfOk result (λ found. is_silenced (shown nat_cmp silences.now) now labels.now ≡ is_some found) }
 {
     for (id, silence) in silences.iter() {
         if silences_labels(alloc, now, silence, labels)? {

@@ -1,12 +1,13 @@
 //! Posting silences.
-ghost use Rattle.std.specs.Prelude.{◌≡◌, ◌==◌, ◌&&◌, ◌||◌, ℕ, Option, IfOk, ok_or, option_map, nat_lt, nat_le};
+ghost use Rattle.std.specs.Prelude.{◌≡◌, ◌==◌, ◌&&◌, ◌||◌, IfOk, ok_or, option_map, nat_lt, nat_le};
 ghost use Rattle.std.specs.List.{list_any};
-ghost use Rattle.std.specs.Option.{option_map_or};
+ghost use Rattle.std.specs.Option.{option_copied, option_map_or};
 ghost use Rattle.amr_labels.specs.Map as map;
 
 use crate::silence::{Silence, silence_expire};
+use amr_events::PostedSilence;
 use amr_labels::Labels;
-use amr_matchers::{Matcher, Matchers, Operator};
+use amr_matchers::{Matcher, Operator};
 use amr_time::Moment;
 use std::alloc::{AllocError, Global};
 
@@ -92,7 +93,7 @@ fn from_now(now: Moment, silence: Silence) -> Silence
 
 /// What a post of a silence comes to beside the stored one that it names.
 fn posting_over(now: Moment, old: Option<&Silence>, silence: Silence) -> Result<Posting, AllocError>
-    ensures { IfOk result (λ posting. posting ≡ posting_over now (option_map (λ stored. stored.now) old.entry) silence) }
+    ensures { IfOk result (λ posting. posting ≡ posting_over now (option_copied old.entry) silence) }
 {
     match old {
         None => Ok(Posting::New(from_now(now, silence), None)),
@@ -107,29 +108,24 @@ fn posting_over(now: Moment, old: Option<&Silence>, silence: Silence) -> Result<
     }
 }
 
-/// What a post of a silence comes to beside the stored one that it names (postable silences of Alertmanager's API
-/// v2): none where it may not be posted now. `matchers` are none where a name is empty or a pattern was refused.
+/// Decides what a post of a silence makes beside the stored one that it names (postable silences of Alertmanager's
+/// API v2). Returns none if the silence may not be posted now.
 #[tactic(auto, unfolding(crate::specs::Silences::decided_post))]
-pub fn silence_post(
+pub(crate) fn decided_post(
     alloc: Global,
     now: Moment,
-    matchers: Option<&Matchers>,
-    starts_at: Moment,
-    ends_at: Moment,
+    posted: &PostedSilence,
     old: Option<&Silence>,
 ) -> Result<Option<Posting>, AllocError>
-    ensures { IfOk result (λ posting. (id : Option ℕ) (new_id : ℕ) →
-        ok_or posting 17 ≡ decided_post now
-        (record { id = id; new_id = new_id; matchers = option_map (λ list. list.now) matchers.entry; starts_at = starts_at; ends_at = ends_at })
-        (option_map (λ stored. stored.now) old.entry)) }
+    ensures { IfOk result (λ posting. ok_or posting 17 ≡ decided_post now posted.now (option_copied old.entry)) }
 {
-    match matchers {
+    match &posted.matchers {
         None => Ok(None),
         Some(matchers) => {
             let silence = Silence {
                 matchers: matchers.clone()?,
-                starts_at,
-                ends_at,
+                starts_at: posted.starts_at,
+                ends_at: posted.ends_at,
             };
             if may_be_posted(alloc, now, &silence)? {
                 Ok(Some(posting_over(now, old, silence)?))

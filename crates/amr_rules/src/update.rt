@@ -1,8 +1,9 @@
 //! The notification log's test: whether an integration is told of a group.
-ghost use Rattle.std.specs.Prelude.{◌≡◌, ◌+◌, nat_lt, IfOk};
+ghost use Rattle.std.specs.Prelude.{◌≡◌, ◌+◌, nat_lt, IfOk, map};
 ghost use Rattle.std.specs.Option.{option_map};
 ghost use Rattle.amr_labels.specs.Set as set;
 
+use crate::alert::Alert;
 use amr_labels::{Exact, LabelMap, Labels};
 use amr_time::{Moment, Span};
 use std::alloc::{AllocError, Global};
@@ -34,6 +35,17 @@ impl Exact for LogEntry {
 }
 
 ghost use Rattle.amr_rules.specs.Updates.{differs, needs_update};
+
+/// Returns the label sets of alerts.
+pub fn labels_of(alloc: Global, alerts: &[(Labels, Alert)]) -> Result<LabelMap<()>, AllocError>
+    ensures { IfOk result (λ made. made ≡ set.from_list (map (λ alert. alert.0) alerts.now)) }
+{
+    let mut made = LabelMap::new(alloc);
+    for (labels, _) in alerts {
+        made.insert(labels.clone()?, ())?;
+    }
+    Ok(made)
+}
 
 /// Whether each label set of the one is in the other.
 pub fn is_subset(a: &LabelMap<()>, b: &LabelMap<()>) -> bool

@@ -1,1 +1,5 @@
 pub mod Least
+pub mod Placed
+pub mod Undoing
+pub mod Soundness
+pub mod Emptied

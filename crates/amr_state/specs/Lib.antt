@@ -4,3 +4,5 @@ pub mod Stored
 pub mod Coming
 pub mod Steps
 pub mod Seen
+pub mod Records
+pub mod Kept

@@ -126,7 +126,7 @@ fn group_flush<'a>(group: &'a Spot, clock: &Clock) -> Coming<'a>
 
 /// The least of the removals of alerts.
 fn first_alert_removal(store: &Store) -> Option<Coming<'_>>
-    ensures { option_map due_of result ≡ least_due (map alert_removal_of (entries store.now.alerts)) }
+    ensures { option_map due_of result ≡ least_due (map alert_removal_of (entries store.now.state.alerts)) }
 {
     let mut best = None;
     for (labels, alert) in store.alerts().iter() {
@@ -137,7 +137,7 @@ fn first_alert_removal(store: &Store) -> Option<Coming<'_>>
 
 /// The least of a due and the removals of groups.
 fn with_group_removals<'a>(store: &'a Store, mut best: Option<Coming<'a>>) -> Option<Coming<'a>>
-    ensures { option_map due_of result ≡ lesser_of (option_map due_of best.entry) (least_due (filter_map group_removal_of (entries store.now.clocks))) }
+    ensures { option_map due_of result ≡ lesser_of (option_map due_of best.entry) (least_due (filter_map group_removal_of (entries store.now.state.clocks))) }
 {
     for (group, clock) in store.clocks().iter() {
         if let Some(removal) = group_removal(group, clock) {
@@ -149,7 +149,7 @@ fn with_group_removals<'a>(store: &'a Store, mut best: Option<Coming<'a>>) -> Op
 
 /// The least of a due and the flushes of groups.
 fn with_flushes<'a>(store: &'a Store, mut best: Option<Coming<'a>>) -> Option<Coming<'a>>
-    ensures { option_map due_of result ≡ lesser_of (option_map due_of best.entry) (least_due (map flush_of (entries store.now.clocks))) }
+    ensures { option_map due_of result ≡ lesser_of (option_map due_of best.entry) (least_due (map flush_of (entries store.now.state.clocks))) }
 {
     for (group, clock) in store.clocks().iter() {
         best = lesser(best, group_flush(group, clock));
@@ -159,7 +159,7 @@ fn with_flushes<'a>(store: &'a Store, mut best: Option<Coming<'a>>) -> Option<Co
 
 /// The least of all that is due.
 fn first_due(store: &Store) -> Option<Coming<'_>>
-    ensures { option_map due_of result ≡ least_due (dues store.now) }
+    ensures { option_map due_of result ≡ least_due (dues store.now.state) }
 {
     with_flushes(
         store,
@@ -170,7 +170,7 @@ fn first_due(store: &Store) -> Option<Coming<'_>>
 /// The least that is due at or before a moment.
 #[tactic(auto, unfolding(crate::specs::Dues::next_due))]
 pub fn next_due(store: &Store, at: Moment) -> Result<Option<Due>, AllocError>
-    ensures due { IfOk result (λ due. due ≡ next_due at store.now) }
+    ensures due { IfOk result (λ due. due ≡ next_due at store.now.state) }
     ensures within { IfOk result (λ due. IfSome due (λ d. d.moment ≤ at)) }
 {
     match first_due(store) {

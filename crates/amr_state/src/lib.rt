@@ -1,22 +1,20 @@
 //! The state of an Alertmanager: each kind of change of it, alerts in groups, what is due, and what is seen of it.
 #![tactic(auto)]
 
+mod displaced;
 mod due;
-mod log_map;
 mod members;
 mod note;
 mod placing;
 mod spot;
-mod spot_map;
 mod store;
 pub mod views;
 
+pub use displaced::Displaced;
 pub use due::{Due, Kind, next_due};
-pub use log_map::LogMap;
 pub use members::{Member, members_of};
 pub use note::{Clock, FiringAlert, LogKey, Note, ResolvedAlert};
 pub use placing::{group_spot, place};
 pub use spot::Spot;
-pub use spot_map::SpotMap;
 pub use store::Store;
 pub use views::Group;

@@ -15,8 +15,11 @@ pub type Member = (Labels, Alert);
 
 /// Whether an alert that is placed there belongs to the group.
 fn is_of_group(store: &Store, spot: &Spot, group: &Spot) -> Result<bool, AllocError>
-    ensures { IfOk result (λ is. is ≡ eq_by_cmp spot_cmp (group_spot store.now.config spot.now) group.now) }
+    ensures { IfOk result (λ is. is ≡ eq_by_cmp spot_cmp (group_spot store.now.state.config spot.now) group.now) }
 {
+    if spot.route != group.route {
+        return Ok(false);
+    }
     let own = group_spot(store.alloc(), store.config(), spot.route, &spot.labels)?;
     Ok(own == *group)
 }
@@ -24,7 +27,7 @@ fn is_of_group(store: &Store, spot: &Spot, group: &Spot) -> Result<bool, AllocEr
 /// The members of a group, by labels.
 #[tactic(auto, unfolding(crate::specs::State::members))]
 pub fn members_of(store: &Store, group: &Spot) -> Result<Vec<Member>, AllocError>
-    ensures { IfOk result (λ found. found.items ≡ members store.now group.now) }
+    ensures { IfOk result (λ found. found.items ≡ members store.now.state group.now) }
 {
     let mut found = Vec::new(store.alloc());
     for (spot, alert) in store.placements().iter() {

@@ -4,6 +4,7 @@ ghost use Rattle.std.proofs.Common.{rules};
 
 use amr_labels::{Exact, Labels, Listing, Text, TextMap};
 use amr_matchers::Matchers;
+use amr_tables::Key;
 use amr_time::Moment;
 use std::alloc::AllocError;
 use std::cmp::Ordering;
@@ -106,6 +107,12 @@ impl PartialOrd for LogKey {
     fn partial_cmp(&self, other: &LogKey) -> Option<Ordering> {
         Some(self.cmp(other))
     }
+}
+
+impl Key for LogKey {
+    ghost use Rattle.amr_state.specs.State.{log_key_cmp-IsAntisymmetric};
+
+    ghost exact = { log_key_cmp-IsAntisymmetric };
 }
 
 impl Exact for LogKey {

@@ -2,6 +2,7 @@
 ghost use Rattle.std.specs.Prelude.{◌≡◌, ◌+◌, ◌≤◌, OnOk, IfOk, nat_lt};
 ghost use Rattle.amr_time.specs.Time.{latest_read};
 ghost use Rattle.amr_state.specs.State.{spot_at, group_spot, clock_with, place_on, place};
+ghost use Rattle.amr_state.specs.Kept.{undone};
 
 use crate::note::Clock;
 use crate::spot::Spot;
@@ -57,7 +58,8 @@ fn place_on(
     labels: &Labels,
     alert: &Alert,
 ) -> Result<(), AllocError>
-    ensures { OnOk result (store.new ≡ place_on labels.now alert.now store.old route) }
+    ensures ok { OnOk result (store.new.state ≡ place_on labels.now alert.now store.old.state route) }
+    ensures kept { undone store.new ≡ undone store.old }
 {
     let group = group_spot(store.alloc(), store.config(), route, labels)?;
     let wait = store.config().group_wait(route);
@@ -67,13 +69,14 @@ fn place_on(
         route,
         labels: labels.clone()?,
     };
-    store.place_copy(spot, alert.clone()?)?;
-    store.set_clock(group, clock)
+    store.place_copy(&spot, alert.clone()?)?;
+    store.set_clock(&group, clock)
 }
 
 /// The alert becomes a member on each chosen route.
 pub fn place(store: &mut Store, labels: &Labels, alert: &Alert) -> Result<(), AllocError>
-    ensures { OnOk result (store.new ≡ place store.old (labels.now, alert.now)) }
+    ensures ok { OnOk result (store.new.state ≡ place store.old.state (labels.now, alert.now)) }
+    ensures kept { undone store.new ≡ undone store.old }
 {
     let routes = store.config().routes_of(store.alloc(), labels)?;
     for route in &routes {

@@ -3,6 +3,7 @@
 ghost use Rattle.std.specs.Prelude.{◌≡◌};
 
 use amr_labels::{Exact, Labels};
+use amr_tables::Key;
 use std::alloc::AllocError;
 
 /// An alert that is placed on a route, or a group: a route with a label set.
@@ -23,6 +24,12 @@ impl Clone for Spot {
             labels: self.labels.clone()?,
         })
     }
+}
+
+impl Key for Spot {
+    ghost use Rattle.amr_state.specs.State.{spot_cmp-IsAntisymmetric};
+
+    ghost exact = { spot_cmp-IsAntisymmetric };
 }
 
 impl Exact for Spot {

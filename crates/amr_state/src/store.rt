@@ -1,233 +1,429 @@
-//! The state, and each kind of change of it.
-ghost use Rattle.std.specs.Prelude.{◌≡◌, ◌≤◌, ◌++◌, ◌∷◌, [], OnOk, OnErr, IfOk};
+//! The state in tables of places, and the journal of what the events displaced in them.
+ghost use Rattle.std.specs.Prelude.{◌≡◌, ◌≤◌, ◌<◌, ◌+◌, ◌++◌, ◌∷◌, ◌==◌, [], Option, Some, None, length, OnOk, IfOk};
+ghost use Rattle.std.specs.Prelude.{option_map, slice_get};
+ghost use Rattle.std.specs.Ordering.{nat_cmp};
+ghost use Rattle.amr_labels.specs.Labels.{label_set_cmp};
 ghost use Rattle.amr_labels.specs.Map as map;
+ghost use Rattle.amr_tables.specs.Numbered.{shown};
 ghost use Rattle.amr_time.specs.Time.{latest_read};
-ghost use Rattle.amr_state.specs.State.{start};
+ghost use Rattle.amr_state.specs.State.{start, spot_cmp, log_key_cmp};
+ghost use Rattle.amr_state.specs.Kept.{undone};
 
-use crate::log_map::LogMap;
+use crate::displaced::Displaced;
 use crate::note::{Clock, LogKey, Note};
 use crate::spot::Spot;
-use crate::spot_map::SpotMap;
 use amr_config::Config;
 use amr_events::SilenceId;
-use amr_labels::{LabelMap, Labels, Listing, Shared};
-use amr_rules::{Alert, LogEntry, Silence, SilenceMap};
+use amr_labels::{Labels, Shared};
+use amr_rules::{Alert, LogEntry, Silence};
+use amr_tables::{Journal, Keyed, make_room};
 use amr_time::Moment;
 use std::alloc::{AllocError, Global};
 use std::marker::Model;
+use std::mem;
 
-/// The state of the replayed instance. Contracts see it as a value.
+/// The state of the replayed instance. What a change displaces is entered into the open record of the journal, so that the event
+/// can be undone without memory.
 #[derive(Drop)]
 pub struct Store {
     alloc: Global,
     moment: Moment,
     config: Config,
-    alerts: LabelMap<Alert>,
-    silences: SilenceMap,
-    placements: SpotMap<Alert>,
-    clocks: SpotMap<Clock>,
-    log: LogMap,
-    notes: Listing<Shared<Note>>,
+    alerts: Keyed<Labels, Alert>,
+    silences: Keyed<SilenceId, Silence>,
+    placements: Keyed<Spot, Alert>,
+    clocks: Keyed<Spot, Clock>,
+    log: Keyed<LogKey, LogEntry>,
+    notes: Vec<Shared<Note>>,
+    journal: Journal<Displaced>,
 }
 
 impl Model for Store {
-    ghost use Rattle.std.specs.Prelude.{◌≤◌};
     ghost use Rattle.std.specs.Coded.{codes};
     ghost use Rattle.amr_labels.specs.Map as map;
-    ghost use Rattle.amr_time.specs.Time.{latest_read};
-    ghost use Rattle.amr_state.specs.State.{State};
+    ghost use Rattle.amr_state.specs.Kept.{Kept};
+    ghost use Rattle.amr_state.specs.contracts.displaced.Displaced as displaced;
 
-    ghost Value = { State };
+    ghost Value = { Kept };
 
-    ghost coded = { Prim.hlevel (codes, map.code) };
+    ghost coded = { Prim.hlevel (codes, map.code, displaced.the_row.coded) };
 
-    ghost use Rattle.amr_state.specs.Stored.{state_of};
+    ghost use Rattle.amr_state.specs.Stored.{kept_of, IsKept};
 
-    ghost view = { state_of };
+    ghost view = { kept_of };
 
-    ghost invariant = { λ store. store.moment ≤ latest_read };
-}
-
-impl Clone for Store {
-    ghost is_clone = { λ a b. b ≡ a };
-
-    fn clone(&self) -> Result<Store, AllocError> {
-        Ok(Store {
-            alloc: self.alloc,
-            moment: self.moment,
-            config: self.config.clone()?,
-            alerts: self.alerts.clone()?,
-            silences: self.silences.clone()?,
-            placements: self.placements.clone()?,
-            clocks: self.clocks.clone()?,
-            log: self.log.clone()?,
-            notes: self.notes.clone()?,
-        })
-    }
+    ghost invariant = { IsKept };
 }
 
 impl Store {
-    /// The state at the start.
+    /// The state at the start, without a record.
     pub fn new(alloc: Global, config: Config) -> Store
-        ensures { result ≡ start config }
+        ensures state { result.state ≡ start config }
+        ensures current { result.current ≡ [] }
+        ensures records { result.records ≡ [] }
     {
         Store {
             alloc,
             moment: Moment::START,
             config,
-            alerts: LabelMap::new(alloc),
-            silences: SilenceMap::new(alloc),
-            placements: SpotMap::new(alloc),
-            clocks: SpotMap::new(alloc),
-            log: LogMap::new(alloc),
-            notes: Listing::new(alloc),
+            alerts: Keyed::new(alloc),
+            silences: Keyed::new(alloc),
+            placements: Keyed::new(alloc),
+            clocks: Keyed::new(alloc),
+            log: Keyed::new(alloc),
+            notes: Vec::new(alloc),
+            journal: Journal::new(alloc),
         }
     }
 
-    /// What memory is taken from.
-    pub fn alloc(&self) -> Global {
+    // ---- the journal
+
+    /// Makes room for one more record.
+    pub fn begin(&mut self) -> Result<(), AllocError>
+        ensures room { OnOk result (0 < self.new.room) }
+        ensures state { self.new.state ≡ self.old.state }
+        ensures current { self.new.current ≡ self.old.current }
+        ensures records { self.new.records ≡ self.old.records }
+    {
+        self.journal.reserve(0)
+    }
+
+    /// Closes the open record. It takes no memory.
+    pub fn close(&mut self)
+        requires { 0 < self.old.room }
+        ensures state { self.new.state ≡ self.old.state }
+        ensures current { self.new.current ≡ [] }
+        ensures records { self.new.records ≡ self.old.records ++ self.old.current ∷ [] }
+    {
+        self.journal.close();
+    }
+
+    /// Opens the last record again.
+    pub fn reopen(&mut self)
+        requires some { 0 < length self.old.records }
+        requires empty { self.old.current ≡ [] }
+        ensures state { self.new.state ≡ self.old.state }
+        ensures records { self.old.records ≡ self.new.records ++ self.new.current ∷ [] }
+    {
+        self.journal.reopen();
+    }
+
+    /// Puts the last entry of the open record back. It takes no memory.
+    pub fn undo_entry(&mut self)
+        requires { 0 < length self.old.current }
+        ensures kept { undone self.new ≡ undone self.old }
+        ensures shorter { length self.new.current + 1 ≡ length self.old.current }
+    {
+        match self.journal.pop() {
+            Displaced::WasMoment(was) => self.moment = was,
+            Displaced::WasConfig(was) => self.config = was,
+            Displaced::WasAlert(labels, was) => drop(self.alerts.displace(&labels, was)),
+            Displaced::WasSilence(id, was) => drop(self.silences.displace(&id, was)),
+            Displaced::WasPlacement(spot, was) => drop(self.placements.displace(&spot, was)),
+            Displaced::WasClock(group, was) => drop(self.clocks.displace(&group, was)),
+            Displaced::WasLogged(key, was) => drop(self.log.displace(&key, was)),
+            Displaced::WasNotes(count) => self.notes.truncate(count),
+        }
+    }
+
+    /// Puts the whole open record back. It takes no memory.
+    pub fn undo_open(&mut self)
+        ensures { self.new ≡ undone self.old }
+    {
+        while !self.is_current_empty() {
+            self.undo_entry();
+        }
+    }
+
+    /// Drops all records.
+    pub fn forget(&mut self)
+        ensures state { self.new.state ≡ self.old.state }
+        ensures current { self.new.current ≡ self.old.current }
+        ensures records { self.new.records ≡ [] }
+    {
+        self.journal.forget();
+    }
+
+    /// Returns how many records there are.
+    pub fn records(&self) -> usize
+        ensures { result ≡ length self.now.records }
+    {
+        self.journal.len()
+    }
+
+    /// Returns how many entries the record number `index` has, from 0.
+    pub fn record_len(&self, index: usize) -> usize
+        requires { index < length self.now.records }
+        ensures { option_map length (slice_get self.now.records index) ≡ Some result }
+    {
+        self.journal.record_len(index)
+    }
+
+    // ---- the state
+
+    /// The allocator.
+    pub fn alloc(&self) -> Global
+    {
         self.alloc
     }
 
     /// The clock: the moment of the last event that was accepted.
     pub fn moment(&self) -> Moment
-        ensures value { result ≡ self.now.moment }
-        ensures bound { self.now.moment ≤ latest_read }
+        ensures value { result ≡ self.now.state.moment }
+        ensures bound { self.now.state.moment ≤ latest_read }
     {
         self.moment
     }
 
     /// The configuration in force.
     pub fn config(&self) -> &Config
-        ensures { result.now ≡ self.now.config }
+        ensures { result.now ≡ self.now.state.config }
     {
         &self.config
     }
 
     /// The stored alerts, under their labels.
-    pub fn alerts(&self) -> &LabelMap<Alert>
-        ensures { result.now ≡ self.now.alerts }
+    pub fn alerts(&self) -> &Keyed<Labels, Alert>
+        ensures { shown label_set_cmp result.now ≡ self.now.state.alerts }
     {
         &self.alerts
     }
 
     /// The silences, under their ids.
-    pub fn silences(&self) -> &SilenceMap
-        ensures { result.now ≡ self.now.silences }
+    pub fn silences(&self) -> &Keyed<SilenceId, Silence>
+        ensures { shown nat_cmp result.now ≡ self.now.state.silences }
     {
         &self.silences
     }
 
-    pub(crate) fn placements(&self) -> &SpotMap<Alert>
-        ensures { result.now ≡ self.now.placements }
+    /// The members of all groups, under their routes and labels.
+    pub(crate) fn placements(&self) -> &Keyed<Spot, Alert>
+        ensures { shown spot_cmp result.now ≡ self.now.state.placements }
     {
         &self.placements
     }
 
-    /// The clocks of the groups.
-    pub fn clocks(&self) -> &SpotMap<Clock>
-        ensures { result.now ≡ self.now.clocks }
+    /// The timers of the groups.
+    pub fn clocks(&self) -> &Keyed<Spot, Clock>
+        ensures { shown spot_cmp result.now ≡ self.now.state.clocks }
     {
         &self.clocks
     }
 
     /// The notification log.
-    pub fn log(&self) -> &LogMap
-        ensures { result.now ≡ self.now.log }
+    pub fn log(&self) -> &Keyed<LogKey, LogEntry>
+        ensures { shown log_key_cmp result.now ≡ self.now.state.log }
     {
         &self.log
     }
 
-    /// All notes so far, in order.
+    /// All notifications so far, in order.
     pub fn notes(&self) -> &[Shared<Note>]
-        ensures { result.now ≡ self.now.notes }
+        ensures { result.now ≡ self.now.state.notes }
     {
         self.notes.as_slice()
     }
 
-    /// The clock goes on.
-    pub fn set_moment(&mut self, at: Moment)
+    // ---- changes
+
+    /// Advances the clock to a moment.
+    pub fn set_moment(&mut self, at: Moment) -> Result<(), AllocError>
         requires { at ≤ latest_read }
-        ensures { self.new ≡ record self.old { moment = at } }
+        ensures ok { OnOk result (self.new.state ≡ record self.old.state { moment = at }) }
+        ensures kept { undone self.new ≡ undone self.old }
     {
+        self.journal.reserve_entry()?;
+        self.journal.push(Displaced::WasMoment(self.moment));
         self.moment = at;
+        Ok(())
     }
 
-    /// An alert is stored.
-    pub fn insert_alert(&mut self, labels: Labels, alert: Alert) -> Result<(), AllocError>
-        ensures { OnOk result (self.new ≡ record self.old { alerts = map.insert self.old.alerts labels alert }) }
+    /// Stores an alert.
+    pub fn insert_alert(&mut self, labels: &Labels, alert: Alert) -> Result<(), AllocError>
+        ensures ok { OnOk result (self.new.state ≡ record self.old.state { alerts = map.insert self.old.state.alerts labels.now alert }) }
+        ensures kept { undone self.new ≡ undone self.old }
     {
-        self.alerts.insert(labels, alert)
+        self.set_alert(labels, Some(alert))
     }
 
-    /// A stored alert is removed.
-    pub fn remove_alert(&mut self, labels: &Labels)
-        ensures { self.new ≡ record self.old { alerts = map.remove self.old.alerts labels.now } }
+    /// Removes a stored alert.
+    pub fn remove_alert(&mut self, labels: &Labels) -> Result<(), AllocError>
+        ensures ok { OnOk result (self.new.state ≡ record self.old.state { alerts = map.remove self.old.state.alerts labels.now }) }
+        ensures kept { undone self.new ≡ undone self.old }
     {
-        let _ = self.alerts.remove(labels);
+        self.set_alert(labels, None)
     }
 
-    /// A copy of an alert becomes a member.
-    pub(crate) fn place_copy(&mut self, spot: Spot, alert: Alert) -> Result<(), AllocError>
-        ensures { OnOk result (self.new ≡ record self.old { placements = map.insert self.old.placements spot alert }) }
+    /// Adds a copy of an alert to a group.
+    pub(crate) fn place_copy(&mut self, spot: &Spot, alert: Alert) -> Result<(), AllocError>
+        ensures ok { OnOk result (self.new.state ≡ record self.old.state { placements = map.insert self.old.state.placements spot.now alert }) }
+        ensures kept { undone self.new ≡ undone self.old }
     {
-        self.placements.insert(spot, alert)
+        self.set_placement(spot, Some(alert))
     }
 
-    /// A member leaves.
-    pub fn remove_copy(&mut self, spot: &Spot)
-        ensures { self.new ≡ record self.old { placements = map.remove self.old.placements spot.now } }
+    /// Removes an alert from its group.
+    pub fn remove_copy(&mut self, spot: &Spot) -> Result<(), AllocError>
+        ensures ok { OnOk result (self.new.state ≡ record self.old.state { placements = map.remove self.old.state.placements spot.now }) }
+        ensures kept { undone self.new ≡ undone self.old }
     {
-        self.placements.remove(spot)
+        self.set_placement(spot, None)
     }
 
-    /// A group's clock is set.
-    pub fn set_clock(&mut self, group: Spot, clock: Clock) -> Result<(), AllocError>
-        ensures { OnOk result (self.new ≡ record self.old { clocks = map.insert self.old.clocks group clock }) }
+    /// Sets a group's timer.
+    pub fn set_clock(&mut self, group: &Spot, clock: Clock) -> Result<(), AllocError>
+        ensures ok { OnOk result (self.new.state ≡ record self.old.state { clocks = map.insert self.old.state.clocks group.now clock }) }
+        ensures kept { undone self.new ≡ undone self.old }
     {
-        // Built from its parts, so that the proof is told of the `Option` among them.
-        let clock = Clock {
-            empty_since: clock.empty_since,
-            ..clock
-        };
-        self.clocks.insert(group, clock)
+        self.change_clock(group, Some(clock))
     }
 
-    /// A group is removed.
-    pub fn remove_clock(&mut self, group: &Spot)
-        ensures { self.new ≡ record self.old { clocks = map.remove self.old.clocks group.now } }
+    /// Removes a group.
+    pub fn remove_clock(&mut self, group: &Spot) -> Result<(), AllocError>
+        ensures ok { OnOk result (self.new.state ≡ record self.old.state { clocks = map.remove self.old.state.clocks group.now }) }
+        ensures kept { undone self.new ≡ undone self.old }
     {
-        self.clocks.remove(group)
+        self.change_clock(group, None)
     }
 
-    /// A silence is stored.
+    /// Stores a silence.
     pub fn insert_silence(&mut self, id: SilenceId, silence: Silence) -> Result<(), AllocError>
-        ensures { OnOk result (self.new ≡ record self.old { silences = map.insert self.old.silences id silence }) }
+        ensures ok { OnOk result (self.new.state ≡ record self.old.state { silences = map.insert self.old.state.silences id silence }) }
+        ensures kept { undone self.new ≡ undone self.old }
     {
-        self.silences.insert(id, silence)
+        self.set_silence(id, Some(silence))
     }
 
-    /// The configuration is another one, and all groups go with the old one.
-    pub fn replace_config(&mut self, config: Config)
-        ensures { self.new ≡ record self.old { config = config; placements = map.empty; clocks = map.empty } }
+    /// Puts another configuration in force, and removes all groups and their members.
+    pub fn replace_config(&mut self, config: Config) -> Result<(), AllocError>
+        ensures ok { OnOk result (self.new.state ≡ record self.old.state { config = config; placements = map.empty; clocks = map.empty }) }
+        ensures kept { undone self.new ≡ undone self.old }
     {
-        self.config = config;
-        self.placements = SpotMap::new(self.alloc);
-        self.clocks = SpotMap::new(self.alloc);
+        self.clear_placements()?;
+        self.clear_clocks()?;
+        self.change_config(config)
     }
 
-    /// An entry of the notification log is written.
-    pub fn write_log(&mut self, key: LogKey, entry: LogEntry) -> Result<(), AllocError>
-        ensures { OnOk result (self.new ≡ record self.old { log = map.insert self.old.log key entry }) }
+    /// Writes an entry of the notification log.
+    pub fn write_log(&mut self, key: &LogKey, entry: LogEntry) -> Result<(), AllocError>
+        ensures ok { OnOk result (self.new.state ≡ record self.old.state { log = map.insert self.old.state.log key.now entry }) }
+        ensures kept { undone self.new ≡ undone self.old }
     {
-        self.log.insert(key, entry)
+        let entered = make_room(&mut self.log, &mut self.journal, key)?;
+        let was = self.log.displace(key, Some(entry));
+        self.journal.push(Displaced::WasLogged(entered, was));
+        Ok(())
     }
 
-    /// A note is appended.
+    /// Appends a notification.
     pub fn append_note(&mut self, note: Note) -> Result<(), AllocError>
-        ensures { OnOk result (self.new ≡ record self.old { notes = self.old.notes ++ note ∷ [] }) }
+        ensures ok { OnOk result (self.new.state ≡ record self.old.state { notes = self.old.state.notes ++ note ∷ [] }) }
+        ensures kept { undone self.new ≡ undone self.old }
     {
         let note = Shared::new(self.alloc, note)?;
-        self.notes.push(note)
+        let count = self.notes.len();
+        self.journal.reserve_entry()?;
+        self.notes.push(note)?;
+        self.journal.push(Displaced::WasNotes(count));
+        Ok(())
     }
+
+    // ---- what the changes share
+
+    /// Returns whether the open record has no entry.
+    fn is_current_empty(&self) -> bool
+        ensures { result ≡ (length self.now.current == 0) }
+    {
+        self.journal.is_current_empty()
+    }
+
+    /// Puts a stored alert, or none, under its labels.
+    fn set_alert(&mut self, labels: &Labels, alert: Option<Alert>) -> Result<(), AllocError>
+        ensures ok { OnOk result (self.new.state ≡ record self.old.state { alerts = map.set self.old.state.alerts labels.now alert }) }
+        ensures kept { undone self.new ≡ undone self.old }
+    {
+        let entered = make_room(&mut self.alerts, &mut self.journal, labels)?;
+        let was = self.alerts.displace(labels, alert);
+        self.journal.push(Displaced::WasAlert(entered, was));
+        Ok(())
+    }
+
+    /// Puts a silence, or none, under its id.
+    fn set_silence(&mut self, id: SilenceId, silence: Option<Silence>) -> Result<(), AllocError>
+        ensures ok { OnOk result (self.new.state ≡ record self.old.state { silences = map.set self.old.state.silences id silence }) }
+        ensures kept { undone self.new ≡ undone self.old }
+    {
+        let entered = make_room(&mut self.silences, &mut self.journal, &id)?;
+        let was = self.silences.displace(&id, silence);
+        self.journal.push(Displaced::WasSilence(entered, was));
+        Ok(())
+    }
+
+    /// Puts a member, or none, under its route and labels.
+    fn set_placement(&mut self, spot: &Spot, alert: Option<Alert>) -> Result<(), AllocError>
+        ensures ok { OnOk result (self.new.state ≡ record self.old.state { placements = map.set self.old.state.placements spot.now alert }) }
+        ensures kept { undone self.new ≡ undone self.old }
+    {
+        let entered = make_room(&mut self.placements, &mut self.journal, spot)?;
+        let was = self.placements.displace(spot, alert);
+        self.journal.push(Displaced::WasPlacement(entered, was));
+        Ok(())
+    }
+
+    /// Puts a group's timer, or none.
+    fn change_clock(&mut self, group: &Spot, clock: Option<Clock>) -> Result<(), AllocError>
+        ensures ok { OnOk result (self.new.state ≡ record self.old.state { clocks = map.set self.old.state.clocks group.now clock }) }
+        ensures kept { undone self.new ≡ undone self.old }
+    {
+        let entered = make_room(&mut self.clocks, &mut self.journal, group)?;
+        let was = self.clocks.displace(group, clock);
+        self.journal.push(Displaced::WasClock(entered, was));
+        Ok(())
+    }
+
+    /// Removes all members of all groups.
+    fn clear_placements(&mut self) -> Result<(), AllocError>
+        ensures ok { OnOk result (self.new.state ≡ record self.old.state { placements = map.empty }) }
+        ensures kept { undone self.new ≡ undone self.old }
+    {
+        let spots = keys_of(self.alloc, &self.placements)?;
+        for spot in &spots {
+            self.set_placement(spot, None)?;
+        }
+        Ok(())
+    }
+
+    /// Removes all groups.
+    fn clear_clocks(&mut self) -> Result<(), AllocError>
+        ensures ok { OnOk result (self.new.state ≡ record self.old.state { clocks = map.empty }) }
+        ensures kept { undone self.new ≡ undone self.old }
+    {
+        let groups = keys_of(self.alloc, &self.clocks)?;
+        for group in &groups {
+            self.change_clock(group, None)?;
+        }
+        Ok(())
+    }
+
+    /// Puts another configuration in force.
+    fn change_config(&mut self, config: Config) -> Result<(), AllocError>
+        ensures ok { OnOk result (self.new.state ≡ record self.old.state { config = config }) }
+        ensures kept { undone self.new ≡ undone self.old }
+    {
+        self.journal.reserve_entry()?;
+        let was = mem::replace(&mut self.config, config);
+        self.journal.push(Displaced::WasConfig(was));
+        Ok(())
+    }
+}
+
+/// Returns the keys that have a value.
+fn keys_of<V: Drop>(alloc: Global, table: &Keyed<Spot, V>) -> Result<Vec<Spot>, AllocError>
+    ensures { IfOk result (λ found. found.items ≡ map.keys (shown spot_cmp table.now)) }
+{
+    let mut found = Vec::new(alloc);
+    for (spot, _) in table.iter() {
+        found.push(spot.clone()?)?;
+    }
+    Ok(found)
 }

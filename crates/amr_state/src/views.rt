@@ -32,7 +32,7 @@ ghost use Rattle.amr_state.specs.Seen.{group_seen, groups_of};
 
 /// The stored alerts, by labels.
 pub fn alerts(store: &Store) -> Result<Vec<(Labels, Alert)>, AllocError>
-    ensures { IfOk result (λ found. found.items ≡ entries store.now.alerts) }
+    ensures { IfOk result (λ found. found.items ≡ entries store.now.state.alerts) }
 {
     let mut found = Vec::new(store.alloc());
     for (labels, alert) in store.alerts().iter() {
@@ -43,7 +43,7 @@ pub fn alerts(store: &Store) -> Result<Vec<(Labels, Alert)>, AllocError>
 
 /// The silences, by their ids.
 pub fn silences(store: &Store) -> Result<Vec<(SilenceId, Silence)>, AllocError>
-    ensures { IfOk result (λ found. found.items ≡ entries store.now.silences) }
+    ensures { IfOk result (λ found. found.items ≡ entries store.now.state.silences) }
 {
     let mut found = Vec::new(store.alloc());
     for (id, silence) in store.silences().iter() {
@@ -54,7 +54,7 @@ pub fn silences(store: &Store) -> Result<Vec<(SilenceId, Silence)>, AllocError>
 
 /// The entries of the notification log, by their keys.
 pub fn log(store: &Store) -> Result<Vec<(LogKey, LogEntry)>, AllocError>
-    ensures { IfOk result (λ found. found.items ≡ entries store.now.log) }
+    ensures { IfOk result (λ found. found.items ≡ entries store.now.state.log) }
 {
     let mut found = Vec::new(store.alloc());
     for (key, entry) in store.log().iter() {
@@ -65,7 +65,7 @@ pub fn log(store: &Store) -> Result<Vec<(LogKey, LogEntry)>, AllocError>
 
 /// The label sets of the members of a group.
 fn member_labels(store: &Store, group: &Spot) -> Result<Listing<Labels>, AllocError>
-    ensures { IfOk result (λ found. found ≡ map (λ member. member.0) (members store.now group.now)) }
+    ensures { IfOk result (λ found. found ≡ map (λ member. member.0) (members store.now.state group.now)) }
 {
     let mut found = Listing::new(store.alloc());
     let members = members_of(store, group)?;
@@ -77,7 +77,7 @@ fn member_labels(store: &Store, group: &Spot) -> Result<Listing<Labels>, AllocEr
 
 /// A group with its members.
 fn group_at(store: &Store, spot: &Spot, clock: &Clock) -> Result<Group, AllocError>
-    ensures { IfOk result (λ group. group ≡ group_seen store.now (spot.now, clock.now)) }
+    ensures { IfOk result (λ group. group ≡ group_seen store.now.state (spot.now, clock.now)) }
 {
     Ok(Group {
         route: spot.route,
@@ -91,7 +91,7 @@ fn group_at(store: &Store, spot: &Spot, clock: &Clock) -> Result<Group, AllocErr
 
 /// The groups, by route and labels.
 pub fn groups(store: &Store) -> Result<Vec<Group>, AllocError>
-    ensures { IfOk result (λ found. found.items ≡ groups_of store.now) }
+    ensures { IfOk result (λ found. found.items ≡ groups_of store.now.state) }
 {
     let mut found = Vec::new(store.alloc());
     for (spot, clock) in store.clocks().iter() {

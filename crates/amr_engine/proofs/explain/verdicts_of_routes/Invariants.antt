@@ -7,5 +7,5 @@ use Rattle.amr_engine.proofs.explain.verdicts_of_routes.Given as goal
 -- the answers so far, and those for the routes that are left, are all
 abbrev pub invariant-loop-route : goal.invariant-loop-route
 invariant-loop-route l =
-    l.found.items ++ flat_map (verdicts_at l.store l.labels) (drop l.route-index l.route-items)
-    ≡ flat_map (verdicts_at l.store l.labels) (chosen l.store.config l.labels)
+    l.found.items ++ flat_map (verdicts_at l.store.state l.labels) (drop l.route-index l.route-items)
+    ≡ flat_map (verdicts_at l.store.state l.labels) (chosen l.store.state.config l.labels)

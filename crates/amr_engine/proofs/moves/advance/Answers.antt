@@ -1,30 +1,33 @@
-use Rattle.std.proofs.Common.{◌≡◌, ◌<◌, ◌≤◌, Some, ap, sym, ◌∙◌, arith, ◌-◌, ◌+◌}
+use Rattle.std.proofs.Common.{◌≡◌, ◌<◌, ◌≤◌, Some, refl, ap, sym, ◌∙◌, arith, ◌-◌, ◌+◌}
 use Rattle.amr_engine.specs.Events.{move_limit}
 use Rattle.amr_engine.specs.Moves.{advance, counted_run}
 use Rattle.amr_engine.proofs.Cascade.{plus_moves, stops, is_over, goes_on, begins, no_value, some_value, limit_is}
 use Rattle.amr_engine.proofs.moves.advance.Goals as goal
 
-pub returns-in-None : goal.returns-in-None
-returns-in-None c =
-    stops move_limit c.loop-made.made c.args.at c.loop-made.store c.args.store.now c.loop-made.invariant (rw c.in-None.is at c.in_ok-next_due.ensures.due)
+pub returns-in-None-clause-ok : goal.returns-in-None-clause-ok
+returns-in-None-clause-ok c =
+    stops move_limit c.loop-made.made c.args.at c.loop-made.store.state c.args.store.now.state c.loop-made.invariant.ok (rw c.in-None.is at c.in_ok-next_due.ensures.due)
 
 pub loop-made-init : goal.loop-made-init
-loop-made-init c = begins move_limit c.args.at c.args.store.now
+loop-made-init c = record { ok = begins move_limit c.args.at c.args.store.now.state; kept = refl }
 
 pub loop-made-preserved : goal.loop-made-preserved
 loop-made-preserved c =
     let less : c.loop-made.made < move_limit = omega (arith, limit_is, c.loop-made-test.true) in
-    goes_on move_limit c.loop-made.made c.args.at c.loop-made.store c.args.store.now c.in-Some.due c.loop-made.invariant less (rw c.in-Some.is at c.in_ok-next_due.ensures.due)
-    ∙ ap (λ s. plus_moves (counted_run (advance (move_limit - (c.loop-made.made + 1)) c.args.at s)) (c.loop-made.made + 1)) (sym c.in_ok-make-in-Some.ensures)
+    record {
+      ok = goes_on move_limit c.loop-made.made c.args.at c.loop-made.store.state c.args.store.now.state c.in-Some.due c.loop-made.invariant.ok less (rw c.in-Some.is at c.in_ok-next_due.ensures.due)
+          ∙ ap (λ s. plus_moves (counted_run (advance (move_limit - (c.loop-made.made + 1)) c.args.at s)) (c.loop-made.made + 1)) (sym c.in_ok-make-in-Some.ensures.ok);
+      kept = c.in_ok-make-in-Some.ensures.kept ∙ c.loop-made.invariant.kept;
+    }
 
-pub returns-then-is_some : goal.returns-then-is_some
-returns-then-is_some c =
+pub returns-then-is_some-clause-ok : goal.returns-then-is_some-clause-ok
+returns-then-is_some-clause-ok c =
     let d = some_value c.in_ok-next_due-2.field-0 _ c.in_ok-next_due-2.ensures.due c.if-is_some.ensures in
     let all : move_limit ≤ c.loop-made.made = omega (arith, limit_is, c.loop-made-test.false) in
-    is_over move_limit c.loop-made.made c.args.at c.loop-made.store c.args.store.now d.0 c.loop-made.invariant all d.1
+    is_over move_limit c.loop-made.made c.args.at c.loop-made.store.state c.args.store.now.state d.0 c.loop-made.invariant.ok all d.1
 
-pub returns : goal.returns
-returns c =
+pub returns-clause-ok : goal.returns-clause-ok
+returns-clause-ok c =
     let all : c.loop-made.made ≡ 10000 = omega arith in
-    ap (λ n. Some (n, c.loop-made.store)) (sym all)
-    ∙ stops move_limit c.loop-made.made c.args.at c.loop-made.store c.args.store.now c.loop-made.invariant (no_value c.in_ok-next_due-2.field-0 _ c.in_ok-next_due-2.ensures.due c.if-is_some.ensures)
+    ap (λ n. Some (n, c.loop-made.store.state)) (sym all)
+    ∙ stops move_limit c.loop-made.made c.args.at c.loop-made.store.state c.args.store.now.state c.loop-made.invariant.ok (no_value c.in_ok-next_due-2.field-0 _ c.in_ok-next_due-2.ensures.due c.if-is_some.ensures)

@@ -1,9 +1,13 @@
 use Rattle.std.proofs.Common.{◌≡◌, ◌-◌}
 use Rattle.amr_engine.specs.Events.{move_limit}
 use Rattle.amr_engine.specs.Moves.{advance, counted_run}
+use Rattle.amr_state.specs.Kept.{undone}
 use Rattle.amr_engine.proofs.Cascade.{plus_moves}
 use Rattle.amr_engine.proofs.moves.advance.Given as goal
 
 -- the moves that are left, and those made, are all
 abbrev pub invariant-loop-made : goal.invariant-loop-made
-invariant-loop-made l = counted_run (advance move_limit l.at l.fn.store) ≡ plus_moves (counted_run (advance (move_limit - l.made) l.at l.store)) l.made
+invariant-loop-made l = record {
+  ok : counted_run (advance move_limit l.at l.fn.store.state) ≡ plus_moves (counted_run (advance (move_limit - l.made) l.at l.store.state)) l.made;
+  kept : undone l.store ≡ undone l.fn.store;
+}

@@ -1,6 +1,8 @@
 use Rattle.std.proofs.Common.{◌≡◌}
 use Rattle.std.specs.List.{find}
 use Rattle.amr_labels.specs.Map.{entries}
+use Rattle.amr_labels.specs.Labels.{label_set_cmp}
+use Rattle.amr_tables.specs.Numbered.{shown}
 use Rattle.amr_rules.specs.Muting.{inhibits}
 use Rattle.amr_rules.proofs.muting.inhibitor_by.Given as goal
 
@@ -8,4 +10,4 @@ use Rattle.amr_rules.proofs.muting.inhibitor_by.Given as goal
 abbrev pub invariant-loop-source : goal.invariant-loop-source
 invariant-loop-source l =
     find (λ source. inhibits l.now l.rule source l.target) l.source-iterator
-    ≡ find (λ source. inhibits l.now l.rule source l.target) (entries l.alerts)
+    ≡ find (λ source. inhibits l.now l.rule source l.target) (entries (shown label_set_cmp l.alerts))

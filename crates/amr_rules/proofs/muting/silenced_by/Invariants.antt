@@ -1,6 +1,8 @@
 use Rattle.std.proofs.Common.{◌≡◌}
 use Rattle.std.specs.List.{find}
 use Rattle.amr_labels.specs.Map.{entries}
+use Rattle.std.specs.Ordering.{nat_cmp}
+use Rattle.amr_tables.specs.Numbered.{shown}
 use Rattle.amr_rules.specs.Muting.{silences_labels}
 use Rattle.amr_rules.proofs.muting.silenced_by.Given as goal
 
@@ -8,4 +10,4 @@ use Rattle.amr_rules.proofs.muting.silenced_by.Given as goal
 abbrev pub invariant-loop-id : goal.invariant-loop-id
 invariant-loop-id l =
     find (λ stored. silences_labels l.now stored.1 l.labels) l.id-iterator
-    ≡ find (λ stored. silences_labels l.now stored.1 l.labels) (entries l.silences)
+    ≡ find (λ stored. silences_labels l.now stored.1 l.labels) (entries (shown nat_cmp l.silences))

@@ -12,4 +12,4 @@ pub loop-labels-preserved : goal.loop-labels-preserved
 loop-labels-preserved c =
     let rest = rest_more deref_pair _ _ _ (c.in-Some.labels, c.in-Some.alert) c.in-Some.is c.next.ensures.steps in
     turn alert_removal_of (option_map due_of c.loop-labels.best) (option_map due_of c.lesser-best.result) (due_of c.alert_removal.result) (c.in-Some.labels.now, c.in-Some.alert.now)
-    c.loop-labels.labels-iterator c.next.new.self (least_due (map alert_removal_of (entries c.args.store.now.alerts))) c.lesser-best.ensures c.alert_removal.ensures rest c.loop-labels.invariant
+    c.loop-labels.labels-iterator c.next.new.self (least_due (map alert_removal_of (entries c.args.store.now.state.alerts))) c.lesser-best.ensures c.alert_removal.ensures rest c.loop-labels.invariant

@@ -9,7 +9,7 @@ use Rattle.amr_state.proofs.due.first_due.Goals as goal
 pub returns : goal.returns
 unfolding dues
 returns c =
-    let s = c.args.store.now in
+    let s = c.args.store.now.state in
     let removals = map alert_removal_of (entries s.alerts) in
     let empty = filter_map group_removal_of (entries s.clocks) in
     let flushes = map flush_of (entries s.clocks) in

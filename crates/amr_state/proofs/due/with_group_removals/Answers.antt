@@ -1,3 +1,4 @@
+use Rattle.std.proofs.Common.{ap, ◌∙◌}
 use Rattle.std.specs.Option.{option_map}
 use Rattle.std.specs.List.{filter_map}
 use Rattle.std.specs.Map.Iter.{deref_pair}
@@ -12,5 +13,10 @@ pub loop-group-preserved-in-Some-group_removal : goal.loop-group-preserved-in-So
 loop-group-preserved-in-Some-group_removal c =
     let rest = rest_more deref_pair _ _ _ (c.in-Some.group, c.in-Some.clock) c.in-Some.is c.next.ensures.steps in
     turn_some group_removal_of (option_map due_of c.loop-group.best) (option_map due_of c.lesser-best.result) (due_of c.in-Some-group_removal.removal) (c.in-Some.group.now, c.in-Some.clock.now)
-    c.loop-group.group-iterator c.next.new.self (lesser_of (option_map due_of c.args.best) (least_due (filter_map group_removal_of (entries c.args.store.now.clocks)))) c.lesser-best.ensures
+    c.loop-group.group-iterator c.next.new.self (lesser_of (option_map due_of c.args.best) (least_due (filter_map group_removal_of (entries c.args.store.now.state.clocks)))) c.lesser-best.ensures
     c.in-Some-group_removal.ensures rest c.loop-group.invariant
+
+pub loop-group-init : goal.loop-group-init
+loop-group-init c =
+    ap (λ groups. lesser_of (option_map due_of c.args.best) (least_due (filter_map group_removal_of groups)))
+    (c.into_iter-group-iterator.ensures.into_iter_gives ∙ c.iter-group-items.ensures ∙ ap entries c.clocks.ensures)

@@ -3,4 +3,4 @@ use Rattle.amr_state.specs.Seen.{group_seen, groups_of}
 use Rattle.amr_state.proofs.views.groups.Given as goal
 
 abbrev pub invariant-loop-spot : goal.invariant-loop-spot
-invariant-loop-spot l = l.found.items ++ map (group_seen l.fn.store) l.spot-iterator ≡ groups_of l.fn.store
+invariant-loop-spot l = l.found.items ++ map (group_seen l.fn.store.state) l.spot-iterator ≡ groups_of l.fn.store.state

@@ -8,7 +8,7 @@ invariant_of-self c =
     let a = c.self.inside in
     let some = ap (λ v. v.cursor) c.self.view_is in
     record {
-      view = at_before a.config a.script a.cursor (a.cursor - 1) a.engine.state _ a.engine.past _ (omega arith) c.self.invariant.within c.self.invariant.view c.undo_last.ensures;
+      view = at_before a.config a.script a.cursor (a.cursor - 1) a.engine.state _ a.engine.past _ (omega arith) c.self.invariant.within c.self.invariant.view c.undo_last.ensures.past;
       within = omega (arith, c.self.invariant.within);
     }
 
@@ -16,5 +16,5 @@ pub returns : goal.returns
 returns c =
     let a = c.self.inside in
     let some = ap (λ v. v.cursor) c.self.view_is in
-    at_before a.config a.script a.cursor (a.cursor - 1) a.engine.state _ a.engine.past _ (omega arith) c.self.invariant.within c.self.invariant.view c.undo_last.ensures
+    at_before a.config a.script a.cursor (a.cursor - 1) a.engine.state _ a.engine.past _ (omega arith) c.self.invariant.within c.self.invariant.view c.undo_last.ensures.past
     ∙ ap (λ v. at_cursor v.config v.events (v.cursor - 1)) c.self.view_is

@@ -1,0 +1,120 @@
+-- What an act does after the moves of its event, from what was found of it before them.
+use Rattle.std.proofs.Common.{◌≡◌, true, false, ℕ, List, [], ◌∷◌, Option, None, Some, Ok, Err, length, refl, sym, ap, ◌∙◌, arith}
+use Rattle.std.specs.Prelude.{◌==◌, Result}
+use Rattle.std.specs.Option.{option_map_or}
+use Rattle.std.specs.List.{fold, filter_map}
+use Rattle.std.proofs.lemmas.Bool.{false≢true}
+use Rattle.std.proofs.lemmas.Bool.Decides.{nat_tests}
+use Rattle.amr_labels.specs.Map.{get, insert}
+use Rattle.amr_labels.specs.Labels.{LabelSet}
+use Rattle.amr_time.specs.Time.{Moment, Span}
+use Rattle.amr_config.specs.Config.{Config}
+use Rattle.amr_events.specs.declared.event.PostedAlert.{PostedAlert}
+use Rattle.amr_events.specs.declared.event.PostedSilence.{PostedSilence}
+use Rattle.amr_events.specs.declared.reason.Reason as code
+use Rattle.amr_events.specs.Reasons.{reason_number}
+use Rattle.amr_events.specs.Acts.{by_number}
+use Rattle.amr_events.specs.Events.{Act, Reason}
+use Rattle.amr_rules.specs.declared.alert.Alert.{Alert}
+use Rattle.amr_rules.specs.declared.silence.Silence.{Silence}
+use Rattle.amr_rules.specs.declared.posting.Posting.{Posting}
+use Rattle.amr_rules.specs.Alerts.{completed}
+use Rattle.amr_rules.specs.Silences.{Silences, after_post, after_expiry, expired}
+use Rattle.amr_rules.specs.Silencing.{with_decision}
+use Rattle.amr_state.specs.State.{State}
+use Rattle.amr_engine.specs.declared.post.Sifted.{Sifted}
+use Rattle.amr_engine.specs.declared.prepare.Prepared.TheVariants as prepared
+use Rattle.amr_engine.specs.Events.{after_act, at_moment, on_ok, put, put_all, valid_alerts, skipped_from, with_silences, with_config}
+use Rattle.amr_engine.specs.Prepared.{Does, Stays, IsPrepared}
+
+abbrev pub Valid : Type 0
+Valid = List (LabelSet × Alert)
+
+zero_is : (n : ℕ) → (n == 0) ≡ true → n ≡ 0
+zero_is n e = grind (arith, nat_tests)
+
+none_left : {A : Type 0} (xs : List A) → (length xs == 0) ≡ true → xs ≡ []
+none_left [] e = refl
+none_left (x ∷ xs) e = absurd (omega (arith, zero_is (length (x ∷ xs)) e))
+
+put_some : (s : State) (v : Valid) → (length v == 0) ≡ false → put_all s v ≡ Ok (fold put s v)
+put_some s [] h = absurd (cc)
+put_some s (x ∷ v) h = refl
+
+-- no alert of a post is valid
+pub no_valid : (s : State) (at : Moment) (timeout : Span) (posted : List PostedAlert) (valid : Valid) → timeout ≡ s.config.resolve_timeout
+    → valid ≡ filter_map (completed at timeout) posted → (length valid == 0) ≡ true → after_act (at_moment at s) (Act.Post posted) ≡ Err 16
+unfolding after_act
+no_valid s at timeout posted valid same is none =
+    ap (put_all (at_moment at s)) (ap (λ (t : Span). filter_map (completed at t) posted) (sym same) ∙ sym is ∙ none_left valid none)
+
+-- some alert of a post is valid
+pub some_valid : (s : State) (at : Moment) (timeout : Span) (posted : List PostedAlert) (sifted : Sifted) → timeout ≡ s.config.resolve_timeout
+    → sifted.valid.items ≡ filter_map (completed at timeout) posted → sifted.skipped ≡ skipped_from 1 at timeout posted → (length sifted.valid.items == 0) ≡ false
+    → Does s at (Act.Post posted) (prepared.Put sifted)
+unfolding after_act
+some_valid s at timeout posted sifted same is left some = record {
+  does = λ next stays.
+      ap (put_all next) ((λ i. filter_map (completed (stays.moment i) (stays.config i).resolve_timeout) posted) ∙ ap (λ (t : Span). filter_map (completed at t) posted) (sym same) ∙ sym is)
+      ∙ put_some next sifted.valid.items some;
+  skips = left ∙ ap (λ (t : Span). skipped_from 1 at t posted) same;
+}
+
+-- there is a reason against a silence
+pub no_silence : (s : State) (at : Moment) (posted : PostedSilence) (reason : Reason) → Err reason ≡ after_post at posted s.silences
+    → after_act (at_moment at s) (Act.Silence posted) ≡ Err reason
+unfolding after_act
+no_silence s at posted reason own = ap (on_ok (with_silences (at_moment at s))) (sym own)
+
+-- a silence is stored
+pub some_silence : (s : State) (at : Moment) (posted : PostedSilence) (posting : Posting) → Ok (with_decision posted posting s.silences) ≡ after_post at posted s.silences
+    → Does s at (Act.Silence posted) (prepared.Silence posted.id posted.new_id posting)
+unfolding after_act
+some_silence s at posted posting own = record {
+  does = λ next stays.
+      ap (λ (now : Moment). on_ok (with_silences next) (after_post now posted next.silences)) stays.moment
+      ∙ ap (λ (kept : Silences). on_ok (with_silences next) (after_post at posted kept)) stays.silences
+      ∙ ap (on_ok (with_silences next)) (sym own)
+      ∙ ap (λ (kept : Silences). Ok (with_silences next (with_decision posted posting kept))) (sym stays.silences);
+  skips = refl;
+}
+
+expires : (at : Moment) (id : ℕ) (silences : Silences) (found : Option Silence) → get silences id ≡ found
+    → after_expiry at id silences ≡ option_map_or (λ silence. Ok (insert silences id (expired at silence))) found (Err 18)
+unfolding after_expiry
+expires at id silences found is = ap (λ (o : Option Silence). option_map_or (λ silence. Ok (insert silences id (expired at silence))) o (Err 18)) is
+
+-- no silence has the id
+pub no_expiry : (s : State) (at : Moment) (id : ℕ) → get s.silences id ≡ None → after_act (at_moment at s) (Act.Expire id) ≡ Err 18
+unfolding after_act
+no_expiry s at id missing = ap (on_ok (with_silences (at_moment at s))) (expires at id s.silences None missing)
+
+-- a silence is expired
+pub some_expiry : (s : State) (at : Moment) (id : ℕ) (silence ended : Silence) → get s.silences id ≡ Some silence → ended ≡ expired at silence
+    → Does s at (Act.Expire id) (prepared.Expire id ended)
+unfolding after_act
+some_expiry s at id silence ended found is = record {
+  does = λ next stays.
+      ap (λ (now : Moment). on_ok (with_silences next) (after_expiry now id next.silences)) stays.moment
+      ∙ ap (on_ok (with_silences next)) (expires at id next.silences (Some silence) (ap (λ (kept : Silences). get kept id) stays.silences ∙ found))
+      ∙ ap (λ (x : Silence). Ok (with_silences next (insert next.silences id x))) (sym is);
+  skips = refl;
+}
+
+-- a configuration was read
+pub some_reload : (s : State) (at : Moment) (config loaded : Config) → loaded ≡ config → Does s at (Act.Reload (Ok config)) (prepared.Reload loaded)
+unfolding after_act
+some_reload s at config loaded is = record {
+  does = λ next stays. ap (λ (x : Config). Ok (with_config next x)) (sym is);
+  skips = refl;
+}
+
+-- a configuration was refused
+pub no_reload : (s : State) (at : Moment) (reason : Reason) → after_act (at_moment at s) (Act.Reload (Err reason)) ≡ Err reason
+unfolding after_act
+no_reload s at reason = refl
+
+-- time passes
+pub some_tick : (s : State) (at : Moment) → Does s at Act.Tick prepared.Tick
+unfolding after_act
+some_tick s at = record { does = λ next stays. refl; skips = refl }

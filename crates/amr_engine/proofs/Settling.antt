@@ -1,0 +1,94 @@
+-- What an event leaves in the store: it is accepted, and its record is closed, or it is put back.
+use Rattle.std.specs.Prelude.{◌≡◌, ℕ, Bool, true, false, List, [], ◌∷◌, ◌++◌, length, ◌<◌}
+use Rattle.std.proofs.Common.{refl, sym, ap, subst, ◌∙◌, arith}
+use Rattle.amr_events.specs.Events.{Event}
+use Rattle.amr_state.specs.declared.displaced.Displaced.{Displaced}
+use Rattle.amr_state.specs.State.{State}
+use Rattle.amr_state.specs.Kept.{Kept, undone}
+use Rattle.amr_state.specs.Records.{put_back, befores}
+use Rattle.amr_state.proofs.Undoing.{befores_push, length-befores, undone-idle, undone-undone}
+use Rattle.amr_engine.specs.Events.{after_event}
+use Rattle.amr_engine.specs.Applied.{Leads}
+use Rattle.amr_engine.specs.Kept.{IsEmptyIfRefused}
+use Rattle.amr_engine.specs.Refusals.{is_refused}
+use Rattle.amr_engine.specs.declared.outcome.Outcome.{Outcome}
+use Rattle.amr_engine.specs.declared.outcome.Outcome.TheVariants.{Accepted, Refused}
+
+abbrev pub IsLeft : Bool → Kept → Kept → Type 0
+IsLeft true tried left = left ≡ undone tried
+IsLeft false tried left = left ≡ tried
+
+-- the store that an event leaves, whose open record leads back to the store before
+pub record Settled (event : Event) (begun left : Kept) (outcome : Outcome) : Type 0 where
+  pub undone_is : undone left ≡ begun
+  pub state : left.state ≡ after_event begun.state event
+  pub empty : IsEmptyIfRefused outcome left.current
+
+no_current : (a b : Kept) → a ≡ undone b → a.current ≡ []
+unfolding undone
+no_current a b e = ap (λ (k : Kept). k.current) e
+
+pub settled : (event : Event) (begun tried left : Kept) (outcome : Outcome) → begun.current ≡ [] → Leads begun.state event tried.state outcome → undone tried ≡ undone begun
+    → IsLeft (is_refused outcome) tried left → Settled event begun left outcome
+settled event begun tried left (Accepted moves notes skipped) idle leads kept is = record {
+  undone_is = ap undone is ∙ kept ∙ undone-idle begun idle;
+  state = ap (λ (k : Kept). k.state) is ∙ leads.state;
+  empty = tt;
+}
+settled event begun tried left (Refused reason) idle leads kept is = record {
+  undone_is = ap undone is ∙ undone-undone tried ∙ kept ∙ undone-idle begun idle;
+  state = ap (λ (k : Kept). k.state) (is ∙ kept ∙ undone-idle begun idle) ∙ leads.state;
+  empty = no_current left tried is;
+}
+
+module _ (begun left : Kept) (e : undone left ≡ begun) where
+  pub room_is : left.room ≡ begun.room
+  unfolding undone
+  room_is = ap (λ (k : Kept). k.room) e
+
+  pub records_are : left.records ≡ begun.records
+  unfolding undone
+  records_are = ap (λ (k : Kept). k.records) e
+
+  pub state_back : put_back left.current left.state ≡ begun.state
+  unfolding undone
+  state_back = ap (λ (k : Kept). k.state) e
+
+  pub has_room : 0 < begun.room → 0 < left.room
+  has_room h = subst (λ (n : ℕ). 0 < n) (sym room_is) h
+
+  -- the states before the events, with the record closed
+  pub past_is : (closed : Kept) → closed.state ≡ left.state → closed.records ≡ left.records ++ left.current ∷ []
+      → befores closed.records closed.state ≡ befores begun.records begun.state ++ begun.state ∷ []
+  past_is closed same added =
+      (λ i. befores (added i) (same i)) ∙ befores_push left.records left.current left.state
+      ∙ (λ i. befores (records_are i) (state_back i) ++ state_back i ∷ [])
+
+-- where an event failed, the store is the one before
+pub put_back_whole : (begun tried after : Kept) → begun.current ≡ [] → undone tried ≡ undone begun → after ≡ undone tried → after ≡ begun
+put_back_whole begun tried after idle kept is = is ∙ kept ∙ undone-idle begun idle
+
+pub is_idle : (before after : Kept) → after ≡ undone before → after.current ≡ []
+is_idle before after is = no_current after before is
+
+-- the last event is undone
+pub past_undone : (before reopened after : Kept) → reopened.state ≡ before.state → before.records ≡ reopened.records ++ reopened.current ∷ [] → after ≡ undone reopened
+    → befores before.records before.state ≡ befores after.records after.state ++ after.state ∷ []
+unfolding undone
+past_undone before reopened after same opened is =
+    (λ i. befores (opened i) (sym same i)) ∙ befores_push reopened.records reopened.current reopened.state
+    ∙ ap (λ (k : Kept). befores k.records k.state ++ k.state ∷ []) (sym is)
+
+pub records_undone : (reopened after : Kept) → after ≡ undone reopened → after.records ≡ reopened.records
+unfolding undone
+records_undone reopened after is = ap (λ (k : Kept). k.records) is
+
+-- there is a record of each event
+pub some_record : (store : Kept) (past : List State) → befores store.records store.state ≡ past → 0 < length past → 0 < length store.records
+some_record store past is h =
+    let same : length past ≡ length store.records = ap length (sym is) ∙ length-befores store.records store.state in
+    omega (arith, same, h)
+
+pub no_past : (store : Kept) → store.records ≡ [] → befores store.records store.state ≡ []
+unfolding befores
+no_past store none = ap (λ (rs : List (List Displaced)). befores rs store.state) none

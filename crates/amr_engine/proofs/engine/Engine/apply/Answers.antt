@@ -1,0 +1,80 @@
+use Rattle.amr_state.specs.declared.displaced.Displaced.{Displaced}
+use Rattle.std.proofs.Common.{◌≡◌, List, sym, ap, subst, ◌∙◌, ◌++◌, ◌∷◌, []}
+use Rattle.amr_state.specs.State.{State}
+use Rattle.amr_state.specs.Steps.{Steps}
+use Rattle.amr_state.specs.Kept.{Kept}
+use Rattle.amr_state.specs.Records.{befores, put_back}
+use Rattle.amr_engine.specs.Events.{after_event}
+use Rattle.amr_engine.proofs.Settling.{IsLeft, Settled, settled, has_room, past_is, records_are, state_back, put_back_whole, is_idle}
+use Rattle.amr_engine.proofs.engine.Engine.apply.Goals as goal
+use Rattle.amr_engine.proofs.engine.Engine.apply.Goals.{then-is_refused, else-is_refused}
+
+abbrev steps_of : State → List (List Displaced) → Steps
+steps_of state records = record { state = state; past = befores records state; records = records }
+
+abbrev seen : Kept → Steps
+seen k = steps_of k.state k.records
+
+pub close-requires : goal.close-requires
+close-requires c =
+    let idle = c.in_ok-begin.ensures.current ∙ c.self.invariant in
+    let done : Settled c.args.event.now c.begin.new.self c.if-is_refused.self-inside.store c.in-Ok.outcome =
+    settled c.args.event.now c.begin.new.self c.attempt.new.store c.if-is_refused.self-inside.store c.in-Ok.outcome idle c.in-Ok.ensures.outcome c.in-Ok.ensures.kept
+    (elim c.if-is_refused.branch [
+      | then-is_refused w ↦ subst (λ b. IsLeft b c.attempt.new.store c.if-is_refused.self-inside.store) (sym w.if-is_refused.true ∙ c.is_refused.ensures) (ap (λ x. x.store) w.self-inside-is ∙ w.undo_open.ensures)
+      | else-is_refused w ↦ subst (λ b. IsLeft b c.attempt.new.store c.if-is_refused.self-inside.store) (sym w.if-is_refused.false ∙ c.is_refused.ensures) (ap (λ x. x.store) w.self-inside-is)
+    ]) in
+    has_room c.begin.new.self c.if-is_refused.self-inside.store done.undone_is c.in_ok-begin.ensures.room
+
+pub invariant_of-self-in-Err : goal.invariant_of-self-in-Err
+invariant_of-self-in-Err c = is_idle c.attempt.new.store c.undo_open-in-Err.new.self c.undo_open-in-Err.ensures
+
+pub returns-after-is_refused-clause-state : goal.returns-after-is_refused-clause-state
+returns-after-is_refused-clause-state c =
+    let idle = c.in_ok-begin.ensures.current ∙ c.self.invariant in
+    let done : Settled c.args.event.now c.begin.new.self c.if-is_refused.self-inside.store c.in-Ok.outcome =
+    settled c.args.event.now c.begin.new.self c.attempt.new.store c.if-is_refused.self-inside.store c.in-Ok.outcome idle c.in-Ok.ensures.outcome c.in-Ok.ensures.kept
+    (elim c.if-is_refused.branch [
+      | then-is_refused w ↦ subst (λ b. IsLeft b c.attempt.new.store c.if-is_refused.self-inside.store) (sym w.if-is_refused.true ∙ c.is_refused.ensures) (ap (λ x. x.store) w.self-inside-is ∙ w.undo_open.ensures)
+      | else-is_refused w ↦ subst (λ b. IsLeft b c.attempt.new.store c.if-is_refused.self-inside.store) (sym w.if-is_refused.false ∙ c.is_refused.ensures) (ap (λ x. x.store) w.self-inside-is)
+    ]) in
+    c.close.ensures.state ∙ done.state ∙ ap (λ (state : State). after_event state c.args.event.now) (c.in_ok-begin.ensures.state ∙ ap (λ (v : Steps). v.state) c.self.view_is)
+
+pub returns-after-is_refused-clause-past : goal.returns-after-is_refused-clause-past
+returns-after-is_refused-clause-past c =
+    let idle = c.in_ok-begin.ensures.current ∙ c.self.invariant in
+    let done : Settled c.args.event.now c.begin.new.self c.if-is_refused.self-inside.store c.in-Ok.outcome =
+    settled c.args.event.now c.begin.new.self c.attempt.new.store c.if-is_refused.self-inside.store c.in-Ok.outcome idle c.in-Ok.ensures.outcome c.in-Ok.ensures.kept
+    (elim c.if-is_refused.branch [
+      | then-is_refused w ↦ subst (λ b. IsLeft b c.attempt.new.store c.if-is_refused.self-inside.store) (sym w.if-is_refused.true ∙ c.is_refused.ensures) (ap (λ x. x.store) w.self-inside-is ∙ w.undo_open.ensures)
+      | else-is_refused w ↦ subst (λ b. IsLeft b c.attempt.new.store c.if-is_refused.self-inside.store) (sym w.if-is_refused.false ∙ c.is_refused.ensures) (ap (λ x. x.store) w.self-inside-is)
+    ]) in
+    past_is c.begin.new.self c.if-is_refused.self-inside.store done.undone_is c.close.new.self c.close.ensures.state c.close.ensures.records
+    ∙ (λ i. befores (c.in_ok-begin.ensures.records i) (c.in_ok-begin.ensures.state i) ++ c.in_ok-begin.ensures.state i ∷ [])
+    ∙ ap (λ (v : Steps). v.past ++ v.state ∷ []) c.self.view_is
+
+pub returns-after-is_refused-clause-record_kept : goal.returns-after-is_refused-clause-record_kept
+returns-after-is_refused-clause-record_kept c =
+    let idle = c.in_ok-begin.ensures.current ∙ c.self.invariant in
+    let done : Settled c.args.event.now c.begin.new.self c.if-is_refused.self-inside.store c.in-Ok.outcome =
+    settled c.args.event.now c.begin.new.self c.attempt.new.store c.if-is_refused.self-inside.store c.in-Ok.outcome idle c.in-Ok.ensures.outcome c.in-Ok.ensures.kept
+    (elim c.if-is_refused.branch [
+      | then-is_refused w ↦ subst (λ b. IsLeft b c.attempt.new.store c.if-is_refused.self-inside.store) (sym w.if-is_refused.true ∙ c.is_refused.ensures) (ap (λ x. x.store) w.self-inside-is ∙ w.undo_open.ensures)
+      | else-is_refused w ↦ subst (λ b. IsLeft b c.attempt.new.store c.if-is_refused.self-inside.store) (sym w.if-is_refused.false ∙ c.is_refused.ensures) (ap (λ x. x.store) w.self-inside-is)
+    ]) in
+    let left = c.if-is_refused.self-inside.store in (
+      left.current,
+      record {
+        added = c.close.ensures.records ∙ ap (λ rs. rs ++ left.current ∷ []) (records_are c.begin.new.self left done.undone_is ∙ c.in_ok-begin.ensures.records ∙ ap (λ (v : Steps). v.records) c.self.view_is);
+        back = ap (λ (state : State). put_back left.current state) c.close.ensures.state ∙ state_back c.begin.new.self left done.undone_is ∙ c.in_ok-begin.ensures.state ∙ ap (λ (v : Steps). v.state) c.self.view_is;
+        empty = done.empty;
+      },
+    )
+
+pub returns-in-Err-clause-err : goal.returns-in-Err-clause-err
+returns-in-Err-clause-err c =
+    let begun = c.begin.new.self in
+    let whole : c.undo_open-in-Err.new.self ≡ begun = put_back_whole begun c.attempt.new.store c.undo_open-in-Err.new.self (c.in_ok-begin.ensures.current ∙ c.self.invariant) c.in-Err.ensures.kept c.undo_open-in-Err.ensures in
+    ap seen whole
+    ∙ (λ i. steps_of (c.in_ok-begin.ensures.state i) (c.in_ok-begin.ensures.records i))
+    ∙ c.self.view_is

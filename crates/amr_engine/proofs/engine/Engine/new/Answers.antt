@@ -1,0 +1,5 @@
+use Rattle.amr_engine.proofs.Settling.{no_past}
+use Rattle.amr_engine.proofs.engine.Engine.new.Goals as goal
+
+pub returns-clause-past : goal.returns-clause-past
+returns-clause-past c = no_past c.new.result c.new.ensures.records

@@ -1,0 +1,20 @@
+use Rattle.std.proofs.Common.{sym, ap, ◌∙◌, ◌++◌, ◌∷◌, []}
+use Rattle.amr_state.specs.Steps.{Steps}
+use Rattle.amr_engine.proofs.Settling.{some_record, is_idle, past_undone, records_undone}
+use Rattle.amr_engine.proofs.engine.Engine.undo_last.Goals as goal
+
+pub reopen-requires-clause-some : goal.reopen-requires-clause-some
+reopen-requires-clause-some c = some_record c.self.inside.store c.args.self.now.past (ap (λ (v : Steps). v.past) c.self.view_is) c.requires
+
+pub invariant_of-self : goal.invariant_of-self
+invariant_of-self c = is_idle c.reopen.new.self c.undo_open.new.self c.undo_open.ensures
+
+pub returns-clause-past : goal.returns-clause-past
+returns-clause-past c =
+    sym (ap (λ (v : Steps). v.past) c.self.view_is) ∙ past_undone c.self.inside.store c.reopen.new.self c.undo_open.new.self c.reopen.ensures.state c.reopen.ensures.records c.undo_open.ensures
+
+pub returns-clause-records : goal.returns-clause-records
+returns-clause-records c = (
+  c.reopen.new.self.current,
+  sym (ap (λ (v : Steps). v.records) c.self.view_is) ∙ c.reopen.ensures.records ∙ ap (λ rs. rs ++ c.reopen.new.self.current ∷ []) (sym (records_undone c.reopen.new.self c.undo_open.new.self c.undo_open.ensures)),
+)

@@ -1,0 +1,41 @@
+-- A turn of an integration, by the members that are parted.
+use Rattle.std.specs.Prelude.{◌≡◌, Bool, ◌++◌, if◌then◌else◌}
+use Rattle.amr_labels.specs.Map.{get, insert}
+use Rattle.amr_time.specs.Time.{Moment}
+use Rattle.amr_stated.specs.declared.receiver.Integration.{Integration}
+use Rattle.amr_config.specs.Routing.{repeat_interval_of}
+use Rattle.amr_rules.specs.Updates.{needs_update}
+use Rattle.amr_rules.specs.declared.update.LogEntry.{LogEntry}
+use Rattle.amr_state.specs.declared.note.LogKey.{LogKey}
+use Rattle.amr_state.specs.declared.spot.Spot.{Spot}
+use Rattle.amr_state.specs.State.{State}
+use Rattle.amr_engine.specs.declared.flush.Parted.{Parted}
+use Rattle.amr_engine.specs.Flush.{Members, firing_of, resolved_of, labels_of, log_key_of, notes_told}
+
+-- the members that fire and those that are resolved, with their label sets
+pub record IsParted (at : Moment) (members : Members) (parted : Parted) : Type 0 where
+  pub firing : parted.firing.items ≡ firing_of at members
+  pub resolved : parted.resolved.items ≡ resolved_of at members
+  pub firing_labels : parted.firing_labels ≡ labels_of (firing_of at members)
+  pub resolved_labels : parted.resolved_labels ≡ labels_of (resolved_of at members)
+
+-- the log's entry
+abbrev pub entry_of : Moment → Parted → LogEntry
+entry_of at parted = record { time = at; firing = parted.firing_labels; resolved = parted.resolved_labels }
+
+-- the log's test
+abbrev pub is_due : State → Moment → Spot → LogKey → Parted → Integration → Bool
+is_due s at group key parted integration =
+    needs_update (get s.log key) parted.firing_labels parted.resolved_labels integration.send_resolved at (repeat_interval_of s.config group.route)
+
+abbrev pub tell_parted : Moment → Spot → LogKey → Parted → Bool → State → State
+tell_parted at group key parted send_resolved s = record s {
+  log = insert s.log key (entry_of at parted);
+  notes = s.notes ++ notes_told at group key send_resolved parted.firing.items parted.resolved.items;
+}
+
+-- the integration's turn
+abbrev pub told_by : Moment → Spot → Parted → State → Integration → State
+told_by at group parted s integration =
+    if is_due s at group (log_key_of s.config group integration) parted integration
+    then tell_parted at group (log_key_of s.config group integration) parted integration.send_resolved s else s

@@ -1,0 +1,45 @@
+-- An act that is prepared before the moves of its event.
+use Rattle.std.specs.Prelude.{◌≡◌, ℕ, List, [], Ok, Err, Result}
+use Rattle.std.specs.List.{fold}
+use Rattle.amr_labels.specs.Map.{insert}
+use Rattle.amr_time.specs.Time.{Moment}
+use Rattle.amr_events.specs.Events.{Act}
+use Rattle.amr_events.specs.declared.reason.Reason as code
+use Rattle.amr_events.specs.Reasons.{reason_number}
+use Rattle.amr_rules.specs.Silencing.{posting_stored}
+use Rattle.amr_state.specs.State.{State}
+use Rattle.amr_engine.specs.declared.prepare.Prepared as prepare
+use Rattle.amr_engine.specs.declared.prepare.Prepared.TheVariants.{Put, Silence, Expire, Reload, Tick}
+use Rattle.amr_engine.specs.Events.{after_act, at_moment, put, with_silences, with_config, skipped_of}
+
+-- the state after a prepared act that is done on it
+abbrev pub performed : prepare.Prepared → State → State
+performed (Put sifted) s = fold put s sifted.valid.items
+performed (Silence id new_id posting) s = with_silences s (posting_stored id new_id posting s.silences)
+performed (Expire id ended) s = with_silences s (insert s.silences id ended)
+performed (Reload config) s = with_config s config
+performed Tick s = s
+
+-- the places of the alerts that a prepared act skips
+abbrev pub skipped_by : prepare.Prepared → List ℕ
+skipped_by (Put sifted) = sifted.skipped
+skipped_by (Silence id new_id posting) = []
+skipped_by (Expire id ended) = []
+skipped_by (Reload config) = []
+skipped_by Tick = []
+
+-- what the moves of an event at a moment leave, with the clock at that moment
+pub record Stays (s : State) (at : Moment) (next : State) : Type 0 where
+  pub silences : next.silences ≡ s.silences
+  pub config : next.config ≡ s.config
+  pub moment : next.moment ≡ at
+
+-- on each state that the moves may leave the act does what is prepared
+pub record Does (s : State) (at : Moment) (act : Act) (prepared : prepare.Prepared) : Type 0 where
+  pub does : (next : State) → Stays s at next → after_act next act ≡ Ok (performed prepared next)
+  pub skips : skipped_by prepared ≡ skipped_of (at_moment at s) act
+
+-- what an act is prepared as, or its own reason against it
+abbrev pub IsPrepared : State → Moment → Act → Result prepare.Prepared code.Reason → Type 0
+IsPrepared s at act (Ok prepared) = Does s at act prepared
+IsPrepared s at act (Err reason) = after_act (at_moment at s) act ≡ Err (reason_number reason)

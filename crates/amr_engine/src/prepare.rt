@@ -1,0 +1,118 @@
+//! An act before the moves of its event: its own reason against it, or what it is to do.
+ghost use Rattle.std.specs.Prelude.{◌≡◌, ◌≤◌, ℕ, IfOk};
+ghost use Rattle.amr_time.specs.Time.{latest_read};
+ghost use Rattle.amr_events.specs.Acts.{act_of, by_number};
+ghost use Rattle.amr_events.specs.Events.{Act as act};
+
+use crate::post::{Sifted, sift};
+use amr_config::Config;
+use amr_events::{Act, PostedAlert, PostedSilence, Reason, SilenceId};
+use amr_rules::{Posting, Silence, set_silence, silence_expire};
+use amr_state::Store;
+use amr_time::Moment;
+use std::alloc::AllocError;
+
+/// What an act does after the moves of its event, as far as it is decided before them.
+#[derive(Drop)]
+pub(crate) enum Prepared {
+    /// Puts the alerts of a post that are valid.
+    Put(Sifted),
+    /// Stores what a post of a silence was decided to store.
+    Silence {
+        id: Option<SilenceId>,
+        new_id: SilenceId,
+        posting: Posting,
+    },
+    /// Stores the expired form of a silence.
+    Expire { id: SilenceId, ended: Silence },
+    /// Puts another configuration in force.
+    Reload(Config),
+    /// Lets time pass.
+    Tick,
+}
+
+ghost use Rattle.amr_state.specs.State.{State};
+ghost use Rattle.amr_engine.specs.Prepared.{IsPrepared};
+
+/// Prepares an act at a moment, or returns the act's own reason against it.
+pub(crate) fn prepare(
+    store: &Store,
+    at: Moment,
+    act: &Act,
+) -> Result<Result<Prepared, Reason>, AllocError>
+    requires { at ≤ latest_read }
+    ensures { IfOk result (λ prepared. IsPrepared store.now.state at (act_of act.now) prepared) }
+{
+    match act {
+        Act::Post(posted) => prepare_post(store, at, posted.as_slice()),
+        Act::Silence(posted) => prepare_silence(store, at, posted),
+        Act::Expire(id) => prepare_expiry(store, at, *id),
+        Act::Reload(read) => prepare_reload(read),
+        Act::Tick => Ok(Ok(Prepared::Tick)),
+    }
+}
+
+/// Prepares a post of alerts.
+fn prepare_post(
+    store: &Store,
+    at: Moment,
+    posted: &[PostedAlert],
+) -> Result<Result<Prepared, Reason>, AllocError>
+    requires { at ≤ latest_read }
+    ensures { IfOk result (λ prepared. IsPrepared store.now.state at (act.Post posted.now) prepared) }
+{
+    let timeout = store.config().resolve_timeout();
+    let sifted = sift(store.alloc(), at, timeout, posted)?;
+    let valid = sifted.valid.as_slice();
+    if valid.is_empty() {
+        return Ok(Err(Reason::BadAlert));
+    }
+    Ok(Ok(Prepared::Put(sifted)))
+}
+
+/// Prepares a post of a silence.
+fn prepare_silence(
+    store: &Store,
+    at: Moment,
+    posted: &PostedSilence,
+) -> Result<Result<Prepared, Reason>, AllocError>
+    ensures { IfOk result (λ prepared. IsPrepared store.now.state at (act.Silence posted.now) prepared) }
+{
+    match set_silence(store.alloc(), at, posted, store.silences())? {
+        Err(reason) => Ok(Err(reason)),
+        Ok(posting) => Ok(Ok(Prepared::Silence {
+            id: posted.id,
+            new_id: posted.new_id,
+            posting,
+        })),
+    }
+}
+
+/// Prepares an expiry.
+fn prepare_expiry(
+    store: &Store,
+    at: Moment,
+    id: SilenceId,
+) -> Result<Result<Prepared, Reason>, AllocError>
+    ensures { IfOk result (λ prepared. IsPrepared store.now.state at (act.Expire id) prepared) }
+{
+    match store.silences().get(&id) {
+        None => Ok(Err(Reason::UnknownSilence)),
+        Some(silence) => {
+            let ended = silence_expire(at, silence.clone()?);
+            Ok(Ok(Prepared::Expire { id, ended }))
+        }
+    }
+}
+
+/// Prepares a reload.
+fn prepare_reload(
+    read: &Result<Config, Reason>,
+) -> Result<Result<Prepared, Reason>, AllocError>
+    ensures { IfOk result (λ prepared. (s : State) (at : ℕ) → IsPrepared s at (act.Reload (by_number read.now)) prepared) }
+{
+    match read {
+        Ok(config) => Ok(Ok(Prepared::Reload(config.clone()?))),
+        Err(reason) => Ok(Err(*reason)),
+    }
+}

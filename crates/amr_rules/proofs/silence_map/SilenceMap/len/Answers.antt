@@ -1,8 +1,0 @@
-use Rattle.std.proofs.Common.{sym, ap, ◌∙◌, length}
-use Rattle.amr_labels.specs.Map as map
-use Rattle.std.specs.Ordering.{nat_cmp}
-use Rattle.amr_labels.proofs.Trees.{entries_of_tree}
-use Rattle.amr_rules.proofs.silence_map.SilenceMap.len.Goals as goal
-
-pub returns : goal.returns
-returns c = c.len.ensures.len ∙ ap length (sym (entries_of_tree nat_cmp c.self.inside.tree c.self.invariant)) ∙ ap map.len c.self.view_is

@@ -1,0 +1,70 @@
+//! Posts of silences among the stored ones: what a post stores, or the reason against it.
+ghost use Rattle.std.specs.Prelude.{◌≡◌, IfOk};
+ghost use Rattle.std.specs.Option.{option_copied};
+ghost use Rattle.std.specs.Ordering.{nat_cmp};
+ghost use Rattle.amr_tables.specs.Numbered.{shown};
+ghost use Rattle.amr_rules.specs.Silences.{named_silence, with_posting, after_post};
+ghost use Rattle.amr_rules.specs.Silencing.{after_decision};
+
+use crate::posting::{Posting, decided_post};
+use crate::silence::Silence;
+use amr_events::{PostedSilence, Reason, SilenceId};
+use amr_tables::Keyed;
+use amr_time::Moment;
+use std::alloc::{AllocError, Global};
+
+/// Decides what a post of a silence stores among the stored silences, or returns the first reason against it: it may
+/// not be posted now, it names a silence that isn't stored, or the id of its new silence is taken.
+#[tactic(auto, unfolding(crate::specs::Silences::after_post))]
+pub fn set_silence(
+    alloc: Global,
+    now: Moment,
+    posted: &PostedSilence,
+    silences: &Keyed<SilenceId, Silence>,
+) -> Result<Result<Posting, Reason>, AllocError>
+    ensures { IfOk result (λ decision. after_decision posted.now (shown nat_cmp silences.now) decision
+        ≡ after_post now posted.now (shown nat_cmp silences.now)) }
+{
+    let old = named(silences, posted);
+    match decided_post(alloc, now, posted, old)? {
+        None => Ok(Err(Reason::BadSilence)),
+        Some(posting) => {
+            if posted.id.is_some() && old.is_none() {
+                Ok(Err(Reason::UnknownSilence))
+            } else {
+                Ok(with_free_id(silences, posted, posting))
+            }
+        }
+    }
+}
+
+/// Returns the stored silence that a post names.
+fn named<'a>(
+    silences: &'a Keyed<SilenceId, Silence>,
+    posted: &PostedSilence,
+) -> Option<&'a Silence>
+    ensures { option_copied result ≡ named_silence posted.now (shown nat_cmp silences.now) }
+{
+    silences.get(&posted.id?)
+}
+
+/// Returns what a post stores, unless its new silence has the id of a stored one.
+fn with_free_id(
+    silences: &Keyed<SilenceId, Silence>,
+    posted: &PostedSilence,
+    posting: Posting,
+) -> Result<Posting, Reason>
+    ensures { after_decision posted.now (shown nat_cmp silences.now) result
+        ≡ with_posting posted.now (shown nat_cmp silences.now) posting }
+{
+    match posting {
+        Posting::InPlace(silence) => Ok(Posting::InPlace(silence)),
+        Posting::New(silence, old) => {
+            if silences.get(&posted.new_id).is_some() {
+                Err(Reason::SilenceIdTaken)
+            } else {
+                Ok(Posting::New(silence, old))
+            }
+        }
+    }
+}

@@ -1,0 +1,71 @@
+-- The records of events: what each displaced, and how it is put back.
+use Rattle.std.specs.Prelude.{◌≡◌, ℕ, Bool, true, false, List, [], ◌∷◌, ◌++◌, Option, take, length, ◌≤◌}
+use Rattle.std.specs.List.{list_any, Contains}
+use Rattle.std.specs.Ordering.{nat_cmp, eq_by_cmp}
+use Rattle.amr_labels.specs.Map.{get, set}
+use Rattle.amr_labels.specs.Labels.{label_set_cmp}
+use Rattle.amr_state.specs.declared.displaced.Displaced.{Displaced}
+use Rattle.amr_state.specs.declared.displaced.Displaced.TheVariants.{WasMoment, WasConfig, WasAlert, WasSilence, WasPlacement, WasClock, WasLogged, WasNotes}
+use Rattle.amr_state.specs.State.{State, spot_cmp, log_key_cmp}
+
+-- the place has this value
+abbrev pub put_back_one : State → Displaced → State
+put_back_one s (WasMoment moment) = record s { moment = moment }
+put_back_one s (WasConfig config) = record s { config = config }
+put_back_one s (WasAlert labels alert) = record s { alerts = set s.alerts labels alert }
+put_back_one s (WasSilence id silence) = record s { silences = set s.silences id silence }
+put_back_one s (WasPlacement spot alert) = record s { placements = set s.placements spot alert }
+put_back_one s (WasClock group clock) = record s { clocks = set s.clocks group clock }
+put_back_one s (WasLogged key entry) = record s { log = set s.log key entry }
+put_back_one s (WasNotes count) = record s { notes = take count s.notes }
+
+-- a record is put back from its last entry to its first
+unfoldable pub put_back : List Displaced → State → State
+put_back [] s = s
+put_back (first ∷ rest) s = put_back_one (put_back rest s) first
+
+-- the same place with the value that it has now; of the notifications, how many there are
+abbrev pub present : State → Displaced → Displaced
+present s (WasMoment moment) = WasMoment s.moment
+present s (WasConfig config) = WasConfig s.config
+present s (WasAlert labels alert) = WasAlert labels (get s.alerts labels)
+present s (WasSilence id silence) = WasSilence id (get s.silences id)
+present s (WasPlacement spot alert) = WasPlacement spot (get s.placements spot)
+present s (WasClock group clock) = WasClock group (get s.clocks group)
+present s (WasLogged key entry) = WasLogged key (get s.log key)
+present s (WasNotes count) = WasNotes (length s.notes)
+
+-- whether two entries are of one place
+abbrev pub same_place : Displaced → Displaced → Bool
+same_place (WasMoment a) (WasMoment b) = true
+same_place (WasConfig a) (WasConfig b) = true
+same_place (WasAlert a v) (WasAlert b w) = eq_by_cmp label_set_cmp a b
+same_place (WasSilence a v) (WasSilence b w) = eq_by_cmp nat_cmp a b
+same_place (WasPlacement a v) (WasPlacement b w) = eq_by_cmp spot_cmp a b
+same_place (WasClock a v) (WasClock b w) = eq_by_cmp spot_cmp a b
+same_place (WasLogged a v) (WasLogged b w) = eq_by_cmp log_key_cmp a b
+same_place (WasNotes a) (WasNotes b) = true
+same_place _ _ = false
+
+-- whether a record has an entry for the place
+unfoldable pub has_entry : List Displaced → Displaced → Bool
+has_entry entries place = list_any (same_place place) entries
+
+-- a change of one place, other than the notifications
+abbrev pub IsNoNote : Displaced → Type 0
+IsNoNote (WasNotes count) = ⊥
+IsNoNote _ = Unit {0}
+
+-- the state before records, the oldest first, by the state after them
+unfoldable pub before_all : List (List Displaced) → State → State
+before_all [] s = s
+before_all (first ∷ rest) s = put_back first (before_all rest s)
+
+-- the states before each of the records
+unfoldable pub befores : List (List Displaced) → State → List State
+befores [] s = []
+befores (first ∷ rest) s = before_all (first ∷ rest) s ∷ befores rest s
+
+-- the record has the number of notifications of before, and there are no fewer now
+abbrev pub NotesEntered : List Displaced → State → Type 0
+NotesEntered entries s = (count : ℕ) × (count ≤ length s.notes) × Contains entries (WasNotes count)

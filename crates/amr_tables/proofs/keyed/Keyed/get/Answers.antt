@@ -1,0 +1,28 @@
+use Rattle.std.proofs.Common.{◌≡◌, ℕ, ◌<◌, ◌≤◌, ◌+◌, Bool, true, false, None, Some, Option, List, length, refl, sym, ap, subst, ◌∙◌, arith, is_some, nat_lt, slice_set, T, rules, ◌++◌, ◌∷◌, [], IsTrue}
+use Rattle.std.specs.Prelude.{option_and_then, not, ◌||◌}
+use Rattle.std.specs.Option.{option_map_or, option_copied}
+use Rattle.std.specs.Ordering.{eq_by_cmp}
+use Rattle.std.specs.FinMap.{find, put}
+use Rattle.std.proofs.lemmas.Bool.Decides.{nat_tests}
+use Rattle.amr_labels.proofs.Trees.{lookup_is, put_is}
+use Rattle.amr_labels.specs.Map as map
+use Rattle.amr_tables.specs.Places.{value_at}
+use Rattle.amr_tables.specs.Marked.{is_marked}
+use Rattle.amr_tables.specs.Numbered.{Numbered, entry_at, shown, has_place, is_entered}
+use Rattle.amr_tables.proofs.Numbering.{get-shown, shown-none, displaced_is, shown-displaced, marked_is, entered-marked, cleared_is, entered-cleared, pushed_is, entered-pushed, grown_is, shown-grown, added_is, shown-added, entered-added, placed-added}
+use Rattle.amr_tables.proofs.keyed.Keyed.get.Goals as goal
+
+pub returns-in-None : goal.returns-in-None
+returns-in-None g c =
+    let t = c.self.inside in
+    let at : find g.K.Ord.cmp c.args.key.now t.numbers.entries ≡ None = lookup_is g.K.Ord.cmp t.numbers.entries c.args.key.now ∙ sym c.get.ensures.value ∙ ap option_copied c.in-None.is in
+    sym (get-shown g.K.Ord.cmp g.met.K.Ord.total _ c.args.key.now c.self.invariant ∙ ap (option_and_then (value_at t.slots)) at)
+    ∙ ap (λ v. map.get (shown g.K.Ord.cmp v) c.args.key.now) c.self.view_is
+
+pub returns-in-Some : goal.returns-in-Some
+returns-in-Some g c =
+    let t = c.self.inside in
+    let at : find g.K.Ord.cmp c.args.key.now t.numbers.entries ≡ Some c.in-Some.number.now = lookup_is g.K.Ord.cmp t.numbers.entries c.args.key.now ∙ sym c.get.ensures.value ∙ ap option_copied c.in-Some.is in
+    c.look.ensures
+    ∙ sym (get-shown g.K.Ord.cmp g.met.K.Ord.total _ c.args.key.now c.self.invariant ∙ ap (option_and_then (value_at t.slots)) at)
+    ∙ ap (λ v. map.get (shown g.K.Ord.cmp v) c.args.key.now) c.self.view_is

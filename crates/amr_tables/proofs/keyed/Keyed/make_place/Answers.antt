@@ -1,0 +1,263 @@
+use Rattle.std.proofs.Common.{◌≡◌, ℕ, ◌<◌, ◌≤◌, ◌+◌, Bool, true, false, None, Some, Option, List, length, refl, sym, ap, subst, ◌∙◌, arith, is_some, nat_lt, slice_set, T, rules, ◌++◌, ◌∷◌, [], IsTrue}
+use Rattle.std.specs.Prelude.{option_and_then, not, ◌||◌}
+use Rattle.std.specs.Option.{option_map_or, option_copied}
+use Rattle.std.specs.Ordering.{eq_by_cmp}
+use Rattle.std.specs.FinMap.{find, put}
+use Rattle.std.proofs.lemmas.Bool.Decides.{nat_tests}
+use Rattle.amr_labels.proofs.Trees.{lookup_is, put_is}
+use Rattle.amr_labels.specs.Map as map
+use Rattle.amr_tables.specs.Places.{value_at}
+use Rattle.amr_tables.specs.Marked.{is_marked}
+use Rattle.amr_tables.specs.Numbered.{Numbered, IsNumbering, entry_at, shown, has_place, is_entered}
+use Rattle.amr_tables.proofs.Numbering.{Grows, HasRoom, grown_table, added_table, none_of, get-shown, shown-none, displaced_is, shown-displaced, marked_is, entered-marked, cleared_is, entered-cleared, pushed_is, entered-pushed, grown_is, shown-grown, added_is, shown-added, entered-added, placed-added}
+use Rattle.std.specs.BTreeMap.{insert_entry}
+use Rattle.std.proofs.Common.{max}
+use Rattle.amr_tables.proofs.keyed.Keyed.make_place.Goals as goal
+
+pub returns-then-contains_key-clause-made : goal.returns-then-contains_key-clause-made
+unfolding has_place
+returns-then-contains_key-clause-made g c =
+    let R = g.K.Ord.cmp in
+    ap (λ v. has_place R v c.args.key) (sym c.self.view_is)
+    ∙ ap is_some (lookup_is R c.self.inside.numbers.entries c.args.key) ∙ sym c.contains_key.ensures ∙ c.if-contains_key.true
+
+pub invariant_of-self-in_err-make_place : goal.invariant_of-self-in_err-make_place
+invariant_of-self-in_err-make_place g c =
+    let R = g.K.Ord.cmp in
+    let t : Numbered g.row.K.Denot g.row.V.Denot = record { numbers = c.self.inside.numbers.entries; cells = c.self.inside.slots; marks = c.self.inside.entered } in
+    let len = c.len-number.ensures in
+    let most = c.make_place.ensures.bound in
+    let least = c.make_place.ensures.more in
+    let room : HasRoom R t c.make_place.new.self c.add_place.new.self = record {
+      numbering = c.self.invariant;
+      marks_are = c.in_ok-add_place.ensures.ok;
+      values = c.make_place.ensures.values;
+      more = c.make_place.ensures.more;
+      bound = omega arith;
+    } in
+    let grown = grown_table R g.met.K.Ord.total t c.make_place.new.self c.add_place.new.self room in
+    grown.numbering
+
+pub returns-in_err-make_place-clause-shown : goal.returns-in_err-make_place-clause-shown
+returns-in_err-make_place-clause-shown g c =
+    let R = g.K.Ord.cmp in
+    let t : Numbered g.row.K.Denot g.row.V.Denot = record { numbers = c.self.inside.numbers.entries; cells = c.self.inside.slots; marks = c.self.inside.entered } in
+    let len = c.len-number.ensures in
+    let most = c.make_place.ensures.bound in
+    let least = c.make_place.ensures.more in
+    let room : HasRoom R t c.make_place.new.self c.add_place.new.self = record {
+      numbering = c.self.invariant;
+      marks_are = c.in_ok-add_place.ensures.ok;
+      values = c.make_place.ensures.values;
+      more = c.make_place.ensures.more;
+      bound = omega arith;
+    } in
+    let grown = grown_table R g.met.K.Ord.total t c.make_place.new.self c.add_place.new.self room in
+    grown.same ∙ ap (shown R) c.self.view_is
+
+pub returns-in_err-make_place-clause-entered : goal.returns-in_err-make_place-clause-entered
+returns-in_err-make_place-clause-entered g c =
+    let R = g.K.Ord.cmp in
+    let t : Numbered g.row.K.Denot g.row.V.Denot = record { numbers = c.self.inside.numbers.entries; cells = c.self.inside.slots; marks = c.self.inside.entered } in
+    let len = c.len-number.ensures in
+    let most = c.make_place.ensures.bound in
+    let least = c.make_place.ensures.more in
+    let room : HasRoom R t c.make_place.new.self c.add_place.new.self = record {
+      numbering = c.self.invariant;
+      marks_are = c.in_ok-add_place.ensures.ok;
+      values = c.make_place.ensures.values;
+      more = c.make_place.ensures.more;
+      bound = omega arith;
+    } in
+    let grown = grown_table R g.met.K.Ord.total t c.make_place.new.self c.add_place.new.self room in
+    λ other. grown.entered other ∙ ap (λ v. is_entered R v other) c.self.view_is
+
+pub returns-in_err-make_place-clause-places : goal.returns-in_err-make_place-clause-places
+returns-in_err-make_place-clause-places g c =
+    let R = g.K.Ord.cmp in
+    let t : Numbered g.row.K.Denot g.row.V.Denot = record { numbers = c.self.inside.numbers.entries; cells = c.self.inside.slots; marks = c.self.inside.entered } in
+    let len = c.len-number.ensures in
+    let most = c.make_place.ensures.bound in
+    let least = c.make_place.ensures.more in
+    let room : HasRoom R t c.make_place.new.self c.add_place.new.self = record {
+      numbering = c.self.invariant;
+      marks_are = c.in_ok-add_place.ensures.ok;
+      values = c.make_place.ensures.values;
+      more = c.make_place.ensures.more;
+      bound = omega arith;
+    } in
+    let grown = grown_table R g.met.K.Ord.total t c.make_place.new.self c.add_place.new.self room in
+    λ other p. grown.placed other (subst (λ v. IsTrue (has_place R v other)) (sym c.self.view_is) p)
+
+pub invariant_of-self-in_err-insert : goal.invariant_of-self-in_err-insert
+invariant_of-self-in_err-insert g c =
+    let R = g.K.Ord.cmp in
+    let t : Numbered g.row.K.Denot g.row.V.Denot = record { numbers = c.self.inside.numbers.entries; cells = c.self.inside.slots; marks = c.self.inside.entered } in
+    let len = c.len-number.ensures in
+    let most = c.make_place.ensures.bound in
+    let least = c.make_place.ensures.more in
+    let room : HasRoom R t c.make_place.new.self c.add_place.new.self = record {
+      numbering = c.self.invariant;
+      marks_are = c.in_ok-add_place.ensures.ok;
+      values = c.make_place.ensures.values;
+      more = c.make_place.ensures.more;
+      bound = omega arith;
+    } in
+    let grown = grown_table R g.met.K.Ord.total t c.make_place.new.self c.add_place.new.self room in
+    let same : c.insert.new.self.entries ≡ t.numbers = c.in_err-insert.ensures.err in
+    subst (λ n. IsNumbering R (record { numbers = n; cells = c.make_place.new.self; marks = c.add_place.new.self })) (sym same) grown.numbering
+
+pub returns-in_err-insert-clause-shown : goal.returns-in_err-insert-clause-shown
+returns-in_err-insert-clause-shown g c =
+    let R = g.K.Ord.cmp in
+    let t : Numbered g.row.K.Denot g.row.V.Denot = record { numbers = c.self.inside.numbers.entries; cells = c.self.inside.slots; marks = c.self.inside.entered } in
+    let len = c.len-number.ensures in
+    let most = c.make_place.ensures.bound in
+    let least = c.make_place.ensures.more in
+    let room : HasRoom R t c.make_place.new.self c.add_place.new.self = record {
+      numbering = c.self.invariant;
+      marks_are = c.in_ok-add_place.ensures.ok;
+      values = c.make_place.ensures.values;
+      more = c.make_place.ensures.more;
+      bound = omega arith;
+    } in
+    let grown = grown_table R g.met.K.Ord.total t c.make_place.new.self c.add_place.new.self room in
+    let same : c.insert.new.self.entries ≡ t.numbers = c.in_err-insert.ensures.err in
+    ap (λ n. shown R (record { numbers = n; cells = c.make_place.new.self; marks = c.add_place.new.self })) same ∙ grown.same ∙ ap (shown R) c.self.view_is
+
+pub returns-in_err-insert-clause-entered : goal.returns-in_err-insert-clause-entered
+returns-in_err-insert-clause-entered g c =
+    let R = g.K.Ord.cmp in
+    let t : Numbered g.row.K.Denot g.row.V.Denot = record { numbers = c.self.inside.numbers.entries; cells = c.self.inside.slots; marks = c.self.inside.entered } in
+    let len = c.len-number.ensures in
+    let most = c.make_place.ensures.bound in
+    let least = c.make_place.ensures.more in
+    let room : HasRoom R t c.make_place.new.self c.add_place.new.self = record {
+      numbering = c.self.invariant;
+      marks_are = c.in_ok-add_place.ensures.ok;
+      values = c.make_place.ensures.values;
+      more = c.make_place.ensures.more;
+      bound = omega arith;
+    } in
+    let grown = grown_table R g.met.K.Ord.total t c.make_place.new.self c.add_place.new.self room in
+    let same : c.insert.new.self.entries ≡ t.numbers = c.in_err-insert.ensures.err in
+    λ other. ap (λ n. is_entered R (record { numbers = n; cells = c.make_place.new.self; marks = c.add_place.new.self }) other) same ∙ grown.entered other ∙ ap (λ v. is_entered R v other) c.self.view_is
+
+pub returns-in_err-insert-clause-places : goal.returns-in_err-insert-clause-places
+returns-in_err-insert-clause-places g c =
+    let R = g.K.Ord.cmp in
+    let t : Numbered g.row.K.Denot g.row.V.Denot = record { numbers = c.self.inside.numbers.entries; cells = c.self.inside.slots; marks = c.self.inside.entered } in
+    let len = c.len-number.ensures in
+    let most = c.make_place.ensures.bound in
+    let least = c.make_place.ensures.more in
+    let room : HasRoom R t c.make_place.new.self c.add_place.new.self = record {
+      numbering = c.self.invariant;
+      marks_are = c.in_ok-add_place.ensures.ok;
+      values = c.make_place.ensures.values;
+      more = c.make_place.ensures.more;
+      bound = omega arith;
+    } in
+    let grown = grown_table R g.met.K.Ord.total t c.make_place.new.self c.add_place.new.self room in
+    let same : c.insert.new.self.entries ≡ t.numbers = c.in_err-insert.ensures.err in
+    λ other p. subst (λ n. IsTrue (has_place R (record { numbers = n; cells = c.make_place.new.self; marks = c.add_place.new.self }) other)) (sym same) (grown.placed other (subst (λ v. IsTrue (has_place R v other)) (sym c.self.view_is) p))
+
+pub invariant_of-self-2 : goal.invariant_of-self-2
+invariant_of-self-2 g c =
+    let R = g.K.Ord.cmp in
+    let t : Numbered g.row.K.Denot g.row.V.Denot = record { numbers = c.self.inside.numbers.entries; cells = c.self.inside.slots; marks = c.self.inside.entered } in
+    let len = c.len-number.ensures in
+    let most = c.make_place.ensures.bound in
+    let least = c.make_place.ensures.more in
+    let room : HasRoom R t c.make_place.new.self c.add_place.new.self = record {
+      numbering = c.self.invariant;
+      marks_are = c.in_ok-add_place.ensures.ok;
+      values = c.make_place.ensures.values;
+      more = c.make_place.ensures.more;
+      bound = omega arith;
+    } in
+    let none : find R c.args.key t.numbers ≡ None = none_of _ (ap is_some (lookup_is R t.numbers c.args.key) ∙ sym c.contains_key.ensures ∙ c.if-contains_key.false) in
+    let lt : length t.cells < length c.make_place.new.self = let made = c.in_ok-make_place.ensures.made in grind (arith, nat_tests) in
+    let is : c.insert.new.self.entries ≡ put R c.args.key (length t.cells) t.numbers = c.in_ok-insert.ensures.entries ∙ put_is R t.numbers c.args.key c.len-number.result ∙ ap (λ n. put R c.args.key n t.numbers) len in
+    let added = added_table R g.met.K.Ord.total t c.args.key c.insert.new.self.entries c.make_place.new.self c.add_place.new.self room none lt is in
+    added.0.numbering
+
+pub returns-clause-made : goal.returns-clause-made
+returns-clause-made g c =
+    let R = g.K.Ord.cmp in
+    let t : Numbered g.row.K.Denot g.row.V.Denot = record { numbers = c.self.inside.numbers.entries; cells = c.self.inside.slots; marks = c.self.inside.entered } in
+    let len = c.len-number.ensures in
+    let most = c.make_place.ensures.bound in
+    let least = c.make_place.ensures.more in
+    let room : HasRoom R t c.make_place.new.self c.add_place.new.self = record {
+      numbering = c.self.invariant;
+      marks_are = c.in_ok-add_place.ensures.ok;
+      values = c.make_place.ensures.values;
+      more = c.make_place.ensures.more;
+      bound = omega arith;
+    } in
+    let none : find R c.args.key t.numbers ≡ None = none_of _ (ap is_some (lookup_is R t.numbers c.args.key) ∙ sym c.contains_key.ensures ∙ c.if-contains_key.false) in
+    let lt : length t.cells < length c.make_place.new.self = let made = c.in_ok-make_place.ensures.made in grind (arith, nat_tests) in
+    let is : c.insert.new.self.entries ≡ put R c.args.key (length t.cells) t.numbers = c.in_ok-insert.ensures.entries ∙ put_is R t.numbers c.args.key c.len-number.result ∙ ap (λ n. put R c.args.key n t.numbers) len in
+    let added = added_table R g.met.K.Ord.total t c.args.key c.insert.new.self.entries c.make_place.new.self c.add_place.new.self room none lt is in
+    added.1
+
+pub returns-clause-shown : goal.returns-clause-shown
+returns-clause-shown g c =
+    let R = g.K.Ord.cmp in
+    let t : Numbered g.row.K.Denot g.row.V.Denot = record { numbers = c.self.inside.numbers.entries; cells = c.self.inside.slots; marks = c.self.inside.entered } in
+    let len = c.len-number.ensures in
+    let most = c.make_place.ensures.bound in
+    let least = c.make_place.ensures.more in
+    let room : HasRoom R t c.make_place.new.self c.add_place.new.self = record {
+      numbering = c.self.invariant;
+      marks_are = c.in_ok-add_place.ensures.ok;
+      values = c.make_place.ensures.values;
+      more = c.make_place.ensures.more;
+      bound = omega arith;
+    } in
+    let none : find R c.args.key t.numbers ≡ None = none_of _ (ap is_some (lookup_is R t.numbers c.args.key) ∙ sym c.contains_key.ensures ∙ c.if-contains_key.false) in
+    let lt : length t.cells < length c.make_place.new.self = let made = c.in_ok-make_place.ensures.made in grind (arith, nat_tests) in
+    let is : c.insert.new.self.entries ≡ put R c.args.key (length t.cells) t.numbers = c.in_ok-insert.ensures.entries ∙ put_is R t.numbers c.args.key c.len-number.result ∙ ap (λ n. put R c.args.key n t.numbers) len in
+    let added = added_table R g.met.K.Ord.total t c.args.key c.insert.new.self.entries c.make_place.new.self c.add_place.new.self room none lt is in
+    added.0.same ∙ ap (shown R) c.self.view_is
+
+pub returns-clause-entered : goal.returns-clause-entered
+returns-clause-entered g c =
+    let R = g.K.Ord.cmp in
+    let t : Numbered g.row.K.Denot g.row.V.Denot = record { numbers = c.self.inside.numbers.entries; cells = c.self.inside.slots; marks = c.self.inside.entered } in
+    let len = c.len-number.ensures in
+    let most = c.make_place.ensures.bound in
+    let least = c.make_place.ensures.more in
+    let room : HasRoom R t c.make_place.new.self c.add_place.new.self = record {
+      numbering = c.self.invariant;
+      marks_are = c.in_ok-add_place.ensures.ok;
+      values = c.make_place.ensures.values;
+      more = c.make_place.ensures.more;
+      bound = omega arith;
+    } in
+    let none : find R c.args.key t.numbers ≡ None = none_of _ (ap is_some (lookup_is R t.numbers c.args.key) ∙ sym c.contains_key.ensures ∙ c.if-contains_key.false) in
+    let lt : length t.cells < length c.make_place.new.self = let made = c.in_ok-make_place.ensures.made in grind (arith, nat_tests) in
+    let is : c.insert.new.self.entries ≡ put R c.args.key (length t.cells) t.numbers = c.in_ok-insert.ensures.entries ∙ put_is R t.numbers c.args.key c.len-number.result ∙ ap (λ n. put R c.args.key n t.numbers) len in
+    let added = added_table R g.met.K.Ord.total t c.args.key c.insert.new.self.entries c.make_place.new.self c.add_place.new.self room none lt is in
+    λ other. added.0.entered other ∙ ap (λ v. is_entered R v other) c.self.view_is
+
+pub returns-clause-places : goal.returns-clause-places
+returns-clause-places g c =
+    let R = g.K.Ord.cmp in
+    let t : Numbered g.row.K.Denot g.row.V.Denot = record { numbers = c.self.inside.numbers.entries; cells = c.self.inside.slots; marks = c.self.inside.entered } in
+    let len = c.len-number.ensures in
+    let most = c.make_place.ensures.bound in
+    let least = c.make_place.ensures.more in
+    let room : HasRoom R t c.make_place.new.self c.add_place.new.self = record {
+      numbering = c.self.invariant;
+      marks_are = c.in_ok-add_place.ensures.ok;
+      values = c.make_place.ensures.values;
+      more = c.make_place.ensures.more;
+      bound = omega arith;
+    } in
+    let none : find R c.args.key t.numbers ≡ None = none_of _ (ap is_some (lookup_is R t.numbers c.args.key) ∙ sym c.contains_key.ensures ∙ c.if-contains_key.false) in
+    let lt : length t.cells < length c.make_place.new.self = let made = c.in_ok-make_place.ensures.made in grind (arith, nat_tests) in
+    let is : c.insert.new.self.entries ≡ put R c.args.key (length t.cells) t.numbers = c.in_ok-insert.ensures.entries ∙ put_is R t.numbers c.args.key c.len-number.result ∙ ap (λ n. put R c.args.key n t.numbers) len in
+    let added = added_table R g.met.K.Ord.total t c.args.key c.insert.new.self.entries c.make_place.new.self c.add_place.new.self room none lt is in
+    λ other p. added.0.placed other (subst (λ v. IsTrue (has_place R v other)) (sym c.self.view_is) p)
+

@@ -1,0 +1,58 @@
+-- Values under numbered keys.
+use Rattle.std.specs.Prelude.{◌≡◌, ℕ, Bool, false, List, Option, None, Some, if◌then◌else◌, is_some, option_map, option_and_then, unwrap_or, ◌<◌, ◌≤◌, T, length, refl, slice_set, slice_get}
+use Rattle.std.specs.Option.{option_map_or}
+use Rattle.std.specs.List.{filter_map}
+use Rattle.std.specs.declared.cmp.Ordering.{Ordering}
+use Rattle.std.specs.Ordering.{eq_by_cmp}
+use Rattle.std.specs.FinMap.{find, is_sorted}
+use Rattle.std.specs.Coded.{Coded, code_by, coded×, coded_ℕ, coded_bool, coded_list, coded_option}
+use Rattle.amr_labels.specs.Map.{Map, from_sorted, get}
+use Rattle.amr_tables.specs.Places.{value_at}
+use Rattle.amr_tables.specs.Marked.{is_marked}
+
+-- the number of each key, in the order of the keys; what is at each place; and which places are marked as entered
+pub record Numbered (K V : Type 0) : Type 0 where
+  pub numbers : List (K × ℕ)
+  pub cells : List (Option V)
+  pub marks : List Bool
+
+abbrev pub numbered_code : {K V : Type 0} → Coded K → Coded V → Coded (Numbered K V)
+numbered_code {K} {V} k v =
+    code_by (List (K × ℕ) × (List (Option V) × List Bool)) (coded× (coded_list (coded× k coded_ℕ)) (coded× (coded_list (coded_option v)) (coded_list coded_bool)))
+    (λ t. (t.numbers, (t.cells, t.marks)))
+    (λ p. record { numbers = p.0; cells = p.1.0; marks = p.1.1 })
+    (λ _. refl)
+
+module _ {K V : Type 0} where
+  -- the value of a numbered key with the key, if there is one
+  abbrev pub entry_at : List (Option V) → K × ℕ → Option (K × V)
+  entry_at cells key = option_map (λ value. (key.0, value)) (value_at cells key.1)
+
+  module _ (R : K → K → Ordering) where
+    -- the number of a key
+    abbrev pub number_of : Numbered K V → K → Option ℕ
+    number_of t key = find R key t.numbers
+
+    -- whether the key has a place
+    unfoldable pub has_place : Numbered K V → K → Bool
+    has_place t key = is_some (number_of t key)
+
+    -- whether the key's place is entered in the open record
+    unfoldable pub is_entered : Numbered K V → K → Bool
+    is_entered t key = option_map_or (is_marked t.marks) (number_of t key) false
+
+    -- The finite map that the places show.
+    unfoldable pub shown : Numbered K V → Map R V
+    shown t = from_sorted (filter_map (entry_at t.cells) t.numbers)
+
+    -- what a change of the key's value enters into the open record: what is there, unless the place is entered already
+    unfoldable pub entry_of : Numbered K V → K → Option (Option V)
+    entry_of t key = if is_entered t key then None else Some (get (shown t) key)
+
+    -- keys strictly rise, each number has a place, no two keys have one number, and no mark is beside the places
+    pub record IsNumbering (t : Numbered K V) : Type 0 where
+      pub sorted : T (is_sorted R t.numbers)
+      pub within : (key : K) (n : ℕ) → find R key t.numbers ≡ Some n → n < length t.cells
+      pub apart : (key other : K) (n : ℕ) → find R key t.numbers ≡ Some n → find R other t.numbers ≡ Some n → T (eq_by_cmp R other key)
+      pub marked : length t.cells ≤ length t.marks
+      pub spare : (n : ℕ) → length t.cells ≤ n → is_marked t.marks n ≡ false

@@ -1,0 +1,167 @@
+//! The journal: a record of entries for each event that can be undone, and the open record of the event under way.
+ghost use Rattle.std.specs.Prelude.{◌≡◌, ◌+◌, ◌<◌, ◌≤◌, [], ◌∷◌, ◌++◌, length, OnOk, Some, ◌==◌, option_map};
+ghost use Rattle.std.specs.Prelude.{slice_get};
+
+use std::alloc::{AllocError, Global};
+use std::marker::Model;
+use std::mem;
+
+/// The record of an event.
+#[derive(Drop)]
+struct Record<E> {
+    entries: Vec<E>,
+}
+
+impl<E> Model for Record<E> {
+    ghost use Rattle.std.specs.Prelude.{List};
+    ghost use Rattle.std.specs.Coded.{coded_list};
+
+    ghost Value = { List E };
+
+    ghost coded = { coded_list E.code };
+
+    ghost view = { λ r. r.entries.items };
+}
+
+/// Records of entries. Contracts see the records, the open one, and the room that is reserved.
+#[derive(Drop)]
+pub struct Journal<E> {
+    alloc: Global,
+    records: Vec<Record<E>>,
+    current: Vec<E>,
+}
+
+impl<E> Model for Journal<E> {
+    ghost use Rattle.std.specs.Prelude.{◌-◌, vec_len, vec_capacity};
+    ghost use Rattle.amr_tables.specs.Records.{Records, records_code};
+
+    ghost Value = { Records E };
+
+    ghost coded = { records_code E.code };
+
+    ghost view = { λ journal. record {
+        closed = journal.records.items;
+        current = journal.current.items;
+        entry_room = vec_capacity journal.current - vec_len journal.current;
+        record_room = vec_capacity journal.records - vec_len journal.records;
+    } };
+}
+
+impl<E> Journal<E> {
+    /// The journal without a record.
+    pub fn new(alloc: Global) -> Self
+        ensures closed { result.closed ≡ [] }
+        ensures current { result.current ≡ [] }
+    {
+        Journal {
+            alloc,
+            records: Vec::new(alloc),
+            current: Vec::new(alloc),
+        }
+    }
+
+    /// Makes room for `n` entries more, and for a record.
+    pub fn reserve(&mut self, n: usize) -> Result<(), AllocError>
+        ensures closed { self.new.closed ≡ self.old.closed }
+        ensures current { self.new.current ≡ self.old.current }
+        ensures entries { OnOk result (n ≤ self.new.entry_room) }
+        ensures records { OnOk result (0 < self.new.record_room) }
+    {
+        self.records.reserve(1)?;
+        self.current.reserve(n)
+    }
+
+    /// Makes room for an entry.
+    pub fn reserve_entry(&mut self) -> Result<(), AllocError>
+        ensures closed { self.new.closed ≡ self.old.closed }
+        ensures current { self.new.current ≡ self.old.current }
+        ensures entries { OnOk result (0 < self.new.entry_room) }
+        ensures records { self.new.record_room ≡ self.old.record_room }
+    {
+        self.current.reserve(1)
+    }
+
+    /// Enters a displaced value into the open record. It takes no memory.
+    pub fn push(&mut self, entry: E)
+        requires { 0 < self.old.entry_room }
+        ensures closed { self.new.closed ≡ self.old.closed }
+        ensures current { self.new.current ≡ self.old.current ++ entry ∷ [] }
+        ensures entries { self.new.entry_room + 1 ≡ self.old.entry_room }
+        ensures records { self.new.record_room ≡ self.old.record_room }
+    {
+        self.current.push_reserved(entry);
+    }
+
+    /// Closes the open record. An empty one is open then. It takes no memory.
+    pub fn close(&mut self)
+        requires { 0 < self.old.record_room }
+        ensures closed { self.new.closed ≡ self.old.closed ++ self.old.current ∷ [] }
+        ensures current { self.new.current ≡ [] }
+    {
+        let entries = mem::replace(&mut self.current, Vec::new(self.alloc));
+        self.records.push_reserved(Record { entries });
+    }
+
+    /// Takes the last entry of the open record.
+    pub fn pop(&mut self) -> E
+        requires { 0 < length self.old.current }
+        ensures closed { self.new.closed ≡ self.old.closed }
+        ensures current { self.old.current ≡ self.new.current ++ result ∷ [] }
+        ensures records { self.new.record_room ≡ self.old.record_room }
+    {
+        match self.current.pop() {
+            Some(entry) => entry,
+            None => unreachable!(),
+        }
+    }
+
+    /// Opens the last record again.
+    pub fn reopen(&mut self)
+    where
+        E: Drop,
+        requires some { 0 < length self.old.closed }
+        requires empty { self.old.current ≡ [] }
+        ensures { self.old.closed ≡ self.new.closed ++ self.new.current ∷ [] }
+    {
+        match self.records.pop() {
+            Some(record) => {
+                let Record { entries } = record;
+                self.current = entries;
+            }
+            None => unreachable!(),
+        }
+    }
+
+    /// Drops all closed records.
+    pub fn forget(&mut self)
+    where
+        E: Drop,
+        ensures closed { self.new.closed ≡ [] }
+        ensures current { self.new.current ≡ self.old.current }
+    {
+        self.records.clear();
+    }
+
+    /// Returns whether the open record has no entry.
+    pub fn is_current_empty(&self) -> bool
+        ensures { result ≡ (length self.now.current == 0) }
+    {
+        self.current.is_empty()
+    }
+
+    /// Returns how many records are closed.
+    pub fn len(&self) -> usize
+        ensures { result ≡ length self.now.closed }
+    {
+        self.records.len()
+    }
+
+    /// Returns how many entries the closed record number `index` has, from 0.
+    pub fn record_len(&self, index: usize) -> usize
+        requires { index < length self.now.closed }
+        ensures { option_map length (slice_get self.now.closed index) ≡ Some result }
+    {
+        let record = &self.records[index];
+        record.entries.len()
+    }
+}

@@ -1,0 +1,184 @@
+//! Values under keys, each at the place of the key's number.
+ghost use Rattle.std.specs.Prelude.{◌≡◌, ◌||◌, IsTrue, Option, not, false, OnOk, IfOk, ◌<◌};
+ghost use Rattle.std.specs.Option.{option_copied};
+ghost use Rattle.std.specs.Ordering.{eq_by_cmp};
+ghost use Rattle.std.specs.FinMap.{IsAntisymmetric};
+ghost use Rattle.amr_labels.specs.Map as map;
+ghost use Rattle.amr_tables.specs.Numbered.{shown, has_place, is_entered, entry_of};
+
+use crate::entries::Entries;
+use crate::journal::Journal;
+use crate::marks::Marks;
+use crate::slots::Slots;
+use crate::table::Table;
+use amr_labels::{Exact, Labels};
+use std::alloc::{AllocError, Global};
+use std::collections::BTreeMap;
+use std::marker::Model;
+
+/// A type of keys: two that compare equal are the same value.
+pub trait Key: Ord {
+    ghost exact: { IsAntisymmetric Self.cmp };
+}
+
+impl Key for Labels {
+    ghost use Rattle.amr_labels.specs.Labels.{label_set_cmp-IsAntisymmetric};
+
+    ghost exact = { label_set_cmp-IsAntisymmetric };
+}
+
+/// Values under keys. A key gets the next number, and its place, when it is first seen; both stay. Contracts see the numbers of the keys, in the
+/// order of the keys, and what is at each place; `shown` is the finite map.
+#[derive(Drop)]
+pub struct Keyed<K: Key, V> {
+    numbers: BTreeMap<K, usize>,
+    slots: Slots<V>,
+    entered: Marks,
+}
+
+impl<K: Key, V> Model for Keyed<K, V> {
+    ghost use Rattle.amr_tables.specs.Numbered.{Numbered, numbered_code, IsNumbering};
+
+    ghost Value = { Numbered K V };
+
+    ghost coded = { numbered_code K.code V.code };
+
+    ghost view = { λ t. record { numbers = t.numbers.entries; cells = t.slots; marks = t.entered } };
+
+    ghost invariant = { λ t. IsNumbering K.cmp (record { numbers = t.numbers.entries; cells = t.slots; marks = t.entered }) };
+}
+
+impl<K: Key + Drop, V: Drop> Keyed<K, V> {
+    /// The table without a key.
+    pub fn new(alloc: Global) -> Keyed<K, V>
+        ensures shown { shown K.cmp result ≡ map.empty }
+        ensures entered { (key : K) → is_entered K.cmp result key ≡ false }
+    {
+        Keyed {
+            numbers: BTreeMap::new(alloc),
+            slots: Slots::new(alloc),
+            entered: Marks::new(alloc),
+        }
+    }
+
+    /// Returns the value under a key.
+    pub fn get(&self, key: &K) -> Option<&V>
+        ensures { option_copied result ≡ map.get (shown K.cmp self.now) key.now }
+    {
+        match self.numbers.get(key) {
+            None => None,
+            Some(number) => self.slots.look(*number),
+        }
+    }
+
+    /// Returns the values with their keys, in the order of the keys.
+    pub fn iter(&self) -> Entries<'_, K, V>
+        ensures { result ≡ map.entries (shown K.cmp self.now) }
+    {
+        Entries {
+            numbers: self.numbers.iter(),
+            slots: &self.slots,
+        }
+    }
+
+    /// Returns whether a key has a place.
+    pub fn has_place(&self, key: &K) -> bool
+        ensures { result ≡ has_place K.cmp self.now key.now }
+    {
+        self.numbers.contains_key(key)
+    }
+
+    /// Makes a place for a key, without a value, unless it has one.
+    pub fn make_place(&mut self, key: K) -> Result<(), AllocError>
+        ensures made { OnOk result (IsTrue (has_place K.cmp self.new key)) }
+        ensures places { (other : K) → IsTrue (has_place K.cmp self.old other) → IsTrue (has_place K.cmp self.new other) }
+        ensures shown { shown K.cmp self.new ≡ shown K.cmp self.old }
+        ensures entered { (other : K) → is_entered K.cmp self.new other ≡ is_entered K.cmp self.old other }
+    {
+        if self.numbers.contains_key(&key) {
+            return Ok(());
+        }
+        let number = self.slots.len();
+        self.entered.add_place()?;
+        self.slots.make_place(number)?;
+        self.numbers.insert(key, number)?;
+        Ok(())
+    }
+
+    /// Puts a value, or none, under a key that has a place, and returns what was there. It takes no memory.
+    pub fn displace(&mut self, key: &K, value: Option<V>) -> Option<V>
+        requires { IsTrue (has_place K.cmp self.old key.now) }
+        ensures answer { result ≡ map.get (shown K.cmp self.old) key.now }
+        ensures shown { shown K.cmp self.new ≡ map.set (shown K.cmp self.old) key.now value }
+        ensures places { (other : K) → has_place K.cmp self.new other ≡ has_place K.cmp self.old other }
+        ensures entered { (other : K) → is_entered K.cmp self.new other ≡ is_entered K.cmp self.old other }
+    {
+        match self.numbers.get(key) {
+            Some(number) => self.slots.displace(*number, value),
+            None => unreachable!(),
+        }
+    }
+
+    /// Puts a value, or none, under a key that has a place, and enters the place. Returns what was there, unless the place was entered before.
+    /// It takes no memory.
+    pub fn change(&mut self, key: &K, value: Option<V>) -> Option<Option<V>>
+        requires { IsTrue (has_place K.cmp self.old key.now) }
+        ensures entry { result ≡ entry_of K.cmp self.old key.now }
+        ensures shown { shown K.cmp self.new ≡ map.set (shown K.cmp self.old) key.now value }
+        ensures places { (other : K) → has_place K.cmp self.new other ≡ has_place K.cmp self.old other }
+        ensures entered { (other : K) → is_entered K.cmp self.new other ≡ (eq_by_cmp K.cmp other key.now || is_entered K.cmp self.old other) }
+    {
+        let was = self.displace(key, value);
+        if self.enter(key) {
+            Some(was)
+        } else {
+            None
+        }
+    }
+
+    /// Marks a key's place as entered, and returns whether it wasn't before.
+    pub fn enter(&mut self, key: &K) -> bool
+        requires { IsTrue (has_place K.cmp self.old key.now) }
+        ensures first { result ≡ not (is_entered K.cmp self.old key.now) }
+        ensures entered { (other : K) → is_entered K.cmp self.new other ≡ (eq_by_cmp K.cmp other key.now || is_entered K.cmp self.old other) }
+        ensures shown { shown K.cmp self.new ≡ shown K.cmp self.old }
+        ensures places { (other : K) → has_place K.cmp self.new other ≡ has_place K.cmp self.old other }
+    {
+        match self.numbers.get(key) {
+            Some(number) => self.entered.mark(*number),
+            None => unreachable!(),
+        }
+    }
+
+    /// Takes back that places are entered, of all.
+    pub fn clear_entered(&mut self)
+        ensures entered { (key : K) → is_entered K.cmp self.new key ≡ false }
+        ensures shown { shown K.cmp self.new ≡ shown K.cmp self.old }
+        ensures places { (key : K) → has_place K.cmp self.new key ≡ has_place K.cmp self.old key }
+    {
+        self.entered.clear();
+    }
+}
+
+/// Makes a place for a key, and room for its entry in the open record. Returns the key for the entry.
+pub fn make_room<K: Key + Exact + Drop, V: Drop, E>(
+    table: &mut Keyed<K, V>,
+    journal: &mut Journal<E>,
+    key: &K,
+) -> Result<K, AllocError>
+    ensures key { IfOk result (λ copy. copy ≡ key.now) }
+    ensures made { OnOk result (IsTrue (has_place K.cmp table.new key.now)) }
+    ensures places { (other : K) → IsTrue (has_place K.cmp table.old other) → IsTrue (has_place K.cmp table.new other) }
+    ensures shown { shown K.cmp table.new ≡ shown K.cmp table.old }
+    ensures entered { (other : K) → is_entered K.cmp table.new other ≡ is_entered K.cmp table.old other }
+    ensures room { OnOk result (0 < journal.new.entry_room) }
+    ensures closed { journal.new.closed ≡ journal.old.closed }
+    ensures current { journal.new.current ≡ journal.old.current }
+    ensures record_room { journal.new.record_room ≡ journal.old.record_room }
+{
+    let copy = key.clone()?;
+    let place = key.clone()?;
+    journal.reserve_entry()?;
+    table.make_place(place)?;
+    Ok(copy)
+}

@@ -1,0 +1,16 @@
+//! Tables whose places keep their values apart from their keys, and the journal of what is displaced in them.
+#![tactic(auto)]
+
+mod entries;
+mod journal;
+mod keyed;
+mod marks;
+mod slots;
+mod table;
+
+pub use entries::Entries;
+pub use journal::Journal;
+pub use keyed::{Key, Keyed, make_room};
+pub use marks::Marks;
+pub use slots::Slots;
+pub use table::{Table, put_back};

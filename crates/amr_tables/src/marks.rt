@@ -1,0 +1,71 @@
+//! Marks beside numbered places, all of which are taken away at once.
+ghost use Rattle.std.specs.Prelude.{◌≡◌, ◌<◌, [], ◌∷◌, ◌++◌, length, not, false, true, map, OnOk, OnErr};
+ghost use Rattle.std.specs.Prelude.{slice_set};
+ghost use Rattle.amr_tables.specs.Marked.{is_marked};
+
+use std::alloc::{AllocError, Global};
+use std::marker::Model;
+
+/// A mark beside each of some numbered places. A place is marked while its stamp is the present one, so that a new stamp takes all marks away.
+#[derive(Drop)]
+pub struct Marks {
+    stamps: Vec<u64>,
+    present: u64,
+}
+
+impl Model for Marks {
+    ghost use Rattle.std.specs.Prelude.{◌<◌, List, Bool, map, nat_eq};
+    ghost use Rattle.std.specs.Coded.{coded_list, coded_bool};
+    ghost use Rattle.std.specs.List.{All};
+    ghost use Rattle.std.specs.Prelude.{◌≤◌};
+
+    ghost Value = { List Bool };
+
+    ghost view = { λ marks. map (λ stamp. nat_eq stamp marks.present) marks.stamps.items };
+
+    ghost invariant = { λ marks. (0 < marks.present) × All (λ stamp. stamp ≤ marks.present) marks.stamps.items };
+}
+
+impl Marks {
+    /// No place.
+    pub fn new(alloc: Global) -> Marks
+        ensures { result ≡ [] }
+    {
+        Marks {
+            stamps: Vec::new(alloc),
+            present: 1,
+        }
+    }
+
+    /// Adds a place without a mark.
+    pub fn add_place(&mut self) -> Result<(), AllocError>
+        ensures ok { OnOk result (self.new ≡ self.old ++ false ∷ []) }
+        ensures err { OnErr result (self.new ≡ self.old) }
+    {
+        self.stamps.push(0)?;
+        Ok(())
+    }
+
+    /// Marks a place, and returns whether it wasn't marked before.
+    pub fn mark(&mut self, place: usize) -> bool
+        requires { place < length self.old }
+        ensures first { result ≡ not (is_marked self.old place) }
+        ensures marked { self.new ≡ slice_set self.old place true }
+    {
+        let is_first = self.stamps[place] != self.present;
+        self.stamps[place] = self.present;
+        is_first
+    }
+
+    /// Takes all marks away.
+    pub fn clear(&mut self)
+        ensures { self.new ≡ map (λ _. false) self.old }
+    {
+        if self.present == u64::MAX {
+            self.stamps.fill(0);
+            self.present = 1;
+        } else {
+            self.present += 1;
+        }
+    }
+}

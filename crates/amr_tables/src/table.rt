@@ -1,0 +1,64 @@
+//! Tables of places, each with a value or none.
+ghost use Rattle.std.specs.Prelude.{◌≡◌, Bool, Option, IsTrue, OnOk, OnErr};
+ghost use Rattle.std.specs.Option.{option_copied};
+
+use std::alloc::AllocError;
+
+/// A table of places. A place is made once and never lost; what is at a place is moved in and out, never copied.
+pub trait Table {
+    type Key: Copy + Drop;
+
+    type Value;
+
+    /// The value at a key, if there is one.
+    ghost look_at: { Self → Self.Key → Option Self.Value };
+
+    /// Whether the key has a place.
+    ghost is_placed: { Self → Self.Key → Bool };
+
+    /// The table with another value, or none, at a key.
+    ghost displaced: { Self → Self.Key → Option Self.Value → Self };
+
+    /// Returns the value at a key.
+    fn look(&self, key: Self::Key) -> Option<&Self::Value>
+        ensures { option_copied result ≡ look_at self.now key };
+
+    /// Returns whether the key has a place.
+    fn has_place(&self, key: Self::Key) -> bool
+        ensures { result ≡ is_placed self.now key };
+
+    /// Makes a place for the key, without a value, unless it has one.
+    fn make_place(&mut self, key: Self::Key) -> Result<(), AllocError>
+        ensures made { OnOk result (IsTrue (is_placed self.new key)) }
+        ensures places { (k : Self.Key) → IsTrue (is_placed self.old k) → IsTrue (is_placed self.new k) }
+        ensures values { (k : Self.Key) → look_at self.new k ≡ look_at self.old k }
+        ensures err { OnErr result (self.new ≡ self.old) };
+
+    /// Puts a value, or none, at a key, and returns what was there. It takes no memory.
+    fn displace(&mut self, key: Self::Key, value: Option<Self::Value>) -> Option<Self::Value>
+        requires { IsTrue (is_placed self.old key) }
+        ensures answer { result ≡ look_at self.old key }
+        ensures table { self.new ≡ displaced self.old key value };
+
+    /// Displacing what was returned gives back the table as it was.
+    ghost back: { (t : Self) (k : Self.Key) (v : Option Self.Value) →
+        IsTrue (is_placed t k) → displaced (displaced t k v) k (look_at t k) ≡ t };
+
+    /// Displacing loses no place and makes none.
+    ghost keeps_places: { (t : Self) (k : Self.Key) (v : Option Self.Value) (j : Self.Key) →
+        is_placed (displaced t k v) j ≡ is_placed t j };
+
+    /// The new value is at the key.
+    ghost at_key: { (t : Self) (k : Self.Key) (v : Option Self.Value) →
+        IsTrue (is_placed t k) → look_at (displaced t k v) k ≡ v };
+}
+
+/// Puts back what was displaced at a key, and drops what is there.
+pub fn put_back<T: Table>(table: &mut T, key: T::Key, value: Option<T::Value>)
+where
+    T::Value: Drop,
+    requires { IsTrue (T.is_placed table.old key) }
+    ensures { table.new ≡ T.displaced table.old key value }
+{
+    let _ = table.displace(key, value);
+}
