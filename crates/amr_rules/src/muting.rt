@@ -1,5 +1,5 @@
 //! What mutes an alert: inhibition rules with their sources, and silences.
-ghost use Rattle.std.specs.Prelude.{◌≡◌, ◌&&◌, IfOk, is_some};
+ghost use Rattle.std.specs.Prelude.{◌≡◌, true, IfOk, is_some};
 ghost use Rattle.std.specs.Option.{option_copied};
 ghost use Rattle.std.specs.Ordering.{eq_by_cmp, nat_cmp};
 ghost use Rattle.amr_labels.specs.Labels.{text_cmp, label_set_cmp, value_of};
@@ -34,42 +34,33 @@ fn agree_on(names: &[Text], a: &Labels, b: &Labels) -> bool
     names.iter().all(|name| agree_at(name, a, b))
 }
 
-/// Whether a rule's source matchers hold on some labels, and its target matchers on others.
-fn matches_both(
+/// Returns whether a rule lets a source mute a target on which its target matchers hold. Labels that match both sides are
+/// not muted by a source that matches both sides, itself included. The labels that have to be equal are compared first, since a
+/// pattern costs far more.
+fn mutes_target(
     alloc: Global,
     rule: &InhibitRule,
     source: &Labels,
     target: &Labels,
+    is_source: bool,
 ) -> Result<bool, AllocError>
-    ensures { IfOk result (λ both. both ≡ (all_hold rule.now.target target.now && all_hold rule.now.source source.now)) }
-{
-    if rule.target.matches_all(alloc, target)? {
-        rule.source.matches_all(alloc, source)
-    } else {
-        Ok(false)
-    }
-}
-
-/// Whether a rule lets a source mute a target. Labels that match both sides are not muted by a source that matches
-/// both sides, itself included.
-fn rule_mutes(
-    alloc: Global,
-    rule: &InhibitRule,
-    source: &Labels,
-    target: &Labels,
-) -> Result<bool, AllocError>
+    requires target { all_hold rule.now.target target.now ≡ true }
+    requires source { is_source ≡ all_hold rule.now.source target.now }
     ensures { IfOk result (λ mutes. mutes ≡ rule_mutes rule.now source.now target.now) }
 {
-    if !matches_both(alloc, rule, source, target)?
-        || !agree_on(rule.equal.as_slice(), source, target)
+    if !agree_on(rule.equal.as_slice(), source, target)
+        || !rule.source.matches_all(alloc, source)?
     {
         return Ok(false);
     }
-    let both_ways = matches_both(alloc, rule, target, source)?;
-    Ok(!both_ways)
+    if !is_source {
+        return Ok(true);
+    }
+    let is_target = rule.target.matches_all(alloc, source)?;
+    Ok(!is_target)
 }
 
-/// Whether a stored alert mutes a target by a rule.
+/// Returns whether a stored alert mutes, by a rule, a target on which the rule's target matchers hold.
 fn inhibits(
     alloc: Global,
     now: Moment,
@@ -77,16 +68,19 @@ fn inhibits(
     source: &Labels,
     alert: &Alert,
     target: &Labels,
+    is_source: bool,
 ) -> Result<bool, AllocError>
+    requires target { all_hold rule.now.target target.now ≡ true }
+    requires source { is_source ≡ all_hold rule.now.source target.now }
     ensures { IfOk result (λ mutes. mutes ≡ inhibits now rule.now (source.now, alert.now) target.now) }
 {
     if alert.is_resolved_at(now) {
         return Ok(false);
     }
-    rule_mutes(alloc, rule, source, target)
+    mutes_target(alloc, rule, source, target, is_source)
 }
 
-/// The least label set of a stored alert that mutes a target by a rule.
+/// Returns the least label set of a stored alert that mutes a target by a rule.
 fn inhibitor_by<'a>(
     alloc: Global,
     now: Moment,
@@ -96,8 +90,28 @@ fn inhibitor_by<'a>(
 ) -> Result<Option<&'a Labels>, AllocError>
     ensures { IfOk result (λ found. option_copied found ≡ inhibitor_by now target.now (shown label_set_cmp alerts.now) rule.now) }
 {
+    if !rule.target.matches_all(alloc, target)? {
+        return Ok(None);
+    }
+    let is_source = rule.source.matches_all(alloc, target)?;
+    first_source(alloc, now, target, is_source, alerts, rule)
+}
+
+/// Returns the least label set of a stored alert that mutes a target on which the rule's target matchers hold.
+fn first_source<'a>(
+    alloc: Global,
+    now: Moment,
+    target: &Labels,
+    is_source: bool,
+    alerts: &'a Keyed<Labels, Alert>,
+    rule: &InhibitRule,
+) -> Result<Option<&'a Labels>, AllocError>
+    requires target { all_hold rule.now.target target.now ≡ true }
+    requires source { is_source ≡ all_hold rule.now.source target.now }
+    ensures { IfOk result (λ found. option_copied found ≡ inhibitor_by now target.now (shown label_set_cmp alerts.now) rule.now) }
+{
     for (source, alert) in alerts.iter() {
-        if inhibits(alloc, now, rule, source, alert, target)? {
+        if inhibits(alloc, now, rule, source, alert, target, is_source)? {
             return Ok(Some(source));
         }
     }

@@ -39,10 +39,7 @@ pub fn set_silence(
 }
 
 /// Returns the stored silence that a post names.
-fn named<'a>(
-    silences: &'a Keyed<SilenceId, Silence>,
-    posted: &PostedSilence,
-) -> Option<&'a Silence>
+fn named<'a>(silences: &'a Keyed<SilenceId, Silence>, posted: &PostedSilence) -> Option<&'a Silence>
     ensures { option_copied result ≡ named_silence posted.now (shown nat_cmp silences.now) }
 {
     silences.get(&posted.id?)

@@ -4,7 +4,7 @@ use Rattle.amr_labels.specs.Map.{entries}
 use Rattle.amr_labels.specs.Labels.{label_set_cmp}
 use Rattle.amr_tables.specs.Numbered.{shown}
 use Rattle.amr_rules.specs.Muting.{inhibits}
-use Rattle.amr_rules.proofs.muting.inhibitor_by.Given as goal
+use Rattle.amr_rules.proofs.muting.first_source.Given as goal
 
 -- the first of what is left is the first of all
 abbrev pub invariant-loop-source : goal.invariant-loop-source
