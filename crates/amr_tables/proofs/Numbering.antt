@@ -323,7 +323,14 @@ module _ {K V : Type 0} {R : K → K → Ordering} (o : IsTotalOrder R) where
   unfolding has_place
   placed-added t k q n = ap is_some (find-put R o q k n t.numbers) ∙ some_either (eq_by_cmp R q k) n (find R q t.numbers)
 
+some_of : {A : Type 0} (f : A → Bool) (o : Option A) → option_map_or f o false ≡ true → IsTrue (is_some o)
+some_of f None e = cc
+some_of f (Some x) e = refl
 
+-- what is entered has a place
+pub entered-placed : {K V : Type 0} (R : K → K → Ordering) (t : Numbered K V) (k : K) → is_entered R t k ≡ true → IsTrue (has_place R t k)
+unfolding is_entered has_place
+entered-placed R t k e = some_of (is_marked t.marks) (find R k t.numbers) e
 
 pub none_of : {A : Type 0} (x : Option A) → is_some x ≡ false → x ≡ None
 none_of None e = refl
