@@ -163,6 +163,7 @@ pub fn change<K: Key + Exact + Drop, V: Drop, E>(
     ensures entry { IfOk result (λ entry. entry ≡ entry_of K.cmp table.old key.now) }
     ensures shown { OnOk result (shown K.cmp table.new ≡ map.set (shown K.cmp table.old) key.now value) }
     ensures entered { OnOk result (Enters K.cmp table.old table.new key.now) }
+    ensures made { OnOk result (IsTrue (has_place K.cmp table.new key.now)) }
     ensures err { OnErr result (IsUnchanged K.cmp table.old table.new) }
     ensures places { (other : K) → IsTrue (has_place K.cmp table.old other) → IsTrue (has_place K.cmp table.new other) }
     ensures room { IfOk result (λ entry. IsTrue (is_some entry) → 0 < journal.new.entry_room) }
