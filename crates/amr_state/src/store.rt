@@ -367,7 +367,7 @@ impl Store {
         ensures kept { undone self.new ≡ undone self.old }
     {
         let entry = change(&mut self.tables.silences, &mut self.journal, &id, silence)?;
-        if let Some((id, was)) = entry {
+        if let Some((_, was)) = entry {
             self.journal.push(Displaced::WasSilence(id, was));
         }
         Ok(())
