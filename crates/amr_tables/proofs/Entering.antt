@@ -1,6 +1,6 @@
 -- What a change of a key enters into the open record.
 use Rattle.std.proofs.Common.{◌≡◌, Bool, true, false, Option, None, Some, IsTrue, refl, sym, subst}
-use Rattle.std.specs.Prelude.{if◌then◌else◌, ◌||◌, unwrap_or}
+use Rattle.std.specs.Prelude.{if◌then◌else◌, ◌||◌}
 use Rattle.std.specs.declared.cmp.Ordering.{Ordering}
 use Rattle.std.specs.Ordering.{eq_by_cmp}
 use Rattle.std.specs.FinMap.{IsAntisymmetric}

@@ -1,6 +1,6 @@
 -- What a numbering of keys shows, and how it changes.
-use Rattle.std.proofs.Common.{◌≡◌, ℕ, zero, suc, ◌+◌, ◌<◌, ◌≤◌, Bool, true, false, cond, T, List, [], ◌∷◌, ◌++◌, Option, None, Some, length, refl, sym, ap, subst, ◌∙◌, arith, slice_set, slice_get, nat_lt, set, get_or, is_some, IsTrue, map}
-use Rattle.std.specs.Prelude.{option_map, option_and_then, unwrap_or, ◌||◌, not}
+use Rattle.std.proofs.Common.{◌≡◌, ℕ, zero, suc, ◌+◌, ◌<◌, ◌≤◌, Bool, true, false, cond, T, List, [], ◌∷◌, ◌++◌, Option, None, Some, length, refl, sym, ap, subst, ◌∙◌, arith, slice_set, is_some, IsTrue, map}
+use Rattle.std.specs.Prelude.{option_map, option_and_then, unwrap_or, ◌||◌}
 use Rattle.std.specs.Option.{option_or, option_map_or}
 use Rattle.std.specs.List.{filter_map, cons_option}
 use Rattle.std.specs.declared.cmp.Ordering.{Ordering}
@@ -14,9 +14,8 @@ use Rattle.amr_labels.proofs.Sorted.{both, first, second, less}
 use Rattle.amr_labels.specs.Map.{Map, from_sorted, entries, get, empty, same_map, same_entries_map, entries-from_sorted, get-entries, get-set}
 use Rattle.amr_labels.specs.Map as map
 use Rattle.amr_tables.specs.Places.{value_at}
-use Rattle.amr_tables.specs.Laws.{at_law, value_is}
 use Rattle.amr_tables.specs.Marked.{is_marked}
-use Rattle.amr_tables.specs.Numbered.{Numbered, entry_at, number_of, has_place, is_entered, shown, IsNumbering}
+use Rattle.amr_tables.specs.Numbered.{Numbered, entry_at, has_place, is_entered, shown, IsNumbering}
 
 either_way : {A : Type 0} (b : Bool) (x : A) → x ≡ cond b x x
 either_way true x = refl
@@ -191,7 +190,6 @@ filter_map-put R f k n (e ∷ es) none is =
       | Equal ↦ λ p h. absurd (some_is_none e.1 h)
       | Greater ↦ λ p h. ap (cons_option (f e)) (filter_map-put R f k n es none h)
     ] refl is
-
 
 filter_map-same : {A B : Type 0} (f g : A → Option B) (xs : List A) → ((x : A) → f x ≡ g x) → filter_map f xs ≡ filter_map g xs
 filter_map-same f g [] h = refl

@@ -1,5 +1,5 @@
 -- Values under numbered keys.
-use Rattle.std.specs.Prelude.{◌≡◌, ℕ, Bool, false, List, Option, None, Some, if◌then◌else◌, is_some, ◌||◌, option_map, option_and_then, unwrap_or, ◌<◌, ◌≤◌, T, length, refl, slice_set, slice_get}
+use Rattle.std.specs.Prelude.{◌≡◌, ℕ, Bool, false, List, Option, None, Some, if◌then◌else◌, is_some, ◌||◌, option_map, ◌<◌, ◌≤◌, T, length, refl}
 use Rattle.std.specs.Option.{option_map_or}
 use Rattle.std.specs.List.{filter_map}
 use Rattle.std.specs.declared.cmp.Ordering.{Ordering}

@@ -1,7 +1,7 @@
-use Rattle.std.proofs.Common.{◌≡◌, Bool, true, false, None, Some, Option, is_some, IsTrue, sym, ap, subst, ◌∙◌}
+use Rattle.std.proofs.Common.{None, Some, IsTrue, sym, ap, subst, ◌∙◌}
 use Rattle.std.specs.Prelude.{if◌then◌else◌}
 use Rattle.amr_labels.specs.Map as map
-use Rattle.amr_tables.specs.Numbered.{shown, has_place, is_entered, entry_of}
+use Rattle.amr_tables.specs.Numbered.{shown, entry_of}
 use Rattle.amr_tables.proofs.Numbering.{entered-placed}
 use Rattle.amr_tables.proofs.keyed.change.Goals as goal
 
