@@ -1,27 +1,32 @@
--- Records that can be put back.
-use Rattle.std.proofs.Common.{◌≡◌, ◌≤◌, ℕ, List, [], ◌∷◌, ◌++◌, IsTrue, subst, sym}
+-- Records that can be put back, and places that are marked.
+use Rattle.std.proofs.Common.{◌≡◌, ◌≤◌, ℕ, Bool, true, false, ◌||◌, List, [], ◌∷◌, ◌++◌, Option, Some, None, IsTrue, refl, subst, sym, ap, ◌∙◌, length, length-append, arith}
+use Rattle.std.proofs.Math.Nat.{le_refl}
 use Rattle.std.specs.List.{AllByRecursion}
 use Rattle.std.specs.Ordering.{nat_cmp}
 use Rattle.amr_labels.specs.Labels.{LabelSet, label_set_cmp}
 use Rattle.amr_time.specs.Time.{latest_read}
-use Rattle.amr_tables.specs.Numbered.{has_place}
+use Rattle.amr_tables.specs.Numbered.{shown, is_entered}
 use Rattle.amr_state.specs.declared.spot.Spot.{Spot}
 use Rattle.amr_state.specs.declared.note.LogKey.{LogKey}
+use Rattle.amr_state.specs.declared.note.Clock.{Clock}
+use Rattle.amr_state.specs.declared.note.Note.{Note}
+use Rattle.amr_config.specs.Config.{Config}
+use Rattle.amr_rules.specs.declared.alert.Alert.{Alert}
+use Rattle.amr_rules.specs.declared.silence.Silence.{Silence}
+use Rattle.amr_rules.specs.declared.update.LogEntry.{LogEntry}
 use Rattle.amr_state.specs.declared.displaced.Displaced.{Displaced}
 use Rattle.amr_state.specs.declared.displaced.Displaced.TheVariants.{WasMoment, WasConfig, WasAlert, WasSilence, WasPlacement, WasClock, WasLogged, WasNotes}
-use Rattle.amr_state.specs.State.{spot_cmp, log_key_cmp}
+use Rattle.amr_state.specs.declared.tables.Tables.{Tables}
+use Rattle.amr_state.specs.State.{State, spot_cmp, log_key_cmp}
+use Rattle.amr_state.specs.Records.{put_back_one, put_back, present, same_place, has_entry, IsNoNote, NotesEntered}
+use Rattle.amr_state.specs.Kept.{Kept, undone}
 use Rattle.amr_state.specs.declared.store.Store.TheInside.{Inside}
-use Rattle.amr_state.specs.Stored.{IsSound, AreSound, IsKept}
+use Rattle.amr_state.specs.Stored.{state_of, kept_of, IsSound, AreSound, MorePlaces, SameValues, is_marked_at, IsUnmarked, IsKept}
+use Rattle.amr_state.proofs.Undoing.{put_back-push, put_back-entered, put_back-appended, covered, covered_note, notes_entered-more, notes_entered-push, has_entry-push, has_entry-last, same_undone}
 
--- places are never lost
-pub record MorePlaces (a b : Inside) : Type 0 where
-  pub alerts : (k : LabelSet) → IsTrue (has_place label_set_cmp a.alerts k) → IsTrue (has_place label_set_cmp b.alerts k)
-  pub silences : (k : ℕ) → IsTrue (has_place nat_cmp a.silences k) → IsTrue (has_place nat_cmp b.silences k)
-  pub placements : (k : Spot) → IsTrue (has_place spot_cmp a.placements k) → IsTrue (has_place spot_cmp b.placements k)
-  pub clocks : (k : Spot) → IsTrue (has_place spot_cmp a.clocks k) → IsTrue (has_place spot_cmp b.clocks k)
-  pub log : (k : LogKey) → IsTrue (has_place log_key_cmp a.log k) → IsTrue (has_place log_key_cmp b.log k)
+-- ---- places
 
-sound-more : (a b : Inside) → MorePlaces a b → (e : Displaced) → IsSound a e → IsSound b e
+sound-more : (a b : Tables) → MorePlaces a b → (e : Displaced) → IsSound a e → IsSound b e
 sound-more a b more (WasMoment moment) h = h
 sound-more a b more (WasConfig config) h = h
 sound-more a b more (WasAlert labels alert) h = more.alerts labels h
@@ -31,11 +36,11 @@ sound-more a b more (WasClock group clock) h = more.clocks group h
 sound-more a b more (WasLogged key entry) h = more.log key h
 sound-more a b more (WasNotes count) h = h
 
-pub all-more : (a b : Inside) → MorePlaces a b → (es : List Displaced) → AreSound a es → AreSound b es
+pub all-more : (a b : Tables) → MorePlaces a b → (es : List Displaced) → AreSound a es → AreSound b es
 all-more a b more [] h = h
 all-more a b more (e ∷ es) h = (sound-more a b more e h.0, all-more a b more es h.1)
 
-closed-more : (a b : Inside) → MorePlaces a b → (rs : List (List Displaced)) → AllByRecursion (AreSound a) rs → AllByRecursion (AreSound b) rs
+closed-more : (a b : Tables) → MorePlaces a b → (rs : List (List Displaced)) → AllByRecursion (AreSound a) rs → AllByRecursion (AreSound b) rs
 closed-more a b more [] h = h
 closed-more a b more (r ∷ rs) h = (all-more a b more r h.0, closed-more a b more rs h.1)
 
@@ -47,54 +52,161 @@ pub all-pop : {A : Type 0} (P : A → Type 0) (xs : List A) (x : A) → AllByRec
 all-pop P [] x h = (tt, h.0)
 all-pop P (y ∷ xs) x h = let rest = all-pop P xs x h.1 in ((h.0, rest.0), rest.1)
 
--- the open record is another one, and no place was lost
-pub kept_with : (a b : Inside) → IsKept a → MorePlaces a b → b.moment ≤ latest_read → b.journal.closed ≡ a.journal.closed → AreSound b b.journal.current → IsKept b
-kept_with a b kept more moment closed current = record {
+-- ---- marks
+
+-- what holds at each kind of place holds at all
+pub by_place : (P : Displaced → Type 0) → ((m : ℕ) → P (WasMoment m)) → ((c : Config) → P (WasConfig c)) → ((k : LabelSet) (v : Option Alert) → P (WasAlert k v))
+    → ((k : ℕ) (v : Option Silence) → P (WasSilence k v)) → ((k : Spot) (v : Option Alert) → P (WasPlacement k v)) → ((k : Spot) (v : Option Clock) → P (WasClock k v))
+    → ((k : LogKey) (v : Option LogEntry) → P (WasLogged k v)) → ((n : ℕ) → P (WasNotes n)) → (place : Displaced) → P place
+by_place P m c a s p k l n (WasMoment x) = m x
+by_place P m c a s p k l n (WasConfig x) = c x
+by_place P m c a s p k l n (WasAlert x v) = a x v
+by_place P m c a s p k l n (WasSilence x v) = s x v
+by_place P m c a s p k l n (WasPlacement x v) = p x v
+by_place P m c a s p k l n (WasClock x v) = k x v
+by_place P m c a s p k l n (WasLogged x v) = l x v
+by_place P m c a s p k l n (WasNotes x) = n x
+
+-- no mark is new
+abbrev pub NoNewMark : Tables → Tables → Displaced → Type 0
+NoNewMark a b place = IsTrue (is_marked_at b place) → IsTrue (is_marked_at a place)
+
+-- no mark is new but that at an entry's place
+abbrev pub NewMarkAt : Displaced → Tables → Tables → Displaced → Type 0
+NewMarkAt e a b place = IsTrue (is_marked_at b place) → IsTrue (same_place place e || is_marked_at a place)
+
+either : (a b : Bool) (P : Type 0) → (IsTrue a → P) → (IsTrue b → P) → IsTrue (a || b) → P
+either true b P f g h = f refl
+either false b P f g h = g h
+
+not_so : (b : Bool) (P : Type 0) → b ≡ false → IsTrue b → P
+not_so true P e h = cc
+not_so false P e h = cc
+
+-- ---- the invariant after a change
+
+-- the open record is as it was
+pub kept_same : (a b : Inside) → IsKept a → MorePlaces a.tables b.tables → b.moment ≤ latest_read → b.journal.closed ≡ a.journal.closed → b.journal.current ≡ a.journal.current
+    → ((place : Displaced) → NoNewMark a.tables b.tables place) → length a.notes.items ≤ length b.notes.items → IsKept b
+kept_same a b kept more moment closed current marks notes = record {
   moment = moment;
-  current = current;
-  closed = subst (AllByRecursion (AreSound b)) (sym closed) (closed-more a b more a.journal.closed kept.closed);
+  current = subst (AreSound b.tables) (sym current) (all-more a.tables b.tables more a.journal.current kept.current);
+  closed = subst (AllByRecursion (AreSound b.tables)) (sym closed) (closed-more a.tables b.tables more a.journal.closed kept.closed);
+  marked = λ place h. subst (λ es. IsTrue (has_entry es place)) (sym current) (kept.marked place (marks place h));
+  notes = λ h. subst (λ es. NotesEntered es (length b.notes.items)) (sym current) (notes_entered-more a.journal.current (length a.notes.items) (length b.notes.items) notes (kept.notes (marks (WasNotes 0) h)));
 }
 
--- an entry is pushed
-pub kept_pushed : (a b : Inside) (e : Displaced) → IsKept a → MorePlaces a b → b.moment ≤ latest_read → b.journal.closed ≡ a.journal.closed → b.journal.current ≡ a.journal.current ++ e ∷ [] → IsSound b e → IsKept b
-kept_pushed a b e kept more moment closed current sound =
-    kept_with a b kept more moment closed (subst (AreSound b) (sym current) (all-push (IsSound b) a.journal.current e (all-more a b more a.journal.current kept.current) sound))
+-- so are the moment and the notifications
+pub kept_grown : (a b : Inside) → IsKept a → MorePlaces a.tables b.tables → b.moment ≡ a.moment → b.journal.closed ≡ a.journal.closed → b.journal.current ≡ a.journal.current
+    → ((place : Displaced) → NoNewMark a.tables b.tables place) → b.notes.items ≡ a.notes.items → IsKept b
+kept_grown a b kept more moment closed current marks notes =
+    kept_same a b kept more (subst (λ m. m ≤ latest_read) (sym moment) kept.moment) closed current marks (subst (λ items. length a.notes.items ≤ length items) (sym notes) (le_refl (length a.notes.items)))
 
--- only places were made
-pub kept_grown : (a b : Inside) → IsKept a → MorePlaces a b → b.moment ≡ a.moment → b.journal.closed ≡ a.journal.closed → b.journal.current ≡ a.journal.current → IsKept b
-kept_grown a b kept more moment closed current =
-    kept_with a b kept more (subst (λ m. m ≤ latest_read) (sym moment) kept.moment) closed (subst (AreSound b) (sym current) (all-more a b more a.journal.current kept.current))
+-- an entry is pushed
+pub kept_pushed : (a b : Inside) (e : Displaced) → IsKept a → MorePlaces a.tables b.tables → b.moment ≤ latest_read → b.journal.closed ≡ a.journal.closed → b.journal.current ≡ a.journal.current ++ e ∷ []
+    → IsSound b.tables e → ((place : Displaced) → NewMarkAt e a.tables b.tables place) → (IsTrue b.tables.are_notes_entered → NotesEntered (a.journal.current ++ e ∷ []) (length b.notes.items)) → IsKept b
+kept_pushed a b e kept more moment closed current sound marks notes = record {
+  moment = moment;
+  current = subst (AreSound b.tables) (sym current) (all-push (IsSound b.tables) a.journal.current e (all-more a.tables b.tables more a.journal.current kept.current) sound);
+  closed = subst (AllByRecursion (AreSound b.tables)) (sym closed) (closed-more a.tables b.tables more a.journal.closed kept.closed);
+  marked = λ place h. subst (λ es. IsTrue (has_entry es place)) (sym current) (
+    either (same_place place e) (is_marked_at a.tables place) _ (has_entry-last a.journal.current e place) (λ before. has_entry-push a.journal.current e place (kept.marked place before)) (marks place h));
+  notes = λ h. subst (λ es. NotesEntered es (length b.notes.items)) (sym current) (notes h);
+}
+
+-- one that is not of the notifications
+pub kept_entered : (a b : Inside) (e : Displaced) → IsKept a → MorePlaces a.tables b.tables → b.moment ≤ latest_read → b.journal.closed ≡ a.journal.closed → b.journal.current ≡ a.journal.current ++ e ∷ []
+    → IsSound b.tables e → ((place : Displaced) → NewMarkAt e a.tables b.tables place) → b.tables.are_notes_entered ≡ a.tables.are_notes_entered → b.notes.items ≡ a.notes.items → IsKept b
+kept_entered a b e kept more moment closed current sound marks flag notes =
+    kept_pushed a b e kept more moment closed current sound marks (λ h. subst (λ items. NotesEntered (a.journal.current ++ e ∷ []) (length items)) (sym notes) (notes_entered-push a.journal.current e (length a.notes.items) (kept.notes (subst IsTrue flag h))))
+
+-- another record is open, and no place is marked
+pub kept_unmarked : (b : Inside) → b.moment ≤ latest_read → AreSound b.tables b.journal.current → AllByRecursion (AreSound b.tables) b.journal.closed → IsUnmarked b.tables → IsKept b
+kept_unmarked b moment current closed unmarked = record {
+  moment = moment;
+  current = current;
+  closed = closed;
+  marked = λ place h. not_so (is_marked_at b.tables place) _ (unmarked place) h;
+  notes = λ h. not_so b.tables.are_notes_entered _ (unmarked (WasNotes 0)) h;
+}
 
 pub all-none : {A : Type 0} (P : A → Type 0) (xs : List A) → xs ≡ [] → AllByRecursion P xs
 all-none P xs e = subst (AllByRecursion P) (sym e) tt
 
 -- the open record is closed
-pub kept_closed : (a b : Inside) → IsKept a → MorePlaces a b → b.moment ≡ a.moment → b.journal.closed ≡ a.journal.closed ++ a.journal.current ∷ [] → b.journal.current ≡ [] → IsKept b
-kept_closed a b kept more moment closed current = record {
-  moment = subst (λ m. m ≤ latest_read) (sym moment) kept.moment;
-  current = all-none (IsSound b) b.journal.current current;
-  closed = subst (AllByRecursion (AreSound b)) (sym closed) (all-push (AreSound b) a.journal.closed a.journal.current (closed-more a b more a.journal.closed kept.closed) (all-more a b more a.journal.current kept.current));
-}
+pub kept_closed : (a b : Inside) → IsKept a → MorePlaces a.tables b.tables → IsUnmarked b.tables → b.moment ≡ a.moment → b.journal.closed ≡ a.journal.closed ++ a.journal.current ∷ [] → b.journal.current ≡ [] → IsKept b
+kept_closed a b kept more unmarked moment closed current =
+    kept_unmarked b (subst (λ m. m ≤ latest_read) (sym moment) kept.moment) (all-none (IsSound b.tables) b.journal.current current)
+    (subst (AllByRecursion (AreSound b.tables)) (sym closed) (
+      all-push (AreSound b.tables) a.journal.closed a.journal.current (closed-more a.tables b.tables more a.journal.closed kept.closed) (all-more a.tables b.tables more a.journal.current kept.current)))
+    unmarked
 
 -- the last record is the open one again
-pub kept_reopened : (a b : Inside) → IsKept a → MorePlaces a b → b.moment ≡ a.moment → a.journal.closed ≡ b.journal.closed ++ b.journal.current ∷ [] → IsKept b
-kept_reopened a b kept more moment closed =
-    let parts = all-pop (AreSound b) b.journal.closed b.journal.current (subst (AllByRecursion (AreSound b)) closed (closed-more a b more a.journal.closed kept.closed)) in
-    record { moment = subst (λ m. m ≤ latest_read) (sym moment) kept.moment; current = parts.1; closed = parts.0 }
-
--- all records are dropped
-pub kept_forgotten : (a b : Inside) → IsKept a → MorePlaces a b → b.moment ≡ a.moment → b.journal.closed ≡ [] → b.journal.current ≡ a.journal.current → IsKept b
-kept_forgotten a b kept more moment closed current = record {
-  moment = subst (λ m. m ≤ latest_read) (sym moment) kept.moment;
-  current = subst (AreSound b) (sym current) (all-more a b more a.journal.current kept.current);
-  closed = all-none (AreSound b) b.journal.closed closed;
-}
+pub kept_reopened : (a b : Inside) → IsKept a → MorePlaces a.tables b.tables → IsUnmarked b.tables → b.moment ≡ a.moment → a.journal.closed ≡ b.journal.closed ++ b.journal.current ∷ [] → IsKept b
+kept_reopened a b kept more unmarked moment closed =
+    let parts = all-pop (AreSound b.tables) b.journal.closed b.journal.current (subst (AllByRecursion (AreSound b.tables)) closed (closed-more a.tables b.tables more a.journal.closed kept.closed)) in
+    kept_unmarked b (subst (λ m. m ≤ latest_read) (sym moment) kept.moment) parts.1 parts.0 unmarked
 
 -- the last entry of the open record can be put back
-pub last_is_sound : (a : Inside) (es : List Displaced) (e : Displaced) → IsKept a → a.journal.current ≡ es ++ e ∷ [] → IsSound a e
-last_is_sound a es e kept is = (all-pop (IsSound a) es e (subst (AreSound a) is kept.current)).1
+pub last_is_sound : (a : Inside) (es : List Displaced) (e : Displaced) → IsKept a → a.journal.current ≡ es ++ e ∷ [] → IsSound a.tables e
+last_is_sound a es e kept is = (all-pop (IsSound a.tables) es e (subst (AreSound a.tables) is kept.current)).1
 
 -- it is taken out
-pub kept_popped : (a b : Inside) (e : Displaced) → IsKept a → MorePlaces a b → b.moment ≤ latest_read → b.journal.closed ≡ a.journal.closed → a.journal.current ≡ b.journal.current ++ e ∷ [] → IsKept b
-kept_popped a b e kept more moment closed current =
-    kept_with a b kept more moment closed (all-more a b more b.journal.current (all-pop (IsSound a) b.journal.current e (subst (AreSound a) current kept.current)).0)
+pub kept_popped : (a b : Inside) (e : Displaced) → IsKept a → MorePlaces a.tables b.tables → IsUnmarked b.tables → b.moment ≤ latest_read → b.journal.closed ≡ a.journal.closed → a.journal.current ≡ b.journal.current ++ e ∷ [] → IsKept b
+kept_popped a b e kept more unmarked moment closed current =
+    kept_unmarked b moment (all-more a.tables b.tables more b.journal.current (all-pop (IsSound a.tables) b.journal.current e (subst (AreSound a.tables) current kept.current)).0)
+    (subst (AllByRecursion (AreSound b.tables)) (sym closed) (closed-more a.tables b.tables more a.journal.closed kept.closed)) unmarked
+
+-- all records are dropped
+pub kept_forgotten : (a b : Inside) → IsKept a → b.tables ≡ a.tables → b.moment ≡ a.moment → b.journal.closed ≡ [] → b.journal.current ≡ a.journal.current → b.notes.items ≡ a.notes.items → IsKept b
+kept_forgotten a b kept tables moment closed current notes = record {
+  moment = subst (λ m. m ≤ latest_read) (sym moment) kept.moment;
+  current = subst (λ t. AreSound t b.journal.current) (sym tables) (subst (AreSound a.tables) (sym current) kept.current);
+  closed = all-none (AreSound b.tables) b.journal.closed closed;
+  marked = λ place h. subst (λ es. IsTrue (has_entry es place)) (sym current) (kept.marked place (subst (λ t. IsTrue (is_marked_at t place)) tables h));
+  notes = λ h. subst (λ es. NotesEntered es (length b.notes.items)) (sym current) (subst (λ items. NotesEntered a.journal.current (length items)) (sym notes) (kept.notes (subst (λ (t : Tables). IsTrue t.are_notes_entered) tables h)));
+}
+
+-- ---- what the open record gives by being put back, after a change
+
+-- a place was changed, and its entry pushed
+pub undone_pushed : (a b : Inside) (change e : Displaced) → IsNoNote change → state_of b ≡ put_back_one (state_of a) change → e ≡ present (state_of a) change
+    → b.journal.current ≡ a.journal.current ++ e ∷ [] → b.journal.closed ≡ a.journal.closed → b.journal.record_room ≡ a.journal.record_room → undone (kept_of b) ≡ undone (kept_of a)
+undone_pushed a b change e place state entry current closed room =
+    same_undone (kept_of b) (kept_of a)
+    ((λ i. put_back (current i) (state i)) ∙ ap (λ x. put_back (a.journal.current ++ x ∷ []) (put_back_one (state_of a) change)) entry ∙ put_back-entered a.journal.current (state_of a) change place) closed room
+
+-- a place was changed that has an entry
+pub undone_covered : (a b : Inside) (change : Displaced) → IsKept a → IsNoNote change → IsTrue (is_marked_at a.tables change) → state_of b ≡ put_back_one (state_of a) change
+    → b.journal.current ≡ a.journal.current → b.journal.closed ≡ a.journal.closed → b.journal.record_room ≡ a.journal.record_room → undone (kept_of b) ≡ undone (kept_of a)
+undone_covered a b change kept place marked state current closed room =
+    same_undone (kept_of b) (kept_of a) ((λ i. put_back (current i) (state i)) ∙ covered a.journal.current change (state_of a) place (kept.marked change marked)) closed room
+
+-- the first notification of a record was appended, and their number before entered
+pub undone_appended : (a b : Inside) (note : Note) (count : ℕ) → state_of b ≡ record (state_of a) { notes = a.notes.items ++ note ∷ [] } → count ≡ length a.notes.items
+    → b.journal.current ≡ a.journal.current ++ WasNotes count ∷ [] → b.journal.closed ≡ a.journal.closed → b.journal.record_room ≡ a.journal.record_room → undone (kept_of b) ≡ undone (kept_of a)
+undone_appended a b note count state is current closed room =
+    same_undone (kept_of b) (kept_of a)
+    ((λ i. put_back (current i) (state i)) ∙ ap (λ n. put_back (a.journal.current ++ WasNotes n ∷ []) (record (state_of a) { notes = a.notes.items ++ note ∷ [] })) is
+    ∙ put_back-appended a.journal.current (state_of a) note) closed room
+
+-- a later one was appended
+pub undone_noted : (a b : Inside) (note : Note) → IsKept a → IsTrue a.tables.are_notes_entered → state_of b ≡ record (state_of a) { notes = a.notes.items ++ note ∷ [] }
+    → b.journal.current ≡ a.journal.current → b.journal.closed ≡ a.journal.closed → b.journal.record_room ≡ a.journal.record_room → undone (kept_of b) ≡ undone (kept_of a)
+undone_noted a b note kept marked state current closed room =
+    same_undone (kept_of b) (kept_of a) ((λ i. put_back (current i) (state i)) ∙ covered_note a.journal.current (state_of a) note (kept.notes marked)) closed room
+
+-- an entry was put back
+pub undone_popped : (a b : Inside) (e : Displaced) → state_of b ≡ put_back_one (state_of a) e → a.journal.current ≡ b.journal.current ++ e ∷ [] → b.journal.closed ≡ a.journal.closed → b.journal.record_room ≡ a.journal.record_room
+    → undone (kept_of b) ≡ undone (kept_of a)
+undone_popped a b e state current closed room =
+    same_undone (kept_of b) (kept_of a)
+    (ap (put_back b.journal.current) state ∙ sym (put_back-push b.journal.current e (state_of a)) ∙ ap (λ es. put_back es (state_of a)) (sym current)) closed room
+
+-- what is not some is none
+pub taken : {A : Type 0} (o : Option A) → ((x : A) → o ≡ Some x → ⊥) → None ≡ o
+taken None h = refl
+taken (Some x) h = absurd (h x refl)
+
+pub more_notes : (before after : List Note) (note : Note) → after ≡ before ++ note ∷ [] → length before ≤ length after
+more_notes before after note e = subst (λ items. length before ≤ length items) (sym e) (omega (arith, length-append before (note ∷ [])))

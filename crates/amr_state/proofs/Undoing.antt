@@ -1,9 +1,15 @@
--- How what an event displaced is put back.
-use Rattle.std.proofs.Common.{◌≡◌, ℕ, suc, List, [], ◌∷◌, ◌++◌, Option, length, take, refl, sym, ap, ◌∙◌}
-use Rattle.std.specs.Cmp.{nat_cmp_total}
-use Rattle.std.specs.FinMap.{nat_cmp-IsAntisymmetric}
+-- What an event displaces is put back: entry by entry, and a second entry of one place adds nothing.
+use Rattle.std.proofs.Common.{◌≡◌, ◌≤◌, ◌⊎◌, inl, inr, ℕ, suc, zero, ◌+◌, Bool, true, false, ◌||◌, List, [], ◌∷◌, ◌++◌, Option, refl, sym, ap, ap₂, subst, le_trans, ◌∙◌, arith, length, take, length-append}
 use Rattle.std.proofs.Math.Seq.{take-append_seam}
-use Rattle.amr_labels.specs.Map.{Map, set, set-back}
+use Rattle.std.proofs.lemmas.List.{take-append-le}
+use Rattle.std.specs.Prelude.{cond}
+use Rattle.std.specs.declared.cmp.Ordering.{Ordering}
+use Rattle.std.specs.Ordering.{eq_by_cmp}
+use Rattle.std.specs.Cmp.{IsTotalOrder, nat_cmp_total}
+use Rattle.std.specs.FinMap.{IsAntisymmetric, nat_cmp-IsAntisymmetric}
+use Rattle.std.proofs.lemmas.Cmp.{eq_by_cmp_equiv}
+use Rattle.std.proofs.lemmas.Map.Views.{tells_apart}
+use Rattle.amr_labels.specs.Map.{Map, get, set, get-set, set-back, same_map}
 use Rattle.amr_labels.specs.Labels.{label_set_cmp_total, label_set_cmp-IsAntisymmetric}
 use Rattle.amr_rules.specs.declared.alert.Alert.{Alert}
 use Rattle.amr_rules.specs.declared.update.LogEntry.{LogEntry}
@@ -14,7 +20,7 @@ use Rattle.amr_state.specs.declared.note.Note.{Note}
 use Rattle.amr_state.specs.declared.displaced.Displaced.{Displaced}
 use Rattle.amr_state.specs.declared.displaced.Displaced.TheVariants.{WasMoment, WasConfig, WasAlert, WasSilence, WasPlacement, WasClock, WasLogged, WasNotes}
 use Rattle.amr_state.specs.State.{State, spot_cmp, spot_cmp_total, spot_cmp-IsAntisymmetric, log_key_cmp, log_key_cmp_total, log_key_cmp-IsAntisymmetric}
-use Rattle.amr_state.specs.Records.{put_back_one, put_back, present, IsNoNote, befores, before_all}
+use Rattle.amr_state.specs.Records.{put_back_one, put_back, present, same_place, has_entry, IsNoNote, NotesEntered, befores, before_all}
 use Rattle.amr_state.specs.Kept.{Kept, undone}
 
 -- a record with one more entry is put back from that entry on
@@ -44,6 +50,154 @@ put_back-entered entries s change h = put_back-push entries (present s change) (
 
 pub put_back-appended : (entries : List Displaced) (s : State) (note : Note) → put_back (entries ++ WasNotes (length s.notes) ∷ []) (record s { notes = s.notes ++ note ∷ [] }) ≡ put_back entries s
 put_back-appended entries s note = put_back-push entries (WasNotes (length s.notes)) (record s { notes = s.notes ++ note ∷ [] }) ∙ ap (put_back entries) (put_back-note s note)
+
+-- ---- a second change of a place
+
+twice : {A : Type 0} (b : Bool) (x y z : A) → cond b x (cond b y z) ≡ cond b x z
+twice true x y z = refl
+twice false x y z = refl
+
+unlike : false ≡ true → ⊥
+unlike e = cc
+
+swapped : {A : Type 0} (a b : Bool) (x y z : A) → (a ≡ true → b ≡ true → ⊥) → cond a x (cond b y z) ≡ cond b y (cond a x z)
+swapped true true x y z h = absurd (h refl refl)
+swapped true false x y z h = refl
+swapped false true x y z h = refl
+swapped false false x y z h = refl
+
+module _ {K : Type 0} {R : K → K → Ordering} (o : IsTotalOrder R) (same : IsAntisymmetric R) where
+  not_both : (a b q : K) → eq_by_cmp R a b ≡ false → eq_by_cmp R q b ≡ true → eq_by_cmp R q a ≡ true → ⊥
+  not_both a b q f tb ta =
+      let e : a ≡ b = sym (tells_apart same q a ta) ∙ tells_apart same q b tb in
+      unlike (sym f ∙ subst (λ k. eq_by_cmp R a k ≡ true) e ((eq_by_cmp_equiv o).refl a))
+
+module _ {K X : Type 0} {R : K → K → Ordering} (o : IsTotalOrder R) (same : IsAntisymmetric R) where
+  -- of two values of one key the second counts
+  set-set : (m : Map R X) (a b : K) (v w : Option X) → eq_by_cmp R a b ≡ true → set (set m a v) b w ≡ set m b w
+  set-set m a b v w t = subst (λ k. set (set m a v) k w ≡ set m k w) (tells_apart same a b t) (same_map o same _ _ (λ q.
+      get-set o (set m a v) a w q ∙ ap (cond (eq_by_cmp R q a) w) (get-set o m a v q) ∙ twice (eq_by_cmp R q a) w v (get m q) ∙ sym (get-set o m a w q)))
+
+  -- values of two keys are set in any order
+  set-swap : (m : Map R X) (a b : K) (v w : Option X) → eq_by_cmp R a b ≡ false → set (set m a v) b w ≡ set (set m b w) a v
+  set-swap m a b v w f = same_map o same _ _ (λ q.
+      get-set o (set m a v) b w q ∙ ap (cond (eq_by_cmp R q b) w) (get-set o m a v q)
+      ∙ swapped (eq_by_cmp R q b) (eq_by_cmp R q a) w v (get m q) (not_both o same a b q f)
+      ∙ sym (get-set o (set m b w) a v q ∙ ap (cond (eq_by_cmp R q a) v) (get-set o m b w q)))
+
+-- of two values of one place the second counts
+pub overwrite : (s : State) (first second : Displaced) → same_place first second ≡ true → IsNoNote first → put_back_one (put_back_one s first) second ≡ put_back_one s second
+overwrite s (WasMoment a) (WasMoment b) t h = refl
+overwrite s (WasConfig a) (WasConfig b) t h = refl
+overwrite s (WasAlert a v) (WasAlert b w) t h = ap (λ (m : Alerts). record s { alerts = m }) (set-set label_set_cmp_total label_set_cmp-IsAntisymmetric s.alerts a b v w t)
+overwrite s (WasSilence a v) (WasSilence b w) t h = ap (λ (m : Silences). record s { silences = m }) (set-set nat_cmp_total nat_cmp-IsAntisymmetric s.silences a b v w t)
+overwrite s (WasPlacement a v) (WasPlacement b w) t h = ap (λ (m : Map spot_cmp Alert). record s { placements = m }) (set-set spot_cmp_total spot_cmp-IsAntisymmetric s.placements a b v w t)
+overwrite s (WasClock a v) (WasClock b w) t h = ap (λ (m : Map spot_cmp Clock). record s { clocks = m }) (set-set spot_cmp_total spot_cmp-IsAntisymmetric s.clocks a b v w t)
+overwrite s (WasLogged a v) (WasLogged b w) t h = ap (λ (m : Map log_key_cmp LogEntry). record s { log = m }) (set-set log_key_cmp_total log_key_cmp-IsAntisymmetric s.log a b v w t)
+overwrite s (WasNotes a) second t h = absurd h
+overwrite s first second t h = absurd (unlike t)
+
+-- values of two places are put back in any order
+pub commute : (s : State) (a b : Displaced) → same_place a b ≡ false → put_back_one (put_back_one s a) b ≡ put_back_one (put_back_one s b) a
+commute s (WasMoment a) (WasMoment b) f = absurd (unlike (sym f))
+commute s (WasConfig a) (WasConfig b) f = absurd (unlike (sym f))
+commute s (WasAlert a v) (WasAlert b w) f = ap (λ (m : Alerts). record s { alerts = m }) (set-swap label_set_cmp_total label_set_cmp-IsAntisymmetric s.alerts a b v w f)
+commute s (WasSilence a v) (WasSilence b w) f = ap (λ (m : Silences). record s { silences = m }) (set-swap nat_cmp_total nat_cmp-IsAntisymmetric s.silences a b v w f)
+commute s (WasPlacement a v) (WasPlacement b w) f = ap (λ (m : Map spot_cmp Alert). record s { placements = m }) (set-swap spot_cmp_total spot_cmp-IsAntisymmetric s.placements a b v w f)
+commute s (WasClock a v) (WasClock b w) f = ap (λ (m : Map spot_cmp Clock). record s { clocks = m }) (set-swap spot_cmp_total spot_cmp-IsAntisymmetric s.clocks a b v w f)
+commute s (WasLogged a v) (WasLogged b w) f = ap (λ (m : Map log_key_cmp LogEntry). record s { log = m }) (set-swap log_key_cmp_total log_key_cmp-IsAntisymmetric s.log a b v w f)
+commute s (WasNotes a) (WasNotes b) f = absurd (unlike (sym f))
+commute s a b f = refl
+
+take-swap : {A : Type 0} (m n : ℕ) (xs : List A) → take m (take n xs) ≡ take n (take m xs)
+take-swap zero zero xs = refl
+take-swap zero (suc n) xs = refl
+take-swap (suc m) zero xs = refl
+take-swap (suc m) (suc n) [] = refl
+take-swap (suc m) (suc n) (x ∷ xs) = ap (λ ys. x ∷ ys) (take-swap m n xs)
+
+passes_same : (e q : Displaced) (s t : State) → same_place e q ≡ true → put_back_one s q ≡ put_back_one t q → put_back_one (put_back_one s e) q ≡ put_back_one (put_back_one t e) q
+passes_same (WasNotes a) (WasNotes b) s t is h =
+    ap (λ (notes : List Note). record s { notes = notes }) (take-swap b a s.notes) ∙ ap (λ (x : State). put_back_one x (WasNotes a)) h
+    ∙ ap (λ (notes : List Note). record t { notes = notes }) (take-swap a b t.notes)
+passes_same (WasNotes a) q s t is h = absurd (unlike is)
+passes_same (WasMoment a) q s t is h = overwrite s (WasMoment a) q is tt ∙ h ∙ sym (overwrite t (WasMoment a) q is tt)
+passes_same (WasConfig a) q s t is h = overwrite s (WasConfig a) q is tt ∙ h ∙ sym (overwrite t (WasConfig a) q is tt)
+passes_same (WasAlert a v) q s t is h = overwrite s (WasAlert a v) q is tt ∙ h ∙ sym (overwrite t (WasAlert a v) q is tt)
+passes_same (WasSilence a v) q s t is h = overwrite s (WasSilence a v) q is tt ∙ h ∙ sym (overwrite t (WasSilence a v) q is tt)
+passes_same (WasPlacement a v) q s t is h = overwrite s (WasPlacement a v) q is tt ∙ h ∙ sym (overwrite t (WasPlacement a v) q is tt)
+passes_same (WasClock a v) q s t is h = overwrite s (WasClock a v) q is tt ∙ h ∙ sym (overwrite t (WasClock a v) q is tt)
+passes_same (WasLogged a v) q s t is h = overwrite s (WasLogged a v) q is tt ∙ h ∙ sym (overwrite t (WasLogged a v) q is tt)
+
+-- states that one entry makes alike it makes alike after another, too
+passes : (e q : Displaced) (s t : State) → put_back_one s q ≡ put_back_one t q → put_back_one (put_back_one s e) q ≡ put_back_one (put_back_one t e) q
+passes e q s t h =
+    elim (same_place e q) as (λ b. same_place e q ≡ b → put_back_one (put_back_one s e) q ≡ put_back_one (put_back_one t e) q) [
+      | true ↦ λ is. passes_same e q s t is h
+      | false ↦ λ f. commute s e q f ∙ ap (λ (x : State). put_back_one x e) h ∙ sym (commute t e q f)
+    ] refl
+
+passes_all : (entries : List Displaced) (q : Displaced) (s t : State) → put_back_one s q ≡ put_back_one t q → put_back_one (put_back entries s) q ≡ put_back_one (put_back entries t) q
+unfolding put_back
+passes_all [] q s t h = h
+passes_all (first ∷ rest) q s t h = passes first q (put_back rest s) (put_back rest t) (passes_all rest q s t h)
+
+-- a change of a place that has an entry adds nothing to what is put back
+pub covered : (entries : List Displaced) (change : Displaced) (s : State) → IsNoNote change → has_entry entries change ≡ true → put_back entries (put_back_one s change) ≡ put_back entries s
+unfolding put_back has_entry
+covered [] change s h t = absurd (unlike t)
+covered (first ∷ rest) change s h t =
+    elim (same_place change first) as (λ b. same_place change first ≡ b → (b || has_entry rest change) ≡ true → put_back (first ∷ rest) (put_back_one s change) ≡ put_back (first ∷ rest) s) [
+      | true ↦ λ is _. passes_all rest first (put_back_one s change) s (overwrite s change first is h)
+      | false ↦ λ _ t. ap (λ (x : State). put_back_one x first) (covered rest change s h t)
+    ] refl t
+
+-- nor does a notification after those that the record counts
+pub covered_note : (entries : List Displaced) (s : State) (note : Note) → NotesEntered entries (length s.notes) → put_back entries (record s { notes = s.notes ++ note ∷ [] }) ≡ put_back entries s
+unfolding put_back NotesEntered
+covered_note [] s note h = absurd h
+covered_note (first ∷ rest) s note (inr h) = ap (λ (x : State). put_back_one x first) (covered_note rest s note h)
+covered_note (WasNotes count ∷ rest) s note (inl within) =
+    passes_all rest (WasNotes count) (record s { notes = s.notes ++ note ∷ [] }) s (ap (λ (notes : List Note). record s { notes = notes }) (take-append-le count s.notes (note ∷ []) within))
+covered_note (first ∷ rest) s note (inl h) = absurd h
+
+-- a record that has entered the notifications keeps that with more notifications and more entries
+pub notes_entered-more : (entries : List Displaced) (m n : ℕ) → m ≤ n → NotesEntered entries m → NotesEntered entries n
+unfolding NotesEntered
+notes_entered-more [] m n le h = h
+notes_entered-more (first ∷ rest) m n le (inr h) = inr (notes_entered-more rest m n le h)
+notes_entered-more (WasNotes count ∷ rest) m n le (inl within) = inl (le_trans within le)
+notes_entered-more (first ∷ rest) m n le (inl h) = absurd h
+
+pub notes_entered-push : (entries : List Displaced) (e : Displaced) (n : ℕ) → NotesEntered entries n → NotesEntered (entries ++ e ∷ []) n
+unfolding NotesEntered
+notes_entered-push [] e n h = absurd h
+notes_entered-push (first ∷ rest) e n (inl h) = inl h
+notes_entered-push (first ∷ rest) e n (inr h) = inr (notes_entered-push rest e n h)
+
+pub notes_entered-last : (entries : List Displaced) (count n : ℕ) → count ≤ n → NotesEntered (entries ++ WasNotes count ∷ []) n
+unfolding NotesEntered
+notes_entered-last [] count n h = inl h
+notes_entered-last (first ∷ rest) count n h = inr (notes_entered-last rest count n h)
+
+or_left : (a b c : Bool) → (b ≡ true → c ≡ true) → (a || b) ≡ true → (a || c) ≡ true
+or_left true b c f h = refl
+or_left false b c f h = f h
+
+or_right : (a b : Bool) → b ≡ true → (a || b) ≡ true
+or_right true b h = refl
+or_right false b h = h
+
+-- a place that has an entry has one in a record with one entry more
+pub has_entry-push : (entries : List Displaced) (e place : Displaced) → has_entry entries place ≡ true → has_entry (entries ++ e ∷ []) place ≡ true
+unfolding has_entry
+has_entry-push [] e place h = absurd (unlike h)
+has_entry-push (first ∷ rest) e place h = or_left (same_place place first) _ _ (has_entry-push rest e place) h
+
+pub has_entry-last : (entries : List Displaced) (e place : Displaced) → same_place place e ≡ true → has_entry (entries ++ e ∷ []) place ≡ true
+unfolding has_entry
+has_entry-last [] e place h = ap (λ b. b || false) h
+has_entry-last (first ∷ rest) e place h = or_right (same_place place first) _ (has_entry-last rest e place h)
 
 pub put_back-none : (s : State) → put_back [] s ≡ s
 unfolding put_back

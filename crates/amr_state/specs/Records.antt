@@ -1,6 +1,6 @@
 -- The records of events: what each displaced, and how it is put back.
-use Rattle.std.specs.Prelude.{◌≡◌, ℕ, Bool, true, false, List, [], ◌∷◌, ◌++◌, Option, take, length, ◌≤◌}
-use Rattle.std.specs.List.{list_any, Contains}
+use Rattle.std.specs.Prelude.{◌≡◌, ◌≤◌, ◌⊎◌, ℕ, Bool, true, false, List, [], ◌∷◌, ◌++◌, Option, take, length}
+use Rattle.std.specs.List.{list_any}
 use Rattle.std.specs.Ordering.{nat_cmp, eq_by_cmp}
 use Rattle.amr_labels.specs.Map.{get, set}
 use Rattle.amr_labels.specs.Labels.{label_set_cmp}
@@ -56,6 +56,16 @@ abbrev pub IsNoNote : Displaced → Type 0
 IsNoNote (WasNotes count) = ⊥
 IsNoNote _ = Unit {0}
 
+-- an entry with at most this many notifications
+abbrev pub IsNotesWithin : ℕ → Displaced → Type 0
+IsNotesWithin n (WasNotes count) = count ≤ n
+IsNotesWithin n _ = ⊥
+
+-- a record has an entry for the notifications, made when there were at most this many
+unfoldable pub NotesEntered : List Displaced → ℕ → Type 0
+NotesEntered [] n = ⊥
+NotesEntered (first ∷ rest) n = IsNotesWithin n first ⊎ NotesEntered rest n
+
 -- the state before records, the oldest first, by the state after them
 unfoldable pub before_all : List (List Displaced) → State → State
 before_all [] s = s
@@ -65,7 +75,3 @@ before_all (first ∷ rest) s = put_back first (before_all rest s)
 unfoldable pub befores : List (List Displaced) → State → List State
 befores [] s = []
 befores (first ∷ rest) s = before_all (first ∷ rest) s ∷ befores rest s
-
--- the record has the number of notifications of before, and there are no fewer now
-abbrev pub NotesEntered : List Displaced → State → Type 0
-NotesEntered entries s = (count : ℕ) × (count ≤ length s.notes) × Contains entries (WasNotes count)

@@ -1,28 +1,29 @@
 -- What the tables and the journal of a store show.
-use Rattle.std.specs.Prelude.{◌≡◌, ◌≤◌, true, List, Option, None, IsTrue}
+use Rattle.std.specs.Prelude.{◌≡◌, ◌≤◌, ℕ, Bool, true, false, List, Option, None, IsTrue, length}
 use Rattle.std.specs.List.{AllByRecursion}
 use Rattle.std.specs.Ordering.{nat_cmp}
 use Rattle.amr_labels.specs.Labels.{LabelSet, label_set_cmp}
 use Rattle.amr_time.specs.Time.{latest_read}
-use Rattle.amr_tables.specs.Numbered.{shown, has_place}
+use Rattle.amr_tables.specs.Numbered.{shown, has_place, is_entered}
 use Rattle.amr_state.specs.declared.spot.Spot.{Spot}
 use Rattle.amr_state.specs.declared.note.LogKey.{LogKey}
 use Rattle.amr_state.specs.declared.displaced.Displaced.{Displaced}
 use Rattle.amr_state.specs.declared.displaced.Displaced.TheVariants.{WasMoment, WasConfig, WasAlert, WasSilence, WasPlacement, WasClock, WasLogged, WasNotes}
+use Rattle.amr_state.specs.declared.tables.Tables.{Tables}
 use Rattle.amr_state.specs.State.{State, spot_cmp, log_key_cmp}
+use Rattle.amr_state.specs.Records.{has_entry, NotesEntered}
 use Rattle.amr_state.specs.Kept.{Kept}
 use Rattle.amr_state.specs.declared.store.Store.TheInside.{Inside}
-use Rattle.std.specs.Prelude.{ℕ}
 
 abbrev pub state_of : Inside → State
 state_of store = record {
   moment = store.moment;
   config = store.config;
-  alerts = shown label_set_cmp store.alerts;
-  silences = shown nat_cmp store.silences;
-  placements = shown spot_cmp store.placements;
-  clocks = shown spot_cmp store.clocks;
-  log = shown log_key_cmp store.log;
+  alerts = shown label_set_cmp store.tables.alerts;
+  silences = shown nat_cmp store.tables.silences;
+  placements = shown spot_cmp store.tables.placements;
+  clocks = shown spot_cmp store.tables.clocks;
+  log = shown log_key_cmp store.tables.log;
   notes = store.notes.items;
 }
 
@@ -35,21 +36,54 @@ kept_of store = record {
 }
 
 -- an entry can be put back: its place is there
-abbrev pub IsSound : Inside → Displaced → Type 0
-IsSound store (WasMoment moment) = moment ≤ latest_read
-IsSound store (WasConfig config) = Unit {0}
-IsSound store (WasAlert labels alert) = IsTrue (has_place label_set_cmp store.alerts labels)
-IsSound store (WasSilence id silence) = IsTrue (has_place nat_cmp store.silences id)
-IsSound store (WasPlacement spot alert) = IsTrue (has_place spot_cmp store.placements spot)
-IsSound store (WasClock group clock) = IsTrue (has_place spot_cmp store.clocks group)
-IsSound store (WasLogged key entry) = IsTrue (has_place log_key_cmp store.log key)
-IsSound store (WasNotes count) = Unit {0}
+abbrev pub IsSound : Tables → Displaced → Type 0
+IsSound tables (WasMoment moment) = moment ≤ latest_read
+IsSound tables (WasConfig config) = Unit {0}
+IsSound tables (WasAlert labels alert) = IsTrue (has_place label_set_cmp tables.alerts labels)
+IsSound tables (WasSilence id silence) = IsTrue (has_place nat_cmp tables.silences id)
+IsSound tables (WasPlacement spot alert) = IsTrue (has_place spot_cmp tables.placements spot)
+IsSound tables (WasClock group clock) = IsTrue (has_place spot_cmp tables.clocks group)
+IsSound tables (WasLogged key entry) = IsTrue (has_place log_key_cmp tables.log key)
+IsSound tables (WasNotes count) = Unit {0}
 
-abbrev pub AreSound : Inside → List Displaced → Type 0
-AreSound store = AllByRecursion (IsSound store)
+abbrev pub AreSound : Tables → List Displaced → Type 0
+AreSound tables = AllByRecursion (IsSound tables)
 
--- every record can be put back
+-- whether an entry's place is marked as entered in the open record
+abbrev pub is_marked_at : Tables → Displaced → Bool
+is_marked_at tables (WasMoment moment) = tables.is_moment_entered
+is_marked_at tables (WasConfig config) = tables.is_config_entered
+is_marked_at tables (WasAlert labels alert) = is_entered label_set_cmp tables.alerts labels
+is_marked_at tables (WasSilence id silence) = is_entered nat_cmp tables.silences id
+is_marked_at tables (WasPlacement spot alert) = is_entered spot_cmp tables.placements spot
+is_marked_at tables (WasClock group clock) = is_entered spot_cmp tables.clocks group
+is_marked_at tables (WasLogged key entry) = is_entered log_key_cmp tables.log key
+is_marked_at tables (WasNotes count) = tables.are_notes_entered
+
+-- no place is marked
+abbrev pub IsUnmarked : Tables → Type 0
+IsUnmarked tables = (place : Displaced) → is_marked_at tables place ≡ false
+
+-- places are never lost
+pub record MorePlaces (a b : Tables) : Type 0 where
+  pub alerts : (k : LabelSet) → IsTrue (has_place label_set_cmp a.alerts k) → IsTrue (has_place label_set_cmp b.alerts k)
+  pub silences : (k : ℕ) → IsTrue (has_place nat_cmp a.silences k) → IsTrue (has_place nat_cmp b.silences k)
+  pub placements : (k : Spot) → IsTrue (has_place spot_cmp a.placements k) → IsTrue (has_place spot_cmp b.placements k)
+  pub clocks : (k : Spot) → IsTrue (has_place spot_cmp a.clocks k) → IsTrue (has_place spot_cmp b.clocks k)
+  pub log : (k : LogKey) → IsTrue (has_place log_key_cmp a.log k) → IsTrue (has_place log_key_cmp b.log k)
+
+-- the same values
+pub record SameValues (a b : Tables) : Type 0 where
+  pub alerts : shown label_set_cmp b.alerts ≡ shown label_set_cmp a.alerts
+  pub silences : shown nat_cmp b.silences ≡ shown nat_cmp a.silences
+  pub placements : shown spot_cmp b.placements ≡ shown spot_cmp a.placements
+  pub clocks : shown spot_cmp b.clocks ≡ shown spot_cmp a.clocks
+  pub log : shown log_key_cmp b.log ≡ shown log_key_cmp a.log
+
+-- every record can be put back, and each place that is marked has an entry in the open one
 pub record IsKept (store : Inside) : Type 0 where
   pub moment : store.moment ≤ latest_read
-  pub current : AreSound store store.journal.current
-  pub closed : AllByRecursion (AreSound store) store.journal.closed
+  pub current : AreSound store.tables store.journal.current
+  pub closed : AllByRecursion (AreSound store.tables) store.journal.closed
+  pub marked : (place : Displaced) → IsTrue (is_marked_at store.tables place) → IsTrue (has_entry store.journal.current place)
+  pub notes : IsTrue store.tables.are_notes_entered → NotesEntered store.journal.current (length store.notes.items)

@@ -8,6 +8,7 @@ mod note;
 mod placing;
 mod spot;
 mod store;
+mod tables;
 pub mod views;
 
 pub use displaced::Displaced;

@@ -12,28 +12,25 @@ ghost use Rattle.amr_state.specs.Kept.{undone};
 use crate::displaced::Displaced;
 use crate::note::{Clock, LogKey, Note};
 use crate::spot::Spot;
+use crate::tables::Tables;
 use amr_config::Config;
 use amr_events::SilenceId;
 use amr_labels::{Labels, Shared};
 use amr_rules::{Alert, LogEntry, Silence};
-use amr_tables::{Journal, Keyed, make_room};
+use amr_tables::{Journal, Keyed, change};
 use amr_time::Moment;
 use std::alloc::{AllocError, Global};
 use std::marker::Model;
 use std::mem;
 
 /// The state of the replayed instance. What a change displaces is entered into the open record of the journal, so that the event
-/// can be undone without memory.
+/// can be undone without memory. A place is entered in a record once: what a later change displaces there is made by the same event.
 #[derive(Drop)]
 pub struct Store {
     alloc: Global,
     moment: Moment,
     config: Config,
-    alerts: Keyed<Labels, Alert>,
-    silences: Keyed<SilenceId, Silence>,
-    placements: Keyed<Spot, Alert>,
-    clocks: Keyed<Spot, Clock>,
-    log: Keyed<LogKey, LogEntry>,
+    tables: Tables,
     notes: Vec<Shared<Note>>,
     journal: Journal<Displaced>,
 }
@@ -66,11 +63,16 @@ impl Store {
             alloc,
             moment: Moment::START,
             config,
-            alerts: Keyed::new(alloc),
-            silences: Keyed::new(alloc),
-            placements: Keyed::new(alloc),
-            clocks: Keyed::new(alloc),
-            log: Keyed::new(alloc),
+            tables: Tables {
+                alerts: Keyed::new(alloc),
+                silences: Keyed::new(alloc),
+                placements: Keyed::new(alloc),
+                clocks: Keyed::new(alloc),
+                log: Keyed::new(alloc),
+                is_moment_entered: false,
+                is_config_entered: false,
+                are_notes_entered: false,
+            },
             notes: Vec::new(alloc),
             journal: Journal::new(alloc),
         }
@@ -96,6 +98,7 @@ impl Store {
         ensures records { self.new.records ≡ self.old.records ++ self.old.current ∷ [] }
     {
         self.journal.close();
+        self.tables.clear_entered();
     }
 
     /// Opens the last record again.
@@ -106,6 +109,7 @@ impl Store {
         ensures records { self.old.records ≡ self.new.records ++ self.new.current ∷ [] }
     {
         self.journal.reopen();
+        self.tables.clear_entered();
     }
 
     /// Puts the last entry of the open record back. It takes no memory.
@@ -114,14 +118,15 @@ impl Store {
         ensures kept { undone self.new ≡ undone self.old }
         ensures shorter { length self.new.current + 1 ≡ length self.old.current }
     {
+        self.tables.clear_entered();
         match self.journal.pop() {
             Displaced::WasMoment(was) => self.moment = was,
             Displaced::WasConfig(was) => self.config = was,
-            Displaced::WasAlert(labels, was) => drop(self.alerts.displace(&labels, was)),
-            Displaced::WasSilence(id, was) => drop(self.silences.displace(&id, was)),
-            Displaced::WasPlacement(spot, was) => drop(self.placements.displace(&spot, was)),
-            Displaced::WasClock(group, was) => drop(self.clocks.displace(&group, was)),
-            Displaced::WasLogged(key, was) => drop(self.log.displace(&key, was)),
+            Displaced::WasAlert(labels, was) => drop(self.tables.alerts.displace(&labels, was)),
+            Displaced::WasSilence(id, was) => drop(self.tables.silences.displace(&id, was)),
+            Displaced::WasPlacement(spot, was) => drop(self.tables.placements.displace(&spot, was)),
+            Displaced::WasClock(group, was) => drop(self.tables.clocks.displace(&group, was)),
+            Displaced::WasLogged(key, was) => drop(self.tables.log.displace(&key, was)),
             Displaced::WasNotes(count) => self.notes.truncate(count),
         }
     }
@@ -186,35 +191,35 @@ impl Store {
     pub fn alerts(&self) -> &Keyed<Labels, Alert>
         ensures { shown label_set_cmp result.now ≡ self.now.state.alerts }
     {
-        &self.alerts
+        &self.tables.alerts
     }
 
     /// The silences, under their ids.
     pub fn silences(&self) -> &Keyed<SilenceId, Silence>
         ensures { shown nat_cmp result.now ≡ self.now.state.silences }
     {
-        &self.silences
+        &self.tables.silences
     }
 
     /// The members of all groups, under their routes and labels.
     pub(crate) fn placements(&self) -> &Keyed<Spot, Alert>
         ensures { shown spot_cmp result.now ≡ self.now.state.placements }
     {
-        &self.placements
+        &self.tables.placements
     }
 
     /// The timers of the groups.
     pub fn clocks(&self) -> &Keyed<Spot, Clock>
         ensures { shown spot_cmp result.now ≡ self.now.state.clocks }
     {
-        &self.clocks
+        &self.tables.clocks
     }
 
     /// The notification log.
     pub fn log(&self) -> &Keyed<LogKey, LogEntry>
         ensures { shown log_key_cmp result.now ≡ self.now.state.log }
     {
-        &self.log
+        &self.tables.log
     }
 
     /// All notifications so far, in order.
@@ -232,8 +237,11 @@ impl Store {
         ensures ok { OnOk result (self.new.state ≡ record self.old.state { moment = at }) }
         ensures kept { undone self.new ≡ undone self.old }
     {
-        self.journal.reserve_entry()?;
-        self.journal.push(Displaced::WasMoment(self.moment));
+        if !self.tables.is_moment_entered {
+            self.journal.reserve_entry()?;
+            self.journal.push(Displaced::WasMoment(self.moment));
+            self.tables.is_moment_entered = true;
+        }
         self.moment = at;
         Ok(())
     }
@@ -309,9 +317,10 @@ impl Store {
         ensures ok { OnOk result (self.new.state ≡ record self.old.state { log = map.insert self.old.state.log key.now entry }) }
         ensures kept { undone self.new ≡ undone self.old }
     {
-        let entered = make_room(&mut self.log, &mut self.journal, key)?;
-        let was = self.log.displace(key, Some(entry));
-        self.journal.push(Displaced::WasLogged(entered, was));
+        let entry = change(&mut self.tables.log, &mut self.journal, key, Some(entry))?;
+        if let Some((key, was)) = entry {
+            self.journal.push(Displaced::WasLogged(key, was));
+        }
         Ok(())
     }
 
@@ -321,10 +330,13 @@ impl Store {
         ensures kept { undone self.new ≡ undone self.old }
     {
         let note = Shared::new(self.alloc, note)?;
-        let count = self.notes.len();
-        self.journal.reserve_entry()?;
-        self.notes.push(note)?;
-        self.journal.push(Displaced::WasNotes(count));
+        self.notes.reserve(1)?;
+        if !self.tables.are_notes_entered {
+            self.journal.reserve_entry()?;
+            self.journal.push(Displaced::WasNotes(self.notes.len()));
+            self.tables.are_notes_entered = true;
+        }
+        self.notes.push_reserved(note);
         Ok(())
     }
 
@@ -342,9 +354,10 @@ impl Store {
         ensures ok { OnOk result (self.new.state ≡ record self.old.state { alerts = map.set self.old.state.alerts labels.now alert }) }
         ensures kept { undone self.new ≡ undone self.old }
     {
-        let entered = make_room(&mut self.alerts, &mut self.journal, labels)?;
-        let was = self.alerts.displace(labels, alert);
-        self.journal.push(Displaced::WasAlert(entered, was));
+        let entry = change(&mut self.tables.alerts, &mut self.journal, labels, alert)?;
+        if let Some((labels, was)) = entry {
+            self.journal.push(Displaced::WasAlert(labels, was));
+        }
         Ok(())
     }
 
@@ -353,9 +366,10 @@ impl Store {
         ensures ok { OnOk result (self.new.state ≡ record self.old.state { silences = map.set self.old.state.silences id silence }) }
         ensures kept { undone self.new ≡ undone self.old }
     {
-        let entered = make_room(&mut self.silences, &mut self.journal, &id)?;
-        let was = self.silences.displace(&id, silence);
-        self.journal.push(Displaced::WasSilence(entered, was));
+        let entry = change(&mut self.tables.silences, &mut self.journal, &id, silence)?;
+        if let Some((_, was)) = entry {
+            self.journal.push(Displaced::WasSilence(id, was));
+        }
         Ok(())
     }
 
@@ -364,9 +378,10 @@ impl Store {
         ensures ok { OnOk result (self.new.state ≡ record self.old.state { placements = map.set self.old.state.placements spot.now alert }) }
         ensures kept { undone self.new ≡ undone self.old }
     {
-        let entered = make_room(&mut self.placements, &mut self.journal, spot)?;
-        let was = self.placements.displace(spot, alert);
-        self.journal.push(Displaced::WasPlacement(entered, was));
+        let entry = change(&mut self.tables.placements, &mut self.journal, spot, alert)?;
+        if let Some((spot, was)) = entry {
+            self.journal.push(Displaced::WasPlacement(spot, was));
+        }
         Ok(())
     }
 
@@ -375,9 +390,10 @@ impl Store {
         ensures ok { OnOk result (self.new.state ≡ record self.old.state { clocks = map.set self.old.state.clocks group.now clock }) }
         ensures kept { undone self.new ≡ undone self.old }
     {
-        let entered = make_room(&mut self.clocks, &mut self.journal, group)?;
-        let was = self.clocks.displace(group, clock);
-        self.journal.push(Displaced::WasClock(entered, was));
+        let entry = change(&mut self.tables.clocks, &mut self.journal, group, clock)?;
+        if let Some((group, was)) = entry {
+            self.journal.push(Displaced::WasClock(group, was));
+        }
         Ok(())
     }
 
@@ -386,7 +402,7 @@ impl Store {
         ensures ok { OnOk result (self.new.state ≡ record self.old.state { placements = map.empty }) }
         ensures kept { undone self.new ≡ undone self.old }
     {
-        let spots = keys_of(self.alloc, &self.placements)?;
+        let spots = keys_of(self.alloc, &self.tables.placements)?;
         for spot in &spots {
             self.set_placement(spot, None)?;
         }
@@ -398,7 +414,7 @@ impl Store {
         ensures ok { OnOk result (self.new.state ≡ record self.old.state { clocks = map.empty }) }
         ensures kept { undone self.new ≡ undone self.old }
     {
-        let groups = keys_of(self.alloc, &self.clocks)?;
+        let groups = keys_of(self.alloc, &self.tables.clocks)?;
         for group in &groups {
             self.change_clock(group, None)?;
         }
@@ -410,9 +426,14 @@ impl Store {
         ensures ok { OnOk result (self.new.state ≡ record self.old.state { config = config }) }
         ensures kept { undone self.new ≡ undone self.old }
     {
+        if self.tables.is_config_entered {
+            self.config = config;
+            return Ok(());
+        }
         self.journal.reserve_entry()?;
         let was = mem::replace(&mut self.config, config);
         self.journal.push(Displaced::WasConfig(was));
+        self.tables.is_config_entered = true;
         Ok(())
     }
 }

@@ -1,6 +1,6 @@
 -- What a numbering of keys shows, and how it changes.
-use Rattle.std.proofs.Common.{◌≡◌, ℕ, zero, suc, ◌+◌, ◌<◌, ◌≤◌, Bool, true, false, cond, T, List, [], ◌∷◌, ◌++◌, Option, None, Some, length, refl, sym, ap, subst, ◌∙◌, arith, slice_set, slice_get, nat_lt, set, get_or, is_some, IsTrue, map}
-use Rattle.std.specs.Prelude.{option_map, option_and_then, unwrap_or, ◌||◌, not}
+use Rattle.std.proofs.Common.{◌≡◌, ℕ, zero, suc, ◌+◌, ◌<◌, ◌≤◌, Bool, true, false, cond, T, List, [], ◌∷◌, ◌++◌, Option, None, Some, length, refl, sym, ap, subst, ◌∙◌, arith, slice_set, is_some, IsTrue, map}
+use Rattle.std.specs.Prelude.{option_map, option_and_then, unwrap_or, ◌||◌}
 use Rattle.std.specs.Option.{option_or, option_map_or}
 use Rattle.std.specs.List.{filter_map, cons_option}
 use Rattle.std.specs.declared.cmp.Ordering.{Ordering}
@@ -14,9 +14,8 @@ use Rattle.amr_labels.proofs.Sorted.{both, first, second, less}
 use Rattle.amr_labels.specs.Map.{Map, from_sorted, entries, get, empty, same_map, same_entries_map, entries-from_sorted, get-entries, get-set}
 use Rattle.amr_labels.specs.Map as map
 use Rattle.amr_tables.specs.Places.{value_at}
-use Rattle.amr_tables.specs.Laws.{at_law, value_is}
 use Rattle.amr_tables.specs.Marked.{is_marked}
-use Rattle.amr_tables.specs.Numbered.{Numbered, entry_at, number_of, has_place, is_entered, shown, IsNumbering}
+use Rattle.amr_tables.specs.Numbered.{Numbered, entry_at, has_place, is_entered, shown, IsNumbering}
 
 either_way : {A : Type 0} (b : Bool) (x : A) → x ≡ cond b x x
 either_way true x = refl
@@ -192,7 +191,6 @@ filter_map-put R f k n (e ∷ es) none is =
       | Greater ↦ λ p h. ap (cons_option (f e)) (filter_map-put R f k n es none h)
     ] refl is
 
-
 filter_map-same : {A B : Type 0} (f g : A → Option B) (xs : List A) → ((x : A) → f x ≡ g x) → filter_map f xs ≡ filter_map g xs
 filter_map-same f g [] h = refl
 filter_map-same f g (x ∷ xs) h = λ i. cons_option (h x i) (filter_map-same f g xs h i)
@@ -323,7 +321,14 @@ module _ {K V : Type 0} {R : K → K → Ordering} (o : IsTotalOrder R) where
   unfolding has_place
   placed-added t k q n = ap is_some (find-put R o q k n t.numbers) ∙ some_either (eq_by_cmp R q k) n (find R q t.numbers)
 
+some_of : {A : Type 0} (f : A → Bool) (o : Option A) → option_map_or f o false ≡ true → IsTrue (is_some o)
+some_of f None e = cc
+some_of f (Some x) e = refl
 
+-- what is entered has a place
+pub entered-placed : {K V : Type 0} (R : K → K → Ordering) (t : Numbered K V) (k : K) → is_entered R t k ≡ true → IsTrue (has_place R t k)
+unfolding is_entered has_place
+entered-placed R t k e = some_of (is_marked t.marks) (find R k t.numbers) e
 
 pub none_of : {A : Type 0} (x : Option A) → is_some x ≡ false → x ≡ None
 none_of None e = refl

@@ -1,5 +1,5 @@
 -- Values under numbered keys.
-use Rattle.std.specs.Prelude.{◌≡◌, ℕ, Bool, false, List, Option, None, Some, if◌then◌else◌, is_some, option_map, option_and_then, unwrap_or, ◌<◌, ◌≤◌, T, length, refl, slice_set, slice_get}
+use Rattle.std.specs.Prelude.{◌≡◌, ℕ, Bool, false, List, Option, None, Some, if◌then◌else◌, is_some, ◌||◌, option_map, ◌<◌, ◌≤◌, T, length, refl}
 use Rattle.std.specs.Option.{option_map_or}
 use Rattle.std.specs.List.{filter_map}
 use Rattle.std.specs.declared.cmp.Ordering.{Ordering}
@@ -45,9 +45,17 @@ module _ {K V : Type 0} where
     unfoldable pub shown : Numbered K V → Map R V
     shown t = from_sorted (filter_map (entry_at t.cells) t.numbers)
 
-    -- what a change of the key's value enters into the open record: what is there, unless the place is entered already
-    unfoldable pub entry_of : Numbered K V → K → Option (Option V)
-    entry_of t key = if is_entered t key then None else Some (get (shown t) key)
+    -- what a change of the key's value enters into the open record: the key with what is there, unless the place is entered already
+    unfoldable pub entry_of : Numbered K V → K → Option (K × Option V)
+    entry_of t key = if is_entered t key then None else Some (key, get (shown t) key)
+
+    -- the key's place is entered, and each that was before
+    abbrev pub Enters : Numbered K V → Numbered K V → K → Type 0
+    Enters old changed key = (other : K) → is_entered changed other ≡ (eq_by_cmp R other key || is_entered old other)
+
+    -- the tables show the same, and the same places are entered
+    abbrev pub IsUnchanged : Numbered K V → Numbered K V → Type 0
+    IsUnchanged old changed = (shown changed ≡ shown old) × ((key : K) → is_entered changed key ≡ is_entered old key)
 
     -- keys strictly rise, each number has a place, no two keys have one number, and no mark is beside the places
     pub record IsNumbering (t : Numbered K V) : Type 0 where

@@ -40,10 +40,10 @@ impl<E> Model for Journal<E> {
     ghost coded = { records_code E.code };
 
     ghost view = { λ journal. record {
-        closed = journal.records.items;
-        current = journal.current.items;
-        entry_room = vec_capacity journal.current - vec_len journal.current;
-        record_room = vec_capacity journal.records - vec_len journal.records;
+      closed = journal.records.items;
+      current = journal.current.items;
+      entry_room = vec_capacity journal.current - vec_len journal.current;
+      record_room = vec_capacity journal.records - vec_len journal.records;
     } };
 }
 

@@ -1,10 +1,10 @@
 //! Values under keys, each at the place of the key's number.
-ghost use Rattle.std.specs.Prelude.{◌≡◌, ◌||◌, IsTrue, Option, not, false, OnOk, IfOk, ◌<◌};
+ghost use Rattle.std.specs.Prelude.{◌≡◌, ◌||◌, IsTrue, Option, is_some, false, OnOk, OnErr, IfOk, ◌<◌};
 ghost use Rattle.std.specs.Option.{option_copied};
 ghost use Rattle.std.specs.Ordering.{eq_by_cmp};
 ghost use Rattle.std.specs.FinMap.{IsAntisymmetric};
 ghost use Rattle.amr_labels.specs.Map as map;
-ghost use Rattle.amr_tables.specs.Numbered.{shown, has_place, is_entered, entry_of};
+ghost use Rattle.amr_tables.specs.Numbered.{shown, has_place, is_entered, entry_of, Enters, IsUnchanged};
 
 use crate::entries::Entries;
 use crate::journal::Journal;
@@ -119,27 +119,19 @@ impl<K: Key + Drop, V: Drop> Keyed<K, V> {
         }
     }
 
-    /// Puts a value, or none, under a key that has a place, and enters the place. Returns what was there, unless the place was entered before.
-    /// It takes no memory.
-    pub fn change(&mut self, key: &K, value: Option<V>) -> Option<Option<V>>
-        requires { IsTrue (has_place K.cmp self.old key.now) }
-        ensures entry { result ≡ entry_of K.cmp self.old key.now }
-        ensures shown { shown K.cmp self.new ≡ map.set (shown K.cmp self.old) key.now value }
-        ensures places { (other : K) → has_place K.cmp self.new other ≡ has_place K.cmp self.old other }
-        ensures entered { (other : K) → is_entered K.cmp self.new other ≡ (eq_by_cmp K.cmp other key.now || is_entered K.cmp self.old other) }
+    /// Returns whether a key's place is entered.
+    pub fn is_entered(&self, key: &K) -> bool
+        ensures { result ≡ is_entered K.cmp self.now key.now }
     {
-        let was = self.displace(key, value);
-        if self.enter(key) {
-            Some(was)
-        } else {
-            None
+        match self.numbers.get(key) {
+            Some(number) => self.entered.is_marked(*number),
+            None => false,
         }
     }
 
-    /// Marks a key's place as entered, and returns whether it wasn't before.
-    pub fn enter(&mut self, key: &K) -> bool
+    /// Marks a key's place as entered.
+    pub fn enter(&mut self, key: &K)
         requires { IsTrue (has_place K.cmp self.old key.now) }
-        ensures first { result ≡ not (is_entered K.cmp self.old key.now) }
         ensures entered { (other : K) → is_entered K.cmp self.new other ≡ (eq_by_cmp K.cmp other key.now || is_entered K.cmp self.old other) }
         ensures shown { shown K.cmp self.new ≡ shown K.cmp self.old }
         ensures places { (other : K) → has_place K.cmp self.new other ≡ has_place K.cmp self.old other }
@@ -160,8 +152,37 @@ impl<K: Key + Drop, V: Drop> Keyed<K, V> {
     }
 }
 
+/// Puts a value, or none, under a key, whose place is made and entered if need be. Returns what the open record has to take up: the key with
+/// what was there, for which there is room then, or nothing if the place was entered before.
+pub fn change<K: Key + Exact + Drop, V: Drop, E>(
+    table: &mut Keyed<K, V>,
+    journal: &mut Journal<E>,
+    key: &K,
+    value: Option<V>,
+) -> Result<Option<(K, Option<V>)>, AllocError>
+    ensures entry { IfOk result (λ entry. entry ≡ entry_of K.cmp table.old key.now) }
+    ensures shown { OnOk result (shown K.cmp table.new ≡ map.set (shown K.cmp table.old) key.now value) }
+    ensures entered { OnOk result (Enters K.cmp table.old table.new key.now) }
+    ensures made { OnOk result (IsTrue (has_place K.cmp table.new key.now)) }
+    ensures err { OnErr result (IsUnchanged K.cmp table.old table.new) }
+    ensures places { (other : K) → IsTrue (has_place K.cmp table.old other) → IsTrue (has_place K.cmp table.new other) }
+    ensures room { IfOk result (λ entry. IsTrue (is_some entry) → 0 < journal.new.entry_room) }
+    ensures closed { journal.new.closed ≡ journal.old.closed }
+    ensures current { journal.new.current ≡ journal.old.current }
+    ensures record_room { journal.new.record_room ≡ journal.old.record_room }
+{
+    if table.is_entered(key) {
+        drop(table.displace(key, value));
+        return Ok(None);
+    }
+    let copy = make_room(table, journal, key)?;
+    let was = table.displace(key, value);
+    table.enter(key);
+    Ok(Some((copy, was)))
+}
+
 /// Makes a place for a key, and room for its entry in the open record. Returns the key for the entry.
-pub fn make_room<K: Key + Exact + Drop, V: Drop, E>(
+fn make_room<K: Key + Exact + Drop, V: Drop, E>(
     table: &mut Keyed<K, V>,
     journal: &mut Journal<E>,
     key: &K,
@@ -169,16 +190,15 @@ pub fn make_room<K: Key + Exact + Drop, V: Drop, E>(
     ensures key { IfOk result (λ copy. copy ≡ key.now) }
     ensures made { OnOk result (IsTrue (has_place K.cmp table.new key.now)) }
     ensures places { (other : K) → IsTrue (has_place K.cmp table.old other) → IsTrue (has_place K.cmp table.new other) }
-    ensures shown { shown K.cmp table.new ≡ shown K.cmp table.old }
-    ensures entered { (other : K) → is_entered K.cmp table.new other ≡ is_entered K.cmp table.old other }
+    ensures same { IsUnchanged K.cmp table.old table.new }
     ensures room { OnOk result (0 < journal.new.entry_room) }
     ensures closed { journal.new.closed ≡ journal.old.closed }
     ensures current { journal.new.current ≡ journal.old.current }
     ensures record_room { journal.new.record_room ≡ journal.old.record_room }
 {
-    let copy = key.clone()?;
-    let place = key.clone()?;
     journal.reserve_entry()?;
-    table.make_place(place)?;
-    Ok(copy)
+    if !table.has_place(key) {
+        table.make_place(key.clone()?)?;
+    }
+    key.clone()
 }

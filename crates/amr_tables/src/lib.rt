@@ -10,7 +10,7 @@ mod table;
 
 pub use entries::Entries;
 pub use journal::Journal;
-pub use keyed::{Key, Keyed, make_room};
+pub use keyed::{Key, Keyed, change};
 pub use marks::Marks;
 pub use slots::Slots;
 pub use table::{Table, put_back};

@@ -1,5 +1,5 @@
 //! Marks beside numbered places, all of which are taken away at once.
-ghost use Rattle.std.specs.Prelude.{◌≡◌, ◌<◌, [], ◌∷◌, ◌++◌, length, not, false, true, map, OnOk, OnErr};
+ghost use Rattle.std.specs.Prelude.{◌≡◌, ◌<◌, [], ◌∷◌, ◌++◌, length, false, true, map, OnOk, OnErr};
 ghost use Rattle.std.specs.Prelude.{slice_set};
 ghost use Rattle.amr_tables.specs.Marked.{is_marked};
 
@@ -46,15 +46,20 @@ impl Marks {
         Ok(())
     }
 
-    /// Marks a place, and returns whether it wasn't marked before.
-    pub fn mark(&mut self, place: usize) -> bool
-        requires { place < length self.old }
-        ensures first { result ≡ not (is_marked self.old place) }
-        ensures marked { self.new ≡ slice_set self.old place true }
+    /// Returns whether a place is marked.
+    pub fn is_marked(&self, place: usize) -> bool
+        requires { place < length self.now }
+        ensures { result ≡ is_marked self.now place }
     {
-        let is_first = self.stamps[place] != self.present;
+        self.stamps[place] == self.present
+    }
+
+    /// Marks a place.
+    pub fn mark(&mut self, place: usize)
+        requires { place < length self.old }
+        ensures { self.new ≡ slice_set self.old place true }
+    {
         self.stamps[place] = self.present;
-        is_first
     }
 
     /// Takes all marks away.

@@ -10,9 +10,6 @@ use Rattle.amr_state.specs.State.{State, spot_cmp, log_key_cmp}
 use Rattle.amr_state.specs.Records.{put_back_one, put_back, present}
 use Rattle.amr_state.specs.Kept.{Kept, undone}
 use Rattle.amr_state.specs.declared.store.Store.TheInside.{Inside}
-use Rattle.amr_state.specs.Stored.{state_of, kept_of, IsSound, AreSound, IsKept}
-use Rattle.amr_state.proofs.Undoing.{put_back-push, put_back-change, put_back-note, put_back-entered, put_back-appended, put_back-none, same_undone, undone-idle, undone-undone}
-use Rattle.amr_state.proofs.Soundness.{MorePlaces, all-more, all-push, all-pop, kept_with, kept_pushed, kept_grown, all-none, kept_closed, kept_reopened, kept_forgotten, last_is_sound, kept_popped}
 use Rattle.std.specs.List.{fold}
 use Rattle.amr_state.specs.State.{spot_cmp_total, spot_cmp-IsAntisymmetric}
 use Rattle.amr_state.proofs.Emptied.{removed_all}

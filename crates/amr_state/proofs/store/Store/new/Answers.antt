@@ -1,24 +1,25 @@
-use Rattle.std.proofs.Common.{◌≡◌, ◌≤◌, ◌<◌, ℕ, List, [], ◌∷◌, ◌++◌, Option, Some, None, IsTrue, refl, sym, ap, subst, ◌∙◌, length, arith, take}
-use Rattle.std.specs.List.{AllByRecursion}
+use Rattle.std.proofs.Common.{◌≡◌, ◌≤◌, ◌<◌, ℕ, List, [], ◌∷◌, ◌++◌, Option, Some, None, true, lit≤, IsTrue, refl, sym, ap, subst, ◌∙◌, length, arith, take}
 use Rattle.std.specs.Ordering.{nat_cmp}
+use Rattle.std.specs.FinMap.{nat_cmp-IsAntisymmetric}
 use Rattle.amr_labels.specs.Map as map
-use Rattle.amr_labels.specs.Labels.{LabelSet, label_set_cmp}
-use Rattle.amr_tables.specs.Numbered.{shown, has_place}
+use Rattle.amr_labels.specs.Labels.{LabelSet, label_set_cmp, label_set_cmp-IsAntisymmetric}
+use Rattle.amr_tables.specs.Numbered.{shown, has_place, entry_of}
+use Rattle.amr_tables.proofs.Entering.{entry_of-none, entry_of-some, entered_again}
 use Rattle.amr_state.specs.declared.displaced.Displaced.{Displaced}
 use Rattle.amr_state.specs.declared.displaced.Displaced.TheVariants.{WasMoment, WasConfig, WasAlert, WasSilence, WasPlacement, WasClock, WasLogged, WasNotes}
-use Rattle.amr_state.specs.State.{State, spot_cmp, log_key_cmp}
+use Rattle.amr_state.specs.declared.tables.Tables.{Tables}
+use Rattle.amr_state.specs.State.{State, spot_cmp, spot_cmp-IsAntisymmetric, log_key_cmp, log_key_cmp-IsAntisymmetric}
 use Rattle.amr_state.specs.Records.{put_back_one, put_back, present}
 use Rattle.amr_state.specs.Kept.{Kept, undone}
 use Rattle.amr_state.specs.declared.store.Store.TheInside.{Inside}
-use Rattle.amr_state.specs.Stored.{state_of, kept_of, IsSound, AreSound, IsKept}
-use Rattle.amr_state.proofs.Undoing.{put_back-push, put_back-change, put_back-note, put_back-entered, put_back-appended, put_back-none, same_undone, undone-idle, undone-undone}
-use Rattle.amr_state.proofs.Soundness.{MorePlaces, all-more, all-push, all-pop, kept_with, kept_pushed, kept_grown, all-none, kept_closed, kept_reopened, kept_forgotten, last_is_sound, kept_popped}
-use Rattle.std.proofs.Common.{lit≤}
+use Rattle.amr_state.specs.Stored.{state_of, kept_of, IsSound, IsKept, MorePlaces}
+use Rattle.amr_state.proofs.Soundness.{by_place, NoNewMark, NewMarkAt, kept_same, kept_grown, kept_pushed, kept_entered, kept_closed, kept_reopened, last_is_sound, kept_popped, kept_forgotten, undone_pushed, undone_covered, undone_popped, undone_appended, undone_noted, kept_unmarked, all-none, more_notes, taken}
+use Rattle.amr_state.proofs.Undoing.{notes_entered-last}
+use Rattle.std.proofs.Math.Nat.{le_refl}
 use Rattle.amr_state.proofs.store.Store.new.Goals as goal
 
 pub invariant_of-result-2 : goal.invariant_of-result-2
-invariant_of-result-2 c = record {
-  moment = lit≤ tt;
-  current = all-none _ _ c.new-7.ensures.current;
-  closed = all-none _ _ c.new-7.ensures.closed;
-}
+invariant_of-result-2 c =
+    kept_unmarked _ (lit≤ tt) (all-none _ _ c.new-7.ensures.current) (all-none _ _ c.new-7.ensures.closed)
+    (by_place _ (λ x. refl) (λ x. refl) (λ k v. c.new.ensures.entered k) (λ k v. c.new-2.ensures.entered k) (λ k v. c.new-3.ensures.entered k) (λ k v. c.new-4.ensures.entered k)
+    (λ k v. c.new-5.ensures.entered k) (λ x. refl))

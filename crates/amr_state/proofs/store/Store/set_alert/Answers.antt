@@ -1,47 +1,70 @@
-use Rattle.std.proofs.Common.{◌≡◌, ◌≤◌, ◌<◌, ℕ, List, [], ◌∷◌, ◌++◌, Option, Some, None, IsTrue, refl, sym, ap, subst, ◌∙◌, length, arith, take}
-use Rattle.std.specs.List.{AllByRecursion}
+use Rattle.std.proofs.Common.{◌≡◌, ◌≤◌, ◌<◌, ℕ, List, [], ◌∷◌, ◌++◌, Option, Some, None, true, lit≤, IsTrue, refl, sym, ap, subst, ◌∙◌, length, arith, take}
 use Rattle.std.specs.Ordering.{nat_cmp}
+use Rattle.std.specs.FinMap.{nat_cmp-IsAntisymmetric}
 use Rattle.amr_labels.specs.Map as map
-use Rattle.amr_labels.specs.Labels.{LabelSet, label_set_cmp}
-use Rattle.amr_tables.specs.Numbered.{shown, has_place}
+use Rattle.amr_labels.specs.Labels.{LabelSet, label_set_cmp, label_set_cmp-IsAntisymmetric}
+use Rattle.amr_tables.specs.Numbered.{shown, has_place, entry_of}
+use Rattle.amr_tables.proofs.Entering.{entry_of-none, entry_of-some, entered_again}
 use Rattle.amr_state.specs.declared.displaced.Displaced.{Displaced}
 use Rattle.amr_state.specs.declared.displaced.Displaced.TheVariants.{WasMoment, WasConfig, WasAlert, WasSilence, WasPlacement, WasClock, WasLogged, WasNotes}
-use Rattle.amr_state.specs.State.{State, spot_cmp, log_key_cmp}
+use Rattle.amr_state.specs.declared.tables.Tables.{Tables}
+use Rattle.amr_state.specs.State.{State, spot_cmp, spot_cmp-IsAntisymmetric, log_key_cmp, log_key_cmp-IsAntisymmetric}
 use Rattle.amr_state.specs.Records.{put_back_one, put_back, present}
 use Rattle.amr_state.specs.Kept.{Kept, undone}
 use Rattle.amr_state.specs.declared.store.Store.TheInside.{Inside}
-use Rattle.amr_state.specs.Stored.{state_of, kept_of, IsSound, AreSound, IsKept}
-use Rattle.amr_state.proofs.Undoing.{put_back-push, put_back-change, put_back-note, put_back-entered, put_back-appended, put_back-none, same_undone, undone-idle, undone-undone}
-use Rattle.amr_state.proofs.Soundness.{MorePlaces, all-more, all-push, all-pop, kept_with, kept_pushed, kept_grown}
+use Rattle.amr_state.specs.Stored.{state_of, kept_of, IsSound, IsKept, MorePlaces}
+use Rattle.amr_state.proofs.Soundness.{by_place, NoNewMark, NewMarkAt, kept_same, kept_grown, kept_pushed, kept_entered, kept_closed, kept_reopened, last_is_sound, kept_popped, kept_forgotten, undone_pushed, undone_covered, undone_popped, undone_appended, undone_noted, kept_unmarked, all-none, more_notes, taken}
+use Rattle.amr_state.proofs.Undoing.{notes_entered-last}
+use Rattle.std.proofs.Math.Nat.{le_refl}
 use Rattle.amr_state.proofs.store.Store.set_alert.Goals as goal
+
+pub invariant_of-self-in-Some : goal.invariant_of-self-in-Some
+invariant_of-self-in-Some c =
+    let a = c.self.inside in
+    let t = c.change.new.table in
+    let b : Inside = record a { tables = record a.tables { alerts = t }; journal = c.push.new.self } in
+    let e : Displaced = WasAlert c.in-Some.labels c.in-Some.was in
+    let is : ◌≡◌ (c.in-Some.labels, c.in-Some.was) (c.args.labels.now, map.get (shown label_set_cmp a.tables.alerts) c.args.labels.now) = entry_of-some label_set_cmp a.tables.alerts c.args.labels.now (c.in-Some.labels, c.in-Some.was) (sym c.in-Some.is ∙ c.in_ok-entry.ensures.entry) in
+    let pushed : c.push.new.self.current ≡ c.change.new.journal.current ++ e ∷ [] = c.push.ensures.current in
+    kept_entered a b e c.self.invariant (record { alerts = c.change.ensures.places; silences = λ k h. h; placements = λ k h. h; clocks = λ k h. h; log = λ k h. h })
+    c.self.invariant.moment (c.push.ensures.closed ∙ c.change.ensures.closed) (pushed ∙ ap (λ es. es ++ e ∷ []) c.change.ensures.current)
+    (subst (λ k. IsTrue (has_place label_set_cmp t k)) (sym (ap (λ p. p.0) is)) c.in_ok-entry.ensures.made)
+    (subst (λ k. (place : Displaced) → NewMarkAt (WasAlert k c.in-Some.was) a.tables b.tables place) (sym (ap (λ p. p.0) is)) (by_place (NewMarkAt (WasAlert c.args.labels.now c.in-Some.was) a.tables b.tables) (λ x h. h) (λ x h. h) (λ q w h. subst IsTrue (c.in_ok-entry.ensures.entered q) h) (λ k v h. h) (λ k v h. h) (λ k v h. h) (λ k v h. h) (λ x h. h))) refl refl
 
 pub invariant_of-self : goal.invariant_of-self
 invariant_of-self c =
     let a = c.self.inside in
-    let b : Inside = record a { alerts = c.make_room.new.table; journal = c.make_room.new.journal } in
-    kept_grown a b c.self.invariant (record { alerts = c.make_room.ensures.places; silences = λ k h. h; placements = λ k h. h; clocks = λ k h. h; log = λ k h. h }) refl c.make_room.ensures.closed c.make_room.ensures.current
+    let t = c.change.new.table in
+    let b : Inside = record a { tables = record a.tables { alerts = t }; journal = c.change.new.journal } in
+    kept_grown a b c.self.invariant (record { alerts = c.change.ensures.places; silences = λ k h. h; placements = λ k h. h; clocks = λ k h. h; log = λ k h. h }) refl c.change.ensures.closed c.change.ensures.current
+    (by_place (NoNewMark a.tables b.tables) (λ x h. h) (λ x h. h) (λ q w h. subst IsTrue (c.in_err-entry.ensures.err.1 q) h) (λ k v h. h) (λ k v h. h) (λ k v h. h) (λ k v h. h) (λ x h. h)) refl
 
-pub invariant_of-self-2 : goal.invariant_of-self-2
-invariant_of-self-2 c =
+pub invariant_of-self-in_default : goal.invariant_of-self-in_default
+invariant_of-self-in_default c =
     let a = c.self.inside in
-    let b : Inside = record a { alerts = c.displace-was.new.self; journal = c.push.new.self } in
-    kept_pushed a b (WasAlert c.in_ok-entered.entered c.displace-was.result) c.self.invariant
-    (record { alerts = λ k h. subst IsTrue (sym (c.displace-was.ensures.places k)) (c.make_room.ensures.places k h); silences = λ k h. h; placements = λ k h. h; clocks = λ k h. h; log = λ k h. h })
-    c.self.invariant.moment (c.push.ensures.closed ∙ c.make_room.ensures.closed)
-    (c.push.ensures.current ∙ ap (λ es. es ++ WasAlert c.in_ok-entered.entered c.displace-was.result ∷ []) c.make_room.ensures.current)
-    (subst IsTrue (sym (c.displace-was.ensures.places c.in_ok-entered.entered)) (subst (λ k. IsTrue (has_place label_set_cmp c.make_room.new.table k)) (sym c.in_ok-entered.ensures.key) c.in_ok-entered.ensures.made))
+    let t = c.change.new.table in
+    let b : Inside = record a { tables = record a.tables { alerts = t }; journal = c.change.new.journal } in
+    let marked = entry_of-none label_set_cmp a.tables.alerts c.args.labels.now (taken _ c.in_default.not-Some ∙ c.in_ok-entry.ensures.entry) in
+    kept_grown a b c.self.invariant (record { alerts = c.change.ensures.places; silences = λ k h. h; placements = λ k h. h; clocks = λ k h. h; log = λ k h. h }) refl c.change.ensures.closed c.change.ensures.current
+    (by_place (NoNewMark a.tables b.tables) (λ x h. h) (λ x h. h) (λ q w h. entered_again label_set_cmp label_set_cmp-IsAntisymmetric a.tables.alerts t c.args.labels.now q marked c.in_ok-entry.ensures.entered h) (λ k v h. h) (λ k v h. h) (λ k v h. h) (λ k v h. h) (λ x h. h)) refl
 
-pub returns-clause-kept : goal.returns-clause-kept
-returns-clause-kept c =
+pub returns-in-Some-clause-kept : goal.returns-in-Some-clause-kept
+returns-in-Some-clause-kept c =
     let a = c.self.inside in
-    let b : Inside = record a { alerts = c.displace-was.new.self; journal = c.push.new.self } in
+    let b : Inside = record a { tables = record a.tables { alerts = c.change.new.table }; journal = c.push.new.self } in
     let change : Displaced = WasAlert c.args.labels.now c.args.alert in
-    let state : state_of b ≡ put_back_one (state_of a) change = ap (λ m. record (state_of a) { alerts = m }) (c.displace-was.ensures.shown ∙ ap (λ m. map.set m c.args.labels.now c.args.alert) c.make_room.ensures.shown) in
-    let entry : WasAlert c.in_ok-entered.entered c.displace-was.result ≡ present (state_of a) change =
-    (λ i. WasAlert (c.in_ok-entered.ensures.key i) ((c.displace-was.ensures.answer ∙ ap (λ m. map.get m c.args.labels.now) c.make_room.ensures.shown) i)) in
-    same_undone (kept_of b) (kept_of a)
-    (ap (put_back c.push.new.self.current) state
-    ∙ ap (λ es. put_back es (put_back_one (state_of a) change)) (c.push.ensures.current ∙ (λ i. c.make_room.ensures.current i ++ entry i ∷ []))
-    ∙ put_back-entered a.journal.current (state_of a) change tt)
-    (c.push.ensures.closed ∙ c.make_room.ensures.closed) (c.push.ensures.records ∙ c.make_room.ensures.record_room)
+    let e : Displaced = WasAlert c.in-Some.labels c.in-Some.was in
+    let is : ◌≡◌ (c.in-Some.labels, c.in-Some.was) (c.args.labels.now, map.get (shown label_set_cmp a.tables.alerts) c.args.labels.now) = entry_of-some label_set_cmp a.tables.alerts c.args.labels.now (c.in-Some.labels, c.in-Some.was) (sym c.in-Some.is ∙ c.in_ok-entry.ensures.entry) in
+    let pushed : c.push.new.self.current ≡ c.change.new.journal.current ++ e ∷ [] = c.push.ensures.current in
+    undone_pushed a b change e tt (ap (λ m. record (state_of a) { alerts = m }) c.in_ok-entry.ensures.shown) (ap (λ p. WasAlert p.0 p.1) is)
+    (pushed ∙ ap (λ es. es ++ e ∷ []) c.change.ensures.current) (c.push.ensures.closed ∙ c.change.ensures.closed) (c.push.ensures.records ∙ c.change.ensures.record_room)
+    ∙ ap undone c.self.view_is
+
+pub returns-in_default-clause-kept : goal.returns-in_default-clause-kept
+returns-in_default-clause-kept c =
+    let a = c.self.inside in
+    let b : Inside = record a { tables = record a.tables { alerts = c.change.new.table }; journal = c.change.new.journal } in
+    let change : Displaced = WasAlert c.args.labels.now c.args.alert in
+    let marked = entry_of-none label_set_cmp a.tables.alerts c.args.labels.now (taken _ c.in_default.not-Some ∙ c.in_ok-entry.ensures.entry) in
+    undone_covered a b change c.self.invariant tt marked (ap (λ m. record (state_of a) { alerts = m }) c.in_ok-entry.ensures.shown) c.change.ensures.current c.change.ensures.closed c.change.ensures.record_room
     ∙ ap undone c.self.view_is

@@ -1,35 +1,57 @@
-use Rattle.std.proofs.Common.{◌≡◌, ◌≤◌, ◌<◌, ℕ, List, [], ◌∷◌, ◌++◌, Option, Some, None, IsTrue, refl, sym, ap, subst, ◌∙◌, length, arith, take}
-use Rattle.std.specs.List.{AllByRecursion}
+use Rattle.std.proofs.Common.{◌≡◌, ◌≤◌, ◌<◌, ℕ, List, [], ◌∷◌, ◌++◌, Option, Some, None, true, lit≤, IsTrue, refl, sym, ap, subst, ◌∙◌, length, arith, take}
 use Rattle.std.specs.Ordering.{nat_cmp}
+use Rattle.std.specs.FinMap.{nat_cmp-IsAntisymmetric}
 use Rattle.amr_labels.specs.Map as map
-use Rattle.amr_labels.specs.Labels.{LabelSet, label_set_cmp}
-use Rattle.amr_tables.specs.Numbered.{shown, has_place}
+use Rattle.amr_labels.specs.Labels.{LabelSet, label_set_cmp, label_set_cmp-IsAntisymmetric}
+use Rattle.amr_tables.specs.Numbered.{shown, has_place, entry_of}
+use Rattle.amr_tables.proofs.Entering.{entry_of-none, entry_of-some, entered_again}
 use Rattle.amr_state.specs.declared.displaced.Displaced.{Displaced}
 use Rattle.amr_state.specs.declared.displaced.Displaced.TheVariants.{WasMoment, WasConfig, WasAlert, WasSilence, WasPlacement, WasClock, WasLogged, WasNotes}
-use Rattle.amr_state.specs.State.{State, spot_cmp, log_key_cmp}
+use Rattle.amr_state.specs.declared.tables.Tables.{Tables}
+use Rattle.amr_state.specs.State.{State, spot_cmp, spot_cmp-IsAntisymmetric, log_key_cmp, log_key_cmp-IsAntisymmetric}
 use Rattle.amr_state.specs.Records.{put_back_one, put_back, present}
 use Rattle.amr_state.specs.Kept.{Kept, undone}
 use Rattle.amr_state.specs.declared.store.Store.TheInside.{Inside}
-use Rattle.amr_state.specs.Stored.{state_of, kept_of, IsSound, AreSound, IsKept}
-use Rattle.amr_state.proofs.Undoing.{put_back-push, put_back-change, put_back-note, put_back-entered, put_back-appended, put_back-none, same_undone, undone-idle, undone-undone}
-use Rattle.amr_state.proofs.Soundness.{MorePlaces, all-more, all-push, all-pop, kept_with, kept_pushed, kept_grown, all-none, kept_closed, kept_reopened, kept_forgotten, last_is_sound, kept_popped}
+use Rattle.amr_state.specs.Stored.{state_of, kept_of, IsSound, IsKept, MorePlaces}
+use Rattle.amr_state.proofs.Soundness.{by_place, NoNewMark, NewMarkAt, kept_same, kept_grown, kept_pushed, kept_entered, kept_closed, kept_reopened, last_is_sound, kept_popped, kept_forgotten, undone_pushed, undone_covered, undone_popped, undone_appended, undone_noted, kept_unmarked, all-none, more_notes, taken}
+use Rattle.amr_state.proofs.Undoing.{notes_entered-last}
+use Rattle.std.proofs.Math.Nat.{le_refl}
 use Rattle.amr_state.proofs.store.Store.set_moment.Goals as goal
+use Rattle.amr_state.proofs.store.Store.set_moment.Goals.{then-not-self+in_ok-reserve_entry, else-not-self}
 
 pub invariant_of-self-2 : goal.invariant_of-self-2
 invariant_of-self-2 c =
     let a = c.self.inside in
-    let b : Inside = record a { moment = c.args.at; journal = c.push.new.self } in
-    kept_pushed a b (WasMoment c.self.inside.moment) c.self.invariant (record { alerts = λ k h. h; silences = λ k h. h; placements = λ k h. h; clocks = λ k h. h; log = λ k h. h }) (c.requires) (c.push.ensures.closed ∙ c.reserve_entry.ensures.closed)
-    (c.push.ensures.current ∙ ap (λ es. es ++ WasMoment c.self.inside.moment ∷ []) c.reserve_entry.ensures.current) (c.self.invariant.moment)
+    elim c.if-not-self.branch [
+      | then-not-self+in_ok-reserve_entry w ↦
+          let b : Inside = record a { moment = c.args.at; tables = record a.tables { is_moment_entered = true }; journal = w.push.new.self } in
+          let e : Displaced = WasMoment a.moment in
+          let pushed : w.push.new.self.current ≡ w.reserve_entry.new.self.current ++ e ∷ [] = w.push.ensures.current in
+          subst (λ x. IsKept (record x { moment = c.args.at })) (sym w.self-inside-is) (
+            kept_entered a b e c.self.invariant (record { alerts = λ k h. h; silences = λ k h. h; placements = λ k h. h; clocks = λ k h. h; log = λ k h. h }) c.requires (w.push.ensures.closed ∙ w.reserve_entry.ensures.closed)
+            (pushed ∙ ap (λ es. es ++ e ∷ []) w.reserve_entry.ensures.current) c.self.invariant.moment
+            (by_place (NewMarkAt (WasMoment a.moment) a.tables b.tables) (λ x h. refl) (λ x h. h) (λ k v h. h) (λ k v h. h) (λ k v h. h) (λ k v h. h) (λ k v h. h) (λ x h. h)) refl refl)
+      | else-not-self w ↦
+          let b : Inside = record a { moment = c.args.at } in
+          subst (λ x. IsKept (record x { moment = c.args.at })) (sym w.self-inside-is) (
+            kept_same a b c.self.invariant (record { alerts = λ k h. h; silences = λ k h. h; placements = λ k h. h; clocks = λ k h. h; log = λ k h. h }) c.requires refl refl (λ place h. h) (le_refl (length a.notes.items)))
+    ]
 
 pub returns-clause-kept : goal.returns-clause-kept
 returns-clause-kept c =
     let a = c.self.inside in
-    let b : Inside = record a { moment = c.args.at; journal = c.push.new.self } in
-    let change : Displaced = WasMoment c.args.at in
-    let entry : WasMoment c.self.inside.moment ≡ present (state_of a) change = refl in
-    same_undone (kept_of b) (kept_of a)
-    (ap (λ es. put_back es (put_back_one (state_of a) change)) (c.push.ensures.current ∙ (λ i. c.reserve_entry.ensures.current i ++ entry i ∷ []))
-    ∙ put_back-entered a.journal.current (state_of a) change tt)
-    (c.push.ensures.closed ∙ c.reserve_entry.ensures.closed) (c.push.ensures.records ∙ c.reserve_entry.ensures.records)
-    ∙ ap undone c.self.view_is
+    elim c.if-not-self.branch [
+      | then-not-self+in_ok-reserve_entry w ↦
+          let b : Inside = record a { moment = c.args.at; tables = record a.tables { is_moment_entered = true }; journal = w.push.new.self } in
+          let e : Displaced = WasMoment a.moment in
+          let pushed : w.push.new.self.current ≡ w.reserve_entry.new.self.current ++ e ∷ [] = w.push.ensures.current in
+          ap (λ (x : Inside). undone (kept_of (record x { moment = c.args.at }))) w.self-inside-is
+          ∙ undone_pushed a b (WasMoment c.args.at) e tt refl refl (pushed ∙ ap (λ es. es ++ e ∷ []) w.reserve_entry.ensures.current)
+          (w.push.ensures.closed ∙ w.reserve_entry.ensures.closed) (w.push.ensures.records ∙ w.reserve_entry.ensures.records)
+          ∙ ap undone c.self.view_is
+      | else-not-self w ↦
+          let b : Inside = record a { moment = c.args.at } in
+          ap (λ (x : Inside). undone (kept_of (record x { moment = c.args.at }))) w.self-inside-is
+          ∙ undone_covered a b (WasMoment c.args.at) c.self.invariant tt w.if-not-self.false refl refl refl refl
+          ∙ ap undone c.self.view_is
+    ]

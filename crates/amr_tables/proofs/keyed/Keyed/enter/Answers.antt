@@ -1,15 +1,11 @@
-use Rattle.std.proofs.Common.{◌≡◌, ℕ, ◌<◌, ◌≤◌, ◌+◌, Bool, true, false, None, Some, Option, List, length, refl, sym, ap, subst, ◌∙◌, arith, is_some, nat_lt, slice_set, T, rules, ◌++◌, ◌∷◌, [], IsTrue}
-use Rattle.std.specs.Prelude.{option_and_then, not, ◌||◌}
-use Rattle.std.specs.Option.{option_map_or, option_copied}
+use Rattle.std.proofs.Common.{◌≡◌, true, false, None, Some, sym, ap, subst, ◌∙◌, arith, is_some, IsTrue}
+use Rattle.std.specs.Prelude.{◌||◌}
+use Rattle.std.specs.Option.{option_copied}
 use Rattle.std.specs.Ordering.{eq_by_cmp}
-use Rattle.std.specs.FinMap.{find, put}
-use Rattle.std.proofs.lemmas.Bool.Decides.{nat_tests}
-use Rattle.amr_labels.proofs.Trees.{lookup_is, put_is}
-use Rattle.amr_labels.specs.Map as map
-use Rattle.amr_tables.specs.Places.{value_at}
-use Rattle.amr_tables.specs.Marked.{is_marked}
-use Rattle.amr_tables.specs.Numbered.{Numbered, IsNumbering, entry_at, shown, has_place, is_entered}
-use Rattle.amr_tables.proofs.Numbering.{get-shown, shown-none, displaced_is, shown-displaced, marked_is, entered-marked, cleared_is, entered-cleared, pushed_is, entered-pushed, grown_is, shown-grown, added_is, shown-added, entered-added, placed-added}
+use Rattle.std.specs.FinMap.{find}
+use Rattle.amr_labels.proofs.Trees.{lookup_is}
+use Rattle.amr_tables.specs.Numbered.{IsNumbering, shown, has_place, is_entered}
+use Rattle.amr_tables.proofs.Numbering.{marked_is, entered-marked}
 use Rattle.amr_tables.proofs.keyed.Keyed.enter.Goals as goal
 
 pub mark-requires : goal.mark-requires
@@ -29,20 +25,12 @@ unreachable-requires g c =
     let yes : false ≡ true = subst IsTrue no c.requires in
     absurd (cc)
 
-pub returns-clause-first : goal.returns-clause-first
-unfolding is_entered
-returns-clause-first g c =
-    let R = g.K.Ord.cmp in
-    let at : find R c.args.key.now c.self.inside.numbers.entries ≡ Some c.in-Some.number.now = lookup_is R c.self.inside.numbers.entries c.args.key.now ∙ sym c.get.ensures.value ∙ ap option_copied c.in-Some.is in
-    c.mark.ensures.first ∙ ap (λ x. not (option_map_or (is_marked c.self.inside.entered) x false)) (sym at)
-    ∙ ap (λ v. not (is_entered R v c.args.key.now)) c.self.view_is
-
 pub returns-clause-entered : goal.returns-clause-entered
 returns-clause-entered g c = λ other.
     let R = g.K.Ord.cmp in
     let t = c.self.inside in
     let at : find R c.args.key.now t.numbers.entries ≡ Some c.in-Some.number.now = lookup_is R t.numbers.entries c.args.key.now ∙ sym c.get.ensures.value ∙ ap option_copied c.in-Some.is in
-    ap (λ m. is_entered R (record { numbers = t.numbers.entries; cells = t.slots; marks = m }) other) c.mark.ensures.marked
+    ap (λ m. is_entered R (record { numbers = t.numbers.entries; cells = t.slots; marks = m }) other) c.mark.ensures
     ∙ entered-marked g.met.K.Ord.total (record { numbers = t.numbers.entries; cells = t.slots; marks = t.entered }) c.args.key.now other c.in-Some.number.now c.self.invariant at
     ∙ ap (λ v. eq_by_cmp R other c.args.key.now || is_entered R v other) c.self.view_is
 
@@ -59,5 +47,5 @@ invariant_of-self g c =
     let R = g.K.Ord.cmp in
     let t = c.self.inside in
     let at : find R c.args.key.now t.numbers.entries ≡ Some c.in-Some.number.now = lookup_is R t.numbers.entries c.args.key.now ∙ sym c.get.ensures.value ∙ ap option_copied c.in-Some.is in
-    subst (λ m. IsNumbering R (record { numbers = t.numbers.entries; cells = t.slots; marks = m })) (sym c.mark.ensures.marked)
+    subst (λ m. IsNumbering R (record { numbers = t.numbers.entries; cells = t.slots; marks = m })) (sym c.mark.ensures)
     (marked_is g.met.K.Ord.total (record { numbers = t.numbers.entries; cells = t.slots; marks = t.entered }) c.in-Some.number.now (c.self.invariant.within c.args.key.now c.in-Some.number.now at) c.self.invariant)

@@ -1,17 +1,9 @@
-use Rattle.std.proofs.Common.{◌≡◌, ℕ, ◌<◌, ◌≤◌, ◌+◌, Bool, true, false, None, Some, Option, List, length, refl, sym, ap, subst, ◌∙◌, arith, is_some, nat_lt, slice_set, T, rules, ◌++◌, ◌∷◌, [], IsTrue}
-use Rattle.std.specs.Prelude.{option_and_then, not, ◌||◌}
-use Rattle.std.specs.Option.{option_map_or, option_copied}
-use Rattle.std.specs.Ordering.{eq_by_cmp}
+use Rattle.std.proofs.Common.{◌≡◌, ◌<◌, None, length, sym, ap, subst, ◌∙◌, arith, is_some, IsTrue}
 use Rattle.std.specs.FinMap.{find, put}
 use Rattle.std.proofs.lemmas.Bool.Decides.{nat_tests}
 use Rattle.amr_labels.proofs.Trees.{lookup_is, put_is}
-use Rattle.amr_labels.specs.Map as map
-use Rattle.amr_tables.specs.Places.{value_at}
-use Rattle.amr_tables.specs.Marked.{is_marked}
-use Rattle.amr_tables.specs.Numbered.{Numbered, IsNumbering, entry_at, shown, has_place, is_entered}
-use Rattle.amr_tables.proofs.Numbering.{Grows, HasRoom, grown_table, added_table, none_of, get-shown, shown-none, displaced_is, shown-displaced, marked_is, entered-marked, cleared_is, entered-cleared, pushed_is, entered-pushed, grown_is, shown-grown, added_is, shown-added, entered-added, placed-added}
-use Rattle.std.specs.BTreeMap.{insert_entry}
-use Rattle.std.proofs.Common.{max}
+use Rattle.amr_tables.specs.Numbered.{Numbered, IsNumbering, shown, has_place, is_entered}
+use Rattle.amr_tables.proofs.Numbering.{HasRoom, grown_table, added_table, none_of}
 use Rattle.amr_tables.proofs.keyed.Keyed.make_place.Goals as goal
 
 pub returns-then-contains_key-clause-made : goal.returns-then-contains_key-clause-made
@@ -260,4 +252,3 @@ returns-clause-places g c =
     let is : c.insert.new.self.entries ≡ put R c.args.key (length t.cells) t.numbers = c.in_ok-insert.ensures.entries ∙ put_is R t.numbers c.args.key c.len-number.result ∙ ap (λ n. put R c.args.key n t.numbers) len in
     let added = added_table R g.met.K.Ord.total t c.args.key c.insert.new.self.entries c.make_place.new.self c.add_place.new.self room none lt is in
     λ other p. added.0.placed other (subst (λ v. IsTrue (has_place R v other)) (sym c.self.view_is) p)
-

@@ -1,4 +1,4 @@
-use Rattle.std.proofs.Common.{◌≡◌, nat_eq, map, false, ap, sym, ◌∙◌, Bool, List, replicate, ◌<◌, ◌+◌, arith}
+use Rattle.std.proofs.Common.{nat_eq, map, false, ap, ◌∙◌, Bool, List, replicate, ◌+◌, arith}
 use Rattle.amr_tables.proofs.Marking.{none_marked, marks_gone, wiped}
 use Rattle.amr_tables.proofs.marks.Marks.clear.Goals as goal
 

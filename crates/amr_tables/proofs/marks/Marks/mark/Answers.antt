@@ -4,8 +4,8 @@ use Rattle.std.proofs.lemmas.Bool.Decides.{nat_tests}
 use Rattle.std.proofs.Common.{arith}
 use Rattle.amr_tables.proofs.marks.Marks.mark.Goals as goal
 
-pub returns-clause-marked : goal.returns-clause-marked
-returns-clause-marked c =
+pub returns : goal.returns
+returns c =
     let present = c.self.inside.present in
     let same : nat_eq present present ≡ true = grind (arith, nat_tests) in
     map-set (λ stamp. nat_eq stamp present) c.self.inside.stamps.items c.args.place present

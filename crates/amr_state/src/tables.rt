@@ -1,0 +1,41 @@
+//! The tables of the state.
+ghost use Rattle.amr_state.specs.Stored.{SameValues, MorePlaces, IsUnmarked};
+
+use crate::note::{Clock, LogKey};
+use crate::spot::Spot;
+use amr_events::SilenceId;
+use amr_labels::Labels;
+use amr_rules::{Alert, LogEntry, Silence};
+use amr_tables::Keyed;
+
+/// The places of the state that are in tables. Each table marks the places that the open record has an entry for; of the three places that are
+/// in no table the marks are here too.
+#[derive(Drop)]
+pub(crate) struct Tables {
+    pub(crate) alerts: Keyed<Labels, Alert>,
+    pub(crate) silences: Keyed<SilenceId, Silence>,
+    pub(crate) placements: Keyed<Spot, Alert>,
+    pub(crate) clocks: Keyed<Spot, Clock>,
+    pub(crate) log: Keyed<LogKey, LogEntry>,
+    pub(crate) is_moment_entered: bool,
+    pub(crate) is_config_entered: bool,
+    pub(crate) are_notes_entered: bool,
+}
+
+impl Tables {
+    /// Takes the marks of all places away, since another record is open. It takes no memory.
+    pub(crate) fn clear_entered(&mut self)
+        ensures values { SameValues self.old self.new }
+        ensures places { MorePlaces self.old self.new }
+        ensures marks { IsUnmarked self.new }
+    {
+        self.alerts.clear_entered();
+        self.silences.clear_entered();
+        self.placements.clear_entered();
+        self.clocks.clear_entered();
+        self.log.clear_entered();
+        self.is_moment_entered = false;
+        self.is_config_entered = false;
+        self.are_notes_entered = false;
+    }
+}
