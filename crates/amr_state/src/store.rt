@@ -4,10 +4,11 @@ ghost use Rattle.std.specs.Prelude.{option_map, slice_get};
 ghost use Rattle.std.specs.Ordering.{nat_cmp};
 ghost use Rattle.amr_labels.specs.Labels.{label_set_cmp};
 ghost use Rattle.amr_labels.specs.Map as map;
+ghost use Rattle.amr_labels.specs.Map.{len};
 ghost use Rattle.amr_tables.specs.Numbered.{shown};
 ghost use Rattle.amr_time.specs.Time.{latest_read};
 ghost use Rattle.amr_state.specs.State.{start, spot_cmp, log_key_cmp};
-ghost use Rattle.amr_state.specs.Kept.{undone};
+ghost use Rattle.amr_state.specs.Kept.{GrownBy, undone};
 
 use crate::displaced::Displaced;
 use crate::note::{Clock, LogKey, Note};
@@ -231,6 +232,7 @@ impl Store {
         requires { at ≤ latest_read }
         ensures ok { OnOk result (self.new.state ≡ record self.old.state { moment = at }) }
         ensures kept { undone self.new ≡ undone self.old }
+        ensures grown { GrownBy 1 self.old self.new }
     {
         self.journal.reserve_entry()?;
         self.journal.push(Displaced::WasMoment(self.moment));
@@ -242,6 +244,7 @@ impl Store {
     pub fn insert_alert(&mut self, labels: &Labels, alert: Alert) -> Result<(), AllocError>
         ensures ok { OnOk result (self.new.state ≡ record self.old.state { alerts = map.insert self.old.state.alerts labels.now alert }) }
         ensures kept { undone self.new ≡ undone self.old }
+        ensures grown { GrownBy 1 self.old self.new }
     {
         self.set_alert(labels, Some(alert))
     }
@@ -250,6 +253,7 @@ impl Store {
     pub fn remove_alert(&mut self, labels: &Labels) -> Result<(), AllocError>
         ensures ok { OnOk result (self.new.state ≡ record self.old.state { alerts = map.remove self.old.state.alerts labels.now }) }
         ensures kept { undone self.new ≡ undone self.old }
+        ensures grown { GrownBy 1 self.old self.new }
     {
         self.set_alert(labels, None)
     }
@@ -258,6 +262,7 @@ impl Store {
     pub(crate) fn place_copy(&mut self, spot: &Spot, alert: Alert) -> Result<(), AllocError>
         ensures ok { OnOk result (self.new.state ≡ record self.old.state { placements = map.insert self.old.state.placements spot.now alert }) }
         ensures kept { undone self.new ≡ undone self.old }
+        ensures grown { GrownBy 1 self.old self.new }
     {
         self.set_placement(spot, Some(alert))
     }
@@ -266,6 +271,7 @@ impl Store {
     pub fn remove_copy(&mut self, spot: &Spot) -> Result<(), AllocError>
         ensures ok { OnOk result (self.new.state ≡ record self.old.state { placements = map.remove self.old.state.placements spot.now }) }
         ensures kept { undone self.new ≡ undone self.old }
+        ensures grown { GrownBy 1 self.old self.new }
     {
         self.set_placement(spot, None)
     }
@@ -274,6 +280,7 @@ impl Store {
     pub fn set_clock(&mut self, group: &Spot, clock: Clock) -> Result<(), AllocError>
         ensures ok { OnOk result (self.new.state ≡ record self.old.state { clocks = map.insert self.old.state.clocks group.now clock }) }
         ensures kept { undone self.new ≡ undone self.old }
+        ensures grown { GrownBy 1 self.old self.new }
     {
         self.change_clock(group, Some(clock))
     }
@@ -282,6 +289,7 @@ impl Store {
     pub fn remove_clock(&mut self, group: &Spot) -> Result<(), AllocError>
         ensures ok { OnOk result (self.new.state ≡ record self.old.state { clocks = map.remove self.old.state.clocks group.now }) }
         ensures kept { undone self.new ≡ undone self.old }
+        ensures grown { GrownBy 1 self.old self.new }
     {
         self.change_clock(group, None)
     }
@@ -290,6 +298,7 @@ impl Store {
     pub fn insert_silence(&mut self, id: SilenceId, silence: Silence) -> Result<(), AllocError>
         ensures ok { OnOk result (self.new.state ≡ record self.old.state { silences = map.insert self.old.state.silences id silence }) }
         ensures kept { undone self.new ≡ undone self.old }
+        ensures grown { GrownBy 1 self.old self.new }
     {
         self.set_silence(id, Some(silence))
     }
@@ -298,6 +307,7 @@ impl Store {
     pub fn replace_config(&mut self, config: Config) -> Result<(), AllocError>
         ensures ok { OnOk result (self.new.state ≡ record self.old.state { config = config; placements = map.empty; clocks = map.empty }) }
         ensures kept { undone self.new ≡ undone self.old }
+        ensures grown { GrownBy (1 + len self.old.state.clocks + len self.old.state.placements) self.old self.new }
     {
         self.clear_placements()?;
         self.clear_clocks()?;
@@ -308,6 +318,7 @@ impl Store {
     pub fn write_log(&mut self, key: &LogKey, entry: LogEntry) -> Result<(), AllocError>
         ensures ok { OnOk result (self.new.state ≡ record self.old.state { log = map.insert self.old.state.log key.now entry }) }
         ensures kept { undone self.new ≡ undone self.old }
+        ensures grown { GrownBy 1 self.old self.new }
     {
         let entered = make_room(&mut self.log, &mut self.journal, key)?;
         let was = self.log.displace(key, Some(entry));
@@ -319,6 +330,7 @@ impl Store {
     pub fn append_note(&mut self, note: Note) -> Result<(), AllocError>
         ensures ok { OnOk result (self.new.state ≡ record self.old.state { notes = self.old.state.notes ++ note ∷ [] }) }
         ensures kept { undone self.new ≡ undone self.old }
+        ensures grown { GrownBy 1 self.old self.new }
     {
         let note = Shared::new(self.alloc, note)?;
         let count = self.notes.len();
@@ -341,6 +353,7 @@ impl Store {
     fn set_alert(&mut self, labels: &Labels, alert: Option<Alert>) -> Result<(), AllocError>
         ensures ok { OnOk result (self.new.state ≡ record self.old.state { alerts = map.set self.old.state.alerts labels.now alert }) }
         ensures kept { undone self.new ≡ undone self.old }
+        ensures grown { GrownBy 1 self.old self.new }
     {
         let entered = make_room(&mut self.alerts, &mut self.journal, labels)?;
         let was = self.alerts.displace(labels, alert);
@@ -352,6 +365,7 @@ impl Store {
     fn set_silence(&mut self, id: SilenceId, silence: Option<Silence>) -> Result<(), AllocError>
         ensures ok { OnOk result (self.new.state ≡ record self.old.state { silences = map.set self.old.state.silences id silence }) }
         ensures kept { undone self.new ≡ undone self.old }
+        ensures grown { GrownBy 1 self.old self.new }
     {
         let entered = make_room(&mut self.silences, &mut self.journal, &id)?;
         let was = self.silences.displace(&id, silence);
@@ -363,6 +377,7 @@ impl Store {
     fn set_placement(&mut self, spot: &Spot, alert: Option<Alert>) -> Result<(), AllocError>
         ensures ok { OnOk result (self.new.state ≡ record self.old.state { placements = map.set self.old.state.placements spot.now alert }) }
         ensures kept { undone self.new ≡ undone self.old }
+        ensures grown { GrownBy 1 self.old self.new }
     {
         let entered = make_room(&mut self.placements, &mut self.journal, spot)?;
         let was = self.placements.displace(spot, alert);
@@ -374,6 +389,7 @@ impl Store {
     fn change_clock(&mut self, group: &Spot, clock: Option<Clock>) -> Result<(), AllocError>
         ensures ok { OnOk result (self.new.state ≡ record self.old.state { clocks = map.set self.old.state.clocks group.now clock }) }
         ensures kept { undone self.new ≡ undone self.old }
+        ensures grown { GrownBy 1 self.old self.new }
     {
         let entered = make_room(&mut self.clocks, &mut self.journal, group)?;
         let was = self.clocks.displace(group, clock);
@@ -385,6 +401,7 @@ impl Store {
     fn clear_placements(&mut self) -> Result<(), AllocError>
         ensures ok { OnOk result (self.new.state ≡ record self.old.state { placements = map.empty }) }
         ensures kept { undone self.new ≡ undone self.old }
+        ensures grown { GrownBy (len self.old.state.placements) self.old self.new }
     {
         let spots = keys_of(self.alloc, &self.placements)?;
         for spot in &spots {
@@ -397,6 +414,7 @@ impl Store {
     fn clear_clocks(&mut self) -> Result<(), AllocError>
         ensures ok { OnOk result (self.new.state ≡ record self.old.state { clocks = map.empty }) }
         ensures kept { undone self.new ≡ undone self.old }
+        ensures grown { GrownBy (len self.old.state.clocks) self.old self.new }
     {
         let groups = keys_of(self.alloc, &self.clocks)?;
         for group in &groups {
@@ -409,6 +427,7 @@ impl Store {
     fn change_config(&mut self, config: Config) -> Result<(), AllocError>
         ensures ok { OnOk result (self.new.state ≡ record self.old.state { config = config }) }
         ensures kept { undone self.new ≡ undone self.old }
+        ensures grown { GrownBy 1 self.old self.new }
     {
         self.journal.reserve_entry()?;
         let was = mem::replace(&mut self.config, config);
