@@ -7,3 +7,5 @@ pub mod Endings
 pub mod Preparing
 pub mod Parted
 pub mod Settling
+pub mod Copied
+pub mod Growing

@@ -26,6 +26,7 @@ use Rattle.amr_engine.specs.declared.post.Sifted.{Sifted}
 use Rattle.amr_engine.specs.declared.prepare.Prepared.TheVariants as prepared
 use Rattle.amr_engine.specs.Events.{after_act, at_moment, on_ok, put, put_all, valid_alerts, skipped_from, with_silences, with_config}
 use Rattle.amr_engine.specs.Prepared.{Does, Stays, IsPrepared}
+use Rattle.amr_engine.specs.Weight.{alerts_weight}
 
 abbrev pub Valid : Type 0
 Valid = List (LabelSet × Alert)
@@ -48,6 +49,12 @@ unfolding after_act
 no_valid s at timeout posted valid same is none =
     ap (put_all (at_moment at s)) (ap (λ (t : Span). filter_map (completed at t) posted) (sym same) ∙ sym is ∙ none_left valid none)
 
+-- the alerts that are valid after the moves are those that are valid before them
+same_valid : (s next : State) (at : Moment) (timeout : Span) (posted : List PostedAlert) (valid : Valid) → Stays s at next → timeout ≡ s.config.resolve_timeout
+    → valid ≡ filter_map (completed at timeout) posted → valid_alerts next posted ≡ valid
+same_valid s next at timeout posted valid stays same is =
+    (λ i. filter_map (completed (stays.moment i) (stays.config i).resolve_timeout) posted) ∙ ap (λ (t : Span). filter_map (completed at t) posted) (sym same) ∙ sym is
+
 -- some alert of a post is valid
 pub some_valid : (s : State) (at : Moment) (timeout : Span) (posted : List PostedAlert) (sifted : Sifted) → timeout ≡ s.config.resolve_timeout
     → sifted.valid.items ≡ filter_map (completed at timeout) posted → sifted.skipped ≡ skipped_from 1 at timeout posted → (length sifted.valid.items == 0) ≡ false
@@ -55,9 +62,10 @@ pub some_valid : (s : State) (at : Moment) (timeout : Span) (posted : List Poste
 unfolding after_act
 some_valid s at timeout posted sifted same is left some = record {
   does = λ next stays.
-      ap (put_all next) ((λ i. filter_map (completed (stays.moment i) (stays.config i).resolve_timeout) posted) ∙ ap (λ (t : Span). filter_map (completed at t) posted) (sym same) ∙ sym is)
+      ap (put_all next) (same_valid s next at timeout posted sifted.valid.items stays same is)
       ∙ put_some next sifted.valid.items some;
   skips = left ∙ ap (λ (t : Span). skipped_from 1 at t posted) same;
+  light = λ next after stays. omega (arith, ap (alerts_weight next.config) (same_valid s next at timeout posted sifted.valid.items stays same is));
 }
 
 -- there is a reason against a silence
@@ -77,6 +85,7 @@ some_silence s at posted posting own = record {
       ∙ ap (on_ok (with_silences next)) (sym own)
       ∙ ap (λ (kept : Silences). Ok (with_silences next (with_decision posted posting kept))) (sym stays.silences);
   skips = refl;
+  light = λ next after stays. omega arith;
 }
 
 expires : (at : Moment) (id : ℕ) (silences : Silences) (found : Option Silence) → get silences id ≡ found
@@ -99,6 +108,7 @@ some_expiry s at id silence ended found is = record {
       ∙ ap (on_ok (with_silences next)) (expires at id next.silences (Some silence) (ap (λ (kept : Silences). get kept id) stays.silences ∙ found))
       ∙ ap (λ (x : Silence). Ok (with_silences next (insert next.silences id x))) (sym is);
   skips = refl;
+  light = λ next after stays. omega arith;
 }
 
 -- a configuration was read
@@ -107,6 +117,7 @@ unfolding after_act
 some_reload s at config loaded is = record {
   does = λ next stays. ap (λ (x : Config). Ok (with_config next x)) (sym is);
   skips = refl;
+  light = λ next after stays. omega arith;
 }
 
 -- a configuration was refused
@@ -117,4 +128,4 @@ no_reload s at reason = refl
 -- time passes
 pub some_tick : (s : State) (at : Moment) → Does s at Act.Tick prepared.Tick
 unfolding after_act
-some_tick s at = record { does = λ next stays. refl; skips = refl }
+some_tick s at = record { does = λ next stays. refl; skips = refl; light = λ next after stays. omega arith }

@@ -1,5 +1,5 @@
 -- What an event leaves in the store: it is accepted, and its record is closed, or it is put back.
-use Rattle.std.specs.Prelude.{◌≡◌, ℕ, Bool, true, false, List, [], ◌∷◌, ◌++◌, length, ◌<◌}
+use Rattle.std.specs.Prelude.{◌≡◌, ℕ, Bool, true, false, List, [], ◌∷◌, ◌++◌, length, ◌<◌, ◌≤◌, ◌*◌}
 use Rattle.std.proofs.Common.{refl, sym, ap, subst, ◌∙◌, arith}
 use Rattle.amr_events.specs.Events.{Event}
 use Rattle.amr_state.specs.declared.displaced.Displaced.{Displaced}
@@ -9,7 +9,8 @@ use Rattle.amr_state.specs.Records.{put_back, befores}
 use Rattle.amr_state.proofs.Undoing.{befores_push, length-befores, undone-idle, undone-undone}
 use Rattle.amr_engine.specs.Events.{after_event}
 use Rattle.amr_engine.specs.Applied.{Leads}
-use Rattle.amr_engine.specs.Kept.{IsEmptyIfRefused}
+use Rattle.amr_engine.specs.Kept.{IsEmptyIfRefused, IsLightIfAccepted}
+use Rattle.amr_engine.specs.Weight.{event_weight}
 use Rattle.amr_engine.specs.Refusals.{is_refused}
 use Rattle.amr_engine.specs.declared.outcome.Outcome.{Outcome}
 use Rattle.amr_engine.specs.declared.outcome.Outcome.TheVariants.{Accepted, Refused}
@@ -23,22 +24,25 @@ pub record Settled (event : Event) (begun left : Kept) (outcome : Outcome) : Typ
   pub undone_is : undone left ≡ begun
   pub state : left.state ≡ after_event begun.state event
   pub empty : IsEmptyIfRefused outcome left.current
+  pub short : length left.current ≤ 4 * event_weight begun.state event left.state
 
 no_current : (a b : Kept) → a ≡ undone b → a.current ≡ []
 unfolding undone
 no_current a b e = ap (λ (k : Kept). k.current) e
 
 pub settled : (event : Event) (begun tried left : Kept) (outcome : Outcome) → begun.current ≡ [] → Leads begun.state event tried.state outcome → undone tried ≡ undone begun
-    → IsLeft (is_refused outcome) tried left → Settled event begun left outcome
-settled event begun tried left (Accepted moves notes skipped) idle leads kept is = record {
+    → IsLightIfAccepted begun event tried outcome → IsLeft (is_refused outcome) tried left → Settled event begun left outcome
+settled event begun tried left (Accepted moves notes skipped) idle leads kept light is = record {
   undone_is = ap undone is ∙ kept ∙ undone-idle begun idle;
   state = ap (λ (k : Kept). k.state) is ∙ leads.state;
   empty = tt;
+  short = subst (λ (k : Kept). length k.current ≤ 4 * event_weight begun.state event k.state) (sym is) (omega (arith, ap length idle, light));
 }
-settled event begun tried left (Refused reason) idle leads kept is = record {
+settled event begun tried left (Refused reason) idle leads kept light is = record {
   undone_is = ap undone is ∙ undone-undone tried ∙ kept ∙ undone-idle begun idle;
   state = ap (λ (k : Kept). k.state) (is ∙ kept ∙ undone-idle begun idle) ∙ leads.state;
   empty = no_current left tried is;
+  short = omega (arith, ap length (no_current left tried is));
 }
 
 module _ (begun left : Kept) (e : undone left ≡ begun) where

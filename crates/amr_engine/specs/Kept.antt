@@ -1,8 +1,13 @@
--- What an event's record is.
-use Rattle.std.specs.Prelude.{◌≡◌, List, [], ◌∷◌, ◌++◌}
+-- What an event's record is, and how long it may be.
+use Rattle.std.specs.Prelude.{◌≡◌, ◌≤◌, ◌*◌, List, [], ◌∷◌, ◌++◌, length, Result, Ok, Err}
+use Rattle.amr_events.specs.Events.{Event}
+use Rattle.amr_events.specs.declared.reason.Reason.{Reason}
 use Rattle.amr_state.specs.declared.displaced.Displaced.{Displaced}
+use Rattle.amr_state.specs.Kept.{Kept, GrownBy}
 use Rattle.amr_state.specs.Records.{put_back}
 use Rattle.amr_state.specs.Steps.{Steps}
+use Rattle.amr_engine.specs.Weight.{event_weight}
+use Rattle.amr_engine.specs.declared.apply.Done.{Done}
 use Rattle.amr_engine.specs.declared.outcome.Outcome.{Outcome}
 use Rattle.amr_engine.specs.declared.outcome.Outcome.TheVariants.{Accepted, Refused}
 
@@ -14,8 +19,21 @@ abbrev pub IsEmptyIfRefused : Outcome → List Displaced → Type 0
 IsEmptyIfRefused (Accepted moves notes skipped) r = Unit {0}
 IsEmptyIfRefused (Refused reason) r = r ≡ []
 
--- the last record is put back to the state before the event
-pub record RecordOf (before after : Steps) (outcome : Outcome) (r : List Displaced) : Type 0 where
+-- the last record is put back to the state before the event, and has at most four entries for each unit of the event's weight
+pub record RecordOf (before : Steps) (event : Event) (after : Steps) (outcome : Outcome) (r : List Displaced) : Type 0 where
   pub added : after.records ≡ before.records ++ r ∷ []
   pub back : put_back r after.state ≡ before.state
   pub empty : IsEmptyIfRefused outcome r
+  pub short : length r ≤ 4 * event_weight before.state event after.state
+
+-- the open record has at most four entries more for each unit of the event's weight
+abbrev pub IsLight : Kept → Event → Kept → Type 0
+IsLight before event after = GrownBy (4 * event_weight before.state event after.state) before after
+
+abbrev pub IsLightIfDone : Kept → Event → Kept → Result Done Reason → Type 0
+IsLightIfDone before event after (Ok done) = IsLight before event after
+IsLightIfDone before event after (Err reason) = Unit {0}
+
+abbrev pub IsLightIfAccepted : Kept → Event → Kept → Outcome → Type 0
+IsLightIfAccepted before event after (Accepted moves notes skipped) = IsLight before event after
+IsLightIfAccepted before event after (Refused reason) = Unit {0}

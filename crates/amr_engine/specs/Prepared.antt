@@ -1,5 +1,5 @@
 -- An act that is prepared before the moves of its event.
-use Rattle.std.specs.Prelude.{◌≡◌, ℕ, List, [], Ok, Err, Result}
+use Rattle.std.specs.Prelude.{◌≡◌, ◌≤◌, ℕ, ◌+◌, ◌*◌, List, [], Ok, Err, Result}
 use Rattle.std.specs.List.{fold}
 use Rattle.amr_labels.specs.Map.{insert}
 use Rattle.amr_time.specs.Time.{Moment}
@@ -8,6 +8,7 @@ use Rattle.amr_events.specs.declared.reason.Reason as code
 use Rattle.amr_events.specs.Reasons.{reason_number}
 use Rattle.amr_rules.specs.Silencing.{posting_stored}
 use Rattle.amr_state.specs.State.{State}
+use Rattle.amr_engine.specs.Weight.{reload_entries, alerts_weight, act_weight}
 use Rattle.amr_engine.specs.declared.prepare.Prepared as prepare
 use Rattle.amr_engine.specs.declared.prepare.Prepared.TheVariants.{Put, Silence, Expire, Reload, Tick}
 use Rattle.amr_engine.specs.Events.{after_act, at_moment, put, with_silences, with_config, skipped_of}
@@ -28,6 +29,14 @@ skipped_by (Expire id ended) = []
 skipped_by (Reload config) = []
 skipped_by Tick = []
 
+-- how many entries a prepared act adds to the open record at most, from the state before it to the state after it
+abbrev pub entries_of : prepare.Prepared → State → State → ℕ
+entries_of (Put sifted) before after = alerts_weight before.config sifted.valid.items
+entries_of (Silence id new_id posting) before after = 2
+entries_of (Expire id ended) before after = 1
+entries_of (Reload config) before after = reload_entries before after
+entries_of Tick before after = 0
+
 -- what the moves of an event at a moment leave, with the clock at that moment
 pub record Stays (s : State) (at : Moment) (next : State) : Type 0 where
   pub silences : next.silences ≡ s.silences
@@ -38,6 +47,7 @@ pub record Stays (s : State) (at : Moment) (next : State) : Type 0 where
 pub record Does (s : State) (at : Moment) (act : Act) (prepared : prepare.Prepared) : Type 0 where
   pub does : (next : State) → Stays s at next → after_act next act ≡ Ok (performed prepared next)
   pub skips : skipped_by prepared ≡ skipped_of (at_moment at s) act
+  pub light : (next after : State) → Stays s at next → entries_of prepared next after ≤ 1 + 2 * act_weight next after act
 
 -- what an act is prepared as, or its own reason against it
 abbrev pub IsPrepared : State → Moment → Act → Result prepare.Prepared code.Reason → Type 0

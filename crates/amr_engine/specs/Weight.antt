@@ -1,31 +1,62 @@
 -- How much an event may displace.
-use Rattle.std.specs.Prelude.{ℕ, List, [], ◌∷◌, ◌+◌, ◌*◌, length, sum, map}
+use Rattle.std.specs.Prelude.{ℕ, zero, suc, List, [], ◌∷◌, ◌+◌, ◌*◌, length}
+use Rattle.std.specs.Option.{option_map_or}
+use Rattle.std.specs.List.{sum_by}
 use Rattle.amr_labels.specs.Map.{len}
+use Rattle.amr_labels.specs.Labels.{LabelSet}
+use Rattle.amr_time.specs.Time.{Moment}
+use Rattle.amr_config.specs.Config.{Config}
 use Rattle.amr_config.specs.Routing.{chosen, integrations_of}
+use Rattle.amr_rules.specs.declared.alert.Alert.{Alert}
 use Rattle.amr_events.specs.Events.{Act, Event}
 use Rattle.amr_state.specs.declared.due.Due.{Due}
 use Rattle.amr_state.specs.declared.due.Kind.{Kind}
 use Rattle.amr_state.specs.declared.due.Kind.TheVariants.{AlertRemoval, GroupRemoval, GroupFlush}
+use Rattle.amr_state.specs.declared.spot.Spot.{Spot}
 use Rattle.amr_state.specs.State.{State, spot_at, members}
-use Rattle.amr_engine.specs.Moves.{move}
-use Rattle.amr_engine.specs.Events.{valid_alerts, at_moment}
+use Rattle.amr_state.specs.Dues.{next_due}
+use Rattle.amr_engine.specs.Moves.{move, advance}
+use Rattle.amr_engine.specs.Events.{move_limit, valid_alerts, at_moment}
+
+-- how many integrations the receiver of a group has
+abbrev pub turns : State → Spot → ℕ
+turns s group = length (integrations_of s.config group.route)
+
+abbrev pub flush_weight : State → Spot → ℕ
+flush_weight s group = 1 + turns s group + length (members s group)
 
 -- what a move may displace
 abbrev pub move_weight : State → Due → Kind → ℕ
 move_weight s due AlertRemoval = 1
 move_weight s due GroupRemoval = 1
-move_weight s due GroupFlush = 1 + length (integrations_of s.config due.route) + length (members s (spot_at due.route due.labels))
+move_weight s due GroupFlush = flush_weight s (spot_at due.route due.labels)
 
 abbrev pub moves_weight : State → List Due → ℕ
 moves_weight s [] = 0
 moves_weight s (due ∷ dues) = move_weight s due due.kind + moves_weight (move due s) dues
 
+-- the weight of the moves up to a moment, of so many at most
+abbrev pub first_weight : ℕ → Moment → State → ℕ
+first_weight zero at s = 0
+first_weight (suc most) at s = option_map_or (λ due. move_weight s due due.kind + first_weight most at (move due s)) (next_due at s) 0
+
 abbrev pub groups_weight : State → ℕ
 groups_weight s = len s.clocks + len s.placements
 
+-- the entries of a reload: the configuration, the groups and members of before, and for each member of after itself and its group's timer
+abbrev pub reload_entries : State → State → ℕ
+reload_entries before after = 1 + groups_weight before + 2 * groups_weight after
+
+-- what a valid alert may displace: itself, and on each chosen route a member and a timer
+abbrev pub alert_weight : Config → LabelSet → ℕ
+alert_weight config labels = 1 + 2 * length (chosen config labels)
+
+abbrev pub alerts_weight : Config → List (LabelSet × Alert) → ℕ
+alerts_weight config = sum_by (λ alert. alert_weight config alert.0)
+
 -- what an act may displace, from the state before it to the state after it
 abbrev pub act_weight : State → State → Act → ℕ
-act_weight before after (Act.Post posted) = sum (map (λ alert. 1 + 2 * length (chosen before.config alert.0)) (valid_alerts before posted))
+act_weight before after (Act.Post posted) = alerts_weight before.config (valid_alerts before posted)
 act_weight before after (Act.Silence posted) = 2
 act_weight before after (Act.Expire id) = 2
 act_weight before after (Act.Reload config) = groups_weight before + groups_weight after
@@ -34,3 +65,11 @@ act_weight before after Act.Tick = 0
 -- the weight of an accepted event, with the state after its moves and the state after it
 abbrev pub weight : State → List Due → State → State → Event → ℕ
 weight s moves moved after event = 2 + moves_weight s moves + act_weight (at_moment event.at moved) after event.act
+
+-- the weight of an event, from the state before it to the state after it; none where too many moves are due
+abbrev pub event_weight : State → Event → State → ℕ
+event_weight s event after = option_map_or (λ run. weight s run.0 run.1 after event) (advance move_limit event.at s) 0
+
+-- how many members alerts become, each on its chosen routes
+abbrev pub copies : Config → List (LabelSet × Alert) → ℕ
+copies config = sum_by (λ alert. length (chosen config alert.0))

@@ -1,12 +1,14 @@
 //! One event: whether it is refused, its moves, and its act.
-ghost use Rattle.std.specs.Prelude.{◌≡◌, ◌≤◌, IfOk, length, drop};
+ghost use Rattle.std.specs.Prelude.{◌≡◌, ◌≤◌, ◌+◌, ◌*◌, OnOk, IfOk, length, drop};
 ghost use Rattle.amr_time.specs.Time.{latest_read};
-ghost use Rattle.amr_state.specs.Kept.{undone};
+ghost use Rattle.amr_state.specs.Kept.{GrownBy, undone};
 ghost use Rattle.amr_engine.specs.Moves.{advance, moves_to};
 ghost use Rattle.amr_engine.specs.Events.{move_limit};
 ghost use Rattle.amr_engine.specs.Outcomes.{acceptance, outcome_view};
 ghost use Rattle.amr_engine.specs.Applied.{Leads, IsDone, run_moved};
-ghost use Rattle.amr_engine.specs.Prepared.{performed, skipped_by};
+ghost use Rattle.amr_engine.specs.Prepared.{performed, skipped_by, entries_of};
+ghost use Rattle.amr_engine.specs.Weight.{first_weight};
+ghost use Rattle.amr_engine.specs.Kept.{IsLightIfDone, IsLightIfAccepted};
 
 use crate::moves::advance;
 use crate::outcome::Outcome;
@@ -24,6 +26,7 @@ use std::alloc::{AllocError, Global};
 pub(crate) fn attempt(store: &mut Store, event: &Event) -> Result<Outcome, AllocError>
     ensures outcome { IfOk result (λ outcome. Leads store.old.state event.now store.new.state outcome) }
     ensures kept { undone store.new ≡ undone store.old }
+    ensures light { IfOk result (λ outcome. IsLightIfAccepted store.old event.now store.new outcome) }
 {
     let noted = store.notes().len();
     match happen(store, event)? {
@@ -43,6 +46,7 @@ struct Done {
 fn happen(store: &mut Store, event: &Event) -> Result<Result<Done, Reason>, AllocError>
     ensures done { IfOk result (λ done. IsDone store.old.state event.now store.new.state done) }
     ensures kept { undone store.new ≡ undone store.old }
+    ensures light { IfOk result (λ done. IsLightIfDone store.old event.now store.new done) }
 {
     let at = event.at();
     if at.nanoseconds() < store.moment().nanoseconds() {
@@ -66,6 +70,8 @@ fn go_to(store: &mut Store, at: Moment) -> Result<Option<usize>, AllocError>
     requires { at ≤ latest_read }
     ensures made { IfOk result (λ made. moves_to store.new.state made ≡ run_moved at (advance move_limit at store.old.state)) }
     ensures kept { undone store.new ≡ undone store.old }
+    ensures grown { OnOk result (GrownBy (1 + 2 * first_weight move_limit at store.old.state)
+        store.old store.new) }
 {
     let made = advance(store, at)?;
     store.set_moment(at)?;
@@ -77,6 +83,8 @@ fn perform(store: &mut Store, prepared: Prepared) -> Result<Listing<usize>, Allo
     ensures done { IfOk result (λ skipped. store.new.state ≡ performed prepared store.old.state) }
     ensures skipped { IfOk result (λ skipped. skipped ≡ skipped_by prepared) }
     ensures kept { undone store.new ≡ undone store.old }
+    ensures grown { OnOk result (GrownBy (entries_of prepared store.old.state store.new.state)
+        store.old store.new) }
 {
     match prepared {
         Prepared::Put(sifted) => {

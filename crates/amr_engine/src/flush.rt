@@ -1,13 +1,14 @@
 //! The flush of a group.
-ghost use Rattle.std.specs.Prelude.{◌≡◌, ◌≤◌, ◌+◌, ◌++◌, true, map, OnOk, IfOk};
+ghost use Rattle.std.specs.Prelude.{◌≡◌, ◌≤◌, ◌+◌, ◌*◌, ◌++◌, true, map, length, OnOk, IfOk};
 ghost use Rattle.std.specs.List.{fold, list_all};
 ghost use Rattle.std.specs.Option.{option_to_list};
 ghost use Rattle.amr_labels.specs.Map.{get};
 ghost use Rattle.amr_config.specs.Routing.{group_interval_of, repeat_interval_of, integrations_of};
 ghost use Rattle.amr_time.specs.Time.{latest_read};
 ghost use Rattle.amr_rules.specs.Alerts.{is_resolved_at};
-ghost use Rattle.amr_state.specs.Kept.{undone};
+ghost use Rattle.amr_state.specs.Kept.{GrownBy, undone};
 ghost use Rattle.amr_engine.specs.Flush.{let_through, firing_of, resolved_of, labels_of, log_key_of, told_firing, told_resolved, notes_told, notify_all, set_clock, forget, drop_resolved, serve, flush};
+ghost use Rattle.amr_engine.specs.Weight.{turns, flush_weight};
 
 use crate::stages::taken_away;
 use amr_config::Config;
@@ -35,6 +36,7 @@ pub(crate) fn flush(store: &mut Store, at: Moment, group: &Spot) -> Result<(), A
     requires { at ≤ latest_read }
     ensures ok { OnOk result (store.new.state ≡ flush at group.now store.old.state) }
     ensures kept { undone store.new ≡ undone store.old }
+    ensures grown { GrownBy (2 * flush_weight store.old.state group.now) store.old store.new }
 {
     let members = members_of(store, group)?;
     wind(store, at, group)?;
@@ -47,6 +49,7 @@ fn wind(store: &mut Store, at: Moment, group: &Spot) -> Result<(), AllocError>
     ensures ok { OnOk result (store.new.state
         ≡ set_clock group.now (λ clock. record clock { next_flush = at + group_interval_of store.old.state.config group.now.route; flushed = true }) store.old.state) }
     ensures kept { undone store.new ≡ undone store.old }
+    ensures grown { GrownBy 1 store.old store.new }
 {
     let interval = store.config().group_interval(group.route);
     match store.clocks().get(group).copied() {
@@ -66,6 +69,8 @@ fn wind(store: &mut Store, at: Moment, group: &Spot) -> Result<(), AllocError>
 fn serve(store: &mut Store, at: Moment, group: &Spot, members: &[Member]) -> Result<(), AllocError>
     ensures ok { OnOk result (store.new.state ≡ serve at group.now members.now store.old.state) }
     ensures kept { undone store.new ≡ undone store.old }
+    ensures grown { GrownBy (1 + 2 * turns store.old.state group.now + length members.now)
+        store.old store.new }
 {
     if members.is_empty() {
         return Ok(());
@@ -102,6 +107,7 @@ fn notify_all(
 ) -> Result<(), AllocError>
     ensures ok { OnOk result (store.new.state ≡ notify_all at group.now through.now store.old.state) }
     ensures kept { undone store.new ≡ undone store.old }
+    ensures grown { GrownBy (2 * turns store.old.state group.now) store.old store.new }
 {
     if through.is_empty() {
         return Ok(());
@@ -162,6 +168,7 @@ fn notify_each(
     ensures ok { OnOk result (store.new.state
         ≡ fold (told_by at group.now parted.now) store.old.state (integrations_of store.old.state.config group.now.route)) }
     ensures kept { undone store.new ≡ undone store.old }
+    ensures grown { GrownBy (2 * turns store.old.state group.now) store.old store.new }
 {
     let config = store.config().clone()?;
     for integration in config.integrations(group.route) {
@@ -180,6 +187,7 @@ fn notify(
 ) -> Result<(), AllocError>
     ensures ok { OnOk result (store.new.state ≡ told_by at group.now parted.now store.old.state integration.now) }
     ensures kept { undone store.new ≡ undone store.old }
+    ensures grown { GrownBy 2 store.old store.new }
 {
     let key = log_key(store.alloc(), store.config(), group, integration)?;
     if is_due(store, at, group, &key, parted, integration) {
@@ -238,6 +246,7 @@ fn tell(
 ) -> Result<(), AllocError>
     ensures ok { OnOk result (store.new.state ≡ tell_parted at group.now key.now parted.now integration.now.send_resolved store.old.state) }
     ensures kept { undone store.new ≡ undone store.old }
+    ensures grown { GrownBy 2 store.old store.new }
 {
     let entry = log_entry(at, parted)?;
     let send_resolved = integration.send_resolved;
@@ -322,6 +331,7 @@ fn told_resolved(alloc: Global, members: &[Member]) -> Result<Listing<ResolvedAl
 fn append(store: &mut Store, note: Option<Note>) -> Result<(), AllocError>
     ensures ok { OnOk result (store.new.state ≡ record store.old.state { notes = store.old.state.notes ++ option_to_list note }) }
     ensures kept { undone store.new ≡ undone store.old }
+    ensures grown { GrownBy 1 store.old store.new }
 {
     match note {
         None => Ok(()),
@@ -340,6 +350,7 @@ fn drop_resolved(
 ) -> Result<(), AllocError>
     ensures ok { OnOk result (store.new.state ≡ drop_resolved at group.now members.now store.old.state) }
     ensures kept { undone store.new ≡ undone store.old }
+    ensures grown { GrownBy (1 + length members.now) store.old store.new }
 {
     forget_resolved(store, at, group, members)?;
     if are_resolved(at, members) {
@@ -357,6 +368,7 @@ fn forget_resolved(
 ) -> Result<(), AllocError>
     ensures ok { OnOk result (store.new.state ≡ fold (forget group.now) store.old.state (resolved_of at members.now)) }
     ensures kept { undone store.new ≡ undone store.old }
+    ensures grown { GrownBy (length members.now) store.old store.new }
 {
     for (labels, alert) in members {
         if alert.is_resolved_at(at) {
@@ -387,6 +399,7 @@ fn mark_empty(store: &mut Store, at: Moment, group: &Spot) -> Result<(), AllocEr
     ensures ok { OnOk result (store.new.state
         ≡ set_clock group.now (λ clock. record clock { empty_since = Some at }) store.old.state) }
     ensures kept { undone store.new ≡ undone store.old }
+    ensures grown { GrownBy 1 store.old store.new }
 {
     match store.clocks().get(group).copied() {
         None => Ok(()),

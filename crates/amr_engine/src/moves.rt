@@ -1,9 +1,10 @@
 //! The moves up to a moment.
-ghost use Rattle.std.specs.Prelude.{◌≡◌, ◌≤◌, OnOk, IfOk};
+ghost use Rattle.std.specs.Prelude.{◌≡◌, ◌≤◌, ◌*◌, OnOk, IfOk};
 ghost use Rattle.amr_time.specs.Time.{latest_read};
-ghost use Rattle.amr_state.specs.Kept.{undone};
+ghost use Rattle.amr_state.specs.Kept.{GrownBy, undone};
 ghost use Rattle.amr_engine.specs.Moves.{move, advance, counted_run, moves_to};
 ghost use Rattle.amr_engine.specs.Events.{move_limit};
+ghost use Rattle.amr_engine.specs.Weight.{move_weight, first_weight};
 
 use crate::flush::flush;
 use amr_state::{Due, Kind, Spot, Store, next_due};
@@ -18,6 +19,7 @@ fn make(store: &mut Store, due: Due) -> Result<(), AllocError>
     requires { due.moment ≤ latest_read }
     ensures ok { OnOk result (store.new.state ≡ move due store.old.state) }
     ensures kept { undone store.new ≡ undone store.old }
+    ensures grown { GrownBy (2 * move_weight store.old.state due due.kind) store.old store.new }
 {
     let Due {
         moment,
@@ -40,6 +42,7 @@ pub(crate) fn advance(store: &mut Store, at: Moment) -> Result<Option<usize>, Al
     requires { at ≤ latest_read }
     ensures ok { IfOk result (λ made. moves_to store.new.state made ≡ counted_run (advance move_limit at store.old.state)) }
     ensures kept { undone store.new ≡ undone store.old }
+    ensures grown { OnOk result (GrownBy (2 * first_weight move_limit at store.old.state) store.old store.new) }
 {
     for made in 0..MOST_MOVES {
         match next_due(store, at)? {

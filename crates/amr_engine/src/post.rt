@@ -4,8 +4,9 @@ ghost use Rattle.std.specs.List.{fold, filter_map};
 ghost use Rattle.amr_labels.specs.Map as map;
 ghost use Rattle.amr_time.specs.Time.{before_year_10000};
 ghost use Rattle.amr_rules.specs.Alerts.{completed, joined};
-ghost use Rattle.amr_state.specs.Kept.{undone};
+ghost use Rattle.amr_state.specs.Kept.{GrownBy, undone};
 ghost use Rattle.amr_engine.specs.Events.{put, skipped_from};
+ghost use Rattle.amr_engine.specs.Weight.{alert_weight, alerts_weight};
 
 use amr_events::PostedAlert;
 use amr_labels::{Labels, Listing};
@@ -59,6 +60,7 @@ fn joined(store: &Store, labels: &Labels, alert: Alert) -> Alert
 fn put(store: &mut Store, labels: &Labels, alert: Alert) -> Result<(), AllocError>
     ensures ok { OnOk result (store.new.state ≡ put store.old.state (labels.now, alert)) }
     ensures kept { undone store.new ≡ undone store.old }
+    ensures grown { GrownBy (alert_weight store.old.state.config labels.now) store.old store.new }
 {
     let stored = joined(store, labels, alert);
     store.insert_alert(labels, stored.clone()?)?;
@@ -69,6 +71,7 @@ fn put(store: &mut Store, labels: &Labels, alert: Alert) -> Result<(), AllocErro
 pub(crate) fn put_all(store: &mut Store, valid: &[(Labels, Alert)]) -> Result<(), AllocError>
     ensures ok { OnOk result (store.new.state ≡ fold put store.old.state valid.now) }
     ensures kept { undone store.new ≡ undone store.old }
+    ensures grown { GrownBy (alerts_weight store.old.state.config valid.now) store.old store.new }
 {
     for (labels, alert) in valid {
         put(store, labels, alert.clone()?)?;

@@ -1,9 +1,10 @@
 //! A reload: another configuration, and groups by its tree.
-ghost use Rattle.std.specs.Prelude.{◌≡◌, OnOk};
+ghost use Rattle.std.specs.Prelude.{◌≡◌, ◌*◌, OnOk};
 ghost use Rattle.std.specs.List.{fold};
 ghost use Rattle.amr_state.specs.State.{place};
-ghost use Rattle.amr_state.specs.Kept.{undone};
+ghost use Rattle.amr_state.specs.Kept.{GrownBy, undone};
 ghost use Rattle.amr_engine.specs.Events.{with_config};
+ghost use Rattle.amr_engine.specs.Weight.{copies, reload_entries};
 
 use amr_config::Config;
 use amr_labels::Labels;
@@ -15,6 +16,7 @@ use std::alloc::AllocError;
 fn place_all(store: &mut Store, alerts: &[(Labels, Alert)]) -> Result<(), AllocError>
     ensures ok { OnOk result (store.new.state ≡ fold place store.old.state alerts.now) }
     ensures kept { undone store.new ≡ undone store.old }
+    ensures grown { GrownBy (2 * copies store.old.state.config alerts.now) store.old store.new }
 {
     for (labels, alert) in alerts {
         place(store, labels, alert)?;
@@ -28,6 +30,7 @@ fn place_all(store: &mut Store, alerts: &[(Labels, Alert)]) -> Result<(), AllocE
 pub(crate) fn reload(store: &mut Store, config: Config) -> Result<(), AllocError>
     ensures ok { OnOk result (store.new.state ≡ with_config store.old.state config) }
     ensures kept { undone store.new ≡ undone store.old }
+    ensures grown { OnOk result (GrownBy (reload_entries store.old.state store.new.state) store.old store.new) }
 {
     let alerts = views::alerts(store)?;
     store.replace_config(config)?;

@@ -2,7 +2,7 @@
 ghost use Rattle.std.specs.Prelude.{◌≡◌, OnOk};
 ghost use Rattle.amr_rules.specs.Silences.{stored_under};
 ghost use Rattle.amr_rules.specs.Silencing.{posting_stored};
-ghost use Rattle.amr_state.specs.Kept.{undone};
+ghost use Rattle.amr_state.specs.Kept.{GrownBy, undone};
 ghost use Rattle.amr_engine.specs.Events.{with_silences};
 
 use amr_events::SilenceId;
@@ -21,6 +21,7 @@ pub(crate) fn store_posting(
     ensures ok { OnOk result (store.new.state
         ≡ with_silences store.old.state (posting_stored id new_id posting store.old.state.silences)) }
     ensures kept { undone store.new ≡ undone store.old }
+    ensures grown { GrownBy 2 store.old store.new }
 {
     match posting {
         Posting::InPlace(silence) => store_under(store, id, Some(silence)),
@@ -39,6 +40,7 @@ fn store_under(
 ) -> Result<(), AllocError>
     ensures ok { OnOk result (store.new.state ≡ with_silences store.old.state (stored_under id silence store.old.state.silences)) }
     ensures kept { undone store.new ≡ undone store.old }
+    ensures grown { GrownBy 1 store.old store.new }
 {
     match (id, silence) {
         (Some(id), Some(silence)) => store.insert_silence(id, silence),

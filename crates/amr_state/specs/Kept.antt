@@ -1,5 +1,5 @@
 -- The state with the journal of what led to it.
-use Rattle.std.specs.Prelude.{ℕ, List, []}
+use Rattle.std.specs.Prelude.{ℕ, List, [], length, ◌+◌, ◌≤◌}
 use Rattle.amr_state.specs.declared.displaced.Displaced.{Displaced}
 use Rattle.amr_state.specs.State.{State}
 use Rattle.amr_state.specs.Records.{put_back}
@@ -14,3 +14,7 @@ pub record Kept : Type 0 where
 -- the same with the open record put back
 unfoldable pub undone : Kept → Kept
 undone kept = record kept { state = put_back kept.current kept.state; current = [] }
+
+-- the open record has at most so many entries more
+abbrev pub GrownBy : ℕ → Kept → Kept → Type 0
+GrownBy n before after = length after.current ≤ length before.current + n

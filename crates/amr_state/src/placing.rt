@@ -1,8 +1,9 @@
 //! Alerts in groups: placing them.
-ghost use Rattle.std.specs.Prelude.{◌≡◌, ◌+◌, ◌≤◌, OnOk, IfOk, nat_lt};
+ghost use Rattle.std.specs.Prelude.{◌≡◌, ◌+◌, ◌*◌, ◌≤◌, length, OnOk, IfOk, nat_lt};
+ghost use Rattle.amr_config.specs.Routing.{chosen};
 ghost use Rattle.amr_time.specs.Time.{latest_read};
 ghost use Rattle.amr_state.specs.State.{spot_at, group_spot, clock_with, place_on, place};
-ghost use Rattle.amr_state.specs.Kept.{undone};
+ghost use Rattle.amr_state.specs.Kept.{GrownBy, undone};
 
 use crate::note::Clock;
 use crate::spot::Spot;
@@ -60,6 +61,7 @@ fn place_on(
 ) -> Result<(), AllocError>
     ensures ok { OnOk result (store.new.state ≡ place_on labels.now alert.now store.old.state route) }
     ensures kept { undone store.new ≡ undone store.old }
+    ensures grown { GrownBy 2 store.old store.new }
 {
     let group = group_spot(store.alloc(), store.config(), route, labels)?;
     let wait = store.config().group_wait(route);
@@ -77,6 +79,7 @@ fn place_on(
 pub fn place(store: &mut Store, labels: &Labels, alert: &Alert) -> Result<(), AllocError>
     ensures ok { OnOk result (store.new.state ≡ place store.old.state (labels.now, alert.now)) }
     ensures kept { undone store.new ≡ undone store.old }
+    ensures grown { GrownBy (2 * length (chosen store.old.state.config labels.now)) store.old store.new }
 {
     let routes = store.config().routes_of(store.alloc(), labels)?;
     for route in &routes {

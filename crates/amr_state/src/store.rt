@@ -4,10 +4,11 @@ ghost use Rattle.std.specs.Prelude.{option_map, slice_get};
 ghost use Rattle.std.specs.Ordering.{nat_cmp};
 ghost use Rattle.amr_labels.specs.Labels.{label_set_cmp};
 ghost use Rattle.amr_labels.specs.Map as map;
+ghost use Rattle.amr_labels.specs.Map.{len};
 ghost use Rattle.amr_tables.specs.Numbered.{shown};
 ghost use Rattle.amr_time.specs.Time.{latest_read};
 ghost use Rattle.amr_state.specs.State.{start, spot_cmp, log_key_cmp};
-ghost use Rattle.amr_state.specs.Kept.{undone};
+ghost use Rattle.amr_state.specs.Kept.{GrownBy, undone};
 
 use crate::displaced::Displaced;
 use crate::note::{Clock, LogKey, Note};
@@ -236,6 +237,7 @@ impl Store {
         requires { at ≤ latest_read }
         ensures ok { OnOk result (self.new.state ≡ record self.old.state { moment = at }) }
         ensures kept { undone self.new ≡ undone self.old }
+        ensures grown { GrownBy 1 self.old self.new }
     {
         if !self.tables.is_moment_entered {
             self.journal.reserve_entry()?;
@@ -250,6 +252,7 @@ impl Store {
     pub fn insert_alert(&mut self, labels: &Labels, alert: Alert) -> Result<(), AllocError>
         ensures ok { OnOk result (self.new.state ≡ record self.old.state { alerts = map.insert self.old.state.alerts labels.now alert }) }
         ensures kept { undone self.new ≡ undone self.old }
+        ensures grown { GrownBy 1 self.old self.new }
     {
         self.set_alert(labels, Some(alert))
     }
@@ -258,6 +261,7 @@ impl Store {
     pub fn remove_alert(&mut self, labels: &Labels) -> Result<(), AllocError>
         ensures ok { OnOk result (self.new.state ≡ record self.old.state { alerts = map.remove self.old.state.alerts labels.now }) }
         ensures kept { undone self.new ≡ undone self.old }
+        ensures grown { GrownBy 1 self.old self.new }
     {
         self.set_alert(labels, None)
     }
@@ -266,6 +270,7 @@ impl Store {
     pub(crate) fn place_copy(&mut self, spot: &Spot, alert: Alert) -> Result<(), AllocError>
         ensures ok { OnOk result (self.new.state ≡ record self.old.state { placements = map.insert self.old.state.placements spot.now alert }) }
         ensures kept { undone self.new ≡ undone self.old }
+        ensures grown { GrownBy 1 self.old self.new }
     {
         self.set_placement(spot, Some(alert))
     }
@@ -274,6 +279,7 @@ impl Store {
     pub fn remove_copy(&mut self, spot: &Spot) -> Result<(), AllocError>
         ensures ok { OnOk result (self.new.state ≡ record self.old.state { placements = map.remove self.old.state.placements spot.now }) }
         ensures kept { undone self.new ≡ undone self.old }
+        ensures grown { GrownBy 1 self.old self.new }
     {
         self.set_placement(spot, None)
     }
@@ -282,6 +288,7 @@ impl Store {
     pub fn set_clock(&mut self, group: &Spot, clock: Clock) -> Result<(), AllocError>
         ensures ok { OnOk result (self.new.state ≡ record self.old.state { clocks = map.insert self.old.state.clocks group.now clock }) }
         ensures kept { undone self.new ≡ undone self.old }
+        ensures grown { GrownBy 1 self.old self.new }
     {
         self.change_clock(group, Some(clock))
     }
@@ -290,6 +297,7 @@ impl Store {
     pub fn remove_clock(&mut self, group: &Spot) -> Result<(), AllocError>
         ensures ok { OnOk result (self.new.state ≡ record self.old.state { clocks = map.remove self.old.state.clocks group.now }) }
         ensures kept { undone self.new ≡ undone self.old }
+        ensures grown { GrownBy 1 self.old self.new }
     {
         self.change_clock(group, None)
     }
@@ -298,6 +306,7 @@ impl Store {
     pub fn insert_silence(&mut self, id: SilenceId, silence: Silence) -> Result<(), AllocError>
         ensures ok { OnOk result (self.new.state ≡ record self.old.state { silences = map.insert self.old.state.silences id silence }) }
         ensures kept { undone self.new ≡ undone self.old }
+        ensures grown { GrownBy 1 self.old self.new }
     {
         self.set_silence(id, Some(silence))
     }
@@ -306,6 +315,7 @@ impl Store {
     pub fn replace_config(&mut self, config: Config) -> Result<(), AllocError>
         ensures ok { OnOk result (self.new.state ≡ record self.old.state { config = config; placements = map.empty; clocks = map.empty }) }
         ensures kept { undone self.new ≡ undone self.old }
+        ensures grown { GrownBy (1 + len self.old.state.clocks + len self.old.state.placements) self.old self.new }
     {
         self.clear_placements()?;
         self.clear_clocks()?;
@@ -316,6 +326,7 @@ impl Store {
     pub fn write_log(&mut self, key: &LogKey, entry: LogEntry) -> Result<(), AllocError>
         ensures ok { OnOk result (self.new.state ≡ record self.old.state { log = map.insert self.old.state.log key.now entry }) }
         ensures kept { undone self.new ≡ undone self.old }
+        ensures grown { GrownBy 1 self.old self.new }
     {
         let entry = change(&mut self.tables.log, &mut self.journal, key, Some(entry))?;
         if let Some((key, was)) = entry {
@@ -328,6 +339,7 @@ impl Store {
     pub fn append_note(&mut self, note: Note) -> Result<(), AllocError>
         ensures ok { OnOk result (self.new.state ≡ record self.old.state { notes = self.old.state.notes ++ note ∷ [] }) }
         ensures kept { undone self.new ≡ undone self.old }
+        ensures grown { GrownBy 1 self.old self.new }
     {
         let note = Shared::new(self.alloc, note)?;
         self.notes.reserve(1)?;
@@ -353,6 +365,7 @@ impl Store {
     fn set_alert(&mut self, labels: &Labels, alert: Option<Alert>) -> Result<(), AllocError>
         ensures ok { OnOk result (self.new.state ≡ record self.old.state { alerts = map.set self.old.state.alerts labels.now alert }) }
         ensures kept { undone self.new ≡ undone self.old }
+        ensures grown { GrownBy 1 self.old self.new }
     {
         let entry = change(&mut self.tables.alerts, &mut self.journal, labels, alert)?;
         if let Some((labels, was)) = entry {
@@ -365,6 +378,7 @@ impl Store {
     fn set_silence(&mut self, id: SilenceId, silence: Option<Silence>) -> Result<(), AllocError>
         ensures ok { OnOk result (self.new.state ≡ record self.old.state { silences = map.set self.old.state.silences id silence }) }
         ensures kept { undone self.new ≡ undone self.old }
+        ensures grown { GrownBy 1 self.old self.new }
     {
         let entry = change(&mut self.tables.silences, &mut self.journal, &id, silence)?;
         if let Some((_, was)) = entry {
@@ -377,6 +391,7 @@ impl Store {
     fn set_placement(&mut self, spot: &Spot, alert: Option<Alert>) -> Result<(), AllocError>
         ensures ok { OnOk result (self.new.state ≡ record self.old.state { placements = map.set self.old.state.placements spot.now alert }) }
         ensures kept { undone self.new ≡ undone self.old }
+        ensures grown { GrownBy 1 self.old self.new }
     {
         let entry = change(&mut self.tables.placements, &mut self.journal, spot, alert)?;
         if let Some((spot, was)) = entry {
@@ -389,6 +404,7 @@ impl Store {
     fn change_clock(&mut self, group: &Spot, clock: Option<Clock>) -> Result<(), AllocError>
         ensures ok { OnOk result (self.new.state ≡ record self.old.state { clocks = map.set self.old.state.clocks group.now clock }) }
         ensures kept { undone self.new ≡ undone self.old }
+        ensures grown { GrownBy 1 self.old self.new }
     {
         let entry = change(&mut self.tables.clocks, &mut self.journal, group, clock)?;
         if let Some((group, was)) = entry {
@@ -401,6 +417,7 @@ impl Store {
     fn clear_placements(&mut self) -> Result<(), AllocError>
         ensures ok { OnOk result (self.new.state ≡ record self.old.state { placements = map.empty }) }
         ensures kept { undone self.new ≡ undone self.old }
+        ensures grown { GrownBy (len self.old.state.placements) self.old self.new }
     {
         let spots = keys_of(self.alloc, &self.tables.placements)?;
         for spot in &spots {
@@ -413,6 +430,7 @@ impl Store {
     fn clear_clocks(&mut self) -> Result<(), AllocError>
         ensures ok { OnOk result (self.new.state ≡ record self.old.state { clocks = map.empty }) }
         ensures kept { undone self.new ≡ undone self.old }
+        ensures grown { GrownBy (len self.old.state.clocks) self.old self.new }
     {
         let groups = keys_of(self.alloc, &self.tables.clocks)?;
         for group in &groups {
@@ -425,6 +443,7 @@ impl Store {
     fn change_config(&mut self, config: Config) -> Result<(), AllocError>
         ensures ok { OnOk result (self.new.state ≡ record self.old.state { config = config }) }
         ensures kept { undone self.new ≡ undone self.old }
+        ensures grown { GrownBy 1 self.old self.new }
     {
         if self.tables.is_config_entered {
             self.config = config;

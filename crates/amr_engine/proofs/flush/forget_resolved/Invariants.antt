@@ -1,6 +1,6 @@
 use Rattle.std.proofs.Common.{◌≡◌, drop}
 use Rattle.std.specs.List.{fold}
-use Rattle.amr_state.specs.Kept.{undone}
+use Rattle.amr_state.specs.Kept.{GrownBy, undone}
 use Rattle.amr_engine.specs.Flush.{forget, resolved_of}
 use Rattle.amr_engine.proofs.flush.forget_resolved.Given as goal
 
@@ -9,4 +9,5 @@ abbrev pub invariant-loop-labels : goal.invariant-loop-labels
 invariant-loop-labels l = record {
   ok : fold (forget l.group) l.store.state (resolved_of l.at (drop l.labels-index l.members)) ≡ fold (forget l.group) l.fn.store.state (resolved_of l.at l.members);
   kept : undone l.store ≡ undone l.fn.store;
+  grown : GrownBy l.labels-index l.fn.store l.store;
 }

@@ -1,6 +1,8 @@
-use Rattle.std.proofs.Common.{◌≡◌, ◌<◌, ◌≤◌, Some, refl, ap, sym, ◌∙◌, arith, ◌-◌, ◌+◌}
+use Rattle.std.proofs.Common.{◌≡◌, ◌<◌, ◌≤◌, Some, refl, ap, sym, ◌∙◌, arith, ◌-◌, ◌+◌, ◌*◌, length}
 use Rattle.amr_engine.specs.Events.{move_limit}
 use Rattle.amr_engine.specs.Moves.{advance, counted_run}
+use Rattle.amr_engine.specs.Weight.{first_weight}
+use Rattle.amr_engine.proofs.Growing.{none_spent, spent}
 use Rattle.amr_engine.proofs.Cascade.{plus_moves, stops, is_over, goes_on, begins, no_value, some_value, limit_is}
 use Rattle.amr_engine.proofs.moves.advance.Goals as goal
 
@@ -9,7 +11,11 @@ returns-in-None-clause-ok c =
     stops move_limit c.loop-made.made c.args.at c.loop-made.store.state c.args.store.now.state c.loop-made.invariant.ok (rw c.in-None.is at c.in_ok-next_due.ensures.due)
 
 pub loop-made-init : goal.loop-made-init
-loop-made-init c = record { ok = begins move_limit c.args.at c.args.store.now.state; kept = refl }
+loop-made-init c = record {
+  ok = begins move_limit c.args.at c.args.store.now.state;
+  kept = refl;
+  grown = none_spent move_limit c.args.at c.args.store.now.state (length c.args.store.now.current);
+}
 
 pub loop-made-preserved : goal.loop-made-preserved
 loop-made-preserved c =
@@ -18,6 +24,9 @@ loop-made-preserved c =
       ok = goes_on move_limit c.loop-made.made c.args.at c.loop-made.store.state c.args.store.now.state c.in-Some.due c.loop-made.invariant.ok less (rw c.in-Some.is at c.in_ok-next_due.ensures.due)
           ∙ ap (λ s. plus_moves (counted_run (advance (move_limit - (c.loop-made.made + 1)) c.args.at s)) (c.loop-made.made + 1)) (sym c.in_ok-make-in-Some.ensures.ok);
       kept = c.in_ok-make-in-Some.ensures.kept ∙ c.loop-made.invariant.kept;
+      grown = spent move_limit c.loop-made.made c.args.at c.loop-made.store.state c.make.new.store.state c.in-Some.due (length c.loop-made.store.current) (length c.make.new.store.current)
+          (length c.args.store.now.current + 2 * first_weight move_limit c.args.at c.args.store.now.state) c.loop-made.invariant.grown less (rw c.in-Some.is at c.in_ok-next_due.ensures.due)
+          c.in_ok-make-in-Some.ensures.ok c.in_ok-make-in-Some.ensures.grown;
     }
 
 pub returns-then-is_some-clause-ok : goal.returns-then-is_some-clause-ok

@@ -1,7 +1,8 @@
-use Rattle.std.proofs.Common.{◌≡◌, drop}
+use Rattle.std.proofs.Common.{◌≡◌, ◌≤◌, ◌+◌, drop, length}
 use Rattle.std.specs.List.{fold}
 use Rattle.amr_engine.specs.Events.{put}
 use Rattle.amr_state.specs.Kept.{undone}
+use Rattle.amr_engine.specs.Weight.{alerts_weight}
 use Rattle.amr_engine.proofs.post.put_all.Given as goal
 
 -- after those so far, those that are left are stored as all are
@@ -9,4 +10,6 @@ abbrev pub invariant-loop-labels : goal.invariant-loop-labels
 invariant-loop-labels l = record {
   ok : fold put l.store.state (drop l.labels-index l.valid) ≡ fold put l.fn.store.state l.valid;
   kept : undone l.store ≡ undone l.fn.store;
+  config : l.store.state.config ≡ l.fn.store.state.config;
+  grown : length l.store.current + alerts_weight l.fn.store.state.config (drop l.labels-index l.valid) ≤ length l.fn.store.current + alerts_weight l.fn.store.state.config l.valid;
 }

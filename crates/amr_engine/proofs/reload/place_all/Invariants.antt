@@ -1,7 +1,8 @@
-use Rattle.std.proofs.Common.{◌≡◌, drop}
+use Rattle.std.proofs.Common.{◌≡◌, ◌≤◌, ◌+◌, ◌*◌, drop, length}
 use Rattle.std.specs.List.{fold}
 use Rattle.amr_state.specs.State.{place}
 use Rattle.amr_state.specs.Kept.{undone}
+use Rattle.amr_engine.specs.Weight.{copies}
 use Rattle.amr_engine.proofs.reload.place_all.Given as goal
 
 -- after those so far, those that are left are placed as all are
@@ -9,4 +10,6 @@ abbrev pub invariant-loop-labels : goal.invariant-loop-labels
 invariant-loop-labels l = record {
   ok : fold place l.store.state (drop l.labels-index l.alerts) ≡ fold place l.fn.store.state l.alerts;
   kept : undone l.store ≡ undone l.fn.store;
+  config : l.store.state.config ≡ l.fn.store.state.config;
+  grown : length l.store.current + 2 * copies l.fn.store.state.config (drop l.labels-index l.alerts) ≤ length l.fn.store.current + 2 * copies l.fn.store.state.config l.alerts;
 }

@@ -1,10 +1,11 @@
 use Rattle.amr_state.specs.declared.displaced.Displaced.{Displaced}
-use Rattle.std.proofs.Common.{◌≡◌, List, sym, ap, subst, ◌∙◌, ◌++◌, ◌∷◌, []}
+use Rattle.std.proofs.Common.{◌≡◌, ◌≤◌, ◌*◌, List, length, sym, ap, subst, ◌∙◌, ◌++◌, ◌∷◌, []}
 use Rattle.amr_state.specs.State.{State}
 use Rattle.amr_state.specs.Steps.{Steps}
 use Rattle.amr_state.specs.Kept.{Kept}
 use Rattle.amr_state.specs.Records.{befores, put_back}
 use Rattle.amr_engine.specs.Events.{after_event}
+use Rattle.amr_engine.specs.Weight.{event_weight}
 use Rattle.amr_engine.proofs.Settling.{IsLeft, Settled, settled, has_room, past_is, records_are, state_back, put_back_whole, is_idle}
 use Rattle.amr_engine.proofs.engine.Engine.apply.Goals as goal
 use Rattle.amr_engine.proofs.engine.Engine.apply.Goals.{then-is_refused, else-is_refused}
@@ -19,7 +20,7 @@ pub close-requires : goal.close-requires
 close-requires c =
     let idle = c.in_ok-begin.ensures.current ∙ c.self.invariant in
     let done : Settled c.args.event.now c.begin.new.self c.if-is_refused.self-inside.store c.in-Ok.outcome =
-    settled c.args.event.now c.begin.new.self c.attempt.new.store c.if-is_refused.self-inside.store c.in-Ok.outcome idle c.in-Ok.ensures.outcome c.in-Ok.ensures.kept
+    settled c.args.event.now c.begin.new.self c.attempt.new.store c.if-is_refused.self-inside.store c.in-Ok.outcome idle c.in-Ok.ensures.outcome c.in-Ok.ensures.kept c.in-Ok.ensures.light
     (elim c.if-is_refused.branch [
       | then-is_refused w ↦ subst (λ b. IsLeft b c.attempt.new.store c.if-is_refused.self-inside.store) (sym w.if-is_refused.true ∙ c.is_refused.ensures) (ap (λ x. x.store) w.self-inside-is ∙ w.undo_open.ensures)
       | else-is_refused w ↦ subst (λ b. IsLeft b c.attempt.new.store c.if-is_refused.self-inside.store) (sym w.if-is_refused.false ∙ c.is_refused.ensures) (ap (λ x. x.store) w.self-inside-is)
@@ -33,7 +34,7 @@ pub returns-after-is_refused-clause-state : goal.returns-after-is_refused-clause
 returns-after-is_refused-clause-state c =
     let idle = c.in_ok-begin.ensures.current ∙ c.self.invariant in
     let done : Settled c.args.event.now c.begin.new.self c.if-is_refused.self-inside.store c.in-Ok.outcome =
-    settled c.args.event.now c.begin.new.self c.attempt.new.store c.if-is_refused.self-inside.store c.in-Ok.outcome idle c.in-Ok.ensures.outcome c.in-Ok.ensures.kept
+    settled c.args.event.now c.begin.new.self c.attempt.new.store c.if-is_refused.self-inside.store c.in-Ok.outcome idle c.in-Ok.ensures.outcome c.in-Ok.ensures.kept c.in-Ok.ensures.light
     (elim c.if-is_refused.branch [
       | then-is_refused w ↦ subst (λ b. IsLeft b c.attempt.new.store c.if-is_refused.self-inside.store) (sym w.if-is_refused.true ∙ c.is_refused.ensures) (ap (λ x. x.store) w.self-inside-is ∙ w.undo_open.ensures)
       | else-is_refused w ↦ subst (λ b. IsLeft b c.attempt.new.store c.if-is_refused.self-inside.store) (sym w.if-is_refused.false ∙ c.is_refused.ensures) (ap (λ x. x.store) w.self-inside-is)
@@ -44,7 +45,7 @@ pub returns-after-is_refused-clause-past : goal.returns-after-is_refused-clause-
 returns-after-is_refused-clause-past c =
     let idle = c.in_ok-begin.ensures.current ∙ c.self.invariant in
     let done : Settled c.args.event.now c.begin.new.self c.if-is_refused.self-inside.store c.in-Ok.outcome =
-    settled c.args.event.now c.begin.new.self c.attempt.new.store c.if-is_refused.self-inside.store c.in-Ok.outcome idle c.in-Ok.ensures.outcome c.in-Ok.ensures.kept
+    settled c.args.event.now c.begin.new.self c.attempt.new.store c.if-is_refused.self-inside.store c.in-Ok.outcome idle c.in-Ok.ensures.outcome c.in-Ok.ensures.kept c.in-Ok.ensures.light
     (elim c.if-is_refused.branch [
       | then-is_refused w ↦ subst (λ b. IsLeft b c.attempt.new.store c.if-is_refused.self-inside.store) (sym w.if-is_refused.true ∙ c.is_refused.ensures) (ap (λ x. x.store) w.self-inside-is ∙ w.undo_open.ensures)
       | else-is_refused w ↦ subst (λ b. IsLeft b c.attempt.new.store c.if-is_refused.self-inside.store) (sym w.if-is_refused.false ∙ c.is_refused.ensures) (ap (λ x. x.store) w.self-inside-is)
@@ -57,7 +58,7 @@ pub returns-after-is_refused-clause-record_kept : goal.returns-after-is_refused-
 returns-after-is_refused-clause-record_kept c =
     let idle = c.in_ok-begin.ensures.current ∙ c.self.invariant in
     let done : Settled c.args.event.now c.begin.new.self c.if-is_refused.self-inside.store c.in-Ok.outcome =
-    settled c.args.event.now c.begin.new.self c.attempt.new.store c.if-is_refused.self-inside.store c.in-Ok.outcome idle c.in-Ok.ensures.outcome c.in-Ok.ensures.kept
+    settled c.args.event.now c.begin.new.self c.attempt.new.store c.if-is_refused.self-inside.store c.in-Ok.outcome idle c.in-Ok.ensures.outcome c.in-Ok.ensures.kept c.in-Ok.ensures.light
     (elim c.if-is_refused.branch [
       | then-is_refused w ↦ subst (λ b. IsLeft b c.attempt.new.store c.if-is_refused.self-inside.store) (sym w.if-is_refused.true ∙ c.is_refused.ensures) (ap (λ x. x.store) w.self-inside-is ∙ w.undo_open.ensures)
       | else-is_refused w ↦ subst (λ b. IsLeft b c.attempt.new.store c.if-is_refused.self-inside.store) (sym w.if-is_refused.false ∙ c.is_refused.ensures) (ap (λ x. x.store) w.self-inside-is)
@@ -68,6 +69,7 @@ returns-after-is_refused-clause-record_kept c =
         added = c.close.ensures.records ∙ ap (λ rs. rs ++ left.current ∷ []) (records_are c.begin.new.self left done.undone_is ∙ c.in_ok-begin.ensures.records ∙ ap (λ (v : Steps). v.records) c.self.view_is);
         back = ap (λ (state : State). put_back left.current state) c.close.ensures.state ∙ state_back c.begin.new.self left done.undone_is ∙ c.in_ok-begin.ensures.state ∙ ap (λ (v : Steps). v.state) c.self.view_is;
         empty = done.empty;
+        short = subst (λ (p : State × State). length left.current ≤ 4 * event_weight p.0 c.args.event.now p.1) (λ i. ((c.in_ok-begin.ensures.state ∙ ap (λ (v : Steps). v.state) c.self.view_is) i, sym c.close.ensures.state i)) done.short;
       },
     )
 

@@ -20,5 +20,5 @@ loop-spot-init c = (
   ap (λ m. record c.args.self.now.state { placements = m }) (
     ap (fold map.remove c.args.self.now.state.placements) (c.deref-spot-items.ensures.value ∙ c.in_ok-spots.ensures ∙ ap map.keys (ap (λ (k : Kept). k.state.placements) c.self.view_is))
     ∙ removed_all spot_cmp_total spot_cmp-IsAntisymmetric c.args.self.now.state.placements),
-  refl,
+  (refl, omega arith),
 )

@@ -1,11 +1,11 @@
 use Rattle.std.proofs.Common.{◌≡◌, drop}
 use Rattle.std.specs.List.{fold}
 use Rattle.amr_labels.specs.Map as map
-use Rattle.amr_state.specs.Kept.{undone}
+use Rattle.amr_state.specs.Kept.{GrownBy, undone}
 use Rattle.amr_state.proofs.store.Store.clear_placements.Given as goal
 
 -- what is left is removed as all are
 abbrev pub invariant-loop-spot : goal.invariant-loop-spot
 invariant-loop-spot l =
     (record l.self.state { placements = fold map.remove l.self.state.placements (drop l.spot-index l.spot-items) } ≡ record l.fn.self.state { placements = map.empty })
-    × (undone l.self ≡ undone l.fn.self)
+    × ((undone l.self ≡ undone l.fn.self) × GrownBy l.spot-index l.fn.self l.self)

@@ -1,0 +1,143 @@
+-- How many members a reload makes: one for each stored alert and each of its chosen routes.
+use Rattle.std.specs.Prelude.{◌≡◌, ℕ, zero, suc, Bool, true, false, T, List, [], ◌∷◌, ◌&&◌, Option, None, Some, is_some, cond, length, ◌+◌, ◌≤◌, ◌<◌}
+use Rattle.std.specs.List.{fold, filter, range_with_len, sum_by}
+use Rattle.std.specs.declared.cmp.Ordering.{Ordering}
+use Rattle.std.specs.declared.cmp.Ordering.TheVariants.{Less, Equal, Greater}
+use Rattle.std.specs.Ordering.{eq_by_cmp, is_eq, is_lt}
+use Rattle.std.specs.Cmp.{IsTotalOrder}
+use Rattle.std.specs.FinMap.Entries.{is_sorted, below_all, length-put}
+use Rattle.std.proofs.Common.{refl, sym, ap, subst, ◌∙◌, arith}
+use Rattle.std.proofs.lemmas.Cmp.{tied_itself}
+use Rattle.std.proofs.lemmas.List.Sums.{sum_by-cons}
+use Rattle.amr_labels.specs.Map.{Map, get, insert, entries, empty, len, get-insert, get-empty, get-entries, entries-insert, entries-sorted}
+use Rattle.amr_labels.specs.Labels.{LabelSet, label_set_cmp, label_set_cmp_total}
+use Rattle.amr_config.specs.Config.{Config}
+use Rattle.amr_config.specs.Routing.{chosen, is_chosen, route_numbers}
+use Rattle.amr_rules.specs.declared.alert.Alert.{Alert}
+use Rattle.amr_rules.specs.Alerts.{joined}
+use Rattle.amr_state.specs.declared.spot.Spot.{Spot}
+use Rattle.amr_state.specs.State.{State, spot_at, spot_cmp, spot_cmp_total, spot_cmp-IsAntisymmetric, place_on, place}
+use Rattle.amr_engine.specs.Events.{put, with_config}
+use Rattle.amr_engine.specs.Weight.{copies}
+
+-- a new key makes a map longer by one
+longer : {K X : Type 0} {R : K → K → Ordering} → IsTotalOrder R → (m : Map R X) (k : K) (v : X) → get m k ≡ None → len (insert m k v) ≡ len m + 1
+longer {R = R} o m k v none =
+    ap length (entries-insert o m k v) ∙ length-put R o k v (entries m) (entries-sorted m)
+    ∙ ap (λ x. cond (is_some x) (len m) (len m + 1)) (sym (get-entries m k) ∙ none)
+
+equal : (r : Ordering) → is_eq r ≡ true → r ≡ Equal
+equal Less e = absurd (cc)
+equal Equal e = refl
+equal Greater e = absurd (cc)
+
+-- different keys don't tie
+apart : (q k : Spot) → (q ≡ k → ⊥) → eq_by_cmp spot_cmp q k ≡ false
+apart q k differ =
+    elim (eq_by_cmp spot_cmp q k) as (λ b. eq_by_cmp spot_cmp q k ≡ b → b ≡ false) [
+      | true ↦ λ e. absurd (differ (spot_cmp-IsAntisymmetric q k (equal (spot_cmp q k) e)))
+      | false ↦ λ e. refl
+    ] refl
+
+-- a member elsewhere leaves a place free
+still_free : (s : State) (labels : LabelSet) (alert : Alert) (route : ℕ) (q : Spot) → (q ≡ spot_at route labels → ⊥) → get s.placements q ≡ None → get (place_on labels alert s route).placements q ≡ None
+still_free s labels alert route q differ free =
+    get-insert spot_cmp_total s.placements (spot_at route labels) alert q
+    ∙ ap (λ b. cond b (Some alert) (get s.placements q)) (apart q (spot_at route labels) differ) ∙ free
+
+-- no member has these labels, on the routes from a number on
+abbrev pub IsFree : State → LabelSet → ℕ → Type 0
+IsFree s labels from = (route : ℕ) → from ≤ route → get s.placements (spot_at route labels) ≡ None
+
+module _ (p : ℕ → Bool) (labels : LabelSet) (alert : Alert) where
+  abbrev placed : State → ℕ → ℕ → State
+  placed s from n = fold (place_on labels alert) s (filter p (range_with_len from n))
+
+  placed_len : (n from : ℕ) (s : State) → IsFree s labels from → len (placed s from n).placements ≡ len s.placements + length (filter p (range_with_len from n))
+  placed_len zero from s free = omega arith
+  placed_len (suc n) from s free =
+      elim (p from) as (λ b. len (fold (place_on labels alert) s (cond b (from ∷ filter p (range_with_len (from + 1) n)) (filter p (range_with_len (from + 1) n)))).placements
+          ≡ len s.placements + length (cond b (from ∷ filter p (range_with_len (from + 1) n)) (filter p (range_with_len (from + 1) n)))) [
+        | true ↦
+            let next : State = place_on labels alert s from in
+            let free_next : IsFree next labels (from + 1) = λ route le.
+                still_free s labels alert from (spot_at route labels)
+                (λ e. let same : route ≡ from = ap (λ (x : Spot). x.route) e in omega (arith, same, le)) (free route (omega (arith, le))) in
+            placed_len n (from + 1) next free_next
+            ∙ ap (λ k. k + length (filter p (range_with_len (from + 1) n))) (longer spot_cmp_total s.placements (spot_at from labels) alert (free from (omega arith)))
+            ∙ omega arith
+        | false ↦ placed_len n (from + 1) s (λ route le. free route (omega (arith, le)))
+      ]
+
+placed_free : (labels : LabelSet) (alert : Alert) (rs : List ℕ) (s : State) (q : Spot) → (q.labels ≡ labels → ⊥) → get s.placements q ≡ None → get (fold (place_on labels alert) s rs).placements q ≡ None
+placed_free labels alert [] s q differ free = free
+placed_free labels alert (r ∷ rs) s q differ free = placed_free labels alert rs (place_on labels alert s r) q differ (still_free s labels alert r q (λ e. differ (ap (λ (x : Spot). x.labels) e)) free)
+
+place_on-config : (labels : LabelSet) (alert : Alert) (rs : List ℕ) (s : State) → (fold (place_on labels alert) s rs).config ≡ s.config
+place_on-config labels alert [] s = refl
+place_on-config labels alert (r ∷ rs) s = place_on-config labels alert rs (place_on labels alert s r)
+
+pub place-config : (s : State) (alert : LabelSet × Alert) → (place s alert).config ≡ s.config
+unfolding place
+place-config s alert = place_on-config alert.0 alert.1 (chosen s.config alert.0) s
+
+pub put-config : (s : State) (alert : LabelSet × Alert) → (put s alert).config ≡ s.config
+unfolding put
+put-config s alert = place-config (record s { alerts = insert s.alerts alert.0 (joined s.moment (get s.alerts alert.0) alert.1) }) (alert.0, joined s.moment (get s.alerts alert.0) alert.1)
+
+place_len : (s : State) (alert : LabelSet × Alert) → IsFree s alert.0 0 → len (place s alert).placements ≡ len s.placements + length (chosen s.config alert.0)
+unfolding place chosen
+place_len s alert free = placed_len (is_chosen s.config alert.0) alert.0 alert.1 (length s.config.routes) 0 s free
+
+place_free : (s : State) (alert : LabelSet × Alert) (labels : LabelSet) → label_set_cmp alert.0 labels ≡ Less → IsFree s labels 0 → IsFree (place s alert) labels 0
+unfolding place
+place_free s alert labels less free = λ route le.
+    placed_free alert.0 alert.1 (chosen s.config alert.0) s (spot_at route labels)
+    (λ same. let level : Equal ≡ Less = sym (tied_itself label_set_cmp_total alert.0) ∙ ap (label_set_cmp alert.0) (sym same) ∙ less in absurd (cc)) (free route le)
+
+-- no member has the labels of any of these alerts
+AreFree : State → List (LabelSet × Alert) → Type 0
+AreFree s [] = Unit {0}
+AreFree s (alert ∷ alerts) = IsFree s alert.0 0 × AreFree s alerts
+
+both_parts : (a b : Bool) → T (a && b) → T a × T b
+both_parts true b p = (tt, p)
+both_parts false b p = absurd p
+
+is_less : (r : Ordering) → T (is_lt r) → r ≡ Less
+is_less Less p = refl
+is_less Equal p = absurd p
+is_less Greater p = absurd p
+
+rest_free : (s : State) (alert : LabelSet × Alert) (alerts : List (LabelSet × Alert)) → T (below_all label_set_cmp alert.0 alerts) → AreFree s alerts → AreFree (place s alert) alerts
+unfolding AreFree
+rest_free s alert [] below free = tt
+rest_free s alert (other ∷ alerts) below free =
+    let parts = both_parts (is_lt (label_set_cmp alert.0 other.0)) (below_all label_set_cmp alert.0 alerts) below in
+    (place_free s alert other.0 (is_less (label_set_cmp alert.0 other.0) parts.0) free.0, rest_free s alert alerts parts.1 free.1)
+
+placed_all : (config : Config) (alerts : List (LabelSet × Alert)) (s : State) → s.config ≡ config → T (is_sorted label_set_cmp alerts) → AreFree s alerts
+    → len (fold place s alerts).placements ≡ len s.placements + copies config alerts
+unfolding AreFree
+placed_all config [] s same sorted free = omega arith
+placed_all config (alert ∷ alerts) s same sorted free =
+    let parts = both_parts (below_all label_set_cmp alert.0 alerts) (is_sorted label_set_cmp alerts) sorted in
+    placed_all config alerts (place s alert) (place-config s alert ∙ same) parts.1 (rest_free s alert alerts parts.0 free.1)
+    ∙ ap (λ k. k + copies config alerts) (place_len s alert free.0 ∙ ap (λ c. len s.placements + length (chosen c alert.0)) same)
+    ∙ omega (arith, sum_by-cons (λ (a : LabelSet × Alert). length (chosen config a.0)) alert alerts)
+
+none_placed : (s : State) (config : Config) (alerts : List (LabelSet × Alert)) → AreFree (record s { config = config; placements = empty; clocks = empty }) alerts
+unfolding AreFree
+none_placed s config [] = tt
+none_placed s config (alert ∷ alerts) = ((λ route le. get-empty spot_cmp (spot_at route alert.0)), none_placed s config alerts)
+
+len-empty : {K : Type 0} (X : Type 0) (R : K → K → Ordering) → len (empty {X = X} {R = R}) ≡ 0
+unfolding entries empty
+len-empty X R = refl
+
+-- after a reload each stored alert is a member on each of its chosen routes
+pub copies_are_members : (s : State) (config : Config) → len (with_config s config).placements ≡ copies config (entries s.alerts)
+unfolding with_config
+copies_are_members s config =
+    placed_all config (entries s.alerts) (record s { config = config; placements = empty; clocks = empty }) refl (entries-sorted s.alerts) (none_placed s config (entries s.alerts))
+    ∙ ap (λ k. k + copies config (entries s.alerts)) (len-empty Alert spot_cmp) ∙ omega arith

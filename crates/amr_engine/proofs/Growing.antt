@@ -1,0 +1,139 @@
+-- How many entries an event adds to the open record.
+use Rattle.std.specs.Prelude.{◌≡◌, ℕ, zero, suc, List, [], ◌∷◌, Option, None, Some, Result, Ok, Err, length, drop, ◌+◌, ◌-◌, ◌*◌, ◌≤◌, ◌<◌}
+use Rattle.std.specs.Result.{OnOk, IfOk}
+use Rattle.std.specs.Option.{option_map, option_map_or}
+use Rattle.std.specs.List.{fold, sum_by}
+use Rattle.std.proofs.Common.{get_or, refl, sym, ap, subst, ◌∙◌, arith}
+use Rattle.std.proofs.lemmas.List.{at_drop_more}
+use Rattle.std.proofs.lemmas.List.Sums.{sum_by-drop_more}
+use Rattle.amr_labels.specs.Map.{entries, len}
+use Rattle.amr_labels.specs.Labels.{LabelSet}
+use Rattle.amr_time.specs.Time.{Moment}
+use Rattle.amr_config.specs.Config.{Config}
+use Rattle.amr_config.specs.Routing.{chosen}
+use Rattle.amr_rules.specs.declared.alert.Alert.{Alert}
+use Rattle.amr_events.specs.Events.{Event, Act}
+use Rattle.amr_events.specs.Acts.{event_at}
+use Rattle.amr_state.specs.declared.due.Due.{Due}
+use Rattle.amr_state.specs.State.{State}
+use Rattle.amr_state.specs.Kept.{Kept, GrownBy}
+use Rattle.amr_state.specs.Dues.{next_due}
+use Rattle.amr_engine.specs.declared.outcome.Outcome.{Outcome}
+use Rattle.amr_engine.specs.declared.outcome.Outcome.TheVariants.{Accepted, Refused}
+use Rattle.amr_engine.specs.declared.prepare.Prepared as prepare
+use Rattle.amr_engine.specs.Runs.{after_step}
+use Rattle.amr_engine.specs.Moves.{move, advance}
+use Rattle.amr_engine.specs.Events.{at_moment, move_limit, with_config}
+use Rattle.amr_engine.specs.Applied.{run_moved}
+use Rattle.amr_engine.specs.Prepared.{Does, Stays, entries_of}
+use Rattle.amr_engine.specs.Weight.{move_weight, moves_weight, first_weight, groups_weight, reload_entries, alert_weight, alerts_weight, copies, act_weight, weight, event_weight}
+use Rattle.amr_engine.specs.Kept.{IsLight, IsLightIfAccepted}
+use Rattle.amr_engine.proofs.Endings.{Ran, some_run, stays}
+use Rattle.amr_engine.proofs.Copied.{copies_are_members}
+
+abbrev spent_by : State → Option (List Due × State) → ℕ
+spent_by s run = option_map_or (λ q. moves_weight s q.0) run 0
+
+-- what is to be shown of the moves after a first one
+abbrev Follows : ℕ → Moment → State → Type 0
+Follows n at s = (r : List Due × State) → advance n at s ≡ Some r → first_weight n at s ≡ moves_weight s r.0
+
+stepped : (n : ℕ) (at : Moment) (s : State) (d : Due) (r : List Due × State) → Follows n at (move d s) → (x : Option (List Due × State)) → advance n at (move d s) ≡ x
+    → option_map (after_step (next_due at) move d) x ≡ Some r → move_weight s d d.kind + first_weight n at (move d s) ≡ moves_weight s r.0
+stepped n at s d r rest None is e = absurd (cc)
+stepped n at s d r rest (Some q) is e = ap (λ k. move_weight s d d.kind + k) (rest q is) ∙ ap (spent_by s) e
+
+from_next : (n : ℕ) (at : Moment) (s : State) (r : List Due × State) → ((d : Due) → Follows n at (move d s)) → (o : Option Due)
+    → option_map_or (λ d. option_map (after_step (next_due at) move d) (advance n at (move d s))) o (Some ([], s)) ≡ Some r
+    → option_map_or (λ d. move_weight s d d.kind + first_weight n at (move d s)) o 0 ≡ moves_weight s r.0
+from_next n at s r rest None e = ap (spent_by s) e
+from_next n at s r rest (Some d) e = stepped n at s d r (rest d) (advance n at (move d s)) refl e
+
+at_limit : (s : State) (r : List Due × State) (o : Option Due) → option_map_or (λ d. None) o (Some ([], s)) ≡ Some r → 0 ≡ moves_weight s r.0
+at_limit s r None e = ap (spent_by s) e
+at_limit s r (Some d) e = absurd (cc)
+
+-- the weight of a run's moves
+pub first_weight-run : (limit : ℕ) (at : Moment) (s : State) → Follows limit at s
+first_weight-run zero at s r e = at_limit s r (next_due at s) e
+first_weight-run (suc n) at s r e = from_next n at s r (λ d. first_weight-run n at (move d s)) (next_due at s) e
+
+first_weight-some : (n : ℕ) (at : Moment) (s : State) (d : Due) → next_due at s ≡ Some d → first_weight (suc n) at s ≡ move_weight s d d.kind + first_weight n at (move d s)
+first_weight-some n at s d e = ap (λ (o : Option Due). option_map_or (λ d. move_weight s d d.kind + first_weight n at (move d s)) o 0) e
+
+-- before the first move
+pub none_spent : (limit : ℕ) (at : Moment) (s : State) (k : ℕ) → k + 2 * first_weight (limit - 0) at s ≤ k + 2 * first_weight limit at s
+none_spent limit at s k =
+    let all : limit - 0 ≡ limit = omega arith in
+    let same : first_weight (limit - 0) at s ≡ first_weight limit at s = ap (λ n. first_weight n at s) all in
+    omega (arith, same)
+
+-- one more move keeps the account
+pub spent : (limit made : ℕ) (at : Moment) (s next : State) (d : Due) (now later bound : ℕ) → now + 2 * first_weight (limit - made) at s ≤ bound
+    → made < limit → Some d ≡ next_due at s → next ≡ move d s → later ≤ now + 2 * move_weight s d d.kind → later + 2 * first_weight (limit - (made + 1)) at next ≤ bound
+spent limit made at s next d now later bound so_far less some is grown =
+    let one : limit - made ≡ suc (limit - (made + 1)) = omega (arith, less) in
+    let left : first_weight (limit - made) at s ≡ move_weight s d d.kind + first_weight (limit - (made + 1)) at (move d s) =
+    ap (λ n. first_weight n at s) one ∙ first_weight-some (limit - (made + 1)) at s d (sym some) in
+    let same : first_weight (limit - (made + 1)) at next ≡ first_weight (limit - (made + 1)) at (move d s) = ap (λ (x : State). first_weight (limit - (made + 1)) at x) is in
+    omega (arith, left, same, so_far, grown)
+
+-- what follows from the fact at a value
+pub on_value : {T E : Type 0} (r : Result T E) (P : T → Type 0) → ((x : T) → P x) → IfOk r P
+on_value (Ok x) P f = f x
+on_value (Err e) P f = tt
+
+pub light_outcome : (before : Kept) (event : Event) (after : Kept) → IsLight before event after → (outcome : Outcome) → IsLightIfAccepted before event after outcome
+light_outcome before event after light (Accepted moves notes skipped) = light
+light_outcome before event after light (Refused reason) = tt
+
+-- one more of a list is done, and the rest is left
+one_more : {X : Type 0} (f : X → ℕ) (xs : List X) (i : ℕ) (x : X) → i < length xs → x ≡ get_or xs i x → sum_by f (drop i xs) ≡ f x + sum_by f (drop (i + 1) xs)
+one_more f xs i x less is = sum_by-drop_more f xs i x less ∙ ap (λ y. f y + sum_by f (drop (i + 1) xs)) (sym is)
+
+pub fold_left : {X : Type 0} (f : State → X → State) (s : State) (xs : List X) (i : ℕ) (x : X) → i < length xs → x ≡ get_or xs i x → fold f s (drop i xs) ≡ fold f (f s x) (drop (i + 1) xs)
+fold_left f s xs i x less is = at_drop_more (fold f s) xs i x less ∙ ap (λ y. fold f (f s y) (drop (i + 1) xs)) (sym is)
+
+-- one more alert is placed
+pub placed_more : (config was : Config) (alerts : List (LabelSet × Alert)) (i : ℕ) (alert : LabelSet × Alert) (now later bound : ℕ) → now + 2 * copies config (drop i alerts) ≤ bound
+    → i < length alerts → alert ≡ get_or alerts i alert → was ≡ config → later ≤ now + 2 * length (chosen was alert.0) → later + 2 * copies config (drop (i + 1) alerts) ≤ bound
+placed_more config was alerts i alert now later bound so_far less is same grown =
+    let left : copies config (drop i alerts) ≡ length (chosen config alert.0) + copies config (drop (i + 1) alerts) = one_more (λ a. length (chosen config a.0)) alerts i alert less is in
+    let here : length (chosen was alert.0) ≡ length (chosen config alert.0) = ap (λ c. length (chosen c alert.0)) same in
+    omega (arith, left, here, so_far, grown)
+
+-- one more alert is put
+pub put_more : (config was : Config) (alerts : List (LabelSet × Alert)) (i : ℕ) (alert : LabelSet × Alert) (now later bound : ℕ) → now + alerts_weight config (drop i alerts) ≤ bound
+    → i < length alerts → alert ≡ get_or alerts i alert → was ≡ config → later ≤ now + alert_weight was alert.0 → later + alerts_weight config (drop (i + 1) alerts) ≤ bound
+put_more config was alerts i alert now later bound so_far less is same grown =
+    let left : alerts_weight config (drop i alerts) ≡ alert_weight config alert.0 + alerts_weight config (drop (i + 1) alerts) = one_more (λ a. alert_weight config a.0) alerts i alert less is in
+    let here : alert_weight was alert.0 ≡ alert_weight config alert.0 = ap (λ c. alert_weight c alert.0) same in
+    omega (arith, left, here, so_far, grown)
+
+-- a reload's entries
+pub reloaded : (s : State) (config replacing : Config) (alerts : List (LabelSet × Alert)) (after : State) (now replaced placed : ℕ) → after ≡ with_config s config → replacing ≡ config
+    → alerts ≡ entries s.alerts → replaced ≤ now + (1 + len s.clocks + len s.placements) → placed ≤ replaced + 2 * copies replacing alerts → placed ≤ now + reload_entries s after
+reloaded s config replacing alerts after now replaced placed is same all first then =
+    let members : len after.placements ≡ copies replacing alerts =
+    ap (λ (x : State). len x.placements) is ∙ copies_are_members s config ∙ (λ i. copies (sym same i) (sym all i)) in
+    omega (arith, members, first, then)
+
+-- the whole of an accepted event
+light_event : (s : State) (at : Moment) (act : Act) (prepared : prepare.Prepared) (count : ℕ) (next after : State) (now moved done : ℕ) → Does s at act prepared
+    → Some (count, next) ≡ run_moved at (advance move_limit at s) → moved ≤ now + (1 + 2 * first_weight move_limit at s) → done ≤ moved + entries_of prepared next after
+    → done ≤ now + 4 * event_weight s (event_at at act) after
+light_event s at act prepared count next after now moved done does ran went acted =
+    let r : Ran at (advance move_limit at s) count next = some_run at (advance move_limit at s) count next ran in
+    let light : entries_of prepared next after ≤ 1 + 2 * act_weight next after act = does.light next after (stays s at count next ran) in
+    let ends : act_weight next after act ≡ act_weight (at_moment at r.moved) after act = ap (λ (x : State). act_weight x after act) r.ends in
+    let moves : first_weight move_limit at s ≡ moves_weight s r.moves = first_weight-run move_limit at s (r.moves, r.moved) r.ran in
+    let whole : event_weight s (event_at at act) after ≡ weight s r.moves r.moved after (event_at at act) =
+    ap (λ (o : Option (List Due × State)). option_map_or (λ run. weight s run.0 run.1 after (event_at at act)) o 0) r.ran in
+    omega (arith, light, ends, moves, whole, went, acted)
+
+pub light_done : (s : State) (event : Event) (at : Moment) (act : Act) (at_is : at ≡ event.at) (act_is : act ≡ event.act) (prepared : prepare.Prepared) (count : ℕ) (next after : State)
+    (now moved done : ℕ) → Does s at act prepared
+    → Some (count, next) ≡ run_moved at (advance move_limit at s) → moved ≤ now + (1 + 2 * first_weight move_limit at s) → done ≤ moved + entries_of prepared next after
+    → done ≤ now + 4 * event_weight s event after
+light_done s event at act at_is act_is prepared count next after now moved done does ran went acted =
+    subst (λ (e : Event). done ≤ now + 4 * event_weight s e after) (λ i. event_at (at_is i) (act_is i)) (light_event s at act prepared count next after now moved done does ran went acted)

@@ -1,0 +1,17 @@
+use Rattle.std.proofs.Common.{length, ap, ◌∙◌}
+use Rattle.std.specs.List.{fold}
+use Rattle.amr_state.specs.State.{State, place}
+use Rattle.amr_engine.specs.Events.{with_config}
+use Rattle.amr_engine.proofs.Parted.{on_ok}
+use Rattle.amr_engine.proofs.Growing.{reloaded}
+use Rattle.amr_engine.proofs.reload.reload.Goals as goal
+
+pub returns-clause-grown : goal.returns-clause-grown
+unfolding with_config
+returns-clause-grown c =
+    let all = c.as_slice.ensures.value ∙ c.in_ok-alerts.ensures in
+    on_ok c.place_all.result _ _ (λ placed.
+    reloaded c.args.store.now.state c.args.config c.replace_config.new.self.state.config c.as_slice.result.now c.place_all.new.store.state (length c.args.store.now.current)
+    (length c.replace_config.new.self.current) (length c.place_all.new.store.current) (placed ∙ (λ i. fold place (c.in_ok-replace_config.ensures.ok i) (all i)))
+    (ap (λ (s : State). s.config) c.in_ok-replace_config.ensures.ok) all c.replace_config.ensures.grown c.place_all.ensures.grown)
+    c.place_all.ensures.ok
