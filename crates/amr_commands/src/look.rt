@@ -19,6 +19,7 @@ use amr_lines::{
     verdicts_text,
 };
 use amr_replay::Session;
+use amr_state::views;
 use std::alloc::{AllocError, Global};
 
 /// Lines, and the last line of their command.
@@ -63,7 +64,7 @@ pub(crate) fn explain(alloc: Global, session: &Session, labels: &Labels) -> Answ
 fn alert_lines(alloc: Global, session: &Session) -> Result<String, AllocError>
     ensures { IfOk result (λ text. string_bytes text ≡ flat_map alert_line (entries session.now.state.alerts)) }
 {
-    let found = session.alerts()?;
+    let found = views::alerts(session.state())?;
     alerts_text(alloc, found.as_slice())
 }
 
@@ -77,7 +78,7 @@ pub(crate) fn alerts(alloc: Global, session: &Session) -> Answer
 fn silence_lines(alloc: Global, session: &Session) -> Result<String, AllocError>
     ensures { IfOk result (λ text. string_bytes text ≡ flat_map silence_line (entries session.now.state.silences)) }
 {
-    let found = session.silences()?;
+    let found = views::silences(session.state())?;
     silences_text(alloc, found.as_slice())
 }
 
@@ -91,7 +92,7 @@ pub(crate) fn silences(alloc: Global, session: &Session) -> Answer
 fn group_lines(alloc: Global, session: &Session) -> Result<String, AllocError>
     ensures { IfOk result (λ text. string_bytes text ≡ flat_map group_seen_line (groups_of session.now.state)) }
 {
-    let found = session.groups()?;
+    let found = views::groups(session.state())?;
     groups_text(alloc, found.as_slice())
 }
 
@@ -105,7 +106,7 @@ pub(crate) fn groups(alloc: Global, session: &Session) -> Answer
 fn log_lines(alloc: Global, session: &Session) -> Result<String, AllocError>
     ensures { IfOk result (λ text. string_bytes text ≡ flat_map log_line (entries session.now.state.log)) }
 {
-    let found = session.log()?;
+    let found = views::log(session.state())?;
     log_text(alloc, found.as_slice())
 }
 
@@ -119,7 +120,7 @@ pub(crate) fn log(alloc: Global, session: &Session) -> Answer
 pub(crate) fn transcript(alloc: Global, session: &Session) -> Answer
     ensures { Answered (incident_of session.now) session.now.cursor session.now.cursor (Asks command.Transcript) result }
 {
-    let lines = notes_text(alloc, session.transcript());
+    let lines = notes_text(alloc, session.state().notes());
     listed(alloc, Word::Transcript, session.cursor(), lines)
 }
 
@@ -127,7 +128,7 @@ pub(crate) fn transcript(alloc: Global, session: &Session) -> Answer
 pub(crate) fn place(alloc: Global, session: &Session) -> Answer
     ensures { Answered (incident_of session.now) session.now.cursor session.now.cursor (Asks command.Cursor) result }
 {
-    match place_text(alloc, session.cursor(), session.events(), session.now()) {
+    match place_text(alloc, session.cursor(), session.events(), session.state().moment()) {
         Ok(text) => Answer::Built(text),
         Err(_) => Answer::Refused(Word::Cursor, Refusal::Memory),
     }

@@ -6,19 +6,15 @@ ghost use Rattle.amr_state.specs.declared.displaced.Displaced.{Displaced};
 ghost use Rattle.amr_engine.specs.Events.{after_event, outcome_of};
 ghost use Rattle.amr_engine.specs.Outcomes.{outcome_view};
 ghost use Rattle.amr_engine.specs.Kept.{Records, RecordOf};
-ghost use Rattle.amr_state.specs.Seen.{groups_of};
 ghost use Rattle.amr_engine.specs.Explain.{verdicts};
-ghost use Rattle.amr_labels.specs.Map.{entries};
 
 use crate::apply::attempt;
 use crate::explain::{self, Verdict};
 use crate::outcome::Outcome;
 use amr_config::Config;
-use amr_events::{Event, SilenceId};
-use amr_labels::{Labels, Shared};
-use amr_rules::{Alert, LogEntry, Silence};
-use amr_state::{Group, LogKey, Note, Store, views};
-use amr_time::Moment;
+use amr_events::Event;
+use amr_labels::Labels;
+use amr_state::Store;
 use std::alloc::{AllocError, Global};
 use std::marker::Model;
 
@@ -114,57 +110,15 @@ impl Engine {
         self.store.forget();
     }
 
-    /// The stored alerts, by labels.
-    pub fn alerts(&self) -> Result<Vec<(Labels, Alert)>, AllocError>
-        ensures { IfOk result (λ found. found.items ≡ entries self.now.state.alerts) }
+    /// Returns the state. Its parts are listed by `amr_state::views`.
+    pub fn state(&self) -> &Store
+        ensures { result.now.state ≡ self.now.state }
     {
-        views::alerts(&self.store)
+        &self.store
     }
 
-    /// The silences with their ids, in the order of the ids.
-    pub fn silences(&self) -> Result<Vec<(SilenceId, Silence)>, AllocError>
-        ensures { IfOk result (λ found. found.items ≡ entries self.now.state.silences) }
-    {
-        views::silences(&self.store)
-    }
-
-    /// The groups, by route and labels.
-    pub fn groups(&self) -> Result<Vec<Group>, AllocError>
-        ensures { IfOk result (λ found. found.items ≡ groups_of self.now.state) }
-    {
-        views::groups(&self.store)
-    }
-
-    /// The notification log, by receiver, integration, place, group labels and path.
-    pub fn log(&self) -> Result<Vec<(LogKey, LogEntry)>, AllocError>
-        ensures { IfOk result (λ found. found.items ≡ entries self.now.state.log) }
-    {
-        views::log(&self.store)
-    }
-
-    /// All notes so far, in order.
-    pub fn notes(&self) -> &[Shared<Note>]
-        ensures { result.now ≡ self.now.state.notes }
-    {
-        self.store.notes()
-    }
-
-    /// The configuration in force.
-    pub fn config(&self) -> &Config
-        ensures { result.now ≡ self.now.state.config }
-    {
-        self.store.config()
-    }
-
-    /// The clock: the moment of the last event that was accepted.
-    pub fn now(&self) -> Moment
-        ensures { result ≡ self.now.state.moment }
-    {
-        self.store.moment()
-    }
-
-    /// Why an alert with these labels was told of, or not, as it stands now: one answer where none is stored or the
-    /// stored one is resolved, and else one for each route that takes it and each integration of the route's receiver.
+    /// Explains why an alert with these labels was or wasn't in a notification. It gives one answer if no such alert is stored
+    /// or the stored one is resolved, and else one for each route that takes it and each integration of the route's receiver.
     pub fn explain(&self, labels: &Labels) -> Result<Vec<Verdict>, AllocError>
         ensures { IfOk result (λ found. found.items ≡ verdicts self.now.state labels.now) }
     {

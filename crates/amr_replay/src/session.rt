@@ -1,7 +1,5 @@
 //! A cursor over a script: what a session shows is the run of the events before it.
 ghost use Rattle.std.specs.Prelude.{◌≡◌, ◌+◌, ◌-◌, ◌<◌, ◌≤◌, [], Some, Err, IsOk, IsErr, IsOkAnd, IfOk, IfErr, OnOk, OnErr, length, map, slice_get};
-ghost use Rattle.amr_labels.specs.Map.{entries};
-ghost use Rattle.amr_state.specs.Seen.{groups_of};
 ghost use Rattle.amr_engine.specs.Events.{outcome_of};
 ghost use Rattle.amr_engine.specs.Outcomes.{outcome_view};
 ghost use Rattle.amr_engine.specs.Explain.{verdicts};
@@ -9,10 +7,9 @@ ghost use Rattle.amr_replay.specs.Session.{at_cursor, outcomes_passed, events_un
 
 use amr_config::Config;
 use amr_engine::{Engine, Outcome, Verdict};
-use amr_events::{Event, Script, SilenceId};
-use amr_labels::{Labels, Shared};
-use amr_rules::{Alert, LogEntry, Silence};
-use amr_state::{Group, LogKey, Note};
+use amr_events::{Event, Script};
+use amr_labels::Labels;
+use amr_state::Store;
 use amr_time::Moment;
 use std::alloc::{AllocError, Global};
 use std::marker::Model;
@@ -231,60 +228,18 @@ impl Session {
         Ok(outcome)
     }
 
-    /// Why an alert with these labels was told of, or not, as it stands now.
+    /// Explains why an alert with these labels was or wasn't in a notification, at the cursor.
     pub fn explain(&self, labels: &Labels) -> Result<Vec<Verdict>, AllocError>
         ensures { IfOk result (λ found. found.items ≡ verdicts self.now.state labels.now) }
     {
         self.engine.explain(labels)
     }
 
-    /// The clock: the moment of the last event passed that was accepted.
-    pub fn now(&self) -> Moment
-        ensures { result ≡ self.now.state.moment }
+    /// Returns the state at the cursor. Its parts are listed by `amr_state::views`.
+    pub fn state(&self) -> &Store
+        ensures { result.now.state ≡ self.now.state }
     {
-        self.engine.now()
-    }
-
-    /// The configuration in force: that of the session, or of the last reload that was accepted.
-    pub fn config(&self) -> &Config
-        ensures { result.now ≡ self.now.state.config }
-    {
-        self.engine.config()
-    }
-
-    /// The stored alerts, by labels.
-    pub fn alerts(&self) -> Result<Vec<(Labels, Alert)>, AllocError>
-        ensures { IfOk result (λ found. found.items ≡ entries self.now.state.alerts) }
-    {
-        self.engine.alerts()
-    }
-
-    /// The silences with their ids, by id.
-    pub fn silences(&self) -> Result<Vec<(SilenceId, Silence)>, AllocError>
-        ensures { IfOk result (λ found. found.items ≡ entries self.now.state.silences) }
-    {
-        self.engine.silences()
-    }
-
-    /// The groups, by route and labels.
-    pub fn groups(&self) -> Result<Vec<Group>, AllocError>
-        ensures { IfOk result (λ found. found.items ≡ groups_of self.now.state) }
-    {
-        self.engine.groups()
-    }
-
-    /// The notification log, by receiver, integration, place, group labels and path.
-    pub fn log(&self) -> Result<Vec<(LogKey, LogEntry)>, AllocError>
-        ensures { IfOk result (λ found. found.items ≡ entries self.now.state.log) }
-    {
-        self.engine.log()
-    }
-
-    /// All notes so far, in order.
-    pub fn transcript(&self) -> &[Shared<Note>]
-        ensures { result.now ≡ self.now.state.notes }
-    {
-        self.engine.notes()
+        self.engine.state()
     }
 }
 
