@@ -2,4 +2,7 @@
 #![tactic(auto)]
 
 #[cfg(test)]
+mod records;
+
+#[cfg(test)]
 mod tests;
