@@ -165,4 +165,3 @@ returns-in-WasNotes-clause-kept c =
     (ap (put_back c.pop.new.self.current) state ∙ sym (put_back-push c.pop.new.self.current e (state_of a)) ∙ ap (λ es. put_back es (state_of a)) (sym c.in-WasNotes.ensures.current))
     c.in-WasNotes.ensures.closed c.in-WasNotes.ensures.records
     ∙ ap undone c.self.view_is
-
