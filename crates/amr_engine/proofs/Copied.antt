@@ -57,12 +57,12 @@ module _ (p : ℕ → Bool) (labels : LabelSet) (alert : Alert) where
   placed_len zero from s free = omega arith
   placed_len (suc n) from s free =
       elim (p from) as (λ b. len (fold (place_on labels alert) s (cond b (from ∷ filter p (range_with_len (from + 1) n)) (filter p (range_with_len (from + 1) n)))).placements
-          ≡ len s.placements + length (cond b (from ∷ filter p (range_with_len (from + 1) n)) (filter p (range_with_len (from + 1) n)))) [
+      ≡ len s.placements + length (cond b (from ∷ filter p (range_with_len (from + 1) n)) (filter p (range_with_len (from + 1) n)))) [
         | true ↦
             let next : State = place_on labels alert s from in
             let free_next : IsFree next labels (from + 1) = λ route le.
-                still_free s labels alert from (spot_at route labels)
-                (λ e. let same : route ≡ from = ap (λ (x : Spot). x.route) e in omega (arith, same, le)) (free route (omega (arith, le))) in
+            still_free s labels alert from (spot_at route labels)
+            (λ e. let same : route ≡ from = ap (λ (x : Spot). x.route) e in omega (arith, same, le)) (free route (omega (arith, le))) in
             placed_len n (from + 1) next free_next
             ∙ ap (λ k. k + length (filter p (range_with_len (from + 1) n))) (longer spot_cmp_total s.placements (spot_at from labels) alert (free from (omega arith)))
             ∙ omega arith

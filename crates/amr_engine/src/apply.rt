@@ -26,7 +26,8 @@ use std::alloc::{AllocError, Global};
 pub(crate) fn attempt(store: &mut Store, event: &Event) -> Result<Outcome, AllocError>
     ensures outcome { IfOk result (λ outcome. Leads store.old.state event.now store.new.state outcome) }
     ensures kept { undone store.new ≡ undone store.old }
-    ensures light { IfOk result (λ outcome. IsLightIfAccepted store.old event.now store.new outcome) }
+    ensures light { IfOk result (λ outcome.
+        IsLightIfAccepted store.old event.now store.new outcome) }
 {
     let noted = store.notes().len();
     match happen(store, event)? {
@@ -91,7 +92,11 @@ fn perform(store: &mut Store, prepared: Prepared) -> Result<Listing<usize>, Allo
             put_all(store, sifted.valid.as_slice())?;
             return Ok(sifted.skipped);
         }
-        Prepared::Silence { id, new_id, posting } => store_posting(store, id, new_id, posting)?,
+        Prepared::Silence {
+            id,
+            new_id,
+            posting,
+        } => store_posting(store, id, new_id, posting)?,
         Prepared::Expire { id, ended } => store.insert_silence(id, ended)?,
         Prepared::Reload(config) => reload(store, config)?,
         Prepared::Tick => {}

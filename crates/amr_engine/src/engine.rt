@@ -52,12 +52,14 @@ impl Engine {
         }
     }
 
-    /// Applies an event, and records what it displaces, in no more entries than four times the event's weight. A refused event changes nothing, and has an empty record.
+    /// Applies an event, and records what it displaces, in at most four entries for each unit of the event's weight.
+    /// A refused event changes nothing, and has an empty record.
     pub fn apply(&mut self, event: &Event) -> Result<Outcome, AllocError>
         ensures outcome { IfOk result (λ outcome. outcome_view outcome ≡ outcome_of self.old.state event.now) }
         ensures state { OnOk result (self.new.state ≡ after_event self.old.state event.now) }
         ensures past { OnOk result (self.new.past ≡ self.old.past ++ self.old.state ∷ []) }
-        ensures record_kept { IfOk result (λ outcome. (r : List Displaced) × RecordOf self.old event.now self.new outcome r) }
+        ensures record_kept { IfOk result (λ outcome.
+            (r : List Displaced) × RecordOf self.old event.now self.new outcome r) }
         ensures err { OnErr result (self.new ≡ self.old) }
     {
         self.store.begin()?;

@@ -42,7 +42,8 @@ pub(crate) fn advance(store: &mut Store, at: Moment) -> Result<Option<usize>, Al
     requires { at ≤ latest_read }
     ensures ok { IfOk result (λ made. moves_to store.new.state made ≡ counted_run (advance move_limit at store.old.state)) }
     ensures kept { undone store.new ≡ undone store.old }
-    ensures grown { OnOk result (GrownBy (2 * first_weight move_limit at store.old.state) store.old store.new) }
+    ensures grown { OnOk result (GrownBy (2 * first_weight move_limit at store.old.state)
+        store.old store.new) }
 {
     for made in 0..MOST_MOVES {
         match next_due(store, at)? {

@@ -24,7 +24,10 @@ pub(crate) enum Prepared {
         posting: Posting,
     },
     /// Stores the expired form of a silence.
-    Expire { id: SilenceId, ended: Silence },
+    Expire {
+        id: SilenceId,
+        ended: Silence,
+    },
     /// Puts another configuration in force.
     Reload(Config),
     /// Lets time pass.
@@ -106,9 +109,7 @@ fn prepare_expiry(
 }
 
 /// Prepares a reload.
-fn prepare_reload(
-    read: &Result<Config, Reason>,
-) -> Result<Result<Prepared, Reason>, AllocError>
+fn prepare_reload(read: &Result<Config, Reason>) -> Result<Result<Prepared, Reason>, AllocError>
     ensures { IfOk result (λ prepared. (s : State) (at : ℕ) → IsPrepared s at (act.Reload (by_number read.now)) prepared) }
 {
     match read {

@@ -30,7 +30,8 @@ fn place_all(store: &mut Store, alerts: &[(Labels, Alert)]) -> Result<(), AllocE
 pub(crate) fn reload(store: &mut Store, config: Config) -> Result<(), AllocError>
     ensures ok { OnOk result (store.new.state ≡ with_config store.old.state config) }
     ensures kept { undone store.new ≡ undone store.old }
-    ensures grown { OnOk result (GrownBy (reload_entries store.old.state store.new.state) store.old store.new) }
+    ensures grown { OnOk result (GrownBy (reload_entries store.old.state store.new.state)
+        store.old store.new) }
 {
     let alerts = views::alerts(store)?;
     store.replace_config(config)?;

@@ -79,7 +79,8 @@ fn place_on(
 pub fn place(store: &mut Store, labels: &Labels, alert: &Alert) -> Result<(), AllocError>
     ensures ok { OnOk result (store.new.state ≡ place store.old.state (labels.now, alert.now)) }
     ensures kept { undone store.new ≡ undone store.old }
-    ensures grown { GrownBy (2 * length (chosen store.old.state.config labels.now)) store.old store.new }
+    ensures grown { GrownBy (2 * length (chosen store.old.state.config labels.now))
+        store.old store.new }
 {
     let routes = store.config().routes_of(store.alloc(), labels)?;
     for route in &routes {

@@ -168,8 +168,7 @@ impl Store {
     // ---- the state
 
     /// The allocator.
-    pub fn alloc(&self) -> Global
-    {
+    pub fn alloc(&self) -> Global {
         self.alloc
     }
 
@@ -315,7 +314,8 @@ impl Store {
     pub fn replace_config(&mut self, config: Config) -> Result<(), AllocError>
         ensures ok { OnOk result (self.new.state ≡ record self.old.state { config = config; placements = map.empty; clocks = map.empty }) }
         ensures kept { undone self.new ≡ undone self.old }
-        ensures grown { GrownBy (1 + len self.old.state.clocks + len self.old.state.placements) self.old self.new }
+        ensures grown { GrownBy (1 + len self.old.state.clocks + len self.old.state.placements)
+            self.old self.new }
     {
         self.clear_placements()?;
         self.clear_clocks()?;

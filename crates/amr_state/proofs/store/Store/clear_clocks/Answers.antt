@@ -18,7 +18,7 @@ use Rattle.amr_state.proofs.store.Store.clear_clocks.Goals as goal
 pub loop-group-init : goal.loop-group-init
 loop-group-init c = (
   ap (λ m. record c.args.self.now.state { clocks = m }) (
-    ap (fold map.remove c.args.self.now.state.clocks) (c.deref-group-items.ensures.value ∙ c.in_ok-groups.ensures ∙ ap map.keys (ap (λ (k : Kept). k.state.clocks) c.self.view_is))
-    ∙ removed_all spot_cmp_total spot_cmp-IsAntisymmetric c.args.self.now.state.clocks),
+      ap (fold map.remove c.args.self.now.state.clocks) (c.deref-group-items.ensures.value ∙ c.in_ok-groups.ensures ∙ ap map.keys (ap (λ (k : Kept). k.state.clocks) c.self.view_is))
+      ∙ removed_all spot_cmp_total spot_cmp-IsAntisymmetric c.args.self.now.state.clocks),
   (refl, omega arith),
 )

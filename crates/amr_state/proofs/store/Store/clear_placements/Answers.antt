@@ -18,7 +18,7 @@ use Rattle.amr_state.proofs.store.Store.clear_placements.Goals as goal
 pub loop-spot-init : goal.loop-spot-init
 loop-spot-init c = (
   ap (λ m. record c.args.self.now.state { placements = m }) (
-    ap (fold map.remove c.args.self.now.state.placements) (c.deref-spot-items.ensures.value ∙ c.in_ok-spots.ensures ∙ ap map.keys (ap (λ (k : Kept). k.state.placements) c.self.view_is))
-    ∙ removed_all spot_cmp_total spot_cmp-IsAntisymmetric c.args.self.now.state.placements),
+      ap (fold map.remove c.args.self.now.state.placements) (c.deref-spot-items.ensures.value ∙ c.in_ok-spots.ensures ∙ ap map.keys (ap (λ (k : Kept). k.state.placements) c.self.view_is))
+      ∙ removed_all spot_cmp_total spot_cmp-IsAntisymmetric c.args.self.now.state.placements),
   (refl, omega arith),
 )
