@@ -167,8 +167,7 @@ impl Store {
     // ---- the state
 
     /// The allocator.
-    pub fn alloc(&self) -> Global
-    {
+    pub fn alloc(&self) -> Global {
         self.alloc
     }
 
