@@ -2,10 +2,8 @@
 use Rattle.std.proofs.Common.{◌≡◌, ◌≤◌, ℕ, Bool, true, false, ◌||◌, List, [], ◌∷◌, ◌++◌, Option, Some, None, IsTrue, refl, subst, sym, ap, ◌∙◌, length, length-append, arith}
 use Rattle.std.proofs.Math.Nat.{le_refl}
 use Rattle.std.specs.List.{AllByRecursion}
-use Rattle.std.specs.Ordering.{nat_cmp}
-use Rattle.amr_labels.specs.Labels.{LabelSet, label_set_cmp}
+use Rattle.amr_labels.specs.Labels.{LabelSet}
 use Rattle.amr_time.specs.Time.{latest_read}
-use Rattle.amr_tables.specs.Numbered.{shown, is_entered}
 use Rattle.amr_state.specs.declared.spot.Spot.{Spot}
 use Rattle.amr_state.specs.declared.note.LogKey.{LogKey}
 use Rattle.amr_state.specs.declared.note.Clock.{Clock}
@@ -17,11 +15,10 @@ use Rattle.amr_rules.specs.declared.update.LogEntry.{LogEntry}
 use Rattle.amr_state.specs.declared.displaced.Displaced.{Displaced}
 use Rattle.amr_state.specs.declared.displaced.Displaced.TheVariants.{WasMoment, WasConfig, WasAlert, WasSilence, WasPlacement, WasClock, WasLogged, WasNotes}
 use Rattle.amr_state.specs.declared.tables.Tables.{Tables}
-use Rattle.amr_state.specs.State.{State, spot_cmp, log_key_cmp}
 use Rattle.amr_state.specs.Records.{put_back_one, put_back, present, same_place, has_entry, IsNoNote, NotesEntered}
-use Rattle.amr_state.specs.Kept.{Kept, undone}
+use Rattle.amr_state.specs.Kept.{undone}
 use Rattle.amr_state.specs.declared.store.Store.TheInside.{Inside}
-use Rattle.amr_state.specs.Stored.{state_of, kept_of, IsSound, AreSound, MorePlaces, SameValues, is_marked_at, IsUnmarked, IsKept}
+use Rattle.amr_state.specs.Stored.{state_of, kept_of, IsSound, AreSound, MorePlaces, is_marked_at, IsUnmarked, IsKept}
 use Rattle.amr_state.proofs.Undoing.{put_back-push, put_back-entered, put_back-appended, covered, covered_note, notes_entered-more, notes_entered-push, has_entry-push, has_entry-last, same_undone}
 
 -- ---- places
@@ -110,7 +107,7 @@ kept_pushed a b e kept more moment closed current sound marks notes = record {
   current = subst (AreSound b.tables) (sym current) (all-push (IsSound b.tables) a.journal.current e (all-more a.tables b.tables more a.journal.current kept.current) sound);
   closed = subst (AllByRecursion (AreSound b.tables)) (sym closed) (closed-more a.tables b.tables more a.journal.closed kept.closed);
   marked = λ place h. subst (λ es. IsTrue (has_entry es place)) (sym current) (
-    either (same_place place e) (is_marked_at a.tables place) _ (has_entry-last a.journal.current e place) (λ before. has_entry-push a.journal.current e place (kept.marked place before)) (marks place h));
+      either (same_place place e) (is_marked_at a.tables place) _ (has_entry-last a.journal.current e place) (λ before. has_entry-push a.journal.current e place (kept.marked place before)) (marks place h));
   notes = λ h. subst (λ es. NotesEntered es (length b.notes.items)) (sym current) (notes h);
 }
 
@@ -138,7 +135,7 @@ pub kept_closed : (a b : Inside) → IsKept a → MorePlaces a.tables b.tables �
 kept_closed a b kept more unmarked moment closed current =
     kept_unmarked b (subst (λ m. m ≤ latest_read) (sym moment) kept.moment) (all-none (IsSound b.tables) b.journal.current current)
     (subst (AllByRecursion (AreSound b.tables)) (sym closed) (
-      all-push (AreSound b.tables) a.journal.closed a.journal.current (closed-more a.tables b.tables more a.journal.closed kept.closed) (all-more a.tables b.tables more a.journal.current kept.current)))
+    all-push (AreSound b.tables) a.journal.closed a.journal.current (closed-more a.tables b.tables more a.journal.closed kept.closed) (all-more a.tables b.tables more a.journal.current kept.current)))
     unmarked
 
 -- the last record is the open one again

@@ -1,8 +1,6 @@
 use Rattle.std.proofs.Common.{◌≡◌, ◌∙◌, ap, rules}
 use Rattle.amr_config.specs.Routing.{group_wait_of}
 use Rattle.amr_labels.specs.Map.{get}
-use Rattle.amr_labels.specs.Labels.{LabelSet}
-use Rattle.amr_state.specs.declared.spot.Spot.{Spot}
 use Rattle.amr_state.specs.State.{spot_at, group_spot, clock_with}
 use Rattle.amr_state.proofs.Placed.{on_ok, placed}
 use Rattle.amr_state.proofs.placing.place_on.Goals as goal

@@ -1,20 +1,10 @@
-use Rattle.std.proofs.Common.{◌≡◌, ◌≤◌, ◌<◌, ℕ, List, [], ◌∷◌, ◌++◌, Option, Some, None, true, lit≤, IsTrue, refl, sym, ap, subst, ◌∙◌, length, arith, take}
-use Rattle.std.specs.Ordering.{nat_cmp}
-use Rattle.std.specs.FinMap.{nat_cmp-IsAntisymmetric}
-use Rattle.amr_labels.specs.Map as map
-use Rattle.amr_labels.specs.Labels.{LabelSet, label_set_cmp, label_set_cmp-IsAntisymmetric}
-use Rattle.amr_tables.specs.Numbered.{shown, has_place, entry_of}
-use Rattle.amr_tables.proofs.Entering.{entry_of-none, entry_of-some, entered_again}
+use Rattle.std.proofs.Common.{◌≡◌, [], ◌∷◌, ◌++◌, true, refl, sym, ap, subst, ◌∙◌, length}
 use Rattle.amr_state.specs.declared.displaced.Displaced.{Displaced}
-use Rattle.amr_state.specs.declared.displaced.Displaced.TheVariants.{WasMoment, WasConfig, WasAlert, WasSilence, WasPlacement, WasClock, WasLogged, WasNotes}
-use Rattle.amr_state.specs.declared.tables.Tables.{Tables}
-use Rattle.amr_state.specs.State.{State, spot_cmp, spot_cmp-IsAntisymmetric, log_key_cmp, log_key_cmp-IsAntisymmetric}
-use Rattle.amr_state.specs.Records.{put_back_one, put_back, present}
-use Rattle.amr_state.specs.Kept.{Kept, undone}
+use Rattle.amr_state.specs.declared.displaced.Displaced.TheVariants.{WasMoment}
+use Rattle.amr_state.specs.Kept.{undone}
 use Rattle.amr_state.specs.declared.store.Store.TheInside.{Inside}
-use Rattle.amr_state.specs.Stored.{state_of, kept_of, IsSound, IsKept, MorePlaces}
-use Rattle.amr_state.proofs.Soundness.{by_place, NoNewMark, NewMarkAt, kept_same, kept_grown, kept_pushed, kept_entered, kept_closed, kept_reopened, last_is_sound, kept_popped, kept_forgotten, undone_pushed, undone_covered, undone_popped, undone_appended, undone_noted, kept_unmarked, all-none, more_notes, taken}
-use Rattle.amr_state.proofs.Undoing.{notes_entered-last}
+use Rattle.amr_state.specs.Stored.{kept_of, IsKept}
+use Rattle.amr_state.proofs.Soundness.{by_place, NewMarkAt, kept_same, kept_entered, undone_pushed, undone_covered}
 use Rattle.std.proofs.Math.Nat.{le_refl}
 use Rattle.amr_state.proofs.store.Store.set_moment.Goals as goal
 use Rattle.amr_state.proofs.store.Store.set_moment.Goals.{then-not-self+in_ok-reserve_entry, else-not-self}
@@ -28,13 +18,13 @@ invariant_of-self-2 c =
           let e : Displaced = WasMoment a.moment in
           let pushed : w.push.new.self.current ≡ w.reserve_entry.new.self.current ++ e ∷ [] = w.push.ensures.current in
           subst (λ x. IsKept (record x { moment = c.args.at })) (sym w.self-inside-is) (
-            kept_entered a b e c.self.invariant (record { alerts = λ k h. h; silences = λ k h. h; placements = λ k h. h; clocks = λ k h. h; log = λ k h. h }) c.requires (w.push.ensures.closed ∙ w.reserve_entry.ensures.closed)
-            (pushed ∙ ap (λ es. es ++ e ∷ []) w.reserve_entry.ensures.current) c.self.invariant.moment
-            (by_place (NewMarkAt (WasMoment a.moment) a.tables b.tables) (λ x h. refl) (λ x h. h) (λ k v h. h) (λ k v h. h) (λ k v h. h) (λ k v h. h) (λ k v h. h) (λ x h. h)) refl refl)
+          kept_entered a b e c.self.invariant (record { alerts = λ k h. h; silences = λ k h. h; placements = λ k h. h; clocks = λ k h. h; log = λ k h. h }) c.requires (w.push.ensures.closed ∙ w.reserve_entry.ensures.closed)
+          (pushed ∙ ap (λ es. es ++ e ∷ []) w.reserve_entry.ensures.current) c.self.invariant.moment
+          (by_place (NewMarkAt (WasMoment a.moment) a.tables b.tables) (λ x h. refl) (λ x h. h) (λ k v h. h) (λ k v h. h) (λ k v h. h) (λ k v h. h) (λ k v h. h) (λ x h. h)) refl refl)
       | else-not-self w ↦
           let b : Inside = record a { moment = c.args.at } in
           subst (λ x. IsKept (record x { moment = c.args.at })) (sym w.self-inside-is) (
-            kept_same a b c.self.invariant (record { alerts = λ k h. h; silences = λ k h. h; placements = λ k h. h; clocks = λ k h. h; log = λ k h. h }) c.requires refl refl (λ place h. h) (le_refl (length a.notes.items)))
+          kept_same a b c.self.invariant (record { alerts = λ k h. h; silences = λ k h. h; placements = λ k h. h; clocks = λ k h. h; log = λ k h. h }) c.requires refl refl (λ place h. h) (le_refl (length a.notes.items)))
     ]
 
 pub returns-clause-kept : goal.returns-clause-kept

@@ -1,5 +1,4 @@
-use Rattle.std.proofs.Common.{◌≡◌, false, IsTrue, refl, sym, subst}
-use Rattle.amr_state.specs.Stored.{MorePlaces, IsUnmarked, is_marked_at}
+use Rattle.std.proofs.Common.{IsTrue, refl, sym, subst}
 use Rattle.amr_state.proofs.Soundness.{by_place}
 use Rattle.amr_state.proofs.tables.Tables.clear_entered.Goals as goal
 
