@@ -1,4 +1,5 @@
 pub mod Places
 pub mod Passed
+pub mod Recorded
 pub mod Said
 pub mod worked

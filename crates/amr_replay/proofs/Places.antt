@@ -1,5 +1,5 @@
 -- One more event, and one less.
-use Rattle.std.proofs.Common.{◌≡◌, ℕ, ◌+◌, ◌-◌, ◌<◌, ◌≤◌, List, [], ◌∷◌, ◌++◌, length, take, Some, refl, sym, ap, ◌∙◌, arith, slice_get, length-append, subst, ⊎_elim}
+use Rattle.std.proofs.Common.{◌≡◌, ℕ, ◌+◌, ◌<◌, ◌≤◌, List, [], ◌∷◌, ◌++◌, length, take, Some, refl, sym, ap, ◌∙◌, arith, slice_get, length-append, subst, ⊎_elim}
 use Rattle.std.proofs.lemmas.List.{take_more}
 use Rattle.std.proofs.lemmas.Option.{slice_get_within, get_or_from_slice_get, slice_get_cases}
 use Rattle.std.proofs.lemmas.List.Sums.{fold-append}
@@ -7,7 +7,7 @@ use Rattle.amr_config.specs.Config.{Config}
 use Rattle.amr_events.specs.Events.{Event}
 use Rattle.amr_state.specs.State.{State, start}
 use Rattle.amr_engine.specs.Events.{after_event, after_events, run_of}
-use Rattle.amr_replay.specs.Session.{View, at_cursor, states_before, state_at}
+use Rattle.amr_replay.specs.Session.{View, at_cursor, states_before}
 
 same_push : {X : Type 0} (xs ys : List X) (x y : X) → xs ++ x ∷ [] ≡ ys ++ y ∷ [] → (xs ≡ ys) × (x ≡ y)
 same_push [] [] x y e = (refl, cc)
@@ -24,7 +24,7 @@ before_push s [] e = refl
 before_push s (d ∷ es) e = ap (λ t. s ∷ t) (before_push (after_event s d) es e)
 
 -- the events up to n and the one at n
-front : (es : List Event) (n : ℕ) (e : Event) → slice_get es n ≡ Some e → take (n + 1) es ≡ take n es ++ e ∷ []
+pub front : (es : List Event) (n : ℕ) (e : Event) → slice_get es n ≡ Some e → take (n + 1) es ≡ take n es ++ e ∷ []
 front es n e at = take_more es n e (slice_get_within es n e at) ∙ ap (λ x. take n es ++ x ∷ []) (get_or_from_slice_get es n e e at)
 
 pub run_more : (c : Config) (es : List Event) (n : ℕ) (e : Event) → slice_get es n ≡ Some e → run_of c (take (n + 1) es) ≡ after_event (run_of c (take n es)) e

@@ -1,6 +1,6 @@
 -- The outcome of an event, and the state after it, are what the relations say.
 use Rattle.std.specs.Prelude.{◌≡◌, ◌<◌, ◌≤◌, Bool, true, false, List, [], Option, Some, None, Result, Ok, Err, length, drop, nat_le, if◌then◌else◌}
-use Rattle.std.proofs.Common.{refl, sym, ap, ◌∙◌, subst, arith}
+use Rattle.std.proofs.Common.{refl, sym, ap, ◌∙◌, subst}
 use Rattle.std.specs.declared.cmp.Ordering.{Ordering}
 use Rattle.std.specs.declared.cmp.Ordering.TheVariants.{Less, Equal, Greater}
 use Rattle.std.specs.Ordering.{is_gt, ordering_reverse}
@@ -10,7 +10,7 @@ use Rattle.amr_events.specs.Events.{Event, Reason}
 use Rattle.amr_state.specs.declared.due.Due.{Due}
 use Rattle.amr_state.specs.State.{State}
 use Rattle.amr_state.specs.Dues.{due_cmp, due_cmp_total, due_cmp-IsAntisymmetric, due_by, least_due, dues, next_due}
-use Rattle.amr_engine.specs.Events.{Accepted, Refused, do_event, outcome_of, outcome_from, after_event, at_moment, skipped_of, move_limit}
+use Rattle.amr_engine.specs.Events.{Accepted, Refused, do_event, outcome_of, outcome_from, after_event, move_limit}
 use Rattle.amr_engine.specs.Said.{Does, Refuses, IsIn, IsLeast}
 use Rattle.amr_engine.proofs.MovesLaws.{least_due-empty, least_due-IsLeast, Advances-ends, do_within-Does, Does-do_within}
 use Rattle.amr_engine.proofs.RefusalLaws.{do_within-Refuses, Refuses-do_within}

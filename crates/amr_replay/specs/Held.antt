@@ -1,6 +1,8 @@
 -- What a session holds.
-use Rattle.std.specs.Prelude.{◌≡◌, ◌≤◌, length}
+use Rattle.std.specs.Prelude.{◌≡◌, ◌≤◌, length, take}
+use Rattle.amr_state.specs.State.{start}
 use Rattle.amr_replay.specs.Session.{View, at_cursor}
+use Rattle.amr_replay.specs.Records.{AreRecords}
 use Rattle.amr_replay.specs.declared.session.Session.TheInside.{Inside}
 
 abbrev pub view_of : Inside → View
@@ -12,7 +14,8 @@ view_of session = record {
   past = session.engine.past;
 }
 
--- it shows the run of the events before its cursor
+-- it shows the run of the events before its cursor, and has one record for each of them
 pub record IsAtCursor (session : Inside) : Type 0 where
   pub view : view_of session ≡ at_cursor session.config session.script session.cursor
   pub within : session.cursor ≤ length session.script
+  pub records : AreRecords (start session.config) (take session.cursor session.script) session.engine.records

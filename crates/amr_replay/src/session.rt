@@ -1,9 +1,10 @@
 //! A cursor over a script: what a session shows is the run of the events before it.
 ghost use Rattle.std.specs.Prelude.{◌≡◌, ◌+◌, ◌-◌, ◌<◌, ◌≤◌, [], Some, Err, IsOk, IsErr, IsOkAnd, IfOk, IfErr, OnOk, OnErr, length, map, slice_get};
-ghost use Rattle.amr_engine.specs.Events.{outcome_of};
+ghost use Rattle.amr_engine.specs.Events.{Refused, outcome_of};
 ghost use Rattle.amr_engine.specs.Outcomes.{outcome_view};
 ghost use Rattle.amr_engine.specs.Explain.{verdicts};
-ghost use Rattle.amr_replay.specs.Session.{at_cursor, outcomes_passed, events_until};
+ghost use Rattle.amr_replay.specs.Session.{at_cursor, state_at, outcomes_passed, events_until};
+ghost use Rattle.amr_replay.specs.Records.{HasEntries};
 
 use amr_config::Config;
 use amr_engine::{Engine, Outcome, Verdict};
@@ -96,6 +97,24 @@ impl Session {
         ensures { result ≡ length self.now.events }
     {
         self.script.len()
+    }
+
+    /// Returns how many records there are: one for each event that is passed. It takes no memory.
+    pub fn records(&self) -> usize
+        ensures { result ≡ self.now.cursor }
+    {
+        self.engine.records()
+    }
+
+    /// Returns how many entries the record of the event number `index` has, from 0: none if the event was refused. It takes no memory.
+    pub fn record_len(&self, index: usize) -> usize
+        requires { index < self.now.cursor }
+        ensures entries { (event : _) → slice_get self.now.events index ≡ Some event →
+            HasEntries (state_at self.now.config self.now.events index) event result }
+        ensures refused { (event : _) (reason : _) → slice_get self.now.events index ≡ Some event →
+            outcome_of (state_at self.now.config self.now.events index) event ≡ Refused reason → result ≡ 0 }
+    {
+        self.engine.record_len(index)
     }
 
     /// Passes the next event, also one that is refused, and answers what it comes to.

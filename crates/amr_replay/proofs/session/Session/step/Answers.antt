@@ -1,6 +1,7 @@
 use Rattle.std.proofs.Common.{ap, ◌∙◌, arith, ◌+◌}
-use Rattle.amr_replay.specs.Session.{at_cursor}
+use Rattle.amr_replay.specs.Session.{View, at_cursor}
 use Rattle.amr_replay.proofs.Places.{at_next}
+use Rattle.amr_replay.proofs.Recorded.{records_next}
 use Rattle.amr_replay.proofs.session.Session.step.Goals as goal
 
 pub invariant_of-self-2 : goal.invariant_of-self-2
@@ -9,6 +10,7 @@ invariant_of-self-2 c =
     record {
       view = at_next a.config a.script a.cursor a.engine.state _ a.engine.past _ c.event.result.now c.self.invariant.view c.event.ensures c.in_ok-outcome.ensures.state c.in_ok-outcome.ensures.past;
       within = omega arith;
+      records = records_next a.config a.script a.cursor a.engine _ c.event.result.now c.in_ok-outcome.outcome c.in_ok-outcome.ensures.record_kept.0 c.self.invariant.records (ap (λ (v : View). v.state) c.self.invariant.view) c.event.ensures c.in_ok-outcome.ensures.outcome c.in_ok-outcome.ensures.state c.in_ok-outcome.ensures.record_kept.1;
     }
 
 pub returns-clause-ok : goal.returns-clause-ok

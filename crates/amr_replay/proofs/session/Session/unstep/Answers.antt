@@ -1,6 +1,7 @@
 use Rattle.std.proofs.Common.{ap, ◌∙◌, arith, ◌-◌}
 use Rattle.amr_replay.specs.Session.{at_cursor}
 use Rattle.amr_replay.proofs.Places.{at_before}
+use Rattle.amr_replay.proofs.Recorded.{records_last}
 use Rattle.amr_replay.proofs.session.Session.unstep.Goals as goal
 
 pub invariant_of-self : goal.invariant_of-self
@@ -10,6 +11,7 @@ invariant_of-self c =
     record {
       view = at_before a.config a.script a.cursor (a.cursor - 1) a.engine.state _ a.engine.past _ (omega arith) c.self.invariant.within c.self.invariant.view c.undo_last.ensures.past;
       within = omega (arith, c.self.invariant.within);
+      records = records_last a.config a.script a.cursor (a.cursor - 1) a.engine.records _ c.undo_last.ensures.records.0 (omega arith) c.self.invariant.within c.self.invariant.records c.undo_last.ensures.records.1;
     }
 
 pub returns : goal.returns

@@ -1,4 +1,4 @@
-use Rattle.std.proofs.Common.{refl, ap, ◌∙◌}
+use Rattle.std.proofs.Common.{refl, ap, ◌∙◌, arith}
 use Rattle.amr_labels.specs.Map as map
 use Rattle.amr_state.specs.Kept.{Kept}
 use Rattle.std.specs.List.{fold}

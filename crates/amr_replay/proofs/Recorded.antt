@@ -1,0 +1,94 @@
+-- One record for each event before the cursor.
+use Rattle.std.specs.Prelude.{◌≡◌, ℕ, zero, suc, ◌+◌, ◌<◌, ◌≤◌, List, [], ◌∷◌, ◌++◌, length, take, Some, option_map}
+use Rattle.std.specs.List.{slice_get}
+use Rattle.std.proofs.Common.{refl, sym, ap, subst, ◌∙◌, arith, length-take}
+use Rattle.amr_config.specs.Config.{Config}
+use Rattle.amr_events.specs.Events.{Event, Reason}
+use Rattle.amr_state.specs.declared.displaced.Displaced.{Displaced}
+use Rattle.amr_state.specs.State.{State, start}
+use Rattle.amr_state.specs.Records.{put_back}
+use Rattle.amr_state.specs.Steps.{Steps}
+use Rattle.amr_engine.specs.declared.outcome.Outcome as code
+use Rattle.amr_engine.specs.declared.outcome.Outcome.TheVariants as variant
+use Rattle.amr_engine.specs.Outcomes.{outcome_view}
+use Rattle.amr_engine.specs.Kept.{IsEmptyIfRefused, RecordOf}
+use Rattle.amr_engine.specs.Events.{Refused, outcome_of, after_event, after_events}
+use Rattle.amr_replay.specs.Session.{state_at}
+use Rattle.amr_replay.specs.Records.{IsRecord, AreRecords, HasEntries}
+use Rattle.amr_replay.proofs.Places.{front, item}
+
+abbrev Records : Type 0
+Records = List (List Displaced)
+
+-- ---- from any state
+
+pub length-records : (s : State) (es : List Event) (rs : Records) → AreRecords s es rs → length rs ≡ length es
+length-records s [] [] h = refl
+length-records s [] (r ∷ rs) h = absurd h
+length-records s (e ∷ es) [] h = absurd h
+length-records s (e ∷ es) (r ∷ rs) h = ap suc (length-records (after_event s e) es rs h.1)
+
+records-push : (s : State) (es : List Event) (rs : Records) (e : Event) (r : List Displaced) → AreRecords s es rs → IsRecord (after_events s es) e r → AreRecords s (es ++ e ∷ []) (rs ++ r ∷ [])
+records-push s [] [] e r h is = (is, tt)
+records-push s [] (q ∷ rs) e r h is = absurd h
+records-push s (d ∷ es) [] e r h is = absurd h
+records-push s (d ∷ es) (q ∷ rs) e r h is = (h.0, records-push (after_event s d) es rs e r h.1 is)
+
+records-pop : (s : State) (es : List Event) (rs : Records) (e : Event) (r : List Displaced) → AreRecords s (es ++ e ∷ []) (rs ++ r ∷ []) → AreRecords s es rs
+records-pop s [] [] e r h = tt
+records-pop s [] (q ∷ []) e r h = absurd h.1
+records-pop s [] (q ∷ x ∷ rs) e r h = absurd h.1
+records-pop s (d ∷ []) [] e r h = absurd h.1
+records-pop s (d ∷ x ∷ es) [] e r h = absurd h.1
+records-pop s (d ∷ es) (q ∷ rs) e r h = (h.0, records-pop (after_event s d) es rs e r h.1)
+
+-- the record of one of the first n events
+record_at : (n : ℕ) (s : State) (es : List Event) (rs : Records) (k : ℕ) (e : Event) (m : ℕ) → AreRecords s (take n es) rs → k < n → slice_get es k ≡ Some e → option_map length (slice_get rs k) ≡ Some m
+    → HasEntries (after_events s (take k es)) e m
+record_at zero s es rs k e m h before at is = absurd (omega (arith, before))
+record_at (suc n) s [] rs k e m h before at is = absurd (cc)
+record_at (suc n) s (d ∷ es) [] k e m h before at is = absurd h
+record_at (suc n) s (d ∷ es) (r ∷ rs) zero e m h before at is =
+    let same : d ≡ e = cc in
+    let long : length r ≡ m = cc in
+    subst (λ x. HasEntries s x m) same (r, h.0, long)
+record_at (suc n) s (d ∷ es) (r ∷ rs) (suc k) e m h before at is = record_at n (after_event s d) es rs k e m h.1 (omega (arith, before)) at is
+
+-- what the engine says of an event's record
+is_record : (before after : Steps) (e : Event) (o : code.Outcome) (r : List Displaced) → outcome_view o ≡ outcome_of before.state e → after.state ≡ after_event before.state e → RecordOf before after o r → IsRecord before.state e r
+is_record before after e o r told is kept = record {
+  back = ap (put_back r) (sym is) ∙ kept.back;
+  empty = λ reason refused. entryless o reason (told ∙ refused) kept.empty;
+}
+  where
+    entryless : (o : code.Outcome) (reason : Reason) → outcome_view o ≡ Refused reason → IsEmptyIfRefused o r → r ≡ []
+    entryless (variant.Accepted moves notes skipped) reason e empty = absurd (cc)
+    entryless (variant.Refused own) reason e empty = empty
+
+-- ---- at a cursor
+
+-- there are as many as the cursor says
+pub records_count : (c : Config) (es : List Event) (n : ℕ) (rs : Records) → AreRecords (start c) (take n es) rs → n ≤ length es → length rs ≡ n
+records_count c es n rs h within = omega (arith, length-records (start c) (take n es) rs h, length-take n es)
+
+pub record_has : (c : Config) (es : List Event) (n : ℕ) (rs : Records) (k : ℕ) (e : Event) (m : ℕ) → AreRecords (start c) (take n es) rs → k < n → slice_get es k ≡ Some e → option_map length (slice_get rs k) ≡ Some m
+    → HasEntries (state_at c es k) e m
+record_has c es n rs k e m h before at is = record_at n (start c) es rs k e m h before at is
+
+pub refused_has_none : (s : State) (e : Event) (m : ℕ) (reason : Reason) → HasEntries s e m → outcome_of s e ≡ Refused reason → m ≡ 0
+refused_has_none s e m reason has refused = sym has.2 ∙ ap length (has.1.empty reason refused)
+
+-- one event on
+pub records_next : (c : Config) (es : List Event) (n : ℕ) (before after : Steps) (e : Event) (o : code.Outcome) (r : List Displaced) → AreRecords (start c) (take n es) before.records → before.state ≡ state_at c es n
+    → slice_get es n ≡ Some e → outcome_view o ≡ outcome_of before.state e → after.state ≡ after_event before.state e → RecordOf before after o r → AreRecords (start c) (take (n + 1) es) after.records
+records_next c es n before after e o r h here at told is kept =
+    let one : IsRecord (state_at c es n) e r = subst (λ s. IsRecord s e r) here (is_record before after e o r told is kept) in
+    let all : AreRecords (start c) (take n es ++ e ∷ []) (before.records ++ r ∷ []) = records-push (start c) (take n es) before.records e r h one in
+    subst (AreRecords (start c) (take (n + 1) es)) (sym kept.added) (subst (λ x. AreRecords (start c) x (before.records ++ r ∷ [])) (sym (front es n e at)) all)
+
+-- one event back
+pub records_last : (c : Config) (es : List Event) (m n : ℕ) (rs rs' : Records) (last : List Displaced) → m ≡ n + 1 → m ≤ length es → AreRecords (start c) (take m es) rs → rs ≡ rs' ++ last ∷ [] → AreRecords (start c) (take n es) rs'
+records_last c es m n rs rs' last one within h popped =
+    let e = item es n (omega (arith, one, within)) in
+    let more : AreRecords (start c) (take (n + 1) es) (rs' ++ last ∷ []) = subst (λ k. AreRecords (start c) (take k es) (rs' ++ last ∷ [])) one (subst (AreRecords (start c) (take m es)) popped h) in
+    records-pop (start c) (take n es) rs' e.0 last (subst (λ x. AreRecords (start c) x (rs' ++ last ∷ [])) (front es n e.0 e.1) more)

@@ -1,0 +1,23 @@
+-- The records of the events that a session has passed.
+use Rattle.std.specs.Prelude.{◌≡◌, ℕ, List, [], ◌∷◌, length}
+use Rattle.amr_events.specs.Events.{Event, Reason}
+use Rattle.amr_state.specs.declared.displaced.Displaced.{Displaced}
+use Rattle.amr_state.specs.State.{State}
+use Rattle.amr_state.specs.Records.{put_back}
+use Rattle.amr_engine.specs.Events.{Refused, outcome_of, after_event}
+
+-- An event's record leads from the state after the event back to the state before it. That of a refused event has no entry.
+pub record IsRecord (s : State) (event : Event) (entries : List Displaced) : Type 0 where
+  pub back : put_back entries (after_event s event) ≡ s
+  pub empty : (reason : Reason) → outcome_of s event ≡ Refused reason → entries ≡ []
+
+-- there is one record for each of the events from a state, in their order
+abbrev pub AreRecords : State → List Event → List (List Displaced) → Type 0
+AreRecords s [] [] = Unit {0}
+AreRecords s [] (entries ∷ records) = ⊥
+AreRecords s (event ∷ events) [] = ⊥
+AreRecords s (event ∷ events) (entries ∷ records) = IsRecord s event entries × AreRecords (after_event s event) events records
+
+-- a record of the event has so many entries
+abbrev pub HasEntries : State → Event → ℕ → Type 0
+HasEntries s event n = (entries : List Displaced) × IsRecord s event entries × (length entries ≡ n)
