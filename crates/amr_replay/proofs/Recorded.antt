@@ -1,5 +1,5 @@
 -- One record for each event before the cursor.
-use Rattle.std.specs.Prelude.{◌≡◌, ℕ, zero, suc, ◌+◌, ◌<◌, ◌≤◌, List, [], ◌∷◌, ◌++◌, length, take, Some, option_map}
+use Rattle.std.specs.Prelude.{◌≡◌, ℕ, zero, suc, ◌+◌, ◌<◌, ◌≤◌, ◌*◌, List, [], ◌∷◌, ◌++◌, length, take, Some, option_map}
 use Rattle.std.specs.List.{slice_get}
 use Rattle.std.proofs.Common.{refl, sym, ap, subst, ◌∙◌, arith, length-take}
 use Rattle.amr_config.specs.Config.{Config}
@@ -12,6 +12,7 @@ use Rattle.amr_engine.specs.declared.outcome.Outcome as code
 use Rattle.amr_engine.specs.declared.outcome.Outcome.TheVariants as variant
 use Rattle.amr_engine.specs.Outcomes.{outcome_view}
 use Rattle.amr_engine.specs.Kept.{IsEmptyIfRefused, RecordOf}
+use Rattle.amr_engine.specs.Weight.{event_weight}
 use Rattle.amr_engine.specs.Events.{Refused, outcome_of, after_event, after_events}
 use Rattle.amr_replay.specs.Session.{state_at}
 use Rattle.amr_replay.specs.Records.{IsRecord, AreRecords, HasEntries}
@@ -55,10 +56,11 @@ record_at (suc n) s (d ∷ es) (r ∷ rs) zero e m h before at is =
 record_at (suc n) s (d ∷ es) (r ∷ rs) (suc k) e m h before at is = record_at n (after_event s d) es rs k e m h.1 (omega (arith, before)) at is
 
 -- what the engine says of an event's record
-is_record : (before after : Steps) (e : Event) (o : code.Outcome) (r : List Displaced) → outcome_view o ≡ outcome_of before.state e → after.state ≡ after_event before.state e → RecordOf before after o r → IsRecord before.state e r
+is_record : (before after : Steps) (e : Event) (o : code.Outcome) (r : List Displaced) → outcome_view o ≡ outcome_of before.state e → after.state ≡ after_event before.state e → RecordOf before e after o r → IsRecord before.state e r
 is_record before after e o r told is kept = record {
   back = ap (put_back r) (sym is) ∙ kept.back;
   empty = λ reason refused. entryless o reason (told ∙ refused) kept.empty;
+  short = subst (λ s. length r ≤ 4 * event_weight before.state e s) is kept.short;
 }
   where
     entryless : (o : code.Outcome) (reason : Reason) → outcome_view o ≡ Refused reason → IsEmptyIfRefused o r → r ≡ []
@@ -80,7 +82,7 @@ refused_has_none s e m reason has refused = sym has.2 ∙ ap length (has.1.empty
 
 -- one event on
 pub records_next : (c : Config) (es : List Event) (n : ℕ) (before after : Steps) (e : Event) (o : code.Outcome) (r : List Displaced) → AreRecords (start c) (take n es) before.records → before.state ≡ state_at c es n
-    → slice_get es n ≡ Some e → outcome_view o ≡ outcome_of before.state e → after.state ≡ after_event before.state e → RecordOf before after o r → AreRecords (start c) (take (n + 1) es) after.records
+    → slice_get es n ≡ Some e → outcome_view o ≡ outcome_of before.state e → after.state ≡ after_event before.state e → RecordOf before e after o r → AreRecords (start c) (take (n + 1) es) after.records
 records_next c es n before after e o r h here at told is kept =
     let one : IsRecord (state_at c es n) e r = subst (λ s. IsRecord s e r) here (is_record before after e o r told is kept) in
     let all : AreRecords (start c) (take n es ++ e ∷ []) (before.records ++ r ∷ []) = records-push (start c) (take n es) before.records e r h one in

@@ -1,15 +1,18 @@
 -- The records of the events that a session has passed.
-use Rattle.std.specs.Prelude.{◌≡◌, ℕ, List, [], ◌∷◌, length}
+use Rattle.std.specs.Prelude.{◌≡◌, ◌≤◌, ◌*◌, ℕ, List, [], ◌∷◌, length}
 use Rattle.amr_events.specs.Events.{Event, Reason}
 use Rattle.amr_state.specs.declared.displaced.Displaced.{Displaced}
 use Rattle.amr_state.specs.State.{State}
 use Rattle.amr_state.specs.Records.{put_back}
+use Rattle.amr_engine.specs.Weight.{event_weight}
 use Rattle.amr_engine.specs.Events.{Refused, outcome_of, after_event}
 
--- An event's record leads from the state after the event back to the state before it. That of a refused event has no entry.
+-- An event's record leads from the state after the event back to the state before it, and has at most four entries for each unit
+-- of the event's weight. That of a refused event has no entry.
 pub record IsRecord (s : State) (event : Event) (entries : List Displaced) : Type 0 where
   pub back : put_back entries (after_event s event) ≡ s
   pub empty : (reason : Reason) → outcome_of s event ≡ Refused reason → entries ≡ []
+  pub short : length entries ≤ 4 * event_weight s event (after_event s event)
 
 -- there is one record for each of the events from a state, in their order
 abbrev pub AreRecords : State → List Event → List (List Displaced) → Type 0
