@@ -1,3 +1,4 @@
 mod Unflushed
+mod Stopping
 pub mod FirstPage
 pub mod RunLines

@@ -1,7 +1,8 @@
 -- The lines of a run, event by event.
-use Rattle.std.proofs.Common.{◌≡◌, ℕ, suc, ◌+◌, ◌<◌, List, [], ◌∷◌, ◌++◌, length, take, Option, Some, Result, Ok, Err, inl, inr, sym, ap, ◌∙◌, append_assoc, append-nil, subst, drop, take-append-drop, length-take, arith}
+use Rattle.std.proofs.Common.{◌≡◌, ℕ, suc, ◌+◌, ◌<◌, List, [], ◌∷◌, ◌++◌, length, take, Option, Some, Result, Ok, Err, sym, ap, ◌∙◌, append_assoc, append-nil, subst, drop, take-append-drop, length-take, arith}
 use Rattle.std.proofs.lemmas.List.{take_more}
-use Rattle.std.proofs.lemmas.Option.{slice_get_within, slice_get_cases, get_or_from_slice_get}
+use Rattle.std.proofs.lemmas.List.Sums.{fold-append}
+use Rattle.std.proofs.lemmas.Option.{slice_get_within, get_or_from_slice_get}
 use Rattle.std.specs.List.{slice_get}
 use Rattle.std.specs.Io.KnownBytes.{Appends, Keeps}
 use Rattle.std.proofs.KnownBytes.{Appends-nil, Appends-trans, Appends-kept}
@@ -36,9 +37,11 @@ length-take-slice_get k events event e =
     let within : k < length events = slice_get_within events k event e in
     omega (arith, length-take k events)
 
--- there is an event at each place
-pub event_at : (events : List Event) (k : ℕ) → k < length events → (event : Event) × (slice_get events k ≡ Some event)
-event_at events k h = elim ((slice_get_cases events k).1) [ inl found ↦ (found.0, found.2) | inr past ↦ absurd (omega (arith, past.0, h)) ]
+-- the state after one event more
+pub run_more : (config : Config) (events : List Event) (k : ℕ) (event : Event) → slice_get events k ≡ Some event
+    → after_event (run_of config (take k events)) event ≡ run_of config (take (k + 1) events)
+run_more config events k event e =
+    sym (ap (run_of config) (take-slice_get k events event e) ∙ fold-append after_event (start config) (take k events) (event ∷ []))
 
 -- one event more
 pub run_lines-next : (config : Config) (events : List Event) (k : ℕ) (event : Event) → slice_get events k ≡ Some event

@@ -61,6 +61,11 @@ AreRefused bytes script CannotWrite = ⊥
 AreRefused bytes script OutOfMemory = Unit {0}
 AreRefused bytes script Usage = ⊥
 
+-- what the two files hold, or the fault that refuses one of them
+abbrev pub FilesAre : List ℕ → List ℕ → Result (config.Config × List Event) Fault → Type 0
+FilesAre bytes script (Ok held) = Hold bytes script held.0 held.1
+FilesAre bytes script (Err fault) = AreRefused bytes script fault
+
 -- the session of the files at its start, or the fault that refuses one of them
 abbrev pub Opens : List ℕ → List ℕ → Result View Fault → Type 0
 Opens bytes script (Ok session) = Hold bytes script session.config session.events × (session ≡ at_cursor session.config session.events 0)

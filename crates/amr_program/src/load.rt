@@ -1,7 +1,7 @@
 //! What the bytes of a file say.
 ghost use Rattle.std.specs.Prelude.{◌≡◌, [], option_map, IfOk};
 ghost use Rattle.serde_json.specs.View.{view};
-ghost use Rattle.amr_program.specs.Files.{json_of, ReadsAs, Opens};
+ghost use Rattle.amr_program.specs.Files.{json_of, ReadsAs, FilesAre, Opens};
 ghost use Rattle.amr_stated.specs.declared.error.Refusal.TheVariants.{BadConfig};
 
 use crate::fault::Fault;
@@ -56,12 +56,24 @@ pub fn read_config(alloc: Global, bytes: &[u8]) -> Result<Config, ConfigError>
     }
 }
 
+/// Reads the configuration and the script. The configuration is judged before the script.
+pub(crate) fn read_files(
+    alloc: Global,
+    config: &[u8],
+    script: &[u8],
+) -> Result<(Config, Script), Fault>
+    ensures { FilesAre config.now script.now result }
+{
+    let config = read_config(alloc, config)?;
+    let script = Script::read(alloc, script)?;
+    Ok((config, script))
+}
+
 /// The session of a script under a configuration, at its start. The configuration is judged before the script.
 pub fn open_session(alloc: Global, config: &[u8], script: &[u8]) -> Result<Session, Fault>
     ensures { Opens config.now script.now result }
 {
-    let config = read_config(alloc, config)?;
-    let script = Script::read(alloc, script)?;
+    let (config, script) = read_files(alloc, config, script)?;
     match Session::new(alloc, config, script) {
         Ok(session) => Ok(session),
         Err(_) => Err(Fault::OutOfMemory),

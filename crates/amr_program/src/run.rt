@@ -1,17 +1,18 @@
 //! A run: all events of a script are passed, and their lines written.
-ghost use Rattle.std.specs.Prelude.{◌≡◌, ◌+◌, [], IfOk, length, ℕ, string_bytes};
+ghost use Rattle.std.specs.Prelude.{◌≡◌, ◌+◌, [], IfOk, OnOk, length, ℕ, string_bytes};
 ghost use Rattle.amr_lines.specs.Printed.{event_lines};
 ghost use Rattle.amr_program.specs.Files.{FilesLeave};
 ghost use Rattle.amr_program.specs.Runs.{Leaves, RunLeaves, LeavesAt};
 ghost use Rattle.amr_program.specs.Ends.{StoppedBy, EndsBy};
 ghost use Rattle.amr_engine.specs.Outcomes.{outcome_view};
-ghost use Rattle.amr_replay.specs.Session.{at_cursor};
+ghost use Rattle.amr_engine.specs.Events.{outcome_of, after_event};
+ghost use Rattle.amr_state.specs.State.{start};
 
 use crate::fault::Fault;
-use crate::load::open_session;
-use amr_engine::Outcome;
+use crate::load::read_files;
+use amr_engine::{Engine, Outcome};
+use amr_events::{Event, Script};
 use amr_lines::{Outlet, WriteFailed, event_text, flush, write_whole};
-use amr_replay::Session;
 use std::alloc::{AllocError, Global};
 use std::io::Write;
 
@@ -60,23 +61,39 @@ fn write_event<W: Write>(
     Ok(())
 }
 
-/// Steps a session from its start to its end, and writes each event's lines.
-fn write_events<W: Write>(
+/// Applies an event, writes its lines, and drops its record, so that a run keeps none.
+fn pass_event<W: Write>(
     alloc: Global,
-    session: &mut Session,
+    engine: &mut Engine,
+    number: u64,
+    event: &Event,
     out: &mut Outlet<W>,
 ) -> Result<(), Stopped>
-    requires { session.old ≡ at_cursor session.old.config session.old.events 0 }
-    ensures left { RunLeaves (W.contents out.old.writer) (W.contents out.new.writer)
-        session.old.config session.old.events result }
+    ensures left { Leaves (W.contents out.old.writer) (W.contents out.new.writer)
+        (event_lines number (outcome_of engine.old.state event.now)) result }
+    ensures passed { OnOk result (engine.new.state ≡ after_event engine.old.state event.now) }
+    ensures forgotten { OnOk result (engine.new.records ≡ []) }
     ensures stopped { StoppedBy result out.old.failed out.new.failed }
 {
-    for number in 0..session.events() {
-        // An event is left, so memory alone can stop the step.
-        let Ok(outcome) = session.step() else {
-            return Err(Stopped::OutOfMemory);
-        };
-        write_event(alloc, number as u64 + 1, &outcome, out)?;
+    let outcome = engine.apply(event)?;
+    engine.forget();
+    write_event(alloc, number, &outcome, out)
+}
+
+/// Passes all events of a script, and writes each event's lines.
+fn write_events<W: Write>(
+    alloc: Global,
+    engine: &mut Engine,
+    script: &Script,
+    out: &mut Outlet<W>,
+) -> Result<(), Stopped>
+    requires { engine.old.state ≡ start engine.old.state.config }
+    ensures left { RunLeaves (W.contents out.old.writer) (W.contents out.new.writer)
+        engine.old.state.config script.now result }
+    ensures stopped { StoppedBy result out.old.failed out.new.failed }
+{
+    for number in 0..script.len() {
+        pass_event(alloc, engine, number as u64 + 1, script.event(number), out)?;
     }
     Ok(())
 }
@@ -84,15 +101,16 @@ fn write_events<W: Write>(
 /// The same, and hands on what the writer holds back, also where memory stops the run.
 fn write_run<W: Write>(
     alloc: Global,
-    session: &mut Session,
+    engine: &mut Engine,
+    script: &Script,
     out: &mut Outlet<W>,
 ) -> Result<(), Stopped>
-    requires { session.old ≡ at_cursor session.old.config session.old.events 0 }
+    requires { engine.old.state ≡ start engine.old.state.config }
     ensures left { RunLeaves (W.contents out.old.writer) (W.contents out.new.writer)
-        session.old.config session.old.events result }
+        engine.old.state.config script.now result }
     ensures stopped { StoppedBy result out.old.failed out.new.failed }
 {
-    let ended = write_events(alloc, session, out);
+    let ended = write_events(alloc, engine, script, out);
     flush(out)?;
     ended
 }
@@ -111,7 +129,7 @@ pub fn run_script<W: Write>(
         config.now script.now result }
     ensures ended { EndsBy result out.old.failed out.new.failed }
 {
-    let mut session = open_session(alloc, config, script)?;
-    write_run(alloc, &mut session, out)?;
+    let (config, script) = read_files(alloc, config, script)?;
+    write_run(alloc, &mut Engine::new(alloc, config), &script, out)?;
     Ok(())
 }
