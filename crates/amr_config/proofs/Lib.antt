@@ -6,3 +6,5 @@ pub mod Placing
 pub mod Ranges
 pub mod Refused
 pub mod Settling
+pub mod TreeOrder
+pub mod Whole

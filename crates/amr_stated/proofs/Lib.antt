@@ -1,12 +1,14 @@
 pub mod Failing
 pub mod FlatParts
 pub mod FlatRoutes
+pub mod Integrations
 pub mod KindPlacing
 pub mod Levels
 pub mod Names
 pub mod OtherRefusals
 pub mod PatternsMet
 pub mod Preorder
+pub mod ReadKeys
 pub mod Readings
 pub mod Standing
 pub mod Turns

@@ -1,5 +1,7 @@
 pub mod Answers
+pub mod Keys
 pub mod Levels
+pub mod Order
 pub mod Members
 pub mod Numbers
 pub mod Paths
@@ -10,5 +12,6 @@ pub mod ReadRoutes
 pub mod ReadRules
 pub mod Readings
 pub mod RouteParts
+pub mod StatedLaws
 pub mod Timeout
 pub mod Walking
