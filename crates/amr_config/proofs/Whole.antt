@@ -32,6 +32,7 @@ use Rattle.std.proofs.lemmas.Option.{same_Some, none-some}
 -- what a configuration that is read was judged from
 pub record WasJudged (d : Data) (config : Config) : Type 0 where
   pub stated : Stated
+  pub shallow : is_too_deep d ≡ false
   pub walked : (walked_at d).value ≡ Ok stated
   pub accepted : refusal_of stated ≡ None
   pub is : config ≡ stated_config stated
@@ -50,7 +51,7 @@ was_judged d config e = go (is_too_deep d) refl
         let read : (next (walked_at d) (λ stated. plain (unless_refused stated (refusal_of stated)))).value ≡ Ok config = rw (shallow, config_of) at e in
         let (stated, walked, rest) = bind_ok (walked_at d) (λ stated. plain (unless_refused stated (refusal_of stated))) config read in
         let (accepted, is) = accepted_from stated (refusal_of stated) config rest in
-        record { stated = stated; walked = walked; accepted = accepted; is = is }
+        record { stated = stated; shallow = shallow; walked = walked; accepted = accepted; is = is }
 
 in_head : (n : ℕ) (ns : List ℕ) → Contains (n ∷ ns) n
 in_head n ns = (0, omega arith, refl)

@@ -1,11 +1,13 @@
 pub mod Failing
-pub mod FlatParts
-pub mod FlatRoutes
 pub mod Integrations
+pub mod Judged
+pub mod JudgedParts
+pub mod JudgedReceivers
+pub mod JudgedRoutes
+pub mod JudgedWalks
 pub mod KindPlacing
 pub mod Levels
 pub mod Names
-pub mod OtherRefusals
 pub mod PatternsMet
 pub mod Preorder
 pub mod ReadKeys

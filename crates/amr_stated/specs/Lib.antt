@@ -1,4 +1,5 @@
 pub mod Answers
+pub mod Faults
 pub mod Keys
 pub mod Levels
 pub mod Order
@@ -13,5 +14,6 @@ pub mod ReadRules
 pub mod Readings
 pub mod RouteParts
 pub mod StatedLaws
+pub mod Table
 pub mod Timeout
 pub mod Walking
