@@ -1,10 +1,9 @@
 -- What is read is what is stated, and a refusal of shape is that of the first fault.
-use Rattle.std.proofs.Common.{◌≡◌, ℕ, Bool, true, false, List, [], ◌++◌, Option, Some, None, Result, Ok, Err, inl, inr, ◌⊎◌, refl, sym, ap, subst, ◌∙◌}
+use Rattle.std.proofs.Common.{◌≡◌, ℕ, Bool, true, false, List, ◌++◌, Option, Some, None, Result, Ok, Err, inl, inr, refl, sym, ap, subst, ◌∙◌}
 use Rattle.std.proofs.lemmas.List.{append-nil}
 use Rattle.serde_json.specs.Data.{Data}
 use Rattle.amr_labels.specs.Labels.{Text}
 use Rattle.amr_stated.specs.declared.error.Refusal.{Refusal}
-use Rattle.amr_stated.specs.declared.error.Refusal.TheVariants.{BadConfig, TooDeep}
 use Rattle.amr_stated.specs.declared.stated.Stated.{Stated}
 use Rattle.amr_stated.specs.Levels.{HasDeepRoute}
 use Rattle.amr_stated.specs.Readings.{Reading, plain, next, value_after, patterns_after, MayGive, IsBadPattern}
@@ -18,10 +17,9 @@ use Rattle.amr_stated.proofs.JudgedRoutes.{walked_judged}
 use Rattle.amr_stated.proofs.Standing.{deep_stands}
 use Rattle.amr_config.specs.Config.{Config}
 use Rattle.amr_config.specs.Judging.{refusal_of}
-use Rattle.amr_config.specs.Reading.{unless_refused, reading_of, ConfigIs}
-use Rattle.amr_config.specs.Settled.{stated_config}
-use Rattle.amr_config.specs.ReadLaws.{stated_of, WhatIsReadIsStated, IsPatternRefused, AnswersBy, AnswersGoByTheFirstFault}
-use Rattle.amr_config.proofs.Whole.{WasJudged, was_judged}
+use Rattle.amr_config.specs.Reading.{unless_refused, reading_of}
+use Rattle.amr_config.specs.ReadLaws.{WhatIsReadIsStated, AnswersBy, AnswersGoByTheFirstFault}
+use Rattle.amr_config.proofs.Whole.{was_judged}
 
 read_states : (d : Data) (stated : Stated) (r : Result Stated Refusal) (findings : List Finding) → r ≡ Ok stated → Tells r findings (StatesWhole d) → StatesWhole d stated
 read_states d stated r findings is t = (subst (λ (r : Result Stated Refusal). Tells r findings (StatesWhole d)) is t).1

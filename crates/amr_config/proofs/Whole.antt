@@ -1,5 +1,5 @@
 -- What holds of every configuration that is read.
-use Rattle.std.proofs.Common.{◌≡◌, ℕ, zero, suc, ◌+◌, ◌<◌, Bool, true, false, true≢false, List, [], ◌∷◌, length, Option, Some, None, Result, Ok, Err, refl, sym, ap, subst, ◌∙◌, arith}
+use Rattle.std.proofs.Common.{◌≡◌, ℕ, zero, suc, ◌+◌, ◌<◌, Bool, true, false, true≢false, List, [], ◌∷◌, length, Option, Some, None, Ok, refl, sym, ap, ◌∙◌, arith}
 use Rattle.std.specs.List.{Contains, list_any, slice_get}
 use Rattle.std.specs.Prelude.{not, ◌||◌, ◌==◌, if◌then◌else◌, map}
 use Rattle.std.specs.Option.{option_map_or, is_none}
@@ -11,9 +11,9 @@ use Rattle.amr_stated.specs.Keys.{HasOrderedKeys}
 use Rattle.amr_stated.proofs.Integrations.{walked_in_order}
 use Rattle.serde_json.specs.Data.{Data}
 use Rattle.amr_stated.specs.declared.error.Refusal.{Refusal}
-use Rattle.amr_stated.specs.declared.error.Refusal.TheVariants.{TooDeep, UnknownReceiver, DuplicateReceiver, RootRoute, ZeroInterval, BadGroupBy}
+use Rattle.amr_stated.specs.declared.error.Refusal.TheVariants.{UnknownReceiver, DuplicateReceiver, RootRoute, ZeroInterval, BadGroupBy}
 use Rattle.amr_stated.specs.declared.stated.Stated.{Stated}
-use Rattle.amr_stated.specs.Readings.{Reading, plain, next}
+use Rattle.amr_stated.specs.Readings.{plain, next}
 use Rattle.amr_stated.specs.RouteParts.{is_too_deep}
 use Rattle.amr_stated.specs.Walking.{walked_at}
 use Rattle.amr_stated.proofs.Preorder.{ok_same, bind_ok}
@@ -26,7 +26,7 @@ use Rattle.amr_config.specs.Reading.{unless_refused, reading_of, config_of}
 use Rattle.amr_config.specs.ReadLaws.{RoutesAreInPreorder, ReadConfigsAreWhole}
 use Rattle.amr_config.proofs.Lines.{line_of-root, line_of-child}
 use Rattle.amr_config.proofs.Parents.{parents_first}
-use Rattle.amr_config.proofs.TreeOrder.{parent_at, IsAbove, Itself, Further, IsLinked, IsTree, walked_tree, parent_within}
+use Rattle.amr_config.proofs.TreeOrder.{IsAbove, Itself, Further, IsTree, walked_tree, parent_within}
 use Rattle.std.proofs.lemmas.Option.{same_Some, none-some}
 
 -- what a configuration that is read was judged from

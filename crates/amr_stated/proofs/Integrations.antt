@@ -7,7 +7,7 @@ use Rattle.std.specs.Cmp.{nat_cmp_is}
 use Rattle.std.proofs.lemmas.Option.{none-some, same_Some}
 use Rattle.serde_json.specs.Find.{get, get_member}
 use Rattle.amr_stated.specs.Members.{member_of}
-use Rattle.std.proofs.Common.{◌≡◌, inl, inr, ◌⊎◌, ◌≢◌, ℕ, suc, ◌+◌, ◌-◌, ◌<◌, Bool, true, false, true≢false, not, if◌then◌else◌, List, [], ◌∷◌, ◌++◌, length, take, drop, Option, Some, None, Result, Ok, Err, refl, sym, ap, ◌∙◌, arith, append_assoc, codes}
+use Rattle.std.proofs.Common.{◌≡◌, inl, inr, ◌⊎◌, ◌≢◌, ℕ, ◌+◌, ◌-◌, ◌<◌, Bool, true, false, true≢false, not, if◌then◌else◌, List, [], ◌∷◌, ◌++◌, length, take, drop, Option, Some, None, Result, Ok, Err, refl, sym, ap, ◌∙◌, arith, append_assoc, codes}
 use Rattle.std.proofs.lemmas.List.{append-nil, take-append-drop}
 use Rattle.std.specs.List.{flat_map, list_all}
 use Rattle.std.specs.Cmp.Lexicographic.{nat_list_cmp_total, same_text}
@@ -33,7 +33,7 @@ use Rattle.amr_stated.specs.ReadRules.{rules_at}
 use Rattle.amr_stated.specs.ReadRoutes.{routes_at}
 use Rattle.amr_stated.specs.Walking.{walked_at}
 use Rattle.amr_stated.specs.Keys.{IsBelow, AreInOrder, HasOrderedKeys, HaveOrderedKeys, AllHaveOrderedKeys}
-use Rattle.amr_stated.specs.Order.{integration_cmp, goes_before, are_in_order}
+use Rattle.amr_stated.specs.Order.{integration_cmp, are_in_order}
 
 pub then_ok : {A B : Type 0} (part : Result A Refusal) (rest : A → Result B Refusal) (b : B) → (part >>= rest) ≡ Ok b → (a : A) × (part ≡ Ok a) × (rest a ≡ Ok b)
 then_ok (Ok a) rest b e = (a, refl, e)

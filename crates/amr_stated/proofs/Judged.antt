@@ -1,18 +1,15 @@
 -- Parts of a reading: what is read states what is there, and a refusal is that of the first fault.
 use Rattle.std.proofs.Common.{◌≡◌, ℕ, ◌+◌, Bool, true, false, if◌then◌else◌, List, [], ◌∷◌, ◌++◌, Option, Some, None, Result, Ok, Err, refl, sym, ap, subst, ◌∙◌, append_assoc}
-use Rattle.std.specs.Prelude.{option_and_then, unwrap_or}
 use Rattle.std.proofs.lemmas.List.{append-nil}
-use Rattle.std.proofs.lemmas.Option.{none-some, same_Some}
-use Rattle.serde_json.specs.Data.{Data, Items, no_items, item, Members, no_members, member}
+use Rattle.serde_json.specs.Data.{Data, Items, no_items, item}
 use Rattle.serde_json.specs.Find.{as_str, as_bool, as_array, as_object}
 use Rattle.amr_labels.specs.Labels.{Text}
 use Rattle.amr_stated.specs.declared.error.Refusal.{Refusal}
 use Rattle.amr_stated.specs.declared.error.Refusal.TheVariants.{BadConfig}
 use Rattle.amr_stated.specs.Paths.{under, item_path}
 use Rattle.amr_stated.specs.Members.{◌>>=◌, member_of, optional, required, stated, needed, each_item, or_faulty, text_at, flag_at, items_at, members_at}
-use Rattle.amr_stated.specs.Readings.{Reading, plain, next, value_after, patterns_after, if_present, items_in_turn, members_in_turn}
-use Rattle.amr_stated.specs.Table.{IsText, IsFlag, IsListOf, StatesEach, StatesIf, States, StatesOr, HasAt}
-use Rattle.amr_stated.specs.Faults.{Finding, Fault, Pattern, first_fault, patterns_before, unless_some, unless, spelled_found, text_found, flag_found, object_found, each_found, items_found, list_found, if_there, at, if_there_or, needed_at}
+use Rattle.amr_stated.specs.Table.{IsText, IsFlag, StatesEach, StatesIf, States, HasAt}
+use Rattle.amr_stated.specs.Faults.{Finding, Fault, Pattern, first_fault, patterns_before, unless_some, unless, text_found, flag_found, object_found, each_found, items_found, list_found, if_there, at, if_there_or, needed_at}
 
 -- ---- findings one after another
 

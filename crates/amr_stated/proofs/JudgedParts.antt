@@ -1,30 +1,27 @@
 -- What is read of members without patterns states what is there, and a refusal is that of the first fault.
-use Rattle.std.proofs.Common.{◌≡◌, ◌<◌, ℕ, ◌+◌, Bool, true, false, not, ◌||◌, if◌then◌else◌, List, [], ◌∷◌, ◌++◌, length, map, Option, Some, None, Result, Ok, Err, refl, sym, ap, ◌∙◌, codes, append_assoc, ltb→lt}
-use Rattle.std.specs.Prelude.{option_and_then, unwrap_or, nat_lt, is_some, ◌==◌}
+use Rattle.std.proofs.Common.{◌≡◌, ℕ, ◌+◌, Bool, true, false, not, ◌||◌, if◌then◌else◌, List, [], ◌∷◌, ◌++◌, map, Option, Some, None, Ok, Err, refl, sym, ap, ◌∙◌, codes, ltb→lt}
+use Rattle.std.specs.Prelude.{option_and_then, unwrap_or, nat_lt}
 use Rattle.std.specs.List.{list_any}
-use Rattle.std.specs.Option.{option_or, option_map_or}
+use Rattle.std.specs.Option.{option_map_or}
 use Rattle.std.specs.Ordering.{eq_by_cmp}
 use Rattle.std.proofs.lemmas.List.{append-nil}
-use Rattle.std.proofs.lemmas.Option.{none-some, same_Some}
-use Rattle.serde_json.specs.Data.{Data, Items, no_items, item, Members, no_members, member}
-use Rattle.serde_json.specs.Find.{as_str, as_bool, as_array, as_object}
+use Rattle.serde_json.specs.Data.{Data, Items, no_items, item}
+use Rattle.serde_json.specs.Find.{as_str, as_array}
 use Rattle.amr_labels.specs.Labels.{Text, text_cmp}
 use Rattle.amr_time.specs.IntervalTexts.{time_at, end_time_at}
 use Rattle.amr_time.specs.SpanRead.{span_of}
 use Rattle.amr_time.specs.declared.intervals.TimeRange.{TimeRange}
 use Rattle.amr_time.specs.declared.intervals.IntervalMember.{IntervalMember}
 use Rattle.amr_stated.specs.declared.interval.NamedInterval.{NamedInterval}
-use Rattle.amr_stated.specs.declared.error.Refusal.{Refusal}
 use Rattle.amr_stated.specs.declared.error.Refusal.TheVariants.{BadConfig}
 use Rattle.amr_stated.specs.declared.read_intervals.Field.TheVariants.{Weekdays, Months, Years}
-use Rattle.amr_stated.specs.declared.receiver.Integration.{Integration}
 use Rattle.amr_stated.specs.Paths.{under, item_path}
-use Rattle.amr_stated.specs.Members.{◌>>=◌, member_of, optional, stated, needed, each_item, or_faulty, text_at, flag_at, items_at, members_at, span_at, text_into, texts_at}
+use Rattle.amr_stated.specs.Members.{◌>>=◌, member_of, stated, each_item, or_faulty, text_at, span_at, text_into, texts_at}
 use Rattle.amr_stated.specs.ReadIntervals.{range_in, day_range_in, range_into, ranges_at, time_of, times_from, time_range_at, time_range_into, times_at, is_utc, location_at, interval_fields_at, interval_member_at, interval_member_into, interval_members_at, is_taken, new_name_at, interval_at, interval_into, intervals_from, intervals_at, is_defined, name_into, names_at}
-use Rattle.amr_stated.specs.Timeout.{timeout_in, timeout_stated, timeout_at}
-use Rattle.amr_stated.specs.Table.{IsText, IsFlag, IsDuration, IsListOf, StatesEach, StatesIf, States, StatesOr, HasAt, StatesTimeout, IsTime, IsTimeRange, IsRange, IsIntervalMember, IsInterval, IsDefinedName, IsArray}
-use Rattle.amr_stated.specs.Faults.{Finding, Fault, unless_some, unless, spelled_found, text_found, flag_found, object_found, each_found, list_found, if_there, at, needed_at, global_found, range_found, start_before_end, time_in, time_range_found, location_found, interval_member_found, new_name_found, interval_found, name_in, intervals_found, names_in, interval_list_found, defined_name_found, names_under}
-use Rattle.amr_stated.proofs.Judged.{Judged, by_findings, judged_ok, judged_fault, judged_then, judged_as, judged_map, judged_or_faulty, judged_if, judged_optional, judged_stated, judged_needed, judged_text, judged_flag, judged_object, judged_spelled, Adds, AddsEach, adds_none, adds_more, judged_each, judged_list, judged_added}
+use Rattle.amr_stated.specs.Timeout.{timeout_in, timeout_at}
+use Rattle.amr_stated.specs.Table.{IsText, IsDuration, IsListOf, StatesEach, StatesIf, States, StatesOr, HasAt, StatesTimeout, IsTime, IsTimeRange, IsRange, IsIntervalMember, IsInterval, IsDefinedName}
+use Rattle.amr_stated.specs.Faults.{unless_some, unless, spelled_found, text_found, object_found, list_found, if_there, at, global_found, range_found, start_before_end, time_in, time_range_found, location_found, interval_member_found, new_name_found, interval_found, name_in, intervals_found, names_in, interval_list_found, defined_name_found, names_under}
+use Rattle.amr_stated.proofs.Judged.{Judged, by_findings, judged_ok, judged_fault, judged_then, judged_as, judged_map, judged_or_faulty, judged_if, judged_optional, judged_stated, judged_needed, judged_text, judged_object, judged_spelled, Adds, AddsEach, adds_none, adds_more, judged_list, judged_added}
 
 -- ---- texts and durations
 
@@ -70,8 +67,8 @@ judged_time_range path d =
     judged_then _ _ _ _ _ _ (judged_needed (time_of end_time_at) (spelled_found end_time_at) (IsTime end_time_at) path (codes "end_time") d (judged_time end_time_at _)) (λ end has_end.
     judged_then _ _ _ _ _ _ (judged_needed (time_of time_at) (spelled_found time_at) (IsTime time_at) path (codes "start_time") d (judged_time time_at _)) (λ start has_start.
     by_findings (times_from path start end) (unless path (nat_lt start end)) _ (IsTimeRange d)
-      (sym (ap (λ o. unless path (start_before_end o (time_in end_time_at (codes "end_time") d))) (time_there time_at (codes "start_time") d start has_start) ∙ ap (λ o. unless path (start_before_end (Some start) o)) (time_there end_time_at (codes "end_time") d end has_end)))
-      (judged_if (nat_lt start end) (record { start = start; end = end }) path (IsTimeRange d) (λ lt. record { start = has_start; end = has_end; before = ltb→lt start end (rw lt tt) })))))
+    (sym (ap (λ o. unless path (start_before_end o (time_in end_time_at (codes "end_time") d))) (time_there time_at (codes "start_time") d start has_start) ∙ ap (λ o. unless path (start_before_end (Some start) o)) (time_there end_time_at (codes "end_time") d end has_end)))
+    (judged_if (nat_lt start end) (record { start = start; end = end }) path (IsTimeRange d) (λ lt. record { start = has_start; end = has_end; before = ltb→lt start end (rw lt tt) })))))
 
 judged_time_range_into : (path : List ℕ) (i : ℕ) (d : Data) (ranges : List TimeRange) → Judged (time_range_into path i d ranges) (time_range_found (item_path path i) d) (Adds (λ i. IsTimeRange) i d ranges)
 unfolding time_range_into
@@ -131,7 +128,7 @@ unfolding new_name_at
 judged_new_name intervals path d =
     judged_spelled (λ name. if is_taken name intervals then Err (BadConfig path) else Ok name) (λ o. unless path (option_map_or (λ name. not (list_any (λ other. eq_by_cmp text_cmp other name) (names_of intervals))) o false)) path d (IsText d) refl (λ name is.
     by_findings _ (unless path (not (is_taken name intervals))) _ (IsText d) (ap (λ b. unless path (not b)) (sym (same_taken name intervals)))
-      (judged_unless (is_taken name intervals) name path (IsText d) is))
+    (judged_unless (is_taken name intervals) name path (IsText d) is))
 
 judged_interval : (intervals : List NamedInterval) (path : List ℕ) (d : Data) → Judged (interval_at intervals path d) (interval_found (names_of intervals) path d) (IsInterval d)
 unfolding interval_at
@@ -164,7 +161,7 @@ judged_intervals path i no_items intervals = judged_ok intervals _ (adds_none (�
 judged_intervals path i (item d ds) intervals =
     judged_then (interval_into path i d intervals) (each_item (interval_into path) (i + 1) ds) (interval_found (names_of intervals) (item_path path i) d) (intervals_found (names_of intervals ++ name_in d) path (i + 1) ds) (Adds (λ i. IsInterval) i d intervals) (AddsEach (λ i. IsInterval) i (item d ds) intervals) (judged_interval_into path i d intervals) (λ one adds.
     by_findings _ (intervals_found (names_of one) path (i + 1) ds) _ _ (ap (λ names. intervals_found names path (i + 1) ds) (sym (names_after d i intervals one adds)))
-      (judged_as (each_item (interval_into path) (i + 1) ds one) (intervals_found (names_of one) path (i + 1) ds) (AddsEach (λ i. IsInterval) (i + 1) ds one) (AddsEach (λ i. IsInterval) i (item d ds) intervals) (judged_intervals path (i + 1) ds one) (λ after rest. adds_more (λ i. IsInterval) i d ds intervals one after adds rest)))
+    (judged_as (each_item (interval_into path) (i + 1) ds one) (intervals_found (names_of one) path (i + 1) ds) (AddsEach (λ i. IsInterval) (i + 1) ds one) (AddsEach (λ i. IsInterval) i (item d ds) intervals) (judged_intervals path (i + 1) ds one) (λ after rest. adds_more (λ i. IsInterval) i d ds intervals one after adds rest)))
 
 -- the intervals of a list that may be absent, after those before it
 abbrev pub AddsIntervals : Text → Data → List NamedInterval → List NamedInterval → Type 0

@@ -1,5 +1,5 @@
 -- What is read of a receiver states what is there, and a refusal is that of the first fault.
-use Rattle.std.proofs.Common.{◌≡◌, ℕ, zero, suc, ◌+◌, ◌-◌, ◌<◌, Bool, true, false, not, ◌||◌, if◌then◌else◌, List, [], ◌∷◌, ◌++◌, length, Option, Some, None, Result, Ok, Err, inl, inr, ◌⊎◌, refl, sym, ap, subst, ◌∙◌, arith, codes}
+use Rattle.std.proofs.Common.{◌≡◌, ℕ, zero, suc, ◌+◌, Bool, true, false, not, ◌||◌, if◌then◌else◌, List, [], ◌∷◌, ◌++◌, length, Option, Some, None, Ok, Err, inl, inr, ◌⊎◌, refl, sym, ap, subst, ◌∙◌, arith, codes}
 use Rattle.std.specs.Prelude.{unwrap_or, is_some, ◌==◌}
 use Rattle.std.specs.List.{flat_map, Contains}
 use Rattle.std.specs.Option.{option_or, option_map_or}
@@ -11,19 +11,18 @@ use Rattle.std.specs.Ordering.{match_ordering}
 use Rattle.std.specs.declared.cmp.Ordering.{Ordering}
 use Rattle.std.specs.declared.cmp.Ordering.TheVariants.{Less, Equal, Greater}
 use Rattle.serde_json.specs.Data.{Data, null, boolean, number, string, array, object, Items, no_items, item, Members, no_members, member}
-use Rattle.serde_json.specs.Find.{as_str, as_bool, as_array, as_object, get_item}
+use Rattle.serde_json.specs.Find.{as_array, as_object, get_item}
 use Rattle.amr_labels.specs.Labels.{Text, text_cmp}
-use Rattle.amr_stated.specs.declared.error.Refusal.{Refusal}
 use Rattle.amr_stated.specs.declared.error.Refusal.TheVariants.{BadConfig}
 use Rattle.amr_stated.specs.declared.receiver.Integration.{Integration}
 use Rattle.amr_stated.specs.declared.receiver.Receiver.{Receiver}
 use Rattle.amr_stated.specs.declared.read_receivers.Kind.{Kind}
 use Rattle.amr_stated.specs.Paths.{under, item_path}
-use Rattle.amr_stated.specs.Members.{◌>>=◌, present, member_of, optional, stated, needed, each_item, each_member, or_faulty, text_at, flag_at, items_at, members_at}
+use Rattle.amr_stated.specs.Members.{◌>>=◌, present, member_of, stated, each_member, or_faulty, flag_at}
 use Rattle.amr_stated.specs.ReadReceivers.{default_of, entry_into, entries_at, stands, kind_key, stated_entries, with_kind, kind_named, kind_into, kinds_at, name_at, receiver_at, receiver_into, receivers_list, receivers_at}
-use Rattle.amr_stated.specs.Table.{IsText, IsFlag, IsListOf, StatesEach, StatesIf, States, StatesOr, HasAt, IsIntegration, AreIntegrations, IsMember, StatesIntegration, IsReceiver}
-use Rattle.amr_stated.specs.Faults.{Finding, Fault, unless_some, unless, text_found, flag_found, object_found, each_found, list_found, if_there, at, needed_at, entry_found, entries_found, kinds_found, side_found, receiver_name_found, receiver_found}
-use Rattle.amr_stated.proofs.Judged.{Judged, by_findings, judged_ok, judged_fault, judged_then, judged_as, judged_map, judged_or_faulty, judged_if, judged_optional, judged_stated, judged_needed, judged_text, judged_flag, judged_object, judged_spelled, Adds, judged_list, judged_added}
+use Rattle.amr_stated.specs.Table.{IsText, IsFlag, IsListOf, StatesEach, StatesIf, StatesOr, HasAt, IsIntegration, AreIntegrations, IsMember, StatesIntegration, IsReceiver}
+use Rattle.amr_stated.specs.Faults.{unless_some, unless, flag_found, list_found, if_there, at, entry_found, entries_found, kinds_found, side_found, receiver_name_found, receiver_found}
+use Rattle.amr_stated.proofs.Judged.{Judged, by_findings, judged_ok, judged_fault, judged_then, judged_as, judged_map, judged_or_faulty, judged_optional, judged_stated, judged_needed, judged_flag, judged_object, judged_spelled, Adds, judged_list, judged_added}
 
 -- ---- entries
 
@@ -41,8 +40,8 @@ judged_entry kind path i d integrations =
     judged_then _ _ _ _ _ _ (judged_object (item_path path i) d) (λ whole object.
     judged_then _ _ _ _ _ _ (judged_stated flag_at flag_found IsFlag (item_path path i) (codes "send_resolved") d (judged_flag _)) (λ said says.
     by_findings _ (unless_some (item_path path i) (option_or said (default_of kind))) _ _ (said_or_default (item_path path i) (member_of (codes "send_resolved") d) said (default_of kind) says)
-      (judged_map (or_faulty (item_path path i) (option_or said (default_of kind))) (λ sends. integrations ++ record { kind = kind; place = i; send_resolved = sends } ∷ []) _ (λ sends. option_or said (default_of kind) ≡ Some sends) _ (judged_or_faulty (item_path path i) (option_or said (default_of kind)) _ (λ sends is. is))
-        (λ sends is. (record { kind = kind; place = i; send_resolved = sends }, refl, record { said = said; kind_is = refl; place_is = refl; says = says; sends = is })))))
+    (judged_map (or_faulty (item_path path i) (option_or said (default_of kind))) (λ sends. integrations ++ record { kind = kind; place = i; send_resolved = sends } ∷ []) _ (λ sends. option_or said (default_of kind) ≡ Some sends) _ (judged_or_faulty (item_path path i) (option_or said (default_of kind)) _ (λ sends is. is))
+    (λ sends is. (record { kind = kind; place = i; send_resolved = sends }, refl, record { said = said; kind_is = refl; place_is = refl; says = says; sends = is })))))
 
 judged_entries : (kind : Text) (path : List ℕ) (d : Data) → Judged (entries_at kind path d) (list_found (entry_found kind) path d) (AreIntegrations kind d)
 unfolding entries_at
@@ -134,6 +133,7 @@ in_with (k ∷ ks) kind x c = go (λ c. in_with ks kind x c) (is_gt (text_cmp k.
     later : Contains ks x ⊎ (x ≡ kind) → Contains (k ∷ ks) x ⊎ (x ≡ kind)
     later (inl (n, lt, is)) = inl (suc n, omega (arith, lt), is)
     later (inr e) = inr e
+
     go : (Contains (with_kind ks kind) x → Contains ks x ⊎ (x ≡ kind)) → (b : Bool) → Contains (if b then kind ∷ k ∷ ks else k ∷ with_kind ks kind) x → Contains (k ∷ ks) x ⊎ (x ≡ kind)
     go rest true (zero, lt, is) = inr (sym is)
     go rest true (suc n, lt, is) = inl (n, omega (arith, lt), is)
@@ -353,19 +353,19 @@ read_receiver d name first all (ms, is_object, before) has (other, also, after) 
     record {
       name = has;
       only = λ x c.
-        let (k, there, within) = of_all all x c in
-        stated_by d ms k x is_object (kinds k there) within;
+          let (k, there, within) = of_all all x c in
+          stated_by d ms k x is_object (kinds k there) within;
       all = λ x stated.
-        let at : stated.members ≡ ms = same_Some stated.members ms (sym stated.object ∙ is_object) in
-        let there : IsMember stated.key stated.list ms = rw at at stated.is_member in
-        let found : HasKind x.kind stated.list all =
-        elim (on_a_side stated.key x.kind stated.names_kind) [
-          | inl side ↦
-              let (k, in_first, named, entries) = kinds_all true ms [] first stated.key stated.list x.kind there side stated.names_kind before in
-              (k, kinds_keep false ms first all k later in_first, named, entries)
-          | inr side ↦ kinds_all false ms first all stated.key stated.list x.kind there side stated.names_kind later
-        ] in
-        found_by all x stated.list stated.entries stated.entry stated.is_list stated.at_place stated.is_entry found;
+          let at : stated.members ≡ ms = same_Some stated.members ms (sym stated.object ∙ is_object) in
+          let there : IsMember stated.key stated.list ms = rw at at stated.is_member in
+          let found : HasKind x.kind stated.list all =
+          elim (on_a_side stated.key x.kind stated.names_kind) [
+            | inl side ↦
+                let (k, in_first, named, entries) = kinds_all true ms [] first stated.key stated.list x.kind there side stated.names_kind before in
+                (k, kinds_keep false ms first all k later in_first, named, entries)
+            | inr side ↦ kinds_all false ms first all stated.key stated.list x.kind there side stated.names_kind later
+          ] in
+          found_by all x stated.list stated.entries stated.entry stated.is_list stated.at_place stated.is_entry found;
     }
 
 judged_receiver : (path : List ℕ) (d : Data) → Judged (receiver_at path d) (receiver_found path d) (IsReceiver d)

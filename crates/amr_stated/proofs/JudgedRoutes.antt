@@ -1,37 +1,29 @@
 -- What is read of the routes, and of a whole configuration, states what is there, and a refusal is that of the first fault.
-use Rattle.std.proofs.Common.{◌≡◌, ℕ, zero, suc, ◌+◌, Bool, true, false, ◌||◌, true≢false, List, [], ◌∷◌, ◌++◌, length, Option, Some, None, Result, Ok, Err, refl, sym, ap, subst, ◌∙◌, append_assoc, length-append, codes}
-use Rattle.std.specs.Prelude.{option_and_then, unwrap_or}
+use Rattle.std.proofs.Common.{◌≡◌, ℕ, zero, suc, ◌+◌, Bool, true, false, ◌||◌, true≢false, List, [], ◌∷◌, ◌++◌, length, Option, Some, None, Ok, Err, refl, sym, ap, subst, ◌∙◌, append_assoc, length-append, codes}
+use Rattle.std.specs.Prelude.{unwrap_or}
 use Rattle.std.specs.Option.{option_map_or}
 use Rattle.std.proofs.lemmas.List.{append-nil}
-use Rattle.std.proofs.lemmas.Option.{none-some, same_Some}
 use Rattle.serde_json.specs.Data.{Data, Items, no_items, item}
-use Rattle.serde_json.specs.Find.{as_array, as_object}
+use Rattle.serde_json.specs.Find.{as_array}
 use Rattle.amr_labels.specs.Labels.{Text}
 use Rattle.amr_matchers.specs.Matchers.{Matcher}
 use Rattle.amr_time.specs.SpanRead.{span_of}
-use Rattle.amr_stated.specs.declared.error.Refusal.{Refusal}
 use Rattle.amr_stated.specs.declared.error.Refusal.TheVariants.{BadConfig}
-use Rattle.amr_stated.specs.declared.interval.NamedInterval.{NamedInterval}
 use Rattle.amr_stated.specs.declared.read_routes.Front.{Front}
 use Rattle.amr_stated.specs.declared.read_routes.Back.{Back}
-use Rattle.amr_stated.specs.declared.route.Grouping.{Grouping}
 use Rattle.amr_stated.specs.declared.route.Route.{Route}
 use Rattle.amr_stated.specs.declared.rule.InhibitRule.{InhibitRule}
-use Rattle.amr_stated.specs.declared.stated.Stated.{Stated}
 use Rattle.amr_stated.specs.Paths.{under, item_path}
-use Rattle.amr_stated.specs.Members.{◌>>=◌, member_of, optional, stated, or_faulty, text_at, flag_at, items_at, span_at, texts_at, any_item, list_in}
-use Rattle.amr_stated.specs.ReadIntervals.{names_at, intervals_at}
-use Rattle.amr_stated.specs.Readings.{Reading, plain, next, items_in_turn}
+use Rattle.amr_stated.specs.Members.{◌>>=◌, member_of, optional, or_faulty, text_at, flag_at, items_at, span_at, texts_at, any_item, list_in}
+use Rattle.amr_stated.specs.ReadIntervals.{names_at}
+use Rattle.amr_stated.specs.Readings.{plain, next, items_in_turn}
 use Rattle.amr_stated.specs.RouteParts.{grouping_stated, front_at, back_at, children_at, is_deeper, is_too_deep}
 use Rattle.amr_stated.specs.ReadRoutes.{route_from, own_into, add_route, child_into, tree_from, routes_at}
-use Rattle.amr_stated.specs.ReadReceivers.{receivers_at}
-use Rattle.amr_stated.specs.ReadRules.{rules_at}
-use Rattle.amr_stated.specs.Timeout.{timeout_at}
 use Rattle.amr_stated.specs.Walking.{walked_at}
-use Rattle.amr_stated.specs.Table.{IsText, IsFlag, IsDuration, IsListOf, StatesIf, States, StatesOr, HasAt, IsGrouping, IsDefinedName, IsRoute, IsArray, IsTree, Tree, AreTrees, NoMore, OneMore, StatesMatchers, IsInterval, IsReceiver, IsRule, StatesTimeout, StatesIntervals, StatesWhole}
+use Rattle.amr_stated.specs.Table.{IsText, IsFlag, IsDuration, IsListOf, StatesIf, States, StatesOr, HasAt, IsGrouping, IsDefinedName, IsRoute, IsArray, IsTree, Tree, AreTrees, NoMore, OneMore, StatesMatchers, IsRule, StatesWhole}
 use Rattle.amr_stated.specs.Faults.{Finding, Fault, text_found, flag_found, object_found, spelled_found, each_found, items_found, list_found, if_there, at, if_there_or, needed_at, match_found, defined_name_found, route_found, global_found, rule_found, receiver_found, interval_list_found, names_under, findings_of}
-use Rattle.amr_stated.proofs.Judged.{Judged, judged_ok, judged_fault, judged_then, judged_as, judged_map, judged_stated, judged_text, judged_flag, judged_object}
-use Rattle.amr_stated.proofs.JudgedParts.{judged_texts, judged_span, judged_names, judged_timeout, judged_defined, AddsIntervals, names_under_read}
+use Rattle.amr_stated.proofs.Judged.{Judged, judged_ok, judged_fault, judged_then, judged_map, judged_stated, judged_text, judged_flag, judged_object}
+use Rattle.amr_stated.proofs.JudgedParts.{judged_texts, judged_span, judged_names, judged_timeout, judged_defined, names_under_read}
 use Rattle.amr_stated.proofs.JudgedReceivers.{judged_receivers}
 use Rattle.amr_stated.proofs.JudgedWalks.{JudgedWalk, walk_by, walk_plain, walk_as, walk_next, walk_map, walk_matchers, walk_rules}
 
@@ -165,6 +157,7 @@ walk_below whole left path parent d own judges shallow = go (member_of (codes "r
     list v None is shallow = walk_next (plain (Err (BadConfig (under path (codes "routes"))))) (λ children. items_in_turn (child_into whole left path parent) 0 children own) (Fault (under path (codes "routes")) ∷ []) [] (λ ds. ⊥) _ (walk_plain (Err (BadConfig (under path (codes "routes")))) (Fault (under path (codes "routes")) ∷ []) (λ ds. ⊥) (judged_fault (under path (codes "routes")) _)) (λ ds no. absurd no)
     list v (Some ds) is shallow = walk_next (plain (Ok ds)) (λ children. items_in_turn (child_into whole left path parent) 0 children own) [] (each_found (route_found whole left) (under path (codes "routes")) 0 ds) (λ es. es ≡ ds) _ (walk_plain (Ok ds) [] _ (judged_ok ds _ refl)) (λ es same.
         walk_as (items_in_turn (child_into whole left path parent) 0 es own) (each_found (route_found whole left) (under path (codes "routes")) 0 ds) (AddsTrees whole parent ds own) _ (rw same (walk_trees whole left path parent 0 ds own judges shallow)) (λ after (trees, adds, are). (ds, Some ds, is, refl, trees, adds, are)))
+
     go : (o : Option Data) → any_item (is_deeper left) (list_in o) ≡ false → JudgedWalk (next (plain (optional (items_at (under path (codes "routes"))) o >>= λ found. Ok (unwrap_or found no_items))) (λ children. items_in_turn (child_into whole left path parent) 0 children own)) (if_there (list_found (route_found whole left) (under path (codes "routes"))) o) (AddsBelow whole parent o own)
     go None shallow = walk_next (plain (Ok no_items)) (λ children. items_in_turn (child_into whole left path parent) 0 children own) [] [] (λ es. es ≡ no_items) _ (walk_plain (Ok no_items) [] _ (judged_ok no_items _ refl)) (λ es same.
         rw same (walk_plain (Ok own) [] _ (judged_ok own _ (no_items, None, tt, refl, [], sym (append-nil own), NoMore (length own) parent))))
@@ -183,24 +176,24 @@ found_in_order : (whole : Data) (left : ℕ) (path : List ℕ) (d : Data) → ow
 unfolding own_found front_found back_found route_found
 found_in_order whole left path d =
     flattened (object_found path d)
-      (at (list_found (defined_name_found whole)) path (codes "active_time_intervals") d)
-      (at flag_found path (codes "continue") d)
-      (at (list_found text_found) path (codes "group_by") d)
-      (at (spelled_found span_of) path (codes "group_interval") d)
-      (at (spelled_found span_of) path (codes "group_wait") d)
-      (match_found (codes "match") (codes "match_re") (codes "matchers") path d)
-      (at (list_found (defined_name_found whole)) path (codes "mute_time_intervals") d)
-      (at text_found path (codes "receiver") d)
-      (at (spelled_found span_of) path (codes "repeat_interval") d)
-      (at (list_found (route_found whole left)) path (codes "routes") d)
+    (at (list_found (defined_name_found whole)) path (codes "active_time_intervals") d)
+    (at flag_found path (codes "continue") d)
+    (at (list_found text_found) path (codes "group_by") d)
+    (at (spelled_found span_of) path (codes "group_interval") d)
+    (at (spelled_found span_of) path (codes "group_wait") d)
+    (match_found (codes "match") (codes "match_re") (codes "matchers") path d)
+    (at (list_found (defined_name_found whole)) path (codes "mute_time_intervals") d)
+    (at text_found path (codes "receiver") d)
+    (at (spelled_found span_of) path (codes "repeat_interval") d)
+    (at (list_found (route_found whole left)) path (codes "routes") d)
 
 walk_route : (whole : Data) (left : ℕ) → JudgesTree whole left
 unfolding add_route is_deeper
 walk_route whole zero path parent d routes shallow = absurd (true≢false shallow)
 walk_route whole (suc left) path parent d routes shallow =
     walk_by _ (own_found whole path d ++ at (list_found (route_found whole left)) path (codes "routes") d) _ _ (found_in_order whole left path d)
-      (walk_next (own_into whole path parent d routes) _ (own_found whole path d) (at (list_found (route_found whole left)) path (codes "routes") d) (AddsRoute whole parent d routes) _ (walk_own whole path parent d routes) (λ own adds.
-      walk_as _ _ _ _ (walk_below whole left path (length routes) d own (walk_route whole left) shallow) (λ after below. route_grows whole parent d routes own after adds below)))
+    (walk_next (own_into whole path parent d routes) _ (own_found whole path d) (at (list_found (route_found whole left)) path (codes "routes") d) (AddsRoute whole parent d routes) _ (walk_own whole path parent d routes) (λ own adds.
+    walk_as _ _ _ _ (walk_below whole left path (length routes) d own (walk_route whole left) shallow) (λ after below. route_grows whole parent d routes own after adds below)))
 
 walk_tree : (whole : Data) (o : Option Data) → option_map_or (is_deeper 32) o false ≡ false → JudgedWalk (tree_from whole o) (if_there_or (Fault (codes "route") ∷ []) (route_found whole 32 (codes "route")) o) (λ routes. (v : Data) × (o ≡ Some v) × IsTree whole 0 None v routes)
 walk_tree whole None shallow = walk_plain (Err (BadConfig (codes "route"))) (Fault (codes "route") ∷ []) _ (judged_fault (codes "route") _)
@@ -238,14 +231,14 @@ walk_whole d shallow =
     walk_next _ _ _ _ _ _ (walk_plain _ _ _ (judged_receivers d)) (λ receivers has_receivers.
     walk_next _ _ _ _ _ _ (walk_routes d shallow) (λ routes has_routes.
     walk_by _ _ _ _ (ap (λ names. if_there (λ v. interval_list_found names (codes "time_intervals") (as_array v)) (member_of (codes "time_intervals") d)) (sym (names_under_read (codes "mute_time_intervals") d mute (rw same_mute has_mute))))
-      (walk_map _ _ _ _ _ (walk_plain _ _ _ (judged_defined (codes "time_intervals") d mute)) (λ named (of_named, same_named, has_named).
-      record {
-        resolve_timeout = has_timeout;
-        rules = has_rules;
-        receivers = has_receivers;
-        time_intervals = record { mute = mute; named = of_named; of_mute = rw same_mute has_mute; of_named = has_named; all = same_named };
-        routes = has_routes;
-      })))))))
+    (walk_map _ _ _ _ _ (walk_plain _ _ _ (judged_defined (codes "time_intervals") d mute)) (λ named (of_named, same_named, has_named).
+    record {
+      resolve_timeout = has_timeout;
+      rules = has_rules;
+      receivers = has_receivers;
+      time_intervals = record { mute = mute; named = of_named; of_mute = rw same_mute has_mute; of_named = has_named; all = same_named };
+      routes = has_routes;
+    })))))))
 
 pub walked_judged : (d : Data) → is_too_deep d ≡ false → JudgedWalk (walked_at d) (findings_of d) (StatesWhole d)
 walked_judged d shallow = walk_by _ _ _ _ (whole_in_order d) (walk_whole d shallow)

@@ -5,9 +5,8 @@ use Rattle.std.specs.Prelude.{option_and_then, unwrap_or, ◌==◌}
 use Rattle.std.specs.List.{flat_map, filter}
 use Rattle.std.specs.Option.{option_map_or}
 use Rattle.std.proofs.lemmas.List.{append-nil}
-use Rattle.std.proofs.lemmas.Option.{none-some, same_Some}
 use Rattle.serde_json.specs.Data.{Data, Items, no_items, item, Members, no_members, member}
-use Rattle.serde_json.specs.Find.{as_str, as_bool, as_array, as_object}
+use Rattle.serde_json.specs.Find.{as_str, as_array, as_object}
 use Rattle.amr_labels.specs.Labels.{Text}
 use Rattle.amr_matchers.specs.Matchers.{Matcher, takes_pattern}
 use Rattle.amr_matchers.specs.MatcherReading.{matchers_of}
@@ -17,12 +16,12 @@ use Rattle.amr_stated.specs.declared.error.Refusal.{Refusal}
 use Rattle.amr_stated.specs.declared.error.Refusal.TheVariants.{BadConfig}
 use Rattle.amr_stated.specs.declared.rule.InhibitRule.{InhibitRule}
 use Rattle.amr_stated.specs.Paths.{under, item_path}
-use Rattle.amr_stated.specs.Members.{present, member_of, stated, or_faulty, text_at, items_at, members_at, texts_at}
-use Rattle.amr_stated.specs.Readings.{Reading, plain, ◌>>=◌, next, value_after, patterns_after, patterns_in, matchers_met, if_present, items_in_turn, members_in_turn}
+use Rattle.amr_stated.specs.Members.{present, member_of, or_faulty, items_at, texts_at}
+use Rattle.amr_stated.specs.Readings.{Reading, plain, next, value_after, patterns_after, matchers_met, if_present, items_in_turn, members_in_turn}
 use Rattle.amr_stated.specs.ReadMatchers.{matcher_at, stated_into, matcher_into, members_into, object_into, spelled_at, spelled_into, texts_into, list_into, matchers_at}
 use Rattle.amr_stated.specs.ReadRules.{rule_at, rule_into, rules_list, rules_from, rules_at}
-use Rattle.amr_stated.specs.Table.{IsText, IsListOf, StatesEach, StatesIf, States, StatesOr, MatcherOf, MatchersOf, IsMatchObject, IsMatcherText, IsMatcherList, StatesMatchers, IsRule}
-use Rattle.amr_stated.specs.Faults.{Finding, Fault, Pattern, first_fault, patterns_before, text_found, object_found, each_found, items_found, list_found, if_there, at, patterns_found, matchers_found, matcher_text_found, value_found, values_found, members_found, match_object_found, match_found, rule_found}
+use Rattle.amr_stated.specs.Table.{IsText, IsListOf, StatesEach, StatesIf, StatesOr, MatcherOf, MatchersOf, IsMatchObject, IsMatcherText, IsMatcherList, StatesMatchers, IsRule}
+use Rattle.amr_stated.specs.Faults.{Finding, Fault, Pattern, first_fault, patterns_before, text_found, each_found, items_found, list_found, if_there, at, patterns_found, matchers_found, matcher_text_found, value_found, values_found, members_found, match_object_found, match_found, rule_found}
 use Rattle.amr_stated.proofs.Judged.{Tells, Judged, no_fault_in_both, fault_in_first, patterns_of_both, patterns_of_first, judged_stated, judged_text, judged_object, judged_fault, judged_ok, Adds, AddsEach, adds_none, adds_more}
 use Rattle.amr_stated.proofs.JudgedParts.{judged_texts}
 
@@ -122,7 +121,7 @@ unfolding stated_into
 walk_value operator path name d matchers =
     walk_next _ _ _ _ _ _ (walk_plain _ _ _ (judged_text path d)) (λ value is.
     walk_by _ _ _ _ (ap (λ o. if length name == 0 then Fault path ∷ [] else option_map_or (λ value. patterns_found path (value_matcher operator name value ∷ [])) o []) (sym is))
-      (walk_map (matcher_at operator path name value) (λ more. matchers ++ more) (if length name == 0 then Fault path ∷ [] else patterns_found path (value_matcher operator name value ∷ [])) _ (AddsMatcher operator name (Some d) matchers) (walk_matcher operator path name value) (λ more same. (value, is, ap (λ l. matchers ++ l) same))))
+    (walk_map (matcher_at operator path name value) (λ more. matchers ++ more) (if length name == 0 then Fault path ∷ [] else patterns_found path (value_matcher operator name value ∷ [])) _ (AddsMatcher operator name (Some d) matchers) (walk_matcher operator path name value) (λ more same. (value, is, ap (λ l. matchers ++ l) same))))
 
 walk_member : (operator : Operator) (path : List ℕ) (name : Text) (d : Data) (matchers : List Matcher) → JudgedWalk (matcher_into operator path name d matchers) (if_there (value_found operator name (under path name)) (present (Some d))) (AddsMatcher operator name (present (Some d)) matchers)
 unfolding matcher_into
@@ -196,10 +195,10 @@ unfolding texts_into
 walk_texts path d matchers =
     walk_as _ _ _ _ (walk_list (spelled_into path) matcher_text_found path d matchers (λ ds. AddsTexts 0 ds matchers) (λ ds.
     walk_each (spelled_into path) matcher_text_found path (λ i d. AddsThose (IsMatcherText d)) AddsTexts
-      (λ i before. ([], sym (append-nil before), tt))
-      (λ i d ds before one after (list, adds, is) (lists, rest, are). (list ∷ lists, rest ∙ ap (λ l. l ++ flat_map (λ list. list) lists) adds ∙ append_assoc before list (flat_map (λ list. list) lists), (is, are)))
-      0 ds matchers (walk_text path)))
-      (λ after (ds, is, (lists, adds, are)). (flat_map (λ list. list) lists, adds, (lists, (ds, is, are), refl)))
+    (λ i before. ([], sym (append-nil before), tt))
+    (λ i d ds before one after (list, adds, is) (lists, rest, are). (list ∷ lists, rest ∙ ap (λ l. l ++ flat_map (λ list. list) lists) adds ∙ append_assoc before list (flat_map (λ list. list) lists), (is, are)))
+    0 ds matchers (walk_text path)))
+    (λ after (ds, is, (lists, adds, are)). (flat_map (λ list. list) lists, adds, (lists, (ds, is, are), refl)))
 
 walk_texts_under : (path : List ℕ) (key : Text) (d : Data) (matchers : List Matcher) → JudgedWalk (list_into path key d matchers) (at (list_found matcher_text_found) path key d) (AddsThose (StatesOr [] IsMatcherList key d) matchers)
 unfolding list_into
@@ -241,7 +240,7 @@ unfolding rules_list
 walk_rule_list path d =
     walk_as _ _ _ _ (walk_list (rule_into path) rule_found path d [] (λ ds. AddsEach (λ i. IsRule) 0 ds []) (λ ds.
     walk_each (rule_into path) rule_found path (Adds (λ i. IsRule)) (AddsEach (λ i. IsRule)) (adds_none (λ i. IsRule)) (adds_more (λ i. IsRule)) 0 ds [] (walk_rule_into path)))
-      (λ rules (ds, is, (more, same, are)). (ds, is, rw same are))
+    (λ rules (ds, is, (more, same, are)). (ds, is, rw same are))
 
 walk_rules_from : (path : List ℕ) (o : Option Data) → JudgedWalk (rules_from path o) (if_there (list_found rule_found path) o) (λ rules. (found : Option (List InhibitRule)) × StatesIf (IsListOf IsRule) o found × (rules ≡ unwrap_or found []))
 walk_rules_from path None = walk_plain (Ok []) [] _ (judged_ok [] _ (None, tt, refl))

@@ -11,7 +11,7 @@ use Rattle.amr_matchers.specs.declared.Operator.{Operator}
 use Rattle.amr_matchers.specs.declared.Operator.TheVariants.{Equal, Matches}
 use Rattle.amr_time.specs.IntervalTexts.{time_at, end_time_at}
 use Rattle.amr_time.specs.SpanRead.{span_of}
-use Rattle.amr_time.specs.Time.{Span, minute}
+use Rattle.amr_time.specs.Time.{Span}
 use Rattle.amr_time.specs.declared.intervals.TimeRange.{TimeRange}
 use Rattle.amr_time.specs.declared.intervals.IntervalMember.{IntervalMember}
 use Rattle.amr_stated.specs.declared.interval.NamedInterval.{NamedInterval}
