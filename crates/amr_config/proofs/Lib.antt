@@ -1,3 +1,4 @@
+pub mod Answered
 pub mod Chosen
 pub mod Inherited
 pub mod Lines
@@ -6,3 +7,5 @@ pub mod Placing
 pub mod Ranges
 pub mod Refused
 pub mod Settling
+pub mod TreeOrder
+pub mod Whole

@@ -4,18 +4,29 @@ use Rattle.std.specs.List.{list_any, Contains}
 use Rattle.serde_json.specs.Data.{Data}
 use Rattle.amr_labels.specs.Labels.{Text}
 use Rattle.amr_stated.specs.declared.error.Refusal.{Refusal}
-use Rattle.amr_stated.specs.declared.error.Refusal.TheVariants.{TooDeep, UnknownReceiver, DuplicateReceiver, RootRoute, ZeroInterval, BadGroupBy}
+use Rattle.amr_stated.specs.declared.error.Refusal.TheVariants.{BadConfig, TooDeep, UnknownReceiver, DuplicateReceiver, RootRoute, ZeroInterval, BadGroupBy}
 use Rattle.amr_stated.specs.declared.stated.Stated.{Stated}
 use Rattle.amr_config.specs.Config.{Config}
-use Rattle.amr_stated.specs.Readings.{Reading, plain, next, MayGive, IsBadPattern}
+use Rattle.amr_stated.specs.Readings.{Reading, plain, next, value_after, MayGive, IsBadPattern}
 use Rattle.amr_stated.specs.RouteParts.{is_too_deep}
 use Rattle.amr_config.specs.Judging.{refusal_of, is_lost, are_named_apart, root_is_bad, has_zero, is_badly_grouped}
 use Rattle.amr_config.specs.Reading.{unless_refused, reading_of, config_of}
 use Rattle.amr_stated.specs.Walking.{walked_at}
 use Rattle.amr_config.specs.LevelLaws.{DeepIsRefused, DeepIsAnswered}
 use Rattle.amr_stated.proofs.Standing.{deep_stands, stands_deep}
-use Rattle.amr_stated.proofs.OtherRefusals.{IsOther, Flat, FlatWalk, flat_ok, flat_plain, flat_next}
-use Rattle.amr_stated.proofs.FlatRoutes.{flat_walked}
+use Rattle.amr_stated.specs.Table.{StatesWhole}
+use Rattle.amr_stated.specs.Faults.{Finding, findings_of}
+use Rattle.amr_stated.proofs.Judged.{Tells}
+use Rattle.amr_stated.proofs.JudgedRoutes.{walked_judged}
+
+abbrev IsOther : Refusal → Type 0
+IsOther (BadConfig path) = Unit {0}
+IsOther UnknownReceiver = Unit {0}
+IsOther DuplicateReceiver = Unit {0}
+IsOther RootRoute = Unit {0}
+IsOther ZeroInterval = Unit {0}
+IsOther BadGroupBy = Unit {0}
+IsOther TooDeep = ⊥
 
 abbrev NoneOrOther : Option Refusal → Type 0
 NoneOrOther None = Unit {0}
@@ -34,15 +45,23 @@ unfolding refusal_of
 judged stated =
     other_of (list_any (is_lost stated.receivers) stated.routes) (not (are_named_apart stated.receivers)) (root_is_bad stated.routes) (list_any has_zero stated.routes) (list_any is_badly_grouped stated.routes)
 
-flat_unless : (stated : Stated) (o : Option Refusal) → NoneOrOther o → Flat (unless_refused stated o)
-flat_unless stated None h = flat_ok _
-flat_unless stated (Some refusal) h = record { not_deep = h }
+not_told : (o : Option Refusal) (stated : Stated) → NoneOrOther o → unless_refused stated o ≡ Err TooDeep → ⊥
+not_told None stated other e = absurd (cc)
+not_told (Some refusal) stated other e =
+    let same : refusal ≡ TooDeep = cc in
+    rw same at other
 
-flat_config : (d : Data) → is_too_deep d ≡ false → Flat (config_of d)
-unfolding reading_of
-flat_config d shallow =
-    let whole : FlatWalk (next (walked_at d) (λ stated. plain (unless_refused stated (refusal_of stated)))) = flat_next _ _ (flat_walked d shallow) (λ stated. flat_plain _ (flat_unless stated (refusal_of stated) (judged stated))) in
-    rw (shallow, config_of) whole.read
+not_deep : (r : Result Stated Refusal) (findings : List Finding) (P : Stated → Type 0) → Tells r findings P → value_after r (λ stated. plain (unless_refused stated (refusal_of stated))) ≡ Err TooDeep → ⊥
+not_deep (Ok stated) findings P t e = not_told (refusal_of stated) stated (judged stated) e
+not_deep (Err refusal) findings P (path, is, first) e =
+    let same : refusal ≡ TooDeep = cc in
+    absurd (cc)
+
+shallow_config : (d : Data) → is_too_deep d ≡ false → config_of d ≡ Err TooDeep → ⊥
+unfolding reading_of next
+shallow_config d shallow e =
+    let value : value_after (walked_at d).value (λ stated. plain (unless_refused stated (refusal_of stated))) ≡ Err TooDeep = rw (shallow, config_of) at e in
+    not_deep (walked_at d).value (findings_of d) (StatesWhole d) (walked_judged d shallow).tells value
 
 told : (d : Data) → is_too_deep d ≡ true → config_of d ≡ Err TooDeep
 unfolding reading_of
@@ -50,9 +69,7 @@ told d deep = rw (deep, config_of)
 
 only_deep : (d : Data) (b : Bool) → is_too_deep d ≡ b → config_of d ≡ Err TooDeep → is_too_deep d ≡ true
 only_deep d true is refused = is
-only_deep d false is refused =
-    let flat : Flat {A = Config} (Err TooDeep) = subst (λ (read : Result Config Refusal). Flat read) refused (flat_config d is) in
-    absurd flat.not_deep
+only_deep d false is refused = absurd (shallow_config d is refused)
 
 pub deep_is_refused : DeepIsRefused
 deep_is_refused d = (λ refused. deep_stands d (only_deep d (is_too_deep d) refl refused), λ has. told d (stands_deep d has))

@@ -1,5 +1,5 @@
 -- Where a part of a reading fails, the whole fails.
-use Rattle.std.proofs.Common.{◌≡◌, Result, Ok, Err, refl}
+use Rattle.std.proofs.Common.{◌≡◌, Result, Ok, refl}
 use Rattle.amr_stated.specs.declared.error.Refusal.{Refusal}
 use Rattle.amr_stated.specs.declared.error.ConfigError.{ConfigError}
 use Rattle.amr_stated.specs.declared.error.ConfigError.TheVariants.{Memory, Refused}

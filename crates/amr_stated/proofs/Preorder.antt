@@ -27,15 +27,15 @@ value_or : {A : Type 0} → A → Result A Refusal → A
 value_or d (Ok x) = x
 value_or d (Err e) = d
 
-ok_same : {A : Type 0} (x y : A) → ◌≡◌ {A = Result A Refusal} (Ok x) (Ok y) → x ≡ y
+pub ok_same : {A : Type 0} (x y : A) → ◌≡◌ {A = Result A Refusal} (Ok x) (Ok y) → x ≡ y
 unfolding value_or
 ok_same x y e = ap (value_or x) e
 
-after_ok : {A B : Type 0} (r : Result A Refusal) (f : A → Reading B) (b : B) → value_after r f ≡ Ok b → (a : A) × (r ≡ Ok a) × ((f a).value ≡ Ok b)
+pub after_ok : {A B : Type 0} (r : Result A Refusal) (f : A → Reading B) (b : B) → value_after r f ≡ Ok b → (a : A) × (r ≡ Ok a) × ((f a).value ≡ Ok b)
 after_ok (Ok a) f b e = (a, refl, e)
 after_ok (Err r) f b e = cc
 
-bind_ok : {A B : Type 0} (part : Reading A) (f : A → Reading B) (b : B) → (next part f).value ≡ Ok b → (a : A) × (part.value ≡ Ok a) × ((f a).value ≡ Ok b)
+pub bind_ok : {A B : Type 0} (part : Reading A) (f : A → Reading B) (b : B) → (next part f).value ≡ Ok b → (a : A) × (part.value ≡ Ok a) × ((f a).value ≡ Ok b)
 unfolding next
 bind_ok part f b e = after_ok part.value f b e
 
@@ -53,7 +53,7 @@ first_push routes route first below n parent e =
       | inr (k, same) ↦ omega (arith, k, below parent (ap (λ o. option_map_or (λ (r : Route). r.parent) o None) (sym same) ∙ e))
     ]
 
-own_adds : (whole : Data) (path : List ℕ) (parent : Option ℕ) (d : Data) (routes own : List Route) → (own_into whole path parent d routes).value ≡ Ok own → (route : Route) × (route.parent ≡ parent) × (own ≡ routes ++ route ∷ [])
+pub own_adds : (whole : Data) (path : List ℕ) (parent : Option ℕ) (d : Data) (routes own : List Route) → (own_into whole path parent d routes).value ≡ Ok own → (route : Route) × (route.parent ≡ parent) × (own ≡ routes ++ route ∷ [])
 unfolding own_into
 own_adds whole path parent d routes own e =
     let a = bind_ok (plain (members_at path d)) _ own e in
@@ -90,7 +90,7 @@ route_keeps whole (suc left) path parent d routes after e first below =
     let rest = items_keep whole left path (length routes) (route_keeps whole left) 0 b.0 a.0 after b.2 own_first (omega (arith, grown)) in
     record { first = rest.first; more = omega (arith, grown, rest.more) }
 
-found_ok : (whole : Data) (found : Option Data) (routes : List Route) → (tree_from whole found).value ≡ Ok routes → (d : Data) × ((add_route whole 32 (codes "route") None d []).value ≡ Ok routes)
+pub found_ok : (whole : Data) (found : Option Data) (routes : List Route) → (tree_from whole found).value ≡ Ok routes → (d : Data) × ((add_route whole 32 (codes "route") None d []).value ≡ Ok routes)
 found_ok whole None routes e = cc
 found_ok whole (Some d) routes e = (d, e)
 

@@ -1,5 +1,8 @@
 pub mod Answers
+pub mod Faults
+pub mod Keys
 pub mod Levels
+pub mod Order
 pub mod Members
 pub mod Numbers
 pub mod Paths
@@ -10,5 +13,7 @@ pub mod ReadRoutes
 pub mod ReadRules
 pub mod Readings
 pub mod RouteParts
+pub mod StatedLaws
+pub mod Table
 pub mod Timeout
 pub mod Walking

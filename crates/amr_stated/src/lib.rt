@@ -4,6 +4,7 @@
 mod error;
 mod interval;
 mod interval_names;
+pub mod laws;
 mod members;
 mod place;
 mod read;
