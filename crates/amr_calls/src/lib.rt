@@ -3,6 +3,5 @@
 
 #[cfg(test)]
 mod records;
-
 #[cfg(test)]
 mod tests;

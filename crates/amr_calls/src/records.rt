@@ -7,27 +7,32 @@ use std::alloc::Global;
 use std::test::Fail;
 
 /// Groups by the alert's name, with the usual intervals.
-const BY_NAME: &str = r#"{"route":{"receiver":"ops","group_by":["alertname"]},"receivers":[{"name":"ops","webhook_configs":[{}]}]}"#;
+const BY_NAME: &str =
+    r#"{"route":{"receiver":"ops","group_by":["alertname"]},"receivers":[{"name":"ops","webhook_configs":[{}]}]}"#;
 
 /// Groups by the alert's name, and flushes each millisecond.
-const EACH_MILLISECOND: &str = r#"{"route":{"receiver":"ops","group_by":["alertname"],"group_interval":"1ms"},
+const EACH_MILLISECOND: &str =
+    r#"{"route":{"receiver":"ops","group_by":["alertname"],"group_interval":"1ms"},
     "receivers":[{"name":"ops","webhook_configs":[{}]}]}"#;
 
 /// An alert of two days, and a day of flushes.
-const TWO_DAYS: &str = r#"{"at":"2024-05-01T10:00:00Z","alerts":[{"labels":{"alertname":"X"},"startsAt":"2024-05-01T10:00:00Z","endsAt":"2024-05-03T10:00:00Z"}]}
+const TWO_DAYS: &str =
+    r#"{"at":"2024-05-01T10:00:00Z","alerts":[{"labels":{"alertname":"X"},"startsAt":"2024-05-01T10:00:00Z","endsAt":"2024-05-03T10:00:00Z"}]}
 {"at":"2024-05-01T10:00:30Z","tick":true}
 {"at":"2024-05-02T10:00:30Z","tick":true}
 {"at":"2024-05-02T10:00:00Z","tick":true}
 "#;
 
 /// A reload to another grouping.
-const RELOADED: &str = r#"{"at":"2024-05-01T10:00:00Z","alerts":[{"labels":{"alertname":"X","team":"a"},"startsAt":"2024-05-01T10:00:00Z","endsAt":"2024-05-01T20:00:00Z"}]}
+const RELOADED: &str =
+    r#"{"at":"2024-05-01T10:00:00Z","alerts":[{"labels":{"alertname":"X","team":"a"},"startsAt":"2024-05-01T10:00:00Z","endsAt":"2024-05-01T20:00:00Z"}]}
 {"at":"2024-05-01T10:00:30Z","tick":true}
 {"at":"2024-05-01T10:02:00Z","reload":{"route":{"receiver":"ops","group_by":["team"]},"receivers":[{"name":"ops","webhook_configs":[{}]}]}}
 "#;
 
 /// An event that is refused for one move too many, and one that makes as many as it may.
-const TEN_THOUSAND_MOVES: &str = r#"{"at":"2024-05-01T10:00:00Z","alerts":[{"labels":{"alertname":"X"},"startsAt":"2024-05-01T10:00:00Z","endsAt":"2024-05-01T20:00:00Z"}]}
+const TEN_THOUSAND_MOVES: &str =
+    r#"{"at":"2024-05-01T10:00:00Z","alerts":[{"labels":{"alertname":"X"},"startsAt":"2024-05-01T10:00:00Z","endsAt":"2024-05-01T20:00:00Z"}]}
 {"at":"2024-05-01T10:00:40Z","tick":true}
 {"at":"2024-05-01T10:00:39.999Z","tick":true}
 "#;
@@ -47,10 +52,10 @@ fn passed(alloc: Global, config: &str, script: &str) -> Result<Session, Fail> {
 /// Whether there are as many records as bounds, none has no entry unless its bound is 0, and each keeps within its bound.
 fn are_within(session: &Session, bounds: &[usize]) -> bool {
     session.records() == bounds.len()
-        && bounds
-            .iter()
-            .enumerate()
-            .all(|(index, bound)| is_within(session.record_len(index), *bound))
+        && bounds.iter().enumerate().all(|(index, bound)| is_within(
+            session.record_len(index),
+            *bound,
+        ))
 }
 
 fn is_within(entries: usize, bound: usize) -> bool {

@@ -128,7 +128,12 @@ pub(crate) fn transcript(alloc: Global, session: &Session) -> Answer
 pub(crate) fn place(alloc: Global, session: &Session) -> Answer
     ensures { Answered (incident_of session.now) session.now.cursor session.now.cursor (Asks command.Cursor) result }
 {
-    match place_text(alloc, session.cursor(), session.events(), session.state().moment()) {
+    match place_text(
+        alloc,
+        session.cursor(),
+        session.events(),
+        session.state().moment(),
+    ) {
         Ok(text) => Answer::Built(text),
         Err(_) => Answer::Refused(Word::Cursor, Refusal::Memory),
     }

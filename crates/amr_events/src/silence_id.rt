@@ -6,9 +6,9 @@ ghost use Rattle.std.specs.Cmp.Rules.{comparing};
 ghost use Rattle.std.specs.Ordering.{as_partial_cmp, nat_cmp, eq_by_cmp};
 ghost use Rattle.amr_events.specs.Ids.{id_of, id_text};
 
-use std::alloc::{AllocError, Global};
 use amr_labels::Exact;
 use amr_tables::Key;
+use std::alloc::{AllocError, Global};
 use std::cmp::Ordering;
 use std::marker::Model;
 use uuid::Uuid;
