@@ -1,2 +1,5 @@
 pub mod Marking
 pub mod Numbering
+pub mod Lowness
+pub mod Ascending
+pub mod Queueing

@@ -5,12 +5,15 @@ mod entries;
 mod journal;
 mod keyed;
 mod marks;
+mod queue;
 mod slots;
 mod table;
+mod tree;
 
 pub use entries::Entries;
 pub use journal::Journal;
 pub use keyed::{Key, Keyed, make_room};
 pub use marks::Marks;
+pub use queue::Queue;
 pub use slots::Slots;
 pub use table::{Table, put_back};

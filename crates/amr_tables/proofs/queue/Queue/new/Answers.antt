@@ -1,0 +1,7 @@
+use Rattle.std.proofs.Common.{◌≡◌, ap, sym, ◌∙◌, subst, length, arith}
+use Rattle.std.specs.List.Sorted.{IsStrictlySortedBy}
+use Rattle.amr_tables.proofs.Queueing.{sorted_none}
+use Rattle.amr_tables.proofs.queue.Queue.new.Goals as goal
+
+pub invariant_of-result : goal.invariant_of-result
+invariant_of-result g c = rw c.new.ensures (sorted_none g.D.Ord.cmp, omega arith, omega arith)
