@@ -11,7 +11,7 @@ use Rattle.std.specs.FinMap.{IsAntisymmetric}
 use Rattle.std.specs.BTreeSet.{insert_key}
 use Rattle.std.proofs.lemmas.Cmp.{tied_back, tied_itself, alike_right, eq_by_cmp_equiv}
 use Rattle.std.proofs.lemmas.List.Kept.{IsStrictlySortedBy-filter}
-use Rattle.amr_tables.specs.Queued.{has, in_order, without}
+use Rattle.amr_tables.specs.Queued.{has, in_order, without, IsLeast}
 
 pub sorted_none : {D : Type 0} (R : D → D → Ordering) → IsStrictlySortedBy R []
 unfolding IsStrictlySortedBy
@@ -130,6 +130,16 @@ module _ {D : Type 0} (R : D → D → Ordering) where
     first_is_least [] x q s e h = absurd (true≢false (sym h))
     first_is_least (y ∷ l) x q s e h = let is : y ≡ x = cc in first_of l x y q s is h
 
+    has_first : (x : D) (l : List D) → has R (x ∷ l) x ≡ true
+    has_first x l = rw (tied_itself o x)
+
+    has_its_first : (l : List D) (x : D) → slice_get l 0 ≡ Some x → has R l x ≡ true
+    has_its_first [] x e = cc
+    has_its_first (y ∷ l) x e = let is : y ≡ x = cc in ap (λ z. has R (z ∷ l) x) is ∙ has_first x l
+
+    pub IsLeast-first : (l : List D) (x : D) → IsStrictlySortedBy R l → slice_get l 0 ≡ Some x → IsLeast R l x
+    IsLeast-first l x s e = (has_its_first l x e, λ q h. first_is_least l x q s e h)
+
     not_after_itself : (x q : D) (l : List D) → AllByRecursion (λ y. R x y ≡ Less) l → eq_by_cmp R q x ≡ true → has R l q ≡ false
     not_after_itself x q l a e =
         elim (has R l q) as (λ b. has R l q ≡ b → b ≡ false) [
@@ -144,10 +154,6 @@ module _ {D : Type 0} (R : D → D → Ordering) where
           | true ↦ λ e _. not_after_itself x q l s.0 e ∙ sym (not_after_itself x q m t.0 e)
           | false ↦ λ _ w. w
         ] refl (same q)
-
-    -- a list in order has its own first item
-    has_first : (x : D) (l : List D) → has R (x ∷ l) x ≡ true
-    has_first x l = rw (tied_itself o x)
 
     first_among : (x y : D) (l : List D) → IsStrictlySortedBy R (x ∷ l) → has R (x ∷ l) y ≡ true → is_gt (R x y) ≡ false
     first_among x y l s h = first_of l x x y s refl h

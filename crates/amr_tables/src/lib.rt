@@ -4,6 +4,7 @@
 mod entries;
 mod journal;
 mod keyed;
+pub mod laws;
 mod marks;
 mod queue;
 mod slots;

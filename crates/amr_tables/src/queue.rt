@@ -1,10 +1,10 @@
 //! The queue of what is due, in order.
-ghost use Rattle.std.specs.Prelude.{◌≡◌, ◌+◌, ◌<◌, ◌≤◌, [], length, OnOk, slice_get, max, false, if◌then◌else◌};
+ghost use Rattle.std.specs.Prelude.{◌≡◌, ◌+◌, ◌<◌, ◌≤◌, [], length, OnOk, slice_get, IfSome, max, false, if◌then◌else◌};
 ghost use Rattle.std.specs.Prelude.{vec_len, vec_capacity};
 ghost use Rattle.std.specs.List.Sorted.{IsStrictlySortedBy};
 ghost use Rattle.std.specs.Option.{option_copied};
 ghost use Rattle.std.specs.BTreeSet.{insert_key};
-ghost use Rattle.amr_tables.specs.Queued.{has, without};
+ghost use Rattle.amr_tables.specs.Queued.{has, without, IsLeast, HasMore, HasLess};
 
 use crate::tree::{self, Node, Tree};
 use std::alloc::{AllocError, Global};
@@ -21,9 +21,8 @@ pub struct Queue<D: Ord> {
 }
 
 impl<D: Ord> Model for Queue<D> {
-    ghost use Rattle.std.specs.Prelude.{◌≡◌, ◌+◌, ◌≤◌, length, vec_len, vec_capacity};
-    ghost use Rattle.std.specs.List.Sorted.{IsStrictlySortedBy};
-    ghost use Rattle.amr_tables.specs.Queued.{Queued, queued_code};
+    ghost use Rattle.std.specs.Prelude.{vec_len, vec_capacity};
+    ghost use Rattle.amr_tables.specs.Queued.{Queued, queued_code, IsQueue};
 
     ghost Value = { Queued D };
 
@@ -31,7 +30,7 @@ impl<D: Ord> Model for Queue<D> {
 
     ghost view = { λ q. record { dues = q.tree.0; room = vec_len q.spares } };
 
-    ghost invariant = { λ q. IsStrictlySortedBy D.cmp q.tree.0 × (q.len ≡ length q.tree.0) × (q.len + vec_len q.spares ≤ vec_capacity q.spares) };
+    ghost invariant = { λ q. IsQueue D.cmp q.tree.0 q.len (vec_len q.spares) (vec_capacity q.spares) };
 }
 
 impl<D: Ord + Drop> Queue<D> {
@@ -59,6 +58,7 @@ impl<D: Ord + Drop> Queue<D> {
     /// Returns the first due.
     pub fn first(&self) -> Option<&D>
         ensures first { option_copied result ≡ slice_get self.now.dues 0 }
+        ensures least { IfSome result (λ due. IsLeast D.cmp self.now.dues due.now) }
         ensures sorted { IsStrictlySortedBy D.cmp self.now.dues }
     {
         self.tree.first()
@@ -86,6 +86,8 @@ impl<D: Ord + Drop> Queue<D> {
         requires room { 0 < self.old.room }
         requires absent { has D.cmp self.old.dues due ≡ false }
         ensures dues { self.new.dues ≡ insert_key D.cmp self.old.dues due }
+        ensures members { HasMore D.cmp self.old.dues due self.new.dues }
+        ensures sorted { IsStrictlySortedBy D.cmp self.new.dues }
         ensures room { self.new.room + 1 ≡ self.old.room }
         ensures len { length self.new.dues ≡ length self.old.dues + 1 }
     {
@@ -103,6 +105,8 @@ impl<D: Ord + Drop> Queue<D> {
     pub fn take(&mut self, due: &D) -> bool
         ensures found { result ≡ has D.cmp self.old.dues due.now }
         ensures dues { self.new.dues ≡ without D.cmp self.old.dues due.now }
+        ensures members { HasLess D.cmp self.old.dues due.now self.new.dues }
+        ensures sorted { IsStrictlySortedBy D.cmp self.new.dues }
         ensures room { self.new.room ≡ self.old.room + (if result then 1 else 0) }
         ensures len { length self.old.dues ≡ length self.new.dues + (if result then 1 else 0) }
     {

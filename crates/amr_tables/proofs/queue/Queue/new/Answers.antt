@@ -4,4 +4,4 @@ use Rattle.amr_tables.proofs.Queueing.{sorted_none}
 use Rattle.amr_tables.proofs.queue.Queue.new.Goals as goal
 
 pub invariant_of-result : goal.invariant_of-result
-invariant_of-result g c = rw c.new.ensures (sorted_none g.D.Ord.cmp, omega arith, omega arith)
+invariant_of-result g c = rw c.new.ensures (record { sorted = sorted_none g.D.Ord.cmp; counted = omega arith; covered = omega arith })
