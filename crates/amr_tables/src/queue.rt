@@ -55,6 +55,20 @@ impl<D: Ord + Drop> Queue<D> {
         self.len
     }
 
+    /// Returns how many dues more there is room for.
+    pub fn room(&self) -> usize
+        ensures { result ≡ self.now.room }
+    {
+        self.spares.len()
+    }
+
+    /// Returns whether a due is in the queue.
+    pub fn contains(&self, due: &D) -> bool
+        ensures { result ≡ has D.cmp self.now.dues due.now }
+    {
+        tree::contains(&self.tree, due)
+    }
+
     /// Returns the first due.
     pub fn first(&self) -> Option<&D>
         ensures first { option_copied result ≡ slice_get self.now.dues 0 }

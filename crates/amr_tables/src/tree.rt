@@ -192,6 +192,24 @@ struct First<D> {
     rest: Tree<D>,
 }
 
+/// Returns whether an item is in a tree.
+pub(crate) fn contains<D: Ord>(tree: &Tree<D>, item: &D) -> bool
+    requires { IsStrictlySortedBy D.cmp tree.now.0 }
+    ensures { result ≡ has D.cmp tree.now.0 item.now }
+{
+    match &tree.root {
+        None => false,
+        Some(node) => match &**node {
+            Node::Spare => false,
+            Node::Fork(left, here, _, right) => match item.cmp(here) {
+                Ordering::Less => contains(left, item),
+                Ordering::Equal => true,
+                Ordering::Greater => contains(right, item),
+            },
+        },
+    }
+}
+
 /// Puts an item into a tree in order, in memory that is at hand.
 pub(crate) fn put<D: Ord + Drop>(tree: Tree<D>, memory: Box<Node<D>>, item: D) -> Tree<D>
     requires sorted { IsStrictlySortedBy D.cmp tree.0 }
