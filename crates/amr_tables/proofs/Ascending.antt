@@ -1,6 +1,7 @@
 -- A list in ascending order, around one of its items.
-use Rattle.std.proofs.Common.{◌≡◌, ℕ, ◌+◌, Bool, true, false, cond, not, ◌||◌, List, [], ◌∷◌, ◌++◌, length, refl, sym, ap, ◌∙◌, subst, true≢false}
-use Rattle.std.specs.List.{AllByRecursion, list_any, filter}
+use Rattle.std.proofs.Common.{◌≡◌, ℕ, ◌+◌, Bool, true, false, cond, not, ◌||◌, Option, Some, None, List, [], ◌∷◌, ◌++◌, length, refl, sym, ap, ◌∙◌, subst, true≢false}
+use Rattle.std.specs.List.{AllByRecursion, list_any, find, filter}
+use Rattle.std.specs.Option.{option_or}
 use Rattle.std.specs.List.Sorted.{IsStrictlySortedBy}
 use Rattle.std.specs.declared.cmp.Ordering.{Ordering}
 use Rattle.std.specs.declared.cmp.Ordering.TheVariants.{Less, Equal, Greater}
@@ -8,8 +9,8 @@ use Rattle.std.specs.Ordering.{eq_by_cmp, is_eq, is_lt, match_ordering, ordering
 use Rattle.std.specs.Cmp.{IsTotalOrder}
 use Rattle.std.specs.BTreeSet.{insert_key}
 use Rattle.std.proofs.lemmas.List.Elements.{filter-append}
-use Rattle.std.proofs.lemmas.List.Folds.{list_any-append}
-use Rattle.amr_tables.specs.Queued.{has, without}
+use Rattle.std.proofs.lemmas.List.Folds.{list_any-append, find-append}
+use Rattle.amr_tables.specs.Queued.{has, found, without}
 
 module _ {D : Type 0} where
   all_map : (P Q : D → Type 0) → ((y : D) → P y → Q y) → (l : List D) → AllByRecursion P l → AllByRecursion Q l
@@ -32,6 +33,14 @@ module _ {D : Type 0} where
   none_pass : (p : D → Bool) (l : List D) → AllByRecursion (λ y. p y ≡ false) l → list_any p l ≡ false
   none_pass p [] a = refl
   none_pass p (y ∷ l) a = rw a.0 (none_pass p l a.1)
+
+  none_found : (p : D → Bool) (l : List D) → AllByRecursion (λ y. p y ≡ false) l → find p l ≡ None
+  none_found p [] a = refl
+  none_found p (y ∷ l) a = rw a.0 (none_found p l a.1)
+
+  or_none : (a : Option D) → option_or a None ≡ a
+  or_none None = refl
+  or_none (Some y) = refl
 
   all_stay : (p : D → Bool) (l : List D) → AllByRecursion (λ y. p y ≡ false) l → filter (λ y. not (p y)) l ≡ l
   all_stay p [] a = refl
@@ -149,6 +158,24 @@ module _ {D : Type 0} (R : D → D → Ordering) where
 
       pub has_middle : R k x ≡ Equal → has R tree k ≡ true
       has_middle e = split_any ∙ rw e (or_true (has R l k))
+
+      split_found : found R tree k ≡ option_or (found R l k) (found R (x ∷ r) k)
+      split_found = ap (λ t. found R t k) is ∙ find-append (eq_by_cmp R k) l (x ∷ r)
+
+      pub found_left : R k x ≡ Less → found R tree k ≡ found R l k
+      found_left e =
+          let a : found R r k ≡ None = none_found (eq_by_cmp R k) r (above e) in
+          split_found ∙ rw (e, a) (or_none _)
+
+      pub found_right : R k x ≡ Greater → found R tree k ≡ found R r k
+      found_right e =
+          let a : found R l k ≡ None = none_found (eq_by_cmp R k) l (below e) in
+          split_found ∙ rw (e, a)
+
+      pub found_middle : R k x ≡ Equal → found R tree k ≡ Some x
+      found_middle e =
+          let a : found R l k ≡ None = none_found (eq_by_cmp R k) l (misses_below k l (all_map _ _ (λ y h. like_below k x y e h) l (left_below l x r whole))) in
+          split_found ∙ rw (e, a)
 
       pub without_left : R k x ≡ Less → without R tree k ≡ without R l k ++ x ∷ r
       without_left e =

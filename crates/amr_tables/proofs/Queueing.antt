@@ -1,6 +1,6 @@
 -- Laws of a queue's list: that it is in order, what is in it, and that both determine it.
 use Rattle.std.proofs.Common.{◌≡◌, ℕ, Bool, true, false, cond, not, ◌||◌, ◌&&◌, List, [], ◌∷◌, Option, Some, None, refl, sym, ap, ◌∙◌, subst, true≢false}
-use Rattle.std.specs.Prelude.{slice_get}
+use Rattle.std.specs.Prelude.{slice_get, is_some}
 use Rattle.std.specs.List.{AllByRecursion, list_any, filter}
 use Rattle.std.specs.List.Sorted.{IsStrictlySortedBy}
 use Rattle.std.specs.declared.cmp.Ordering.{Ordering}
@@ -11,7 +11,7 @@ use Rattle.std.specs.FinMap.{IsAntisymmetric}
 use Rattle.std.specs.BTreeSet.{insert_key}
 use Rattle.std.proofs.lemmas.Cmp.{tied_back, tied_itself, alike_right, eq_by_cmp_equiv}
 use Rattle.std.proofs.lemmas.List.Kept.{IsStrictlySortedBy-filter}
-use Rattle.amr_tables.specs.Queued.{has, in_order, without, IsLeast}
+use Rattle.amr_tables.specs.Queued.{has, found, in_order, without, IsLeast}
 
 pub sorted_none : {D : Type 0} (R : D → D → Ordering) → IsStrictlySortedBy R []
 unfolding IsStrictlySortedBy
@@ -26,6 +26,10 @@ module _ {D : Type 0} (R : D → D → Ordering) where
         | Equal ↦ a
         | Greater ↦ (a.0, all_inserted P l k p a.1)
       ]
+
+  pub has_found : (l : List D) (k : D) → is_some (found R l k) ≡ has R l k
+  has_found [] k = refl
+  has_found (x ∷ l) k = elim (eq_by_cmp R k x) as (λ b. is_some (cond b (Some x) (found R l k)) ≡ (b || has R l k)) [ true ↦ refl | false ↦ has_found l k ]
 
   pub sorted_without : (l : List D) (k : D) → IsStrictlySortedBy R l → IsStrictlySortedBy R (without R l k)
   sorted_without l k s = IsStrictlySortedBy-filter R (λ other. not (eq_by_cmp R k other)) l s

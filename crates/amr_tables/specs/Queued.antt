@@ -1,6 +1,6 @@
 -- A queue as a list.
-use Rattle.std.specs.Prelude.{◌≡◌, ℕ, ◌+◌, ◌≤◌, Bool, false, not, ◌||◌, ◌&&◌, IsTrue, List, [], ◌∷◌, length, refl}
-use Rattle.std.specs.List.{list_any, filter}
+use Rattle.std.specs.Prelude.{◌≡◌, ℕ, ◌+◌, ◌≤◌, Bool, false, not, ◌||◌, ◌&&◌, IsTrue, Option, None, Some, List, [], ◌∷◌, length, refl}
+use Rattle.std.specs.List.{list_any, find, filter}
 use Rattle.std.specs.List.Sorted.{IsStrictlySortedBy}
 use Rattle.std.specs.declared.cmp.Ordering.{Ordering}
 use Rattle.std.specs.Ordering.{eq_by_cmp, is_gt}
@@ -16,10 +16,19 @@ abbrev pub queued_code : {D : Type 0} → Coded D → Coded (Queued D)
 queued_code {D} d =
     code_by (List D × ℕ) (coded× (coded_list d) coded_ℕ) (λ q. (q.dues, q.room)) (λ p. record { dues = p.0; room = p.1 }) (λ _. refl)
 
+-- how many an Option is
+abbrev pub count_of : {X : Type 0} → Option X → ℕ
+count_of None = 0
+count_of (Some _) = 1
+
 module _ {D : Type 0} (cmp : D → D → Ordering) where
   -- whether the due, or one that compares equal to it, is in the list
   abbrev pub has : List D → D → Bool
   has dues due = list_any (eq_by_cmp cmp due) dues
+
+  -- the due in the list that compares equal to the due
+  abbrev pub found : List D → D → Option D
+  found dues due = find (eq_by_cmp cmp due) dues
 
   -- the list in order; of those that compare equal one is kept
   abbrev pub in_order : List D → List D

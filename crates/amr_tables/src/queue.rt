@@ -4,7 +4,7 @@ ghost use Rattle.std.specs.Prelude.{vec_len, vec_capacity};
 ghost use Rattle.std.specs.List.Sorted.{IsStrictlySortedBy};
 ghost use Rattle.std.specs.Option.{option_copied};
 ghost use Rattle.std.specs.BTreeSet.{insert_key};
-ghost use Rattle.amr_tables.specs.Queued.{has, without, IsLeast, HasMore, HasLess};
+ghost use Rattle.amr_tables.specs.Queued.{has, found, without, count_of, IsLeast, HasMore, HasLess};
 
 use crate::tree::{self, Node, Tree};
 use std::alloc::{AllocError, Global};
@@ -124,17 +124,25 @@ impl<D: Ord + Drop> Queue<D> {
         ensures room { self.new.room ≡ self.old.room + (if result then 1 else 0) }
         ensures len { length self.old.dues ≡ length self.new.dues + (if result then 1 else 0) }
     {
+        self.take_out(due).is_some()
+    }
+
+    /// Takes a due out of the queue, if it is there, and returns it. It takes no memory.
+    pub fn take_out(&mut self, due: &D) -> Option<D>
+        ensures found { result ≡ found D.cmp self.old.dues due.now }
+        ensures dues { self.new.dues ≡ without D.cmp self.old.dues due.now }
+        ensures members { HasLess D.cmp self.old.dues due.now self.new.dues }
+        ensures sorted { IsStrictlySortedBy D.cmp self.new.dues }
+        ensures room { self.new.room ≡ self.old.room + count_of result }
+        ensures len { length self.old.dues ≡ length self.new.dues + count_of result }
+    {
         let dues = mem::replace(&mut self.tree, Tree::new());
         let taken = tree::take(dues, due);
         self.tree = taken.tree;
-        match taken.memory {
-            None => false,
-            Some(memory) => {
-                self.len -= 1;
-                self.spares.push_reserved(memory);
-                true
-            }
-        }
+        let found = taken.found?;
+        self.len -= 1;
+        self.spares.push_reserved(found.memory);
+        Some(found.item)
     }
 
     /// Takes all dues out of the queue. It takes no memory.

@@ -1,11 +1,11 @@
 //! A balanced tree: a list that is changed at a place in a number of steps that grows with the logarithm of its length.
-ghost use Rattle.std.specs.Prelude.{◌≡◌, ◌+◌, ◌^◌, ◌<◌, ◌≤◌, [], ◌∷◌, ◌++◌, length, max, MatchOption, is_some, slice_get, vec_len, vec_capacity, if◌then◌else◌, false};
+ghost use Rattle.std.specs.Prelude.{◌≡◌, ◌+◌, ◌^◌, ◌<◌, ◌≤◌, [], ◌∷◌, ◌++◌, length, max, MatchOption, option_map, slice_get, vec_len, vec_capacity, false};
 ghost use Rattle.std.specs.List.Sorted.{IsStrictlySortedBy};
 ghost use Rattle.std.specs.Option.{option_copied};
 ghost use Rattle.std.specs.BTreeSet.{insert_key};
 ghost use Rattle.amr_tables.specs.Balanced.{node_view, IsBalanced, DifferByAtMost, IsHeightOf, IsLow};
 ghost use Rattle.amr_tables.specs.Parted.{IsPartsOf, IsFirstOf};
-ghost use Rattle.amr_tables.specs.Queued.{has, without};
+ghost use Rattle.amr_tables.specs.Queued.{has, found, without, count_of};
 
 use std::cmp::Ordering;
 use std::marker::Model;
@@ -264,11 +264,18 @@ fn join<D: Drop>(left: Tree<D>, right: Tree<D>) -> Tree<D>
     }
 }
 
-/// What is left of a tree, and the memory of what was taken.
+/// An item that was taken out of a tree, and its memory.
+#[derive(Drop)]
+pub(crate) struct Found<D> {
+    pub(crate) item: D,
+    pub(crate) memory: Box<Node<D>>,
+}
+
+/// What is left of a tree, and what was taken out of it.
 #[derive(Drop)]
 pub(crate) struct Taken<D> {
     pub(crate) tree: Tree<D>,
-    pub(crate) memory: Option<Box<Node<D>>>,
+    pub(crate) found: Option<Found<D>>,
 }
 
 /// Takes an item out of a tree, if it's there.
@@ -276,14 +283,14 @@ pub(crate) fn take<D: Ord + Drop>(tree: Tree<D>, item: &D) -> Taken<D>
     requires sorted { IsStrictlySortedBy D.cmp tree.0 }
     requires fits { length tree.0 < 2 ^ 64 }
     ensures list { result.tree.0 ≡ without D.cmp tree.0 item.now }
-    ensures found { is_some result.memory ≡ has D.cmp tree.0 item.now }
-    ensures shorter { length tree.0 ≡ length result.tree.0 + (if is_some result.memory then 1 else 0) }
+    ensures found { option_map (λ f. f.item) result.found ≡ found D.cmp tree.0 item.now }
+    ensures shorter { length tree.0 ≡ length result.tree.0 + count_of result.found }
     ensures height { (tree.1 ≤ result.tree.1 + 1) × (result.tree.1 ≤ tree.1) }
 {
     let Some(parts) = tree.part() else {
         return Taken {
             tree: Tree::new(),
-            memory: None,
+            found: None,
         };
     };
     match item.cmp(&parts.item) {
@@ -291,18 +298,21 @@ pub(crate) fn take<D: Ord + Drop>(tree: Tree<D>, item: &D) -> Taken<D>
             let taken = take(parts.left, item);
             Taken {
                 tree: balance(parts.memory, taken.tree, parts.item, parts.right),
-                memory: taken.memory,
+                found: taken.found,
             }
         }
         Ordering::Equal => Taken {
             tree: join(parts.left, parts.right),
-            memory: Some(parts.memory),
+            found: Some(Found {
+                item: parts.item,
+                memory: parts.memory,
+            }),
         },
         Ordering::Greater => {
             let taken = take(parts.right, item);
             Taken {
                 tree: balance(parts.memory, parts.left, parts.item, taken.tree),
-                memory: taken.memory,
+                found: taken.found,
             }
         }
     }
