@@ -1,5 +1,6 @@
 -- A queue as a list.
-use Rattle.std.specs.Prelude.{◌≡◌, ℕ, ◌+◌, ◌≤◌, Bool, false, not, ◌||◌, ◌&&◌, IsTrue, Option, None, Some, List, [], ◌∷◌, length, refl}
+use Rattle.std.specs.Prelude.{◌≡◌, ℕ, ◌+◌, ◌≤◌, Bool, false, not, ◌||◌, ◌&&◌, IsTrue, Option, None, Some, List, [], ◌∷◌, length, map, refl}
+use Rattle.std.specs.Borrow.{Bor}
 use Rattle.std.specs.List.{list_any, find, filter}
 use Rattle.std.specs.List.Sorted.{IsStrictlySortedBy}
 use Rattle.std.specs.declared.cmp.Ordering.{Ordering}
@@ -15,6 +16,10 @@ pub record Queued (D : Type 0) : Type 0 where
 abbrev pub queued_code : {D : Type 0} → Coded D → Coded (Queued D)
 queued_code {D} d =
     code_by (List D × ℕ) (coded× (coded_list d) coded_ℕ) (λ q. (q.dues, q.room)) (λ p. record { dues = p.0; room = p.1 }) (λ _. refl)
+
+-- what the references of a list refer to
+abbrev pub values_of : {X : Type 0} → List (Bor X) → List X
+values_of = map (λ x. x.now)
 
 -- how many an Option is
 abbrev pub count_of : {X : Type 0} → Option X → ℕ

@@ -1,10 +1,10 @@
 //! The queue of what is due, in order.
-ghost use Rattle.std.specs.Prelude.{◌≡◌, ◌+◌, ◌<◌, ◌≤◌, [], length, OnOk, slice_get, IfSome, max, false, if◌then◌else◌};
+ghost use Rattle.std.specs.Prelude.{◌≡◌, ◌+◌, ◌<◌, ◌≤◌, [], length, OnOk, slice_get, IfSome, IfOk, max, false, if◌then◌else◌};
 ghost use Rattle.std.specs.Prelude.{vec_len, vec_capacity};
 ghost use Rattle.std.specs.List.Sorted.{IsStrictlySortedBy};
 ghost use Rattle.std.specs.Option.{option_copied};
 ghost use Rattle.std.specs.BTreeSet.{insert_key};
-ghost use Rattle.amr_tables.specs.Queued.{has, found, without, count_of, IsLeast, HasMore, HasLess};
+ghost use Rattle.amr_tables.specs.Queued.{values_of, has, found, without, count_of, IsLeast, HasMore, HasLess};
 
 use crate::tree::{self, Node, Tree};
 use std::alloc::{AllocError, Global};
@@ -76,6 +76,15 @@ impl<D: Ord + Drop> Queue<D> {
         ensures sorted { IsStrictlySortedBy D.cmp self.now.dues }
     {
         self.tree.first()
+    }
+
+    /// Lists the dues in order.
+    pub fn list(&self) -> Result<Vec<&D>, AllocError>
+        ensures { IfOk result (λ dues. values_of dues.items ≡ self.now.dues) }
+    {
+        let mut dues = Vec::new(self.alloc);
+        tree::list(&self.tree, &mut dues)?;
+        Ok(dues)
     }
 
     /// Makes room for `n` dues beside those that are there.

@@ -5,8 +5,10 @@ ghost use Rattle.std.specs.Option.{option_copied};
 ghost use Rattle.std.specs.BTreeSet.{insert_key};
 ghost use Rattle.amr_tables.specs.Balanced.{node_view, IsBalanced, DifferByAtMost, IsHeightOf, IsLow};
 ghost use Rattle.amr_tables.specs.Parted.{IsPartsOf, IsFirstOf};
-ghost use Rattle.amr_tables.specs.Queued.{has, found, without, count_of};
+ghost use Rattle.std.specs.Prelude.{OnOk};
+ghost use Rattle.amr_tables.specs.Queued.{values_of, has, found, without, count_of};
 
+use std::alloc::AllocError;
 use std::cmp::Ordering;
 use std::marker::Model;
 use std::mem;
@@ -208,6 +210,20 @@ pub(crate) fn contains<D: Ord>(tree: &Tree<D>, item: &D) -> bool
             },
         },
     }
+}
+
+/// Lists the items of a tree, in order, after those that are listed.
+pub(crate) fn list<'a, D>(tree: &'a Tree<D>, items: &mut Vec<&'a D>) -> Result<(), AllocError>
+    ensures { OnOk result (values_of items.new.items ≡ values_of items.old.items ++ tree.now.0) }
+{
+    if let Some(node) = &tree.root {
+        if let Node::Fork(left, item, _, right) = &**node {
+            list(left, items)?;
+            items.push(item)?;
+            list(right, items)?;
+        }
+    }
+    Ok(())
 }
 
 /// Puts an item into a tree in order, in memory that is at hand.

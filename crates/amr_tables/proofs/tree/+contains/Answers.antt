@@ -1,4 +1,4 @@
-use Rattle.std.proofs.Common.{◌≡◌, ◌<◌, ◌+◌, ◌++◌, ◌∷◌, ℕ, length, sym, ap, ◌∙◌, arith, length-append}
+use Rattle.std.proofs.Common.{◌≡◌, ◌+◌, ◌++◌, ◌∷◌, length, sym, ap, ◌∙◌, arith, length-append}
 use Rattle.std.specs.declared.cmp.Ordering.TheVariants.{Less, Greater}
 use Rattle.amr_tables.specs.Balanced.{node_view, root_view}
 use Rattle.amr_tables.proofs.Ascending.{left_is_sorted, right_is_sorted, has_left, has_right}

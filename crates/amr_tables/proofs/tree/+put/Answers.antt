@@ -1,6 +1,6 @@
-use Rattle.std.proofs.Common.{◌≡◌, ◌<◌, ◌+◌, ◌++◌, ◌∷◌, ℕ, true, false, length, sym, ap, ◌∙◌, arith, length-append}
+use Rattle.std.proofs.Common.{◌≡◌, ◌+◌, ◌++◌, ◌∷◌, false, length, sym, ap, ◌∙◌, arith, length-append}
 use Rattle.std.specs.Ordering.{is_lt}
-use Rattle.std.specs.declared.cmp.Ordering.TheVariants.{Less, Greater}
+use Rattle.std.specs.declared.cmp.Ordering.TheVariants.{Less}
 use Rattle.amr_tables.proofs.Ascending.{left_is_sorted, right_is_sorted, has_left, has_right, put_left, put_right, less_of, is_above}
 use Rattle.amr_tables.proofs.tree.+put.Goals as goal
 

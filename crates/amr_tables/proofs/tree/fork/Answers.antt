@@ -1,4 +1,4 @@
-use Rattle.std.proofs.Common.{◌≡◌, ◌+◌, ◌∷◌, ◌++◌, length, length-append, arith, sym, subst, max, ℕ}
+use Rattle.std.proofs.Common.{◌≡◌, ◌+◌, ◌∷◌, ◌++◌, length, length-append, arith, subst, max}
 use Rattle.amr_tables.specs.Balanced.{IsLow}
 use Rattle.amr_tables.proofs.Lowness.{fork_low}
 use Rattle.amr_tables.proofs.tree.fork.Goals as goal

@@ -1,5 +1,4 @@
-use Rattle.std.proofs.Common.{◌≡◌, ap, sym, ◌∙◌, subst, length, arith}
-use Rattle.std.specs.List.Sorted.{IsStrictlySortedBy}
+use Rattle.std.proofs.Common.{arith}
 use Rattle.amr_tables.proofs.Queueing.{sorted_none}
 use Rattle.amr_tables.proofs.queue.Queue.new.Goals as goal
 
