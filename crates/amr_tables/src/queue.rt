@@ -91,6 +91,7 @@ impl<D: Ord + Drop> Queue<D> {
     pub fn reserve(&mut self, n: usize) -> Result<(), AllocError>
         ensures room { OnOk result (n ≤ self.new.room) }
         ensures more { self.old.room ≤ self.new.room }
+        ensures at_most { self.new.room ≤ max self.old.room n }
         ensures dues { self.new.dues ≡ self.old.dues }
     {
         let spare = self.spares.len();

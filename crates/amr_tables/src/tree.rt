@@ -1,11 +1,11 @@
-//! A balanced tree: a list that is changed at a place in a number of steps that grows with the logarithm of its length.
-ghost use Rattle.std.specs.Prelude.{◌≡◌, ◌+◌, ◌^◌, ◌<◌, ◌≤◌, [], ◌∷◌, ◌++◌, length, max, MatchOption, option_map, slice_get, vec_len, vec_capacity, false};
+//! A balanced tree: a list that is changed at a place in a number of steps that grows with the logarithm of its length. Calls nest as
+//! deep as the tree is high, and its height is at most about twice that logarithm.
+ghost use Rattle.std.specs.Prelude.{◌≡◌, ◌+◌, ◌^◌, ◌<◌, ◌≤◌, [], ◌∷◌, ◌++◌, length, max, OnOk, MatchOption, option_map, slice_get, vec_len, vec_capacity, false};
 ghost use Rattle.std.specs.List.Sorted.{IsStrictlySortedBy};
 ghost use Rattle.std.specs.Option.{option_copied};
 ghost use Rattle.std.specs.BTreeSet.{insert_key};
 ghost use Rattle.amr_tables.specs.Balanced.{node_view, IsBalanced, DifferByAtMost, IsHeightOf, IsLow};
 ghost use Rattle.amr_tables.specs.Parted.{IsPartsOf, IsFirstOf};
-ghost use Rattle.std.specs.Prelude.{OnOk};
 ghost use Rattle.amr_tables.specs.Queued.{values_of, has, found, without, count_of};
 
 use std::alloc::AllocError;
@@ -25,8 +25,13 @@ pub(crate) struct Tree<D> {
 #[derive(Drop)]
 pub(crate) enum Node<D> {
     Spare,
-    /// What is left of an item, the item, the height, and what is right of it.
-    Fork(Tree<D>, D, usize, Tree<D>),
+    /// An item between what is before it and what is after it.
+    Fork {
+        left: Tree<D>,
+        item: D,
+        height: usize,
+        right: Tree<D>,
+    },
 }
 
 impl<D> Model for Tree<D> {
@@ -76,7 +81,7 @@ impl<D: Drop> Tree<D> {
             None => 0,
             Some(node) => match &**node {
                 Node::Spare => 0,
-                Node::Fork(_, _, height, _) => *height,
+                Node::Fork { height, .. } => *height,
             },
         }
     }
@@ -89,7 +94,7 @@ impl<D: Drop> Tree<D> {
             None => None,
             Some(node) => match &**node {
                 Node::Spare => None,
-                Node::Fork(left, item, _, _) => match left.first() {
+                Node::Fork { left, item, .. } => match left.first() {
                     None => Some(item),
                     Some(first) => Some(first),
                 },
@@ -104,7 +109,12 @@ impl<D: Drop> Tree<D> {
         let mut memory = self.root?;
         match mem::replace(&mut *memory, Node::Spare) {
             Node::Spare => None,
-            Node::Fork(left, item, _, right) => Some(Parts {
+            Node::Fork {
+                left,
+                item,
+                right,
+                ..
+            } => Some(Parts {
                 memory,
                 left,
                 item,
@@ -121,7 +131,12 @@ fn fork<D: Drop>(mut memory: Box<Node<D>>, left: Tree<D>, item: D, right: Tree<D
     ensures { result ≡ (left.0 ++ item ∷ right.0, max left.1 right.1 + 1) }
 {
     let height = left.height().max(right.height()) + 1;
-    *memory = Node::Fork(left, item, height, right);
+    *memory = Node::Fork {
+        left,
+        item,
+        height,
+        right,
+    };
     Tree { root: Some(memory) }
 }
 
@@ -203,7 +218,12 @@ pub(crate) fn contains<D: Ord>(tree: &Tree<D>, item: &D) -> bool
         None => false,
         Some(node) => match &**node {
             Node::Spare => false,
-            Node::Fork(left, here, _, right) => match item.cmp(here) {
+            Node::Fork {
+                left,
+                item: here,
+                right,
+                ..
+            } => match item.cmp(here) {
                 Ordering::Less => contains(left, item),
                 Ordering::Equal => true,
                 Ordering::Greater => contains(right, item),
@@ -217,7 +237,13 @@ pub(crate) fn list<'a, D>(tree: &'a Tree<D>, items: &mut Vec<&'a D>) -> Result<(
     ensures { OnOk result (values_of items.new.items ≡ values_of items.old.items ++ tree.now.0) }
 {
     if let Some(node) = &tree.root {
-        if let Node::Fork(left, item, _, right) = &**node {
+        if let Node::Fork {
+            left,
+            item,
+            right,
+            ..
+        } = &**node
+        {
             list(left, items)?;
             items.push(item)?;
             list(right, items)?;
