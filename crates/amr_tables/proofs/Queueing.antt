@@ -194,3 +194,20 @@ module _ {D : Type 0} (R : D → D → Ordering) where
     pub same_in_order : IsAntisymmetric R → (l m : List D) → ((q : D) → has R l q ≡ has R m q) → in_order R l ≡ in_order R m
     same_in_order exact l m same =
         same_from_members exact _ _ (sorted_in_order l) (sorted_in_order m) (λ q. has_in_order l q ∙ same q ∙ sym (has_in_order m q))
+
+    pub has_itself_inserted : (l : List D) (k : D) → has R (insert_key R l k) k ≡ true
+    has_itself_inserted l k = has_inserted l k k ∙ rw (tied_itself o k)
+
+    -- what is found is the due itself
+    pub found_itself : IsAntisymmetric R → (l : List D) (k : D) → has R l k ≡ true → found R l k ≡ Some k
+    found_itself exact [] k h = absurd (true≢false (sym h))
+    found_itself exact (x ∷ l) k h =
+        elim (eq_by_cmp R k x) as (λ b. eq_by_cmp R k x ≡ b → (b || has R l k) ≡ true → cond b (Some x) (found R l k) ≡ Some k) [
+          | true ↦ λ e _. ap Some (sym (exact k x (equal_of (R k x) e)))
+          | false ↦ λ _ w. found_itself exact l k w
+        ] refl h
+
+    pub without_in_order : IsAntisymmetric R → (l : List D) (k : D) → without R (in_order R l) k ≡ in_order R (without R l k)
+    without_in_order exact l k =
+        same_from_members exact _ _ (sorted_without (in_order R l) k (sorted_in_order l)) (sorted_in_order (without R l k))
+        (λ q. has_without (in_order R l) k q ∙ ap (λ b. not (eq_by_cmp R q k) && b) (has_in_order l q) ∙ sym (has_in_order (without R l k) q ∙ has_without l k q))
