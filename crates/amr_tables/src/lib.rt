@@ -1,4 +1,4 @@
-//! Tables whose places keep their values apart from their keys, and the journal of what is displaced in them.
+//! Tables whose places keep their values apart from their keys, the journal of what is displaced in them, and the queue of what is due.
 #![tactic(auto)]
 
 mod entries;
