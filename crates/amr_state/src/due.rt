@@ -32,7 +32,7 @@ pub struct Due {
 }
 
 /// The least that is due at or before a moment.
-#[tactic(auto, unfolding(crate::specs::Dues::next_due))]
+#[tactic(auto, using(crate::proofs::Least::first_in_order), unfolding(crate::specs::Dues::next_due))]
 pub fn next_due(store: &Store, at: Moment) -> Result<Option<Due>, AllocError>
     ensures due { IfOk result (λ due. due ≡ next_due at store.now.state) }
     ensures within { IfOk result (λ due. IfSome due (λ d. d.moment ≤ at)) }

@@ -226,6 +226,7 @@ impl Store {
     }
 
     /// The queue of what is due.
+    #[tactic(auto, unfolding(crate::specs::Dues::dues))]
     pub fn queue(&self) -> &Queue<Due>
         ensures { result.now.dues ≡ in_order due_cmp (dues self.now.state) }
     {
