@@ -1,10 +1,12 @@
-use Rattle.std.proofs.Common.{◌≡◌, [], ◌∷◌, ◌++◌, IsTrue, refl, sym, ap, subst, ◌∙◌}
+use Rattle.std.proofs.Common.{◌≡◌, Option, [], ◌∷◌, ◌++◌, IsTrue, refl, sym, ap, subst, ◌∙◌}
 use Rattle.amr_labels.specs.Map as map
 use Rattle.amr_labels.specs.Labels.{label_set_cmp}
 use Rattle.amr_tables.specs.Numbered.{shown, has_place, is_entered}
 use Rattle.amr_tables.proofs.Entering.{entry_of-none, entry_of-some, entered_again}
 use Rattle.amr_state.specs.declared.displaced.Displaced.{Displaced}
 use Rattle.amr_state.specs.declared.displaced.Displaced.TheVariants.{WasClock}
+use Rattle.amr_state.specs.declared.spot.Spot.{Spot}
+use Rattle.amr_state.specs.declared.note.Clock.{Clock}
 use Rattle.amr_state.specs.State.{spot_cmp, spot_cmp-IsAntisymmetric}
 use Rattle.amr_state.specs.Kept.{undone}
 use Rattle.amr_state.specs.declared.store.Store.TheInside.{Inside}
@@ -19,7 +21,7 @@ invariant_of-self-in-Some c =
     let b : Inside = record a { tables = record a.tables { timetable = t }; journal = c.push.new.self } in
     let e : Displaced = WasClock c.in_ok-copy.copy c.in-Some.was in
     let found : ◌≡◌ (c.in-Some._spot, c.in-Some.was) (c.args.group.now, map.get (shown spot_cmp a.tables.timetable.clocks) c.args.group.now) = entry_of-some spot_cmp a.tables.timetable.clocks c.args.group.now (c.in-Some._spot, c.in-Some.was) (sym c.in-Some.is ∙ c.in_ok-entry.ensures.entry) in
-    let is : ◌≡◌ (c.in_ok-copy.copy, c.in-Some.was) (c.args.group.now, map.get (shown spot_cmp a.tables.timetable.clocks) c.args.group.now) = λ i. (c.in_ok-copy.ensures i, (found i).1) in
+    let is : ◌≡◌ {A = Spot × Option Clock} (c.in_ok-copy.copy, c.in-Some.was) (c.args.group.now, map.get (shown spot_cmp a.tables.timetable.clocks) c.args.group.now) = λ i. (c.in_ok-copy.ensures i, (found i).1) in
     let pushed : c.push.new.self.current ≡ c.change_clock.new.journal.current ++ e ∷ [] = c.push.ensures.current in
     kept_entered a b e c.self.invariant (record { alerts = λ k h. subst (λ v. IsTrue (has_place label_set_cmp v k)) (sym c.change_clock.ensures.alerts) h; silences = λ k h. h; placements = λ k h. h; clocks = c.change_clock.ensures.places; log = λ k h. h })
     c.self.invariant.moment (c.push.ensures.closed ∙ c.change_clock.ensures.closed) (pushed ∙ ap (λ es. es ++ e ∷ []) c.change_clock.ensures.current)
@@ -34,8 +36,8 @@ invariant_of-self c =
     kept_grown a b c.self.invariant (record { alerts = λ k h. subst (λ v. IsTrue (has_place label_set_cmp v k)) (sym c.change_clock.ensures.alerts) h; silences = λ k h. h; placements = λ k h. h; clocks = c.change_clock.ensures.places; log = λ k h. h }) refl c.change_clock.ensures.closed c.change_clock.ensures.current
     (by_place (NoNewMark a.tables b.tables) (λ x h. h) (λ x h. h) (λ k v h. subst (λ x. IsTrue (is_entered label_set_cmp x k)) c.change_clock.ensures.alerts h) (λ k v h. h) (λ k v h. h) (λ q w h. subst IsTrue (c.in_err-entry.ensures.err.1 q) h) (λ k v h. h) (λ x h. h)) refl
 
-pub invariant_of-self-in_default : goal.invariant_of-self-in_default
-invariant_of-self-in_default c =
+pub invariant_of-self-in-None-1 : goal.invariant_of-self-in-None-1
+invariant_of-self-in-None-1 c =
     let a = c.self.inside in
     let t = c.change_clock.new.self in
     let b : Inside = record a { tables = record a.tables { timetable = t }; journal = c.change_clock.new.journal } in
@@ -50,7 +52,7 @@ returns-in-Some-clause-kept c =
     let change : Displaced = WasClock c.args.group.now c.args.clock in
     let e : Displaced = WasClock c.in_ok-copy.copy c.in-Some.was in
     let found : ◌≡◌ (c.in-Some._spot, c.in-Some.was) (c.args.group.now, map.get (shown spot_cmp a.tables.timetable.clocks) c.args.group.now) = entry_of-some spot_cmp a.tables.timetable.clocks c.args.group.now (c.in-Some._spot, c.in-Some.was) (sym c.in-Some.is ∙ c.in_ok-entry.ensures.entry) in
-    let is : ◌≡◌ (c.in_ok-copy.copy, c.in-Some.was) (c.args.group.now, map.get (shown spot_cmp a.tables.timetable.clocks) c.args.group.now) = λ i. (c.in_ok-copy.ensures i, (found i).1) in
+    let is : ◌≡◌ {A = Spot × Option Clock} (c.in_ok-copy.copy, c.in-Some.was) (c.args.group.now, map.get (shown spot_cmp a.tables.timetable.clocks) c.args.group.now) = λ i. (c.in_ok-copy.ensures i, (found i).1) in
     let pushed : c.push.new.self.current ≡ c.change_clock.new.journal.current ++ e ∷ [] = c.push.ensures.current in
     undone_pushed a b change e tt (λ i. record (state_of a) { alerts = shown label_set_cmp (c.change_clock.ensures.alerts i); clocks = c.in_ok-entry.ensures.shown i }) (ap (λ p. WasClock p.0 p.1) is)
     (pushed ∙ ap (λ es. es ++ e ∷ []) c.change_clock.ensures.current) (c.push.ensures.closed ∙ c.change_clock.ensures.closed) (c.push.ensures.records ∙ c.change_clock.ensures.record_room)
