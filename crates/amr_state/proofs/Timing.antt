@@ -1,7 +1,7 @@
 -- What is due of alerts and groups, and how it moves as one of them changes.
-use Rattle.std.proofs.Common.{◌≡◌, ◌≤◌, ◌+◌, ◌-◌, ◌*◌, ℕ, zero, suc, Bool, true, false, cond, not, ◌||◌, ◌&&◌, T, List, [], ◌∷◌, ◌++◌, Option, Some, None, map, length, length-append, refl, sym, ap, subst, ◌∙◌, arith}
+use Rattle.std.proofs.Common.{◌≡◌, ◌≤◌, ◌+◌, ◌*◌, ℕ, suc, Bool, true, false, cond, not, ◌||◌, ◌&&◌, T, List, [], ◌∷◌, ◌++◌, Option, Some, None, map, length, length-append, refl, sym, ap, subst, ◌∙◌, arith}
 use Rattle.std.specs.Prelude.{option_map, IfSome}
-use Rattle.std.specs.Option.{option_map_or, option_and_then}
+use Rattle.std.specs.Option.{option_map_or}
 use Rattle.std.specs.List.{filter_map, cons_option}
 use Rattle.std.specs.List.Sorted.{IsStrictlySortedBy}
 use Rattle.std.specs.declared.cmp.Ordering.{Ordering}
@@ -13,14 +13,13 @@ use Rattle.std.specs.FinMap.Entries.{below_all}
 use Rattle.std.specs.BTreeSet.{insert_key}
 use Rattle.std.proofs.lemmas.Bool.{true≢false}
 use Rattle.std.proofs.lemmas.List.Folds.{list_any-append}
-use Rattle.std.proofs.lemmas.Map.Views.{tells_apart}
 use Rattle.amr_labels.specs.Labels.{LabelSet, label_set_cmp, label_set_cmp_total, label_set_cmp-IsAntisymmetric}
 use Rattle.amr_labels.specs.Map.{Map, get, set, entries, len, get-set, get-entries, entries-sorted}
 use Rattle.amr_rules.specs.declared.alert.Alert.{Alert}
 use Rattle.amr_rules.specs.Muting.{Alerts}
 use Rattle.amr_time.specs.Time.{Moment, second, next_multiple_of}
 use Rattle.amr_tables.specs.Numbered.{Numbered, shown, HasPlaces}
-use Rattle.amr_tables.specs.Queued.{Queued, has, in_order, without, count_of}
+use Rattle.amr_tables.specs.Queued.{Queued, has, in_order, count_of}
 use Rattle.amr_tables.proofs.Queueing.{sorted_inserted, sorted_in_order, sorted_without, has_inserted, has_in_order, has_without, same_from_members}
 use Rattle.amr_state.specs.declared.note.Clock.{Clock}
 use Rattle.amr_state.specs.declared.spot.Spot.{Spot}
@@ -29,7 +28,7 @@ use Rattle.amr_state.specs.declared.due.Kind.{Kind}
 use Rattle.amr_state.specs.declared.due.Kind.TheVariants.{AlertRemoval, GroupRemoval, GroupFlush}
 use Rattle.amr_state.specs.declared.timetable.GroupMoments.{GroupMoments}
 use Rattle.amr_state.specs.State.{spot_at, spot_cmp, spot_cmp_total, spot_cmp-IsAntisymmetric}
-use Rattle.amr_state.specs.Dues.{kind_place, due_cmp, due_cmp_total, due_cmp-IsAntisymmetric, place_cmp, place_cmp_total, dues_of, alert_removal_at, alert_removal_of, group_removal_at, group_removal_of, flush_of}
+use Rattle.amr_state.specs.Dues.{kind_place, due_cmp, due_cmp_total, due_cmp-IsAntisymmetric, place_cmp_total, dues_of, alert_removal_at, alert_removal_of, group_removal_of, flush_of}
 use Rattle.amr_state.specs.Timed.{IsTimed, is_same, is_at, due_at, taken_at, put_at, moved, CanMove, CanMoveGroup, removal_of_alert, removal_of_group, flush_of_group, alert_moment, group_moments, flush_moved, group_moved}
 
 -- ---- truth values
@@ -358,6 +357,7 @@ alert_set a r f k w d =
         ap (λ alert. is_at n (alert_moment alert)) (get-set label_set_cmp_total a k w labels)
         ∙ of_either (λ alert. is_at n (alert_moment alert)) (eq_by_cmp label_set_cmp labels k) w (get a labels)
     picked n Greater labels = refl
+
     by : (n : ℕ) (kind : Kind) (route : ℕ) (labels : LabelSet) → is_at n (due_moment (set a k w) r f kind route labels)
         ≡ cond (is_same (due_with n kind route labels) (removal_of_alert k)) (is_at n (alert_moment w)) (is_at n (due_moment a r f kind route labels))
     by n AlertRemoval route labels = picked n (nat_cmp route 0) labels
@@ -371,6 +371,7 @@ alert_was a r f k d same = members a r f d ∙ by d.moment d.kind d.route d.labe
     picked n Less labels same = absurd (true≢false (sym same))
     picked n Equal labels same = ap (λ q. is_at n (alert_moment (get a q))) (label_set_cmp-IsAntisymmetric labels k (equal_of _ same))
     picked n Greater labels same = absurd (true≢false (sym same))
+
     by : (n : ℕ) (kind : Kind) (route : ℕ) (labels : LabelSet) → is_same (due_with n kind route labels) (removal_of_alert k) ≡ true → is_at n (due_moment a r f kind route labels) ≡ is_at n (alert_moment (get a k))
     by n AlertRemoval route labels same = picked n (nat_cmp route 0) labels same
     by n GroupRemoval route labels same = absurd (true≢false (sym same))
@@ -481,10 +482,10 @@ module _ (a : Alerts) (c : Clocks) (k : Spot) (w : Option Clock) where
       → CanMoveGroup (in_order due_cmp (dues_of a c)) spare k (group_moments (get c k)) (group_moments w)
   group_can_move spare first second = record {
     flush = can_in_order (dues_of a c) (dues_between a c (set c k w)) (flush_of_group k) (group_moments (get c k)).flush (group_moments w).flush spare (flush_was a c c k) (flush_set a c c k w)
-      (omega (arith, length_between a c (set c k w), first));
+        (omega (arith, length_between a c (set c k w), first));
     removal = λ left total. subst (λ l. CanMove l left (removal_of_group k) (group_moments (get c k)).removal (group_moments w).removal) (sym flush_is_moved)
-      (can_in_order (dues_between a c (set c k w)) (dues_of a (set c k w)) (removal_of_group k) (group_moments (get c k)).removal (group_moments w).removal left
-      (removal_was a c (set c k w) k) (removal_set a c (set c k w) k w) (omega (arith, length_between a (set c k w) (set c k w), second, total, ap length flush_is_moved)));
+        (can_in_order (dues_between a c (set c k w)) (dues_of a (set c k w)) (removal_of_group k) (group_moments (get c k)).removal (group_moments w).removal left
+        (removal_was a c (set c k w) k) (removal_set a c (set c k w) k w) (omega (arith, length_between a (set c k w) (set c k w), second, total, ap length flush_is_moved)));
   }
 
 -- ---- the tables and the queue after a change

@@ -13,8 +13,8 @@ ghost use Rattle.amr_state.specs.Dues.{due_cmp, dues};
 ghost use Rattle.amr_state.specs.Kept.{GrownBy, undone};
 
 use crate::displaced::Displaced;
-use crate::note::{Clock, LogKey, Note};
 use crate::due::Due;
+use crate::note::{Clock, LogKey, Note};
 use crate::spot::{Spot, TimedGroup};
 use crate::tables::Tables;
 use crate::timetable::Timetable;

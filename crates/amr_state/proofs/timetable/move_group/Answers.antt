@@ -4,7 +4,6 @@ use Rattle.amr_state.specs.declared.due.Due.{Due}
 use Rattle.amr_state.specs.declared.due.Kind.TheVariants.{GroupRemoval}
 use Rattle.amr_state.specs.declared.spot.Spot.{Spot}
 use Rattle.amr_state.specs.Timed.{CanMove, flush_moved}
-use Rattle.amr_state.proofs.Timing.{members}
 use Rattle.amr_state.proofs.timetable.move_group.Goals as goal
 
 pub move_due-requires-2 : goal.move_due-requires-2

@@ -1,4 +1,4 @@
-use Rattle.std.proofs.Common.{◌≡◌, ◌+◌, ◌≤◌, cond, ap, subst, ◌∙◌}
+use Rattle.std.proofs.Common.{◌+◌, ◌≤◌, cond, ap, subst, ◌∙◌}
 use Rattle.amr_labels.specs.Labels.{label_set_cmp}
 use Rattle.amr_tables.specs.Numbered.{places_for}
 use Rattle.amr_state.specs.Timed.{removal_of_alert}

@@ -1,4 +1,4 @@
-use Rattle.std.proofs.Common.{◌≡◌, ◌+◌, ◌*◌, ◌≤◌, IsTrue, cond, sym, ap, subst, ◌∙◌}
+use Rattle.std.proofs.Common.{◌+◌, ◌*◌, ◌≤◌, IsTrue, cond, sym, ap, subst, ◌∙◌}
 use Rattle.amr_tables.specs.Numbered.{has_place, places_for}
 use Rattle.amr_state.specs.State.{spot_cmp}
 use Rattle.amr_state.specs.Timed.{Timed}
