@@ -1,4 +1,5 @@
 pub mod Least
+pub mod Timing
 pub mod Placed
 pub mod Undoing
 pub mod Soundness

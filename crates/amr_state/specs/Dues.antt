@@ -8,10 +8,11 @@ use Rattle.std.specs.FinMap.{IsAntisymmetric}
 use Rattle.std.proofs.Common.{refl, sym, ap, ◌∙◌}
 use Rattle.std.proofs.lemmas.Cmp.{on_total, then_total}
 use Rattle.std.proofs.lemmas.Map.Lookups.{exact_pairs, exact_unsigned}
-use Rattle.amr_labels.specs.Map.{entries}
+use Rattle.amr_labels.specs.Map.{Map, entries}
 use Rattle.amr_labels.specs.Labels.{LabelSet, label_set_cmp, label_set_cmp_total}
 use Rattle.amr_time.specs.Time.{Moment, second, minute, next_multiple_of}
 use Rattle.amr_rules.specs.declared.alert.Alert.{Alert}
+use Rattle.amr_rules.specs.Muting.{Alerts}
 use Rattle.amr_state.specs.declared.note.Clock.{Clock}
 use Rattle.amr_state.specs.declared.due.Due.{Due}
 use Rattle.amr_state.specs.declared.due.Kind.{Kind}
@@ -29,6 +30,15 @@ abbrev pub due_cmp : Due → Due → Ordering
 due_cmp a b =
     ordering_then (nat_cmp a.moment b.moment) (ordering_then (nat_cmp (kind_place a.kind) (kind_place b.kind))
     (ordering_then (nat_cmp a.route b.route) (label_set_cmp a.labels b.labels)))
+
+-- what is due of whom: by kind, route and labels
+abbrev pub place_cmp : Due → Due → Ordering
+place_cmp a b = ordering_then (nat_cmp (kind_place a.kind) (kind_place b.kind)) (ordering_then (nat_cmp a.route b.route) (label_set_cmp a.labels b.labels))
+
+pub place_cmp_total : IsTotalOrder place_cmp
+place_cmp_total =
+    then_total (on_total (λ (due : Due). kind_place due.kind) nat_cmp_total)
+    (then_total (on_total (λ (due : Due). due.route) nat_cmp_total) (on_total (λ (due : Due). due.labels) label_set_cmp_total))
 
 pub due_cmp_total : IsTotalOrder due_cmp
 due_cmp_total =
@@ -60,15 +70,21 @@ due_cmp-IsAntisymmetric a b tie =
     λ i. record { moment = (parts i).0; kind = kinds i; route = (parts i).1.1.route; labels = (parts i).1.1.labels }
 
 -- a stored alert is removed at the first multiple of half an hour that is after its last post and not before its end
+abbrev pub alert_removal_at : Alert → Moment
+alert_removal_at alert = next_multiple_of (max alert.last_post (alert.ends_at - 1)) (30 * minute)
+
 abbrev pub alert_removal_of : LabelSet × Alert → Due
 alert_removal_of alert = record {
-  moment = next_multiple_of (max alert.1.last_post (alert.1.ends_at - 1)) (30 * minute);
+  moment = alert_removal_at alert.1;
   kind = AlertRemoval;
   route = 0;
   labels = alert.0;
 }
 
 -- a group is removed at the first multiple of half a minute after it became empty
+abbrev pub group_removal_at : Clock → Option Moment
+group_removal_at clock = option_map (λ since. next_multiple_of since (30 * second)) clock.empty_since
+
 abbrev pub group_removal_of : Spot × Clock → Option Due
 group_removal_of group =
     option_map (λ since. record { moment = next_multiple_of since (30 * second); kind = GroupRemoval; route = group.0.route; labels = group.0.labels }) group.1.empty_since
@@ -76,9 +92,12 @@ group_removal_of group =
 abbrev pub flush_of : Spot × Clock → Due
 flush_of group = record { moment = group.1.next_flush; kind = GroupFlush; route = group.0.route; labels = group.0.labels }
 
+abbrev pub dues_of : Alerts → Map spot_cmp Clock → List Due
+dues_of alerts clocks = map alert_removal_of (entries alerts) ++ filter_map group_removal_of (entries clocks) ++ map flush_of (entries clocks)
+
 -- all that is due, at whatever moment
 unfoldable pub dues : State → List Due
-dues s = map alert_removal_of (entries s.alerts) ++ filter_map group_removal_of (entries s.clocks) ++ map flush_of (entries s.clocks)
+dues s = dues_of s.alerts s.clocks
 
 -- the lesser of two, where there may be no second
 abbrev pub lesser_due : Due → Option Due → Due

@@ -1,7 +1,7 @@
 pub mod State
 pub mod Dues
+pub mod Timed
 pub mod Stored
-pub mod Coming
 pub mod Steps
 pub mod Seen
 pub mod Records

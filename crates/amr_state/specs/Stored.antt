@@ -19,10 +19,10 @@ abbrev pub state_of : Inside → State
 state_of store = record {
   moment = store.moment;
   config = store.config;
-  alerts = shown label_set_cmp store.tables.alerts;
+  alerts = shown label_set_cmp store.tables.timetable.alerts;
   silences = shown nat_cmp store.tables.silences;
   placements = shown spot_cmp store.tables.placements;
-  clocks = shown spot_cmp store.tables.clocks;
+  clocks = shown spot_cmp store.tables.timetable.clocks;
   log = shown log_key_cmp store.tables.log;
   notes = store.notes.items;
 }
@@ -39,10 +39,10 @@ kept_of store = record {
 abbrev pub IsSound : Tables → Displaced → Type 0
 IsSound tables (WasMoment moment) = moment ≤ latest_read
 IsSound tables (WasConfig config) = Unit {0}
-IsSound tables (WasAlert labels alert) = IsTrue (has_place label_set_cmp tables.alerts labels)
+IsSound tables (WasAlert labels alert) = IsTrue (has_place label_set_cmp tables.timetable.alerts labels)
 IsSound tables (WasSilence id silence) = IsTrue (has_place nat_cmp tables.silences id)
 IsSound tables (WasPlacement spot alert) = IsTrue (has_place spot_cmp tables.placements spot)
-IsSound tables (WasClock group clock) = IsTrue (has_place spot_cmp tables.clocks group)
+IsSound tables (WasClock group clock) = IsTrue (has_place spot_cmp tables.timetable.clocks group)
 IsSound tables (WasLogged key entry) = IsTrue (has_place log_key_cmp tables.log key)
 IsSound tables (WasNotes count) = Unit {0}
 
@@ -53,10 +53,10 @@ AreSound tables = AllByRecursion (IsSound tables)
 abbrev pub is_marked_at : Tables → Displaced → Bool
 is_marked_at tables (WasMoment moment) = tables.is_moment_entered
 is_marked_at tables (WasConfig config) = tables.is_config_entered
-is_marked_at tables (WasAlert labels alert) = is_entered label_set_cmp tables.alerts labels
+is_marked_at tables (WasAlert labels alert) = is_entered label_set_cmp tables.timetable.alerts labels
 is_marked_at tables (WasSilence id silence) = is_entered nat_cmp tables.silences id
 is_marked_at tables (WasPlacement spot alert) = is_entered spot_cmp tables.placements spot
-is_marked_at tables (WasClock group clock) = is_entered spot_cmp tables.clocks group
+is_marked_at tables (WasClock group clock) = is_entered spot_cmp tables.timetable.clocks group
 is_marked_at tables (WasLogged key entry) = is_entered log_key_cmp tables.log key
 is_marked_at tables (WasNotes count) = tables.are_notes_entered
 
@@ -66,18 +66,18 @@ IsUnmarked tables = (place : Displaced) → is_marked_at tables place ≡ false
 
 -- places are never lost
 pub record MorePlaces (a b : Tables) : Type 0 where
-  pub alerts : (k : LabelSet) → IsTrue (has_place label_set_cmp a.alerts k) → IsTrue (has_place label_set_cmp b.alerts k)
+  pub alerts : (k : LabelSet) → IsTrue (has_place label_set_cmp a.timetable.alerts k) → IsTrue (has_place label_set_cmp b.timetable.alerts k)
   pub silences : (k : ℕ) → IsTrue (has_place nat_cmp a.silences k) → IsTrue (has_place nat_cmp b.silences k)
   pub placements : (k : Spot) → IsTrue (has_place spot_cmp a.placements k) → IsTrue (has_place spot_cmp b.placements k)
-  pub clocks : (k : Spot) → IsTrue (has_place spot_cmp a.clocks k) → IsTrue (has_place spot_cmp b.clocks k)
+  pub clocks : (k : Spot) → IsTrue (has_place spot_cmp a.timetable.clocks k) → IsTrue (has_place spot_cmp b.timetable.clocks k)
   pub log : (k : LogKey) → IsTrue (has_place log_key_cmp a.log k) → IsTrue (has_place log_key_cmp b.log k)
 
 -- the same values
 pub record SameValues (a b : Tables) : Type 0 where
-  pub alerts : shown label_set_cmp b.alerts ≡ shown label_set_cmp a.alerts
+  pub alerts : shown label_set_cmp b.timetable.alerts ≡ shown label_set_cmp a.timetable.alerts
   pub silences : shown nat_cmp b.silences ≡ shown nat_cmp a.silences
   pub placements : shown spot_cmp b.placements ≡ shown spot_cmp a.placements
-  pub clocks : shown spot_cmp b.clocks ≡ shown spot_cmp a.clocks
+  pub clocks : shown spot_cmp b.timetable.clocks ≡ shown spot_cmp a.timetable.clocks
   pub log : shown log_key_cmp b.log ≡ shown log_key_cmp a.log
 
 -- every record can be put back, and each place that is marked has an entry in the open one

@@ -1,6 +1,6 @@
 //! What an event displaces: a place of the state, with the value that it had.
 use crate::note::{Clock, LogKey};
-use crate::spot::Spot;
+use crate::spot::{Spot, TimedGroup};
 use amr_config::Config;
 use amr_events::SilenceId;
 use amr_labels::Labels;
@@ -21,7 +21,7 @@ pub enum Displaced {
     /// The member of a route's group with these labels.
     WasPlacement(Spot, Option<Alert>),
     /// The timer of a group.
-    WasClock(Spot, Option<Clock>),
+    WasClock(TimedGroup, Option<Clock>),
     /// The entry of the notification log under this key.
     WasLogged(LogKey, Option<LogEntry>),
     /// The notifications so far: how many there were.

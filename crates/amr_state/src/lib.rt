@@ -9,6 +9,7 @@ mod placing;
 mod spot;
 mod store;
 mod tables;
+mod timetable;
 pub mod views;
 
 pub use displaced::Displaced;

@@ -6,19 +6,23 @@ ghost use Rattle.amr_labels.specs.Labels.{label_set_cmp};
 ghost use Rattle.amr_labels.specs.Map as map;
 ghost use Rattle.amr_labels.specs.Map.{len};
 ghost use Rattle.amr_tables.specs.Numbered.{shown};
+ghost use Rattle.amr_tables.specs.Queued.{in_order};
 ghost use Rattle.amr_time.specs.Time.{latest_read};
 ghost use Rattle.amr_state.specs.State.{start, spot_cmp, log_key_cmp};
+ghost use Rattle.amr_state.specs.Dues.{due_cmp, dues};
 ghost use Rattle.amr_state.specs.Kept.{GrownBy, undone};
 
 use crate::displaced::Displaced;
+use crate::due::Due;
 use crate::note::{Clock, LogKey, Note};
-use crate::spot::Spot;
+use crate::spot::{Spot, TimedGroup};
 use crate::tables::Tables;
+use crate::timetable::Timetable;
 use amr_config::Config;
 use amr_events::SilenceId;
 use amr_labels::{Labels, Shared};
 use amr_rules::{Alert, LogEntry, Silence};
-use amr_tables::{Journal, Keyed, change};
+use amr_tables::{Journal, Keyed, Queue, change};
 use amr_time::Moment;
 use std::alloc::{AllocError, Global};
 use std::marker::Model;
@@ -65,10 +69,9 @@ impl Store {
             moment: Moment::START,
             config,
             tables: Tables {
-                alerts: Keyed::new(alloc),
+                timetable: Timetable::new(alloc),
                 silences: Keyed::new(alloc),
                 placements: Keyed::new(alloc),
-                clocks: Keyed::new(alloc),
                 log: Keyed::new(alloc),
                 is_moment_entered: false,
                 is_config_entered: false,
@@ -123,10 +126,10 @@ impl Store {
         match self.journal.pop() {
             Displaced::WasMoment(was) => self.moment = was,
             Displaced::WasConfig(was) => self.config = was,
-            Displaced::WasAlert(labels, was) => drop(self.tables.alerts.displace(&labels, was)),
+            Displaced::WasAlert(labels, was) => self.tables.timetable.put_back_alert(labels, was),
             Displaced::WasSilence(id, was) => drop(self.tables.silences.displace(&id, was)),
             Displaced::WasPlacement(spot, was) => drop(self.tables.placements.displace(&spot, was)),
-            Displaced::WasClock(group, was) => drop(self.tables.clocks.displace(&group, was)),
+            Displaced::WasClock(group, was) => self.tables.timetable.put_back_clock(group, was),
             Displaced::WasLogged(key, was) => drop(self.tables.log.displace(&key, was)),
             Displaced::WasNotes(count) => self.notes.truncate(count),
         }
@@ -191,7 +194,7 @@ impl Store {
     pub fn alerts(&self) -> &Keyed<Labels, Alert>
         ensures { shown label_set_cmp result.now ≡ self.now.state.alerts }
     {
-        &self.tables.alerts
+        self.tables.timetable.alerts()
     }
 
     /// The silences, under their ids.
@@ -212,7 +215,7 @@ impl Store {
     pub fn clocks(&self) -> &Keyed<Spot, Clock>
         ensures { shown spot_cmp result.now ≡ self.now.state.clocks }
     {
-        &self.tables.clocks
+        self.tables.timetable.clocks()
     }
 
     /// The notification log.
@@ -220,6 +223,14 @@ impl Store {
         ensures { shown log_key_cmp result.now ≡ self.now.state.log }
     {
         &self.tables.log
+    }
+
+    /// The queue of what is due.
+    #[tactic(auto, unfolding(crate::specs::Dues::dues))]
+    pub fn queue(&self) -> &Queue<Due>
+        ensures { result.now.dues ≡ in_order due_cmp (dues self.now.state) }
+    {
+        self.tables.timetable.queue()
     }
 
     /// All notifications so far, in order.
@@ -367,7 +378,10 @@ impl Store {
         ensures kept { undone self.new ≡ undone self.old }
         ensures grown { GrownBy 1 self.old self.new }
     {
-        let entry = change(&mut self.tables.alerts, &mut self.journal, labels, alert)?;
+        let entry = self
+            .tables
+            .timetable
+            .change_alert(&mut self.journal, labels, alert)?;
         if let Some((labels, was)) = entry {
             self.journal.push(Displaced::WasAlert(labels, was));
         }
@@ -406,9 +420,13 @@ impl Store {
         ensures kept { undone self.new ≡ undone self.old }
         ensures grown { GrownBy 1 self.old self.new }
     {
-        let entry = change(&mut self.tables.clocks, &mut self.journal, group, clock)?;
-        if let Some((group, was)) = entry {
-            self.journal.push(Displaced::WasClock(group, was));
+        let copy = TimedGroup::of(group)?;
+        let entry = self
+            .tables
+            .timetable
+            .change_clock(&mut self.journal, group, clock)?;
+        if let Some((_spot, was)) = entry {
+            self.journal.push(Displaced::WasClock(copy, was));
         }
         Ok(())
     }
@@ -432,7 +450,7 @@ impl Store {
         ensures kept { undone self.new ≡ undone self.old }
         ensures grown { GrownBy (len self.old.state.clocks) self.old self.new }
     {
-        let groups = keys_of(self.alloc, &self.tables.clocks)?;
+        let groups = keys_of(self.alloc, self.tables.timetable.clocks())?;
         for group in &groups {
             self.change_clock(group, None)?;
         }

@@ -1,10 +1,10 @@
 //! The tables of the state.
 ghost use Rattle.amr_state.specs.Stored.{SameValues, MorePlaces, IsUnmarked};
 
-use crate::note::{Clock, LogKey};
+use crate::note::LogKey;
 use crate::spot::Spot;
+use crate::timetable::Timetable;
 use amr_events::SilenceId;
-use amr_labels::Labels;
 use amr_rules::{Alert, LogEntry, Silence};
 use amr_tables::Keyed;
 
@@ -12,10 +12,9 @@ use amr_tables::Keyed;
 /// in no table the marks are here too.
 #[derive(Drop)]
 pub(crate) struct Tables {
-    pub(crate) alerts: Keyed<Labels, Alert>,
+    pub(crate) timetable: Timetable,
     pub(crate) silences: Keyed<SilenceId, Silence>,
     pub(crate) placements: Keyed<Spot, Alert>,
-    pub(crate) clocks: Keyed<Spot, Clock>,
     pub(crate) log: Keyed<LogKey, LogEntry>,
     pub(crate) is_moment_entered: bool,
     pub(crate) is_config_entered: bool,
@@ -29,10 +28,9 @@ impl Tables {
         ensures places { MorePlaces self.old self.new }
         ensures marks { IsUnmarked self.new }
     {
-        self.alerts.clear_entered();
+        self.timetable.clear_entered();
         self.silences.clear_entered();
         self.placements.clear_entered();
-        self.clocks.clear_entered();
         self.log.clear_entered();
         self.is_moment_entered = false;
         self.is_config_entered = false;

@@ -1,3 +1,6 @@
 pub mod Entering
 pub mod Marking
 pub mod Numbering
+pub mod Lowness
+pub mod Ascending
+pub mod Queueing

@@ -1,12 +1,12 @@
 -- Values under numbered keys.
-use Rattle.std.specs.Prelude.{◌≡◌, ℕ, Bool, false, List, Option, None, Some, if◌then◌else◌, is_some, ◌||◌, option_map, ◌<◌, ◌≤◌, T, length, refl}
+use Rattle.std.specs.Prelude.{◌≡◌, ℕ, Bool, false, List, Option, None, Some, if◌then◌else◌, is_some, ◌||◌, option_map, ◌<◌, ◌≤◌, ◌+◌, T, length, refl}
 use Rattle.std.specs.Option.{option_map_or}
 use Rattle.std.specs.List.{filter_map}
 use Rattle.std.specs.declared.cmp.Ordering.{Ordering}
 use Rattle.std.specs.Ordering.{eq_by_cmp}
 use Rattle.std.specs.FinMap.{find, is_sorted}
 use Rattle.std.specs.Coded.{Coded, code_by, coded×, coded_ℕ, coded_bool, coded_list, coded_option}
-use Rattle.amr_labels.specs.Map.{Map, from_sorted, get}
+use Rattle.amr_labels.specs.Map.{Map, from_sorted, get, len}
 use Rattle.amr_tables.specs.Places.{value_at}
 use Rattle.amr_tables.specs.Marked.{is_marked}
 
@@ -52,6 +52,18 @@ module _ {K V : Type 0} where
     -- the key's place is entered, and each that was before
     abbrev pub Enters : Numbered K V → Numbered K V → K → Type 0
     Enters old changed key = (other : K) → is_entered changed other ≡ (eq_by_cmp R other key || is_entered old other)
+
+    -- a change adds at most this many keys, and loses none
+    abbrev pub GrowsBy : ℕ → Numbered K V → Numbered K V → Type 0
+    GrowsBy n old changed = (length old.numbers ≤ length changed.numbers) × (length changed.numbers ≤ length old.numbers + n)
+
+    -- how many places a change of the key's value makes
+    abbrev pub places_for : Numbered K V → K → ℕ
+    places_for t key = if has_place t key then 0 else 1
+
+    -- there are as many keys as values, or more
+    abbrev pub HasPlaces : Numbered K V → Type 0
+    HasPlaces t = len (shown t) ≤ length t.numbers
 
     -- the tables show the same, and the same places are entered
     abbrev pub IsUnchanged : Numbered K V → Numbered K V → Type 0

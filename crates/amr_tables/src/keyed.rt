@@ -1,10 +1,10 @@
 //! Values under keys, each at the place of the key's number.
-ghost use Rattle.std.specs.Prelude.{◌≡◌, ◌||◌, IsTrue, Option, is_some, false, OnOk, OnErr, IfOk, ◌<◌};
+ghost use Rattle.std.specs.Prelude.{◌≡◌, ◌||◌, [], IsTrue, Option, is_some, false, OnOk, OnErr, IfOk, ◌<◌};
 ghost use Rattle.std.specs.Option.{option_copied};
 ghost use Rattle.std.specs.Ordering.{eq_by_cmp};
 ghost use Rattle.std.specs.FinMap.{IsAntisymmetric};
 ghost use Rattle.amr_labels.specs.Map as map;
-ghost use Rattle.amr_tables.specs.Numbered.{shown, has_place, is_entered, entry_of, Enters, IsUnchanged};
+ghost use Rattle.amr_tables.specs.Numbered.{shown, has_place, is_entered, entry_of, Enters, IsUnchanged, GrowsBy, HasPlaces, places_for};
 
 use crate::entries::Entries;
 use crate::journal::Journal;
@@ -53,6 +53,8 @@ impl<K: Key + Drop, V: Drop> Keyed<K, V> {
     pub fn new(alloc: Global) -> Keyed<K, V>
         ensures shown { shown K.cmp result ≡ map.empty }
         ensures entered { (key : K) → is_entered K.cmp result key ≡ false }
+        ensures keys { result.numbers ≡ [] }
+        ensures enough { HasPlaces K.cmp result }
     {
         Keyed {
             numbers: BTreeMap::new(alloc),
@@ -94,6 +96,7 @@ impl<K: Key + Drop, V: Drop> Keyed<K, V> {
         ensures places { (other : K) → IsTrue (has_place K.cmp self.old other) → IsTrue (has_place K.cmp self.new other) }
         ensures shown { shown K.cmp self.new ≡ shown K.cmp self.old }
         ensures entered { (other : K) → is_entered K.cmp self.new other ≡ is_entered K.cmp self.old other }
+        ensures keys { GrowsBy K.cmp (places_for K.cmp self.old key) self.old self.new }
     {
         if self.numbers.contains_key(&key) {
             return Ok(());
@@ -112,6 +115,8 @@ impl<K: Key + Drop, V: Drop> Keyed<K, V> {
         ensures shown { shown K.cmp self.new ≡ map.set (shown K.cmp self.old) key.now value }
         ensures places { (other : K) → has_place K.cmp self.new other ≡ has_place K.cmp self.old other }
         ensures entered { (other : K) → is_entered K.cmp self.new other ≡ is_entered K.cmp self.old other }
+        ensures keys { self.new.numbers ≡ self.old.numbers }
+        ensures enough { HasPlaces K.cmp self.new }
     {
         match self.numbers.get(key) {
             Some(number) => self.slots.displace(*number, value),
@@ -135,6 +140,7 @@ impl<K: Key + Drop, V: Drop> Keyed<K, V> {
         ensures entered { (other : K) → is_entered K.cmp self.new other ≡ (eq_by_cmp K.cmp other key.now || is_entered K.cmp self.old other) }
         ensures shown { shown K.cmp self.new ≡ shown K.cmp self.old }
         ensures places { (other : K) → has_place K.cmp self.new other ≡ has_place K.cmp self.old other }
+        ensures keys { self.new.numbers ≡ self.old.numbers }
     {
         match self.numbers.get(key) {
             Some(number) => self.entered.mark(*number),
@@ -147,6 +153,7 @@ impl<K: Key + Drop, V: Drop> Keyed<K, V> {
         ensures entered { (key : K) → is_entered K.cmp self.new key ≡ false }
         ensures shown { shown K.cmp self.new ≡ shown K.cmp self.old }
         ensures places { (key : K) → has_place K.cmp self.new key ≡ has_place K.cmp self.old key }
+        ensures keys { self.new.numbers ≡ self.old.numbers }
     {
         self.entered.clear();
     }
@@ -165,6 +172,8 @@ pub fn change<K: Key + Exact + Drop, V: Drop, E>(
     ensures entered { OnOk result (Enters K.cmp table.old table.new key.now) }
     ensures made { OnOk result (IsTrue (has_place K.cmp table.new key.now)) }
     ensures err { OnErr result (IsUnchanged K.cmp table.old table.new) }
+    ensures keys { GrowsBy K.cmp (places_for K.cmp table.old key.now) table.old table.new }
+    ensures enough { OnOk result (HasPlaces K.cmp table.new) }
     ensures places { (other : K) → IsTrue (has_place K.cmp table.old other) → IsTrue (has_place K.cmp table.new other) }
     ensures room { IfOk result (λ entry. IsTrue (is_some entry) → 0 < journal.new.entry_room) }
     ensures closed { journal.new.closed ≡ journal.old.closed }
@@ -191,6 +200,7 @@ fn make_room<K: Key + Exact + Drop, V: Drop, E>(
     ensures made { OnOk result (IsTrue (has_place K.cmp table.new key.now)) }
     ensures places { (other : K) → IsTrue (has_place K.cmp table.old other) → IsTrue (has_place K.cmp table.new other) }
     ensures same { IsUnchanged K.cmp table.old table.new }
+    ensures keys { GrowsBy K.cmp (places_for K.cmp table.old key.now) table.old table.new }
     ensures room { OnOk result (0 < journal.new.entry_room) }
     ensures closed { journal.new.closed ≡ journal.old.closed }
     ensures current { journal.new.current ≡ journal.old.current }

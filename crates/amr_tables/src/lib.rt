@@ -1,16 +1,20 @@
-//! Tables whose places keep their values apart from their keys, and the journal of what is displaced in them.
+//! Tables whose places keep their values apart from their keys, the journal of what is displaced in them, and the queue of what is due.
 #![tactic(auto)]
 
 mod entries;
 mod journal;
 mod keyed;
+pub mod laws;
 mod marks;
+mod queue;
 mod slots;
 mod table;
+mod tree;
 
 pub use entries::Entries;
 pub use journal::Journal;
 pub use keyed::{Key, Keyed, change};
 pub use marks::Marks;
+pub use queue::Queue;
 pub use slots::Slots;
 pub use table::{Table, put_back};

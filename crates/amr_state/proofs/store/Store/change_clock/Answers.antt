@@ -1,9 +1,12 @@
-use Rattle.std.proofs.Common.{◌≡◌, [], ◌∷◌, ◌++◌, IsTrue, refl, sym, ap, subst, ◌∙◌}
+use Rattle.std.proofs.Common.{◌≡◌, Option, [], ◌∷◌, ◌++◌, IsTrue, refl, sym, ap, subst, ◌∙◌}
 use Rattle.amr_labels.specs.Map as map
-use Rattle.amr_tables.specs.Numbered.{shown, has_place}
+use Rattle.amr_labels.specs.Labels.{label_set_cmp}
+use Rattle.amr_tables.specs.Numbered.{shown, has_place, is_entered}
 use Rattle.amr_tables.proofs.Entering.{entry_of-none, entry_of-some, entered_again}
 use Rattle.amr_state.specs.declared.displaced.Displaced.{Displaced}
 use Rattle.amr_state.specs.declared.displaced.Displaced.TheVariants.{WasClock}
+use Rattle.amr_state.specs.declared.spot.Spot.{Spot}
+use Rattle.amr_state.specs.declared.note.Clock.{Clock}
 use Rattle.amr_state.specs.State.{spot_cmp, spot_cmp-IsAntisymmetric}
 use Rattle.amr_state.specs.Kept.{undone}
 use Rattle.amr_state.specs.declared.store.Store.TheInside.{Inside}
@@ -14,50 +17,52 @@ use Rattle.amr_state.proofs.store.Store.change_clock.Goals as goal
 pub invariant_of-self-in-Some : goal.invariant_of-self-in-Some
 invariant_of-self-in-Some c =
     let a = c.self.inside in
-    let t = c.change.new.table in
-    let b : Inside = record a { tables = record a.tables { clocks = t }; journal = c.push.new.self } in
-    let e : Displaced = WasClock c.in-Some.group c.in-Some.was in
-    let is : ◌≡◌ (c.in-Some.group, c.in-Some.was) (c.args.group.now, map.get (shown spot_cmp a.tables.clocks) c.args.group.now) = entry_of-some spot_cmp a.tables.clocks c.args.group.now (c.in-Some.group, c.in-Some.was) (sym c.in-Some.is ∙ c.in_ok-entry.ensures.entry) in
-    let pushed : c.push.new.self.current ≡ c.change.new.journal.current ++ e ∷ [] = c.push.ensures.current in
-    kept_entered a b e c.self.invariant (record { alerts = λ k h. h; silences = λ k h. h; placements = λ k h. h; clocks = c.change.ensures.places; log = λ k h. h })
-    c.self.invariant.moment (c.push.ensures.closed ∙ c.change.ensures.closed) (pushed ∙ ap (λ es. es ++ e ∷ []) c.change.ensures.current)
-    (subst (λ k. IsTrue (has_place spot_cmp t k)) (sym (ap (λ p. p.0) is)) c.in_ok-entry.ensures.made)
-    (subst (λ k. (place : Displaced) → NewMarkAt (WasClock k c.in-Some.was) a.tables b.tables place) (sym (ap (λ p. p.0) is)) (by_place (NewMarkAt (WasClock c.args.group.now c.in-Some.was) a.tables b.tables) (λ x h. h) (λ x h. h) (λ k v h. h) (λ k v h. h) (λ k v h. h) (λ q w h. subst IsTrue (c.in_ok-entry.ensures.entered q) h) (λ k v h. h) (λ x h. h))) refl refl
+    let t = c.change_clock.new.self in
+    let b : Inside = record a { tables = record a.tables { timetable = t }; journal = c.push.new.self } in
+    let e : Displaced = WasClock c.in_ok-copy.copy c.in-Some.was in
+    let found : ◌≡◌ (c.in-Some._spot, c.in-Some.was) (c.args.group.now, map.get (shown spot_cmp a.tables.timetable.clocks) c.args.group.now) = entry_of-some spot_cmp a.tables.timetable.clocks c.args.group.now (c.in-Some._spot, c.in-Some.was) (sym c.in-Some.is ∙ c.in_ok-entry.ensures.entry) in
+    let is : ◌≡◌ {A = Spot × Option Clock} (c.in_ok-copy.copy, c.in-Some.was) (c.args.group.now, map.get (shown spot_cmp a.tables.timetable.clocks) c.args.group.now) = λ i. (c.in_ok-copy.ensures i, (found i).1) in
+    let pushed : c.push.new.self.current ≡ c.change_clock.new.journal.current ++ e ∷ [] = c.push.ensures.current in
+    kept_entered a b e c.self.invariant (record { alerts = λ k h. subst (λ v. IsTrue (has_place label_set_cmp v k)) (sym c.change_clock.ensures.alerts) h; silences = λ k h. h; placements = λ k h. h; clocks = c.change_clock.ensures.places; log = λ k h. h })
+    c.self.invariant.moment (c.push.ensures.closed ∙ c.change_clock.ensures.closed) (pushed ∙ ap (λ es. es ++ e ∷ []) c.change_clock.ensures.current)
+    (subst (λ k. IsTrue (has_place spot_cmp t.clocks k)) (sym (ap (λ p. p.0) is)) c.in_ok-entry.ensures.made)
+    (subst (λ k. (place : Displaced) → NewMarkAt (WasClock k c.in-Some.was) a.tables b.tables place) (sym (ap (λ p. p.0) is)) (by_place (NewMarkAt (WasClock c.args.group.now c.in-Some.was) a.tables b.tables) (λ x h. h) (λ x h. h) (λ k v h. subst (λ x. IsTrue (is_entered label_set_cmp x k)) c.change_clock.ensures.alerts h) (λ k v h. h) (λ k v h. h) (λ q w h. subst IsTrue (c.in_ok-entry.ensures.entered q) h) (λ k v h. h) (λ x h. h))) refl refl
 
 pub invariant_of-self : goal.invariant_of-self
 invariant_of-self c =
     let a = c.self.inside in
-    let t = c.change.new.table in
-    let b : Inside = record a { tables = record a.tables { clocks = t }; journal = c.change.new.journal } in
-    kept_grown a b c.self.invariant (record { alerts = λ k h. h; silences = λ k h. h; placements = λ k h. h; clocks = c.change.ensures.places; log = λ k h. h }) refl c.change.ensures.closed c.change.ensures.current
-    (by_place (NoNewMark a.tables b.tables) (λ x h. h) (λ x h. h) (λ k v h. h) (λ k v h. h) (λ k v h. h) (λ q w h. subst IsTrue (c.in_err-entry.ensures.err.1 q) h) (λ k v h. h) (λ x h. h)) refl
+    let t = c.change_clock.new.self in
+    let b : Inside = record a { tables = record a.tables { timetable = t }; journal = c.change_clock.new.journal } in
+    kept_grown a b c.self.invariant (record { alerts = λ k h. subst (λ v. IsTrue (has_place label_set_cmp v k)) (sym c.change_clock.ensures.alerts) h; silences = λ k h. h; placements = λ k h. h; clocks = c.change_clock.ensures.places; log = λ k h. h }) refl c.change_clock.ensures.closed c.change_clock.ensures.current
+    (by_place (NoNewMark a.tables b.tables) (λ x h. h) (λ x h. h) (λ k v h. subst (λ x. IsTrue (is_entered label_set_cmp x k)) c.change_clock.ensures.alerts h) (λ k v h. h) (λ k v h. h) (λ q w h. subst IsTrue (c.in_err-entry.ensures.err.1 q) h) (λ k v h. h) (λ x h. h)) refl
 
-pub invariant_of-self-in_default : goal.invariant_of-self-in_default
-invariant_of-self-in_default c =
+pub invariant_of-self-in-None-1 : goal.invariant_of-self-in-None-1
+invariant_of-self-in-None-1 c =
     let a = c.self.inside in
-    let t = c.change.new.table in
-    let b : Inside = record a { tables = record a.tables { clocks = t }; journal = c.change.new.journal } in
-    let marked = entry_of-none spot_cmp a.tables.clocks c.args.group.now (taken _ c.in_default.not-Some ∙ c.in_ok-entry.ensures.entry) in
-    kept_grown a b c.self.invariant (record { alerts = λ k h. h; silences = λ k h. h; placements = λ k h. h; clocks = c.change.ensures.places; log = λ k h. h }) refl c.change.ensures.closed c.change.ensures.current
-    (by_place (NoNewMark a.tables b.tables) (λ x h. h) (λ x h. h) (λ k v h. h) (λ k v h. h) (λ k v h. h) (λ q w h. entered_again spot_cmp spot_cmp-IsAntisymmetric a.tables.clocks t c.args.group.now q marked c.in_ok-entry.ensures.entered h) (λ k v h. h) (λ x h. h)) refl
+    let t = c.change_clock.new.self in
+    let b : Inside = record a { tables = record a.tables { timetable = t }; journal = c.change_clock.new.journal } in
+    let marked = entry_of-none spot_cmp a.tables.timetable.clocks c.args.group.now (taken _ c.in_default.not-Some ∙ c.in_ok-entry.ensures.entry) in
+    kept_grown a b c.self.invariant (record { alerts = λ k h. subst (λ v. IsTrue (has_place label_set_cmp v k)) (sym c.change_clock.ensures.alerts) h; silences = λ k h. h; placements = λ k h. h; clocks = c.change_clock.ensures.places; log = λ k h. h }) refl c.change_clock.ensures.closed c.change_clock.ensures.current
+    (by_place (NoNewMark a.tables b.tables) (λ x h. h) (λ x h. h) (λ k v h. subst (λ x. IsTrue (is_entered label_set_cmp x k)) c.change_clock.ensures.alerts h) (λ k v h. h) (λ k v h. h) (λ q w h. entered_again spot_cmp spot_cmp-IsAntisymmetric a.tables.timetable.clocks t.clocks c.args.group.now q marked c.in_ok-entry.ensures.entered h) (λ k v h. h) (λ x h. h)) refl
 
 pub returns-in-Some-clause-kept : goal.returns-in-Some-clause-kept
 returns-in-Some-clause-kept c =
     let a = c.self.inside in
-    let b : Inside = record a { tables = record a.tables { clocks = c.change.new.table }; journal = c.push.new.self } in
+    let b : Inside = record a { tables = record a.tables { timetable = c.change_clock.new.self }; journal = c.push.new.self } in
     let change : Displaced = WasClock c.args.group.now c.args.clock in
-    let e : Displaced = WasClock c.in-Some.group c.in-Some.was in
-    let is : ◌≡◌ (c.in-Some.group, c.in-Some.was) (c.args.group.now, map.get (shown spot_cmp a.tables.clocks) c.args.group.now) = entry_of-some spot_cmp a.tables.clocks c.args.group.now (c.in-Some.group, c.in-Some.was) (sym c.in-Some.is ∙ c.in_ok-entry.ensures.entry) in
-    let pushed : c.push.new.self.current ≡ c.change.new.journal.current ++ e ∷ [] = c.push.ensures.current in
-    undone_pushed a b change e tt (ap (λ m. record (state_of a) { clocks = m }) c.in_ok-entry.ensures.shown) (ap (λ p. WasClock p.0 p.1) is)
-    (pushed ∙ ap (λ es. es ++ e ∷ []) c.change.ensures.current) (c.push.ensures.closed ∙ c.change.ensures.closed) (c.push.ensures.records ∙ c.change.ensures.record_room)
+    let e : Displaced = WasClock c.in_ok-copy.copy c.in-Some.was in
+    let found : ◌≡◌ (c.in-Some._spot, c.in-Some.was) (c.args.group.now, map.get (shown spot_cmp a.tables.timetable.clocks) c.args.group.now) = entry_of-some spot_cmp a.tables.timetable.clocks c.args.group.now (c.in-Some._spot, c.in-Some.was) (sym c.in-Some.is ∙ c.in_ok-entry.ensures.entry) in
+    let is : ◌≡◌ {A = Spot × Option Clock} (c.in_ok-copy.copy, c.in-Some.was) (c.args.group.now, map.get (shown spot_cmp a.tables.timetable.clocks) c.args.group.now) = λ i. (c.in_ok-copy.ensures i, (found i).1) in
+    let pushed : c.push.new.self.current ≡ c.change_clock.new.journal.current ++ e ∷ [] = c.push.ensures.current in
+    undone_pushed a b change e tt (λ i. record (state_of a) { alerts = shown label_set_cmp (c.change_clock.ensures.alerts i); clocks = c.in_ok-entry.ensures.shown i }) (ap (λ p. WasClock p.0 p.1) is)
+    (pushed ∙ ap (λ es. es ++ e ∷ []) c.change_clock.ensures.current) (c.push.ensures.closed ∙ c.change_clock.ensures.closed) (c.push.ensures.records ∙ c.change_clock.ensures.record_room)
     ∙ ap undone c.self.view_is
 
 pub returns-in_default-clause-kept : goal.returns-in_default-clause-kept
 returns-in_default-clause-kept c =
     let a = c.self.inside in
-    let b : Inside = record a { tables = record a.tables { clocks = c.change.new.table }; journal = c.change.new.journal } in
+    let b : Inside = record a { tables = record a.tables { timetable = c.change_clock.new.self }; journal = c.change_clock.new.journal } in
     let change : Displaced = WasClock c.args.group.now c.args.clock in
-    let marked = entry_of-none spot_cmp a.tables.clocks c.args.group.now (taken _ c.in_default.not-Some ∙ c.in_ok-entry.ensures.entry) in
-    undone_covered a b change c.self.invariant tt marked (ap (λ m. record (state_of a) { clocks = m }) c.in_ok-entry.ensures.shown) c.change.ensures.current c.change.ensures.closed c.change.ensures.record_room
+    let marked = entry_of-none spot_cmp a.tables.timetable.clocks c.args.group.now (taken _ c.in_default.not-Some ∙ c.in_ok-entry.ensures.entry) in
+    undone_covered a b change c.self.invariant tt marked (λ i. record (state_of a) { alerts = shown label_set_cmp (c.change_clock.ensures.alerts i); clocks = c.in_ok-entry.ensures.shown i }) c.change_clock.ensures.current c.change_clock.ensures.closed c.change_clock.ensures.record_room
     ∙ ap undone c.self.view_is

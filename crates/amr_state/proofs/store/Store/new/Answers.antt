@@ -4,6 +4,6 @@ use Rattle.amr_state.proofs.store.Store.new.Goals as goal
 
 pub invariant_of-result-2 : goal.invariant_of-result-2
 invariant_of-result-2 c =
-    kept_unmarked _ (lit≤ tt) (all-none _ _ c.new-7.ensures.current) (all-none _ _ c.new-7.ensures.closed)
-    (by_place _ (λ x. refl) (λ x. refl) (λ k v. c.new.ensures.entered k) (λ k v. c.new-2.ensures.entered k) (λ k v. c.new-3.ensures.entered k) (λ k v. c.new-4.ensures.entered k)
-    (λ k v. c.new-5.ensures.entered k) (λ x. refl))
+    kept_unmarked _ (lit≤ tt) (all-none _ _ c.new-6.ensures.current) (all-none _ _ c.new-6.ensures.closed)
+    (by_place _ (λ x. refl) (λ x. refl) (λ k v. c.new.ensures.alerts_entered k) (λ k v. c.new-2.ensures.entered k) (λ k v. c.new-3.ensures.entered k) (λ k v. c.new.ensures.clocks_entered k)
+    (λ k v. c.new-4.ensures.entered k) (λ x. refl))

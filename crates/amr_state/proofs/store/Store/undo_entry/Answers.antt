@@ -1,7 +1,10 @@
 use Rattle.std.proofs.Common.{IsTrue, sym, ap, subst, ◌∙◌}
 use Rattle.amr_labels.specs.Map as map
+use Rattle.amr_labels.specs.Labels.{label_set_cmp}
+use Rattle.amr_tables.specs.Numbered.{shown, has_place, is_entered}
 use Rattle.amr_state.specs.declared.displaced.Displaced.{Displaced}
 use Rattle.amr_state.specs.declared.displaced.Displaced.TheVariants.{WasMoment, WasConfig, WasAlert, WasSilence, WasPlacement, WasClock, WasLogged, WasNotes}
+use Rattle.amr_state.specs.State.{spot_cmp}
 use Rattle.amr_state.specs.Kept.{undone}
 use Rattle.amr_state.specs.declared.store.Store.TheInside.{Inside}
 use Rattle.amr_state.specs.Stored.{state_of}
@@ -62,49 +65,49 @@ returns-in-WasNotes-clause-kept c =
     c.in-WasNotes.ensures.current c.in-WasNotes.ensures.closed c.in-WasNotes.ensures.records
     ∙ ap undone c.self.view_is
 
-pub displace-requires : goal.displace-requires
-displace-requires c = c.clear_entered.ensures.places.alerts c.in-WasAlert.labels (last_is_sound c.self.inside c.pop.new.self.current (WasAlert c.in-WasAlert.labels c.in-WasAlert.was) c.self.invariant c.in-WasAlert.ensures.current)
+pub put_back_alert-requires : goal.put_back_alert-requires
+put_back_alert-requires c = c.clear_entered.ensures.places.alerts c.in-WasAlert.labels (last_is_sound c.self.inside c.pop.new.self.current (WasAlert c.in-WasAlert.labels c.in-WasAlert.was) c.self.invariant c.in-WasAlert.ensures.current)
 
 pub invariant_of-self-in-WasAlert : goal.invariant_of-self-in-WasAlert
 invariant_of-self-in-WasAlert c =
     let a = c.self.inside in
     let m = c.clear_entered.new.self in
-    let b : Inside = record a { tables = record m { alerts = c.displace.new.self }; journal = c.pop.new.self } in
+    let b : Inside = record a { tables = record m { timetable = c.put_back_alert.new.self }; journal = c.pop.new.self } in
     let e : Displaced = WasAlert c.in-WasAlert.labels c.in-WasAlert.was in
-    kept_popped a b e c.self.invariant (record { alerts = λ k h. subst IsTrue (sym (c.displace.ensures.places k)) (c.clear_entered.ensures.places.alerts k h); silences = c.clear_entered.ensures.places.silences; placements = c.clear_entered.ensures.places.placements; clocks = c.clear_entered.ensures.places.clocks; log = c.clear_entered.ensures.places.log })
-    (by_place _ (λ x. c.clear_entered.ensures.marks (WasMoment x)) (λ x. c.clear_entered.ensures.marks (WasConfig x)) (λ k v. c.displace.ensures.entered k ∙ c.clear_entered.ensures.marks (WasAlert k v)) (λ k v. c.clear_entered.ensures.marks (WasSilence k v)) (λ k v. c.clear_entered.ensures.marks (WasPlacement k v)) (λ k v. c.clear_entered.ensures.marks (WasClock k v)) (λ k v. c.clear_entered.ensures.marks (WasLogged k v)) (λ x. c.clear_entered.ensures.marks (WasNotes x)))
+    kept_popped a b e c.self.invariant (record { alerts = λ k h. subst IsTrue (sym (c.put_back_alert.ensures.places k)) (c.clear_entered.ensures.places.alerts k h); silences = c.clear_entered.ensures.places.silences; placements = c.clear_entered.ensures.places.placements; clocks = λ k h. subst (λ x. IsTrue (has_place spot_cmp x k)) (sym c.put_back_alert.ensures.clocks) (c.clear_entered.ensures.places.clocks k h); log = c.clear_entered.ensures.places.log })
+    (by_place _ (λ x. c.clear_entered.ensures.marks (WasMoment x)) (λ x. c.clear_entered.ensures.marks (WasConfig x)) (λ k v. c.put_back_alert.ensures.entered k ∙ c.clear_entered.ensures.marks (WasAlert k v)) (λ k v. c.clear_entered.ensures.marks (WasSilence k v)) (λ k v. c.clear_entered.ensures.marks (WasPlacement k v)) (λ k v. ap (λ x. is_entered spot_cmp x k) c.put_back_alert.ensures.clocks ∙ c.clear_entered.ensures.marks (WasClock k v)) (λ k v. c.clear_entered.ensures.marks (WasLogged k v)) (λ x. c.clear_entered.ensures.marks (WasNotes x)))
     c.self.invariant.moment c.in-WasAlert.ensures.closed c.in-WasAlert.ensures.current
 
 pub returns-in-WasAlert-clause-kept : goal.returns-in-WasAlert-clause-kept
 returns-in-WasAlert-clause-kept c =
     let a = c.self.inside in
     let m = c.clear_entered.new.self in
-    let b : Inside = record a { tables = record m { alerts = c.displace.new.self }; journal = c.pop.new.self } in
+    let b : Inside = record a { tables = record m { timetable = c.put_back_alert.new.self }; journal = c.pop.new.self } in
     let e : Displaced = WasAlert c.in-WasAlert.labels c.in-WasAlert.was in
-    undone_popped a b e (λ i. record (state_of a) { alerts = (c.displace.ensures.shown ∙ ap (λ x. map.set x c.in-WasAlert.labels c.in-WasAlert.was) c.clear_entered.ensures.values.alerts) i; silences = c.clear_entered.ensures.values.silences i; placements = c.clear_entered.ensures.values.placements i; clocks = c.clear_entered.ensures.values.clocks i; log = c.clear_entered.ensures.values.log i })
+    undone_popped a b e (λ i. record (state_of a) { alerts = (c.put_back_alert.ensures.shown ∙ ap (λ x. map.set x c.in-WasAlert.labels c.in-WasAlert.was) c.clear_entered.ensures.values.alerts) i; silences = c.clear_entered.ensures.values.silences i; placements = c.clear_entered.ensures.values.placements i; clocks = (ap (λ x. shown spot_cmp x) c.put_back_alert.ensures.clocks ∙ c.clear_entered.ensures.values.clocks) i; log = c.clear_entered.ensures.values.log i })
     c.in-WasAlert.ensures.current c.in-WasAlert.ensures.closed c.in-WasAlert.ensures.records
     ∙ ap undone c.self.view_is
 
-pub displace-requires-in-WasSilence : goal.displace-requires-in-WasSilence
-displace-requires-in-WasSilence c = c.clear_entered.ensures.places.silences c.in-WasSilence.id (last_is_sound c.self.inside c.pop.new.self.current (WasSilence c.in-WasSilence.id c.in-WasSilence.was) c.self.invariant c.in-WasSilence.ensures.current)
+pub displace-requires : goal.displace-requires
+displace-requires c = c.clear_entered.ensures.places.silences c.in-WasSilence.id (last_is_sound c.self.inside c.pop.new.self.current (WasSilence c.in-WasSilence.id c.in-WasSilence.was) c.self.invariant c.in-WasSilence.ensures.current)
 
 pub invariant_of-self-in-WasSilence : goal.invariant_of-self-in-WasSilence
 invariant_of-self-in-WasSilence c =
     let a = c.self.inside in
     let m = c.clear_entered.new.self in
-    let b : Inside = record a { tables = record m { silences = c.displace-in-WasSilence.new.self }; journal = c.pop.new.self } in
+    let b : Inside = record a { tables = record m { silences = c.displace.new.self }; journal = c.pop.new.self } in
     let e : Displaced = WasSilence c.in-WasSilence.id c.in-WasSilence.was in
-    kept_popped a b e c.self.invariant (record { alerts = c.clear_entered.ensures.places.alerts; silences = λ k h. subst IsTrue (sym (c.displace-in-WasSilence.ensures.places k)) (c.clear_entered.ensures.places.silences k h); placements = c.clear_entered.ensures.places.placements; clocks = c.clear_entered.ensures.places.clocks; log = c.clear_entered.ensures.places.log })
-    (by_place _ (λ x. c.clear_entered.ensures.marks (WasMoment x)) (λ x. c.clear_entered.ensures.marks (WasConfig x)) (λ k v. c.clear_entered.ensures.marks (WasAlert k v)) (λ k v. c.displace-in-WasSilence.ensures.entered k ∙ c.clear_entered.ensures.marks (WasSilence k v)) (λ k v. c.clear_entered.ensures.marks (WasPlacement k v)) (λ k v. c.clear_entered.ensures.marks (WasClock k v)) (λ k v. c.clear_entered.ensures.marks (WasLogged k v)) (λ x. c.clear_entered.ensures.marks (WasNotes x)))
+    kept_popped a b e c.self.invariant (record { alerts = c.clear_entered.ensures.places.alerts; silences = λ k h. subst IsTrue (sym (c.displace.ensures.places k)) (c.clear_entered.ensures.places.silences k h); placements = c.clear_entered.ensures.places.placements; clocks = c.clear_entered.ensures.places.clocks; log = c.clear_entered.ensures.places.log })
+    (by_place _ (λ x. c.clear_entered.ensures.marks (WasMoment x)) (λ x. c.clear_entered.ensures.marks (WasConfig x)) (λ k v. c.clear_entered.ensures.marks (WasAlert k v)) (λ k v. c.displace.ensures.entered k ∙ c.clear_entered.ensures.marks (WasSilence k v)) (λ k v. c.clear_entered.ensures.marks (WasPlacement k v)) (λ k v. c.clear_entered.ensures.marks (WasClock k v)) (λ k v. c.clear_entered.ensures.marks (WasLogged k v)) (λ x. c.clear_entered.ensures.marks (WasNotes x)))
     c.self.invariant.moment c.in-WasSilence.ensures.closed c.in-WasSilence.ensures.current
 
 pub returns-in-WasSilence-clause-kept : goal.returns-in-WasSilence-clause-kept
 returns-in-WasSilence-clause-kept c =
     let a = c.self.inside in
     let m = c.clear_entered.new.self in
-    let b : Inside = record a { tables = record m { silences = c.displace-in-WasSilence.new.self }; journal = c.pop.new.self } in
+    let b : Inside = record a { tables = record m { silences = c.displace.new.self }; journal = c.pop.new.self } in
     let e : Displaced = WasSilence c.in-WasSilence.id c.in-WasSilence.was in
-    undone_popped a b e (λ i. record (state_of a) { alerts = c.clear_entered.ensures.values.alerts i; silences = (c.displace-in-WasSilence.ensures.shown ∙ ap (λ x. map.set x c.in-WasSilence.id c.in-WasSilence.was) c.clear_entered.ensures.values.silences) i; placements = c.clear_entered.ensures.values.placements i; clocks = c.clear_entered.ensures.values.clocks i; log = c.clear_entered.ensures.values.log i })
+    undone_popped a b e (λ i. record (state_of a) { alerts = c.clear_entered.ensures.values.alerts i; silences = (c.displace.ensures.shown ∙ ap (λ x. map.set x c.in-WasSilence.id c.in-WasSilence.was) c.clear_entered.ensures.values.silences) i; placements = c.clear_entered.ensures.values.placements i; clocks = c.clear_entered.ensures.values.clocks i; log = c.clear_entered.ensures.values.log i })
     c.in-WasSilence.ensures.current c.in-WasSilence.ensures.closed c.in-WasSilence.ensures.records
     ∙ ap undone c.self.view_is
 
@@ -131,26 +134,26 @@ returns-in-WasPlacement-clause-kept c =
     c.in-WasPlacement.ensures.current c.in-WasPlacement.ensures.closed c.in-WasPlacement.ensures.records
     ∙ ap undone c.self.view_is
 
-pub displace-requires-in-WasClock : goal.displace-requires-in-WasClock
-displace-requires-in-WasClock c = c.clear_entered.ensures.places.clocks c.in-WasClock.group (last_is_sound c.self.inside c.pop.new.self.current (WasClock c.in-WasClock.group c.in-WasClock.was) c.self.invariant c.in-WasClock.ensures.current)
+pub put_back_clock-requires : goal.put_back_clock-requires
+put_back_clock-requires c = c.clear_entered.ensures.places.clocks c.in-WasClock.group (last_is_sound c.self.inside c.pop.new.self.current (WasClock c.in-WasClock.group c.in-WasClock.was) c.self.invariant c.in-WasClock.ensures.current)
 
 pub invariant_of-self-in-WasClock : goal.invariant_of-self-in-WasClock
 invariant_of-self-in-WasClock c =
     let a = c.self.inside in
     let m = c.clear_entered.new.self in
-    let b : Inside = record a { tables = record m { clocks = c.displace-in-WasClock.new.self }; journal = c.pop.new.self } in
+    let b : Inside = record a { tables = record m { timetable = c.put_back_clock.new.self }; journal = c.pop.new.self } in
     let e : Displaced = WasClock c.in-WasClock.group c.in-WasClock.was in
-    kept_popped a b e c.self.invariant (record { alerts = c.clear_entered.ensures.places.alerts; silences = c.clear_entered.ensures.places.silences; placements = c.clear_entered.ensures.places.placements; clocks = λ k h. subst IsTrue (sym (c.displace-in-WasClock.ensures.places k)) (c.clear_entered.ensures.places.clocks k h); log = c.clear_entered.ensures.places.log })
-    (by_place _ (λ x. c.clear_entered.ensures.marks (WasMoment x)) (λ x. c.clear_entered.ensures.marks (WasConfig x)) (λ k v. c.clear_entered.ensures.marks (WasAlert k v)) (λ k v. c.clear_entered.ensures.marks (WasSilence k v)) (λ k v. c.clear_entered.ensures.marks (WasPlacement k v)) (λ k v. c.displace-in-WasClock.ensures.entered k ∙ c.clear_entered.ensures.marks (WasClock k v)) (λ k v. c.clear_entered.ensures.marks (WasLogged k v)) (λ x. c.clear_entered.ensures.marks (WasNotes x)))
+    kept_popped a b e c.self.invariant (record { alerts = λ k h. subst (λ x. IsTrue (has_place label_set_cmp x k)) (sym c.put_back_clock.ensures.alerts) (c.clear_entered.ensures.places.alerts k h); silences = c.clear_entered.ensures.places.silences; placements = c.clear_entered.ensures.places.placements; clocks = λ k h. subst IsTrue (sym (c.put_back_clock.ensures.places k)) (c.clear_entered.ensures.places.clocks k h); log = c.clear_entered.ensures.places.log })
+    (by_place _ (λ x. c.clear_entered.ensures.marks (WasMoment x)) (λ x. c.clear_entered.ensures.marks (WasConfig x)) (λ k v. ap (λ x. is_entered label_set_cmp x k) c.put_back_clock.ensures.alerts ∙ c.clear_entered.ensures.marks (WasAlert k v)) (λ k v. c.clear_entered.ensures.marks (WasSilence k v)) (λ k v. c.clear_entered.ensures.marks (WasPlacement k v)) (λ k v. c.put_back_clock.ensures.entered k ∙ c.clear_entered.ensures.marks (WasClock k v)) (λ k v. c.clear_entered.ensures.marks (WasLogged k v)) (λ x. c.clear_entered.ensures.marks (WasNotes x)))
     c.self.invariant.moment c.in-WasClock.ensures.closed c.in-WasClock.ensures.current
 
 pub returns-in-WasClock-clause-kept : goal.returns-in-WasClock-clause-kept
 returns-in-WasClock-clause-kept c =
     let a = c.self.inside in
     let m = c.clear_entered.new.self in
-    let b : Inside = record a { tables = record m { clocks = c.displace-in-WasClock.new.self }; journal = c.pop.new.self } in
+    let b : Inside = record a { tables = record m { timetable = c.put_back_clock.new.self }; journal = c.pop.new.self } in
     let e : Displaced = WasClock c.in-WasClock.group c.in-WasClock.was in
-    undone_popped a b e (λ i. record (state_of a) { alerts = c.clear_entered.ensures.values.alerts i; silences = c.clear_entered.ensures.values.silences i; placements = c.clear_entered.ensures.values.placements i; clocks = (c.displace-in-WasClock.ensures.shown ∙ ap (λ x. map.set x c.in-WasClock.group c.in-WasClock.was) c.clear_entered.ensures.values.clocks) i; log = c.clear_entered.ensures.values.log i })
+    undone_popped a b e (λ i. record (state_of a) { alerts = (ap (λ x. shown label_set_cmp x) c.put_back_clock.ensures.alerts ∙ c.clear_entered.ensures.values.alerts) i; silences = c.clear_entered.ensures.values.silences i; placements = c.clear_entered.ensures.values.placements i; clocks = (c.put_back_clock.ensures.shown ∙ ap (λ x. map.set x c.in-WasClock.group c.in-WasClock.was) c.clear_entered.ensures.values.clocks) i; log = c.clear_entered.ensures.values.log i })
     c.in-WasClock.ensures.current c.in-WasClock.ensures.closed c.in-WasClock.ensures.records
     ∙ ap undone c.self.view_is
 

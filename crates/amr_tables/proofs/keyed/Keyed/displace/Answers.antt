@@ -7,7 +7,7 @@ use Rattle.amr_labels.proofs.Trees.{lookup_is}
 use Rattle.amr_labels.specs.Map as map
 use Rattle.amr_tables.specs.Places.{value_at}
 use Rattle.amr_tables.specs.Numbered.{IsNumbering, shown, has_place, is_entered}
-use Rattle.amr_tables.proofs.Numbering.{get-shown, displaced_is, shown-displaced}
+use Rattle.amr_tables.proofs.Numbering.{get-shown, displaced_is, shown-displaced, enough_places}
 use Rattle.amr_tables.proofs.keyed.Keyed.displace.Goals as goal
 
 pub displace-requires : goal.displace-requires
@@ -57,3 +57,10 @@ invariant_of-self g c =
     let t = c.self.inside in
     subst (λ s. IsNumbering R (record { numbers = t.numbers.entries; cells = s; marks = t.entered })) (sym c.displace.ensures.table)
     (displaced_is g.met.K.Ord.total (record { numbers = t.numbers.entries; cells = t.slots; marks = t.entered }) c.in-Some.number.now c.args.value c.self.invariant)
+
+pub returns-clause-enough : goal.returns-clause-enough
+returns-clause-enough g c =
+    let R = g.K.Ord.cmp in
+    let t = c.self.inside in
+    enough_places R _ (subst (λ s. IsNumbering R (record { numbers = t.numbers.entries; cells = s; marks = t.entered })) (sym c.displace.ensures.table)
+    (displaced_is g.met.K.Ord.total (record { numbers = t.numbers.entries; cells = t.slots; marks = t.entered }) c.in-Some.number.now c.args.value c.self.invariant))

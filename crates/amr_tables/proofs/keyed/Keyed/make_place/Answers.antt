@@ -2,8 +2,8 @@ use Rattle.std.proofs.Common.{◌≡◌, ◌<◌, None, length, sym, ap, subst, 
 use Rattle.std.specs.FinMap.{find, put}
 use Rattle.std.proofs.lemmas.Bool.Decides.{nat_tests}
 use Rattle.amr_labels.proofs.Trees.{lookup_is, put_is}
-use Rattle.amr_tables.specs.Numbered.{Numbered, IsNumbering, shown, has_place, is_entered}
-use Rattle.amr_tables.proofs.Numbering.{HasRoom, grown_table, added_table, none_of}
+use Rattle.amr_tables.specs.Numbered.{Numbered, IsNumbering, shown, has_place, is_entered, GrowsBy, places_for}
+use Rattle.amr_tables.proofs.Numbering.{HasRoom, grown_table, added_table, none_of, grown_by_one}
 use Rattle.amr_tables.proofs.keyed.Keyed.make_place.Goals as goal
 
 pub returns-then-contains_key-clause-made : goal.returns-then-contains_key-clause-made
@@ -252,3 +252,12 @@ returns-clause-places g c =
     let is : c.insert.new.self.entries ≡ put R c.args.key (length t.cells) t.numbers = c.in_ok-insert.ensures.entries ∙ put_is R t.numbers c.args.key c.len-number.result ∙ ap (λ n. put R c.args.key n t.numbers) len in
     let added = added_table R g.met.K.Ord.total t c.args.key c.insert.new.self.entries c.make_place.new.self c.add_place.new.self room none lt is in
     λ other p. added.0.placed other (subst (λ v. IsTrue (has_place R v other)) (sym c.self.view_is) p)
+
+pub returns-clause-keys : goal.returns-clause-keys
+returns-clause-keys g c =
+    let R = g.K.Ord.cmp in
+    let t : Numbered g.row.K.Denot g.row.V.Denot = record { numbers = c.self.inside.numbers.entries; cells = c.self.inside.slots; marks = c.self.inside.entered } in
+    let u : Numbered g.row.K.Denot g.row.V.Denot = record { numbers = c.insert.new.self.entries; cells = c.make_place.new.self; marks = c.add_place.new.self } in
+    let none : find R c.args.key t.numbers ≡ None = none_of _ (ap is_some (lookup_is R t.numbers c.args.key) ∙ sym c.contains_key.ensures ∙ c.if-contains_key.false) in
+    let is : c.insert.new.self.entries ≡ put R c.args.key c.len-number.result t.numbers = c.in_ok-insert.ensures.entries ∙ put_is R t.numbers c.args.key c.len-number.result in
+    subst (λ v. GrowsBy R (places_for R v c.args.key) v u) c.self.view_is (grown_by_one R g.met.K.Ord.total t u c.args.key c.len-number.result c.self.invariant none is)

@@ -1,0 +1,342 @@
+//! The stored alerts and the timers of groups, with the queue of what is due of them.
+ghost use Rattle.std.specs.Prelude.{None, Some, ◌≡◌, ◌≤◌, ◌<◌, ◌+◌, ◌-◌, IsTrue, is_some, if◌then◌else◌, false, length, OnOk, OnErr, IfOk};
+ghost use Rattle.amr_labels.specs.Labels.{LabelSet, label_set_cmp};
+ghost use Rattle.amr_labels.specs.Map as map;
+ghost use Rattle.amr_tables.specs.Numbered.{shown, has_place, is_entered, entry_of, Enters, IsUnchanged, HasPlaces};
+ghost use Rattle.amr_tables.specs.Queued.{in_order, count_of};
+ghost use Rattle.amr_state.specs.declared.spot.Spot as spots;
+ghost use Rattle.amr_state.specs.State.{spot_cmp};
+ghost use Rattle.amr_state.specs.Dues.{due_cmp, dues_of};
+ghost use Rattle.amr_state.specs.Timed.{put_at, moved, CanMove, CanMoveGroup, group_moved, removal_of_alert, alert_moment, group_moments};
+
+use crate::due::{Due, Kind, alert_removal, group_removal};
+use crate::note::Clock;
+use crate::spot::{Spot, TimedGroup};
+use amr_labels::Labels;
+use amr_rules::Alert;
+use amr_tables::{Journal, Key, Keyed, Queue, change};
+use amr_time::Moment;
+use std::alloc::{AllocError, Global};
+use std::marker::Model;
+
+/// The stored alerts and the timers of groups. The queue follows each change of them.
+#[derive(Drop)]
+pub(crate) struct Timetable {
+    alerts: Keyed<Labels, Alert>,
+    clocks: Keyed<Spot, Clock>,
+    queue: Queue<Due>,
+}
+
+impl Model for Timetable {
+    ghost use Rattle.std.specs.Coded.{codes};
+    ghost use Rattle.amr_labels.specs.Map as map;
+    ghost use Rattle.amr_state.specs.Timed.{Timed, IsTimed};
+
+    ghost Value = { Timed };
+
+    ghost coded = { Prim.hlevel (codes, map.code) };
+
+    ghost view = { λ t. record { alerts = t.alerts; clocks = t.clocks } };
+
+    ghost invariant = { λ t. IsTimed t.alerts t.clocks t.queue };
+}
+
+impl Timetable {
+    /// No alert and no group.
+    pub(crate) fn new(alloc: Global) -> Timetable
+        ensures alerts { shown label_set_cmp result.alerts ≡ map.empty }
+        ensures clocks { shown spot_cmp result.clocks ≡ map.empty }
+        ensures alerts_entered { (key : LabelSet) → is_entered label_set_cmp result.alerts key ≡ false }
+        ensures clocks_entered { (key : spots.Spot) → is_entered spot_cmp result.clocks key ≡ false }
+    {
+        Timetable {
+            alerts: Keyed::new(alloc),
+            clocks: Keyed::new(alloc),
+            queue: Queue::new(alloc),
+        }
+    }
+
+    /// The stored alerts, under their labels.
+    pub(crate) fn alerts(&self) -> &Keyed<Labels, Alert>
+        ensures { result.now ≡ self.now.alerts }
+    {
+        &self.alerts
+    }
+
+    /// The timers of the groups.
+    pub(crate) fn clocks(&self) -> &Keyed<Spot, Clock>
+        ensures { result.now ≡ self.now.clocks }
+    {
+        &self.clocks
+    }
+
+    /// The queue of what is due.
+    pub(crate) fn queue(&self) -> &Queue<Due>
+        ensures { result.now.dues ≡
+            in_order due_cmp (dues_of (shown label_set_cmp self.now.alerts) (shown spot_cmp self.now.clocks)) }
+    {
+        &self.queue
+    }
+
+    /// Takes back that places are entered, of all. It takes no memory.
+    pub(crate) fn clear_entered(&mut self)
+        ensures alerts { shown label_set_cmp self.new.alerts ≡ shown label_set_cmp self.old.alerts }
+        ensures clocks { shown spot_cmp self.new.clocks ≡ shown spot_cmp self.old.clocks }
+        ensures alert_places { (key : LabelSet) → has_place label_set_cmp self.new.alerts key ≡ has_place label_set_cmp self.old.alerts key }
+        ensures clock_places { (key : spots.Spot) → has_place spot_cmp self.new.clocks key ≡ has_place spot_cmp self.old.clocks key }
+        ensures alerts_entered { (key : LabelSet) → is_entered label_set_cmp self.new.alerts key ≡ false }
+        ensures clocks_entered { (key : spots.Spot) → is_entered spot_cmp self.new.clocks key ≡ false }
+    {
+        self.alerts.clear_entered();
+        self.clocks.clear_entered();
+    }
+
+    /// Puts a stored alert, or none, under its labels. Returns what the open record has to take up.
+    pub(crate) fn change_alert<E>(
+        &mut self,
+        journal: &mut Journal<E>,
+        labels: &Labels,
+        alert: Option<Alert>,
+    ) -> Result<Option<(Labels, Option<Alert>)>, AllocError>
+        ensures entry { IfOk result (λ entry. entry ≡ entry_of label_set_cmp self.old.alerts labels.now) }
+        ensures shown { OnOk result (shown label_set_cmp self.new.alerts ≡
+            map.set (shown label_set_cmp self.old.alerts) labels.now alert) }
+        ensures entered { OnOk result (Enters label_set_cmp self.old.alerts self.new.alerts labels.now) }
+        ensures made { OnOk result (IsTrue (has_place label_set_cmp self.new.alerts labels.now)) }
+        ensures err { OnErr result (IsUnchanged label_set_cmp self.old.alerts self.new.alerts) }
+        ensures places { (other : LabelSet) → IsTrue (has_place label_set_cmp self.old.alerts other) →
+            IsTrue (has_place label_set_cmp self.new.alerts other) }
+        ensures clocks { self.new.clocks ≡ self.old.clocks }
+        ensures room { IfOk result (λ entry. IsTrue (is_some entry) → 0 < journal.new.entry_room) }
+        ensures closed { journal.new.closed ≡ journal.old.closed }
+        ensures current { journal.new.current ≡ journal.old.current }
+        ensures record_room { journal.new.record_room ≡ journal.old.record_room }
+    {
+        let due = alert_due(labels.clone()?);
+        make_room(&mut self.queue, self.alerts.has_place(labels), 1)?;
+        let old = moment_at(&self.alerts, labels);
+        let new = alert_moment(&alert);
+        let entry = change(&mut self.alerts, journal, labels, alert)?;
+        move_due(&mut self.queue, due, old, new);
+        Ok(entry)
+    }
+
+    /// Puts a group's timer, or none. Returns what the open record has to take up.
+    pub(crate) fn change_clock<E>(
+        &mut self,
+        journal: &mut Journal<E>,
+        group: &Spot,
+        clock: Option<Clock>,
+    ) -> Result<Option<(Spot, Option<Clock>)>, AllocError>
+        ensures entry { IfOk result (λ entry. entry ≡ entry_of spot_cmp self.old.clocks group.now) }
+        ensures shown { OnOk result (shown spot_cmp self.new.clocks ≡
+            map.set (shown spot_cmp self.old.clocks) group.now clock) }
+        ensures entered { OnOk result (Enters spot_cmp self.old.clocks self.new.clocks group.now) }
+        ensures made { OnOk result (IsTrue (has_place spot_cmp self.new.clocks group.now)) }
+        ensures err { OnErr result (IsUnchanged spot_cmp self.old.clocks self.new.clocks) }
+        ensures places { (other : spots.Spot) → IsTrue (has_place spot_cmp self.old.clocks other) →
+            IsTrue (has_place spot_cmp self.new.clocks other) }
+        ensures alerts { self.new.alerts ≡ self.old.alerts }
+        ensures room { IfOk result (λ entry. IsTrue (is_some entry) → 0 < journal.new.entry_room) }
+        ensures closed { journal.new.closed ≡ journal.old.closed }
+        ensures current { journal.new.current ≡ journal.old.current }
+        ensures record_room { journal.new.record_room ≡ journal.old.record_room }
+    {
+        let copy = TimedGroup::of(group)?;
+        make_room(&mut self.queue, self.clocks.has_place(group), 2)?;
+        let old = moments_at(&self.clocks, group);
+        let new = group_moments(&clock);
+        let entry = change(&mut self.clocks, journal, group, clock)?;
+        move_group(&mut self.queue, copy, old, new);
+        Ok(entry)
+    }
+
+    /// Puts a stored alert, or none, back under its labels. It takes no memory.
+    pub(crate) fn put_back_alert(&mut self, labels: Labels, alert: Option<Alert>)
+        requires { IsTrue (has_place label_set_cmp self.old.alerts labels) }
+        ensures shown { shown label_set_cmp self.new.alerts ≡
+            map.set (shown label_set_cmp self.old.alerts) labels alert }
+        ensures places { (other : LabelSet) → has_place label_set_cmp self.new.alerts other ≡ has_place label_set_cmp self.old.alerts other }
+        ensures entered { (other : LabelSet) → is_entered label_set_cmp self.new.alerts other ≡ is_entered label_set_cmp self.old.alerts other }
+        ensures clocks { self.new.clocks ≡ self.old.clocks }
+    {
+        let old = moment_at(&self.alerts, &labels);
+        let new = alert_moment(&alert);
+        put_back(&mut self.alerts, &labels, alert);
+        move_due(&mut self.queue, alert_due(labels), old, new);
+    }
+
+    /// Puts a group's timer, or none, back. It takes no memory.
+    pub(crate) fn put_back_clock(&mut self, group: TimedGroup, clock: Option<Clock>)
+        requires { IsTrue (has_place spot_cmp self.old.clocks group) }
+        ensures shown { shown spot_cmp self.new.clocks ≡
+            map.set (shown spot_cmp self.old.clocks) group clock }
+        ensures places { (other : spots.Spot) → has_place spot_cmp self.new.clocks other ≡ has_place spot_cmp self.old.clocks other }
+        ensures entered { (other : spots.Spot) → is_entered spot_cmp self.new.clocks other ≡ is_entered spot_cmp self.old.clocks other }
+        ensures alerts { self.new.alerts ≡ self.old.alerts }
+    {
+        let old = moments_at(&self.clocks, group.spot());
+        let new = group_moments(&clock);
+        // The prover has to see the type of moments here.
+        let _start = Moment::START;
+        put_back(&mut self.clocks, group.spot(), clock);
+        move_group(&mut self.queue, group, old, new);
+    }
+}
+
+/// When a group is flushed and removed, if it is. In nanoseconds since 1970.
+#[derive(Clone, Copy)]
+struct GroupMoments {
+    flush: Option<u128>,
+    removal: Option<u128>,
+}
+
+/// Puts a value, or none, back under a key that has a place, and drops what is there. It takes no memory.
+fn put_back<K: Key + Drop, V: Drop>(table: &mut Keyed<K, V>, key: &K, value: Option<V>)
+    requires { IsTrue (has_place K.cmp table.old key.now) }
+    ensures shown { shown K.cmp table.new ≡ map.set (shown K.cmp table.old) key.now value }
+    ensures places { (other : K) → has_place K.cmp table.new other ≡ has_place K.cmp table.old other }
+    ensures entered { (other : K) → is_entered K.cmp table.new other ≡ is_entered K.cmp table.old other }
+    ensures keys { table.new.numbers ≡ table.old.numbers }
+    ensures enough { HasPlaces K.cmp table.new }
+{
+    drop(table.displace(key, value));
+}
+
+/// Makes room for the dues of a place, unless it is there.
+fn make_room(queue: &mut Queue<Due>, is_there: bool, n: usize) -> Result<(), AllocError>
+    ensures room { OnOk result (queue.old.room + (if is_there then 0 else n) ≤ queue.new.room) }
+    ensures more { queue.old.room ≤ queue.new.room }
+    ensures dues { queue.new.dues ≡ queue.old.dues }
+{
+    if is_there {
+        return Ok(());
+    }
+    let Some(room) = queue.room().checked_add(n) else {
+        return Err(AllocError);
+    };
+    queue.reserve(room)
+}
+
+/// Returns when the alert that is stored under some labels is removed.
+fn moment_at(alerts: &Keyed<Labels, Alert>, labels: &Labels) -> Option<u128>
+    ensures { result ≡ alert_moment (map.get (shown label_set_cmp alerts.now) labels.now) }
+{
+    match alerts.get(labels) {
+        None => None,
+        Some(alert) => Some(alert_removal(alert)),
+    }
+}
+
+/// Returns when a stored alert is removed.
+fn alert_moment(alert: &Option<Alert>) -> Option<u128>
+    ensures { result ≡ alert_moment alert.now }
+{
+    match alert {
+        None => None,
+        Some(alert) => Some(alert_removal(alert)),
+    }
+}
+
+/// The removal of an alert, at whatever moment.
+fn alert_due(labels: Labels) -> Due
+    ensures { result ≡ removal_of_alert labels }
+{
+    Due {
+        moment: 0,
+        kind: Kind::AlertRemoval,
+        route: 0,
+        labels,
+    }
+}
+
+/// Moves a due from a moment, or from none, to another. It takes no memory.
+fn move_due(queue: &mut Queue<Due>, mut due: Due, old: Option<u128>, new: Option<u128>)
+    requires { CanMove queue.old.dues queue.old.room due old new }
+    ensures dues { queue.new.dues ≡ moved queue.old.dues due old new }
+    ensures all { queue.new.room + length queue.new.dues ≡ queue.old.room + length queue.old.dues }
+{
+    match old {
+        None => put_due(queue, due, new),
+        Some(moment) => {
+            due.moment = moment;
+            let _found = queue.take(&due);
+            put_due(queue, due, new);
+        }
+    }
+}
+
+/// Puts a due at a moment, if there is one. It takes no memory.
+fn put_due(queue: &mut Queue<Due>, mut due: Due, moment: Option<u128>)
+    requires { CanMove queue.old.dues queue.old.room due None moment }
+    ensures dues { queue.new.dues ≡ put_at queue.old.dues due moment }
+    ensures all { queue.new.room + length queue.new.dues ≡ queue.old.room + length queue.old.dues }
+{
+    match moment {
+        None => {}
+        Some(moment) => {
+            due.moment = moment;
+            queue.put(due);
+        }
+    }
+}
+
+/// Moves the flush and the removal of a group from their moments to others. It takes no memory.
+fn move_group(queue: &mut Queue<Due>, group: TimedGroup, old: GroupMoments, new: GroupMoments)
+    requires { CanMoveGroup queue.old.dues queue.old.room group old new }
+    ensures dues { queue.new.dues ≡ group_moved queue.old.dues group old new }
+    ensures all { queue.new.room + length queue.new.dues ≡ queue.old.room + length queue.old.dues }
+{
+    let (spot, labels) = group.into_parts();
+    let route = spot.route;
+    let flush = Due {
+        moment: 0,
+        kind: Kind::GroupFlush,
+        route,
+        labels: spot.labels,
+    };
+    let removal = Due {
+        moment: 0,
+        kind: Kind::GroupRemoval,
+        route,
+        labels,
+    };
+    move_due(queue, flush, old.flush, new.flush);
+    move_due(queue, removal, old.removal, new.removal);
+}
+
+/// Returns when a group is flushed and removed.
+fn moments_at(clocks: &Keyed<Spot, Clock>, group: &Spot) -> GroupMoments
+    ensures { result ≡ group_moments (map.get (shown spot_cmp clocks.now) group.now) }
+{
+    match clocks.get(group) {
+        None => GroupMoments {
+            flush: None,
+            removal: None,
+        },
+        Some(clock) => timer_moments(clock),
+    }
+}
+
+/// Returns when a group with a timer, or with none, is flushed and removed.
+fn group_moments(clock: &Option<Clock>) -> GroupMoments
+    ensures { result ≡ group_moments clock.now }
+{
+    match clock {
+        None => GroupMoments {
+            flush: None,
+            removal: None,
+        },
+        Some(clock) => timer_moments(clock),
+    }
+}
+
+/// Returns when a group with a timer is flushed and removed.
+fn timer_moments(clock: &Clock) -> GroupMoments
+    ensures { result ≡ group_moments (Some clock.now) }
+{
+    GroupMoments {
+        flush: Some(clock.next_flush.nanoseconds()),
+        removal: group_removal(clock),
+    }
+}

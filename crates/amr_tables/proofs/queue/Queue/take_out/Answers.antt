@@ -1,0 +1,54 @@
+use Rattle.std.proofs.Common.{◌≡◌, ◌&&◌, not, ap, sym, ◌∙◌, subst, length, arith}
+use Rattle.std.specs.List.Sorted.{IsStrictlySortedBy}
+use Rattle.std.specs.Ordering.{eq_by_cmp}
+use Rattle.amr_tables.specs.Queued.{has}
+use Rattle.amr_tables.proofs.Queueing.{sorted_without, has_without}
+use Rattle.amr_tables.proofs.queue.Queue.take_out.Goals as goal
+
+pub invariant_of-self : goal.invariant_of-self
+invariant_of-self g c =
+    let was = c.self.invariant in
+    let same : c.replace-dues.result ≡ c.self.inside.tree = c.replace-dues.ensures.value in
+    let sorted = subst (λ t. IsStrictlySortedBy g.D.Ord.cmp t.0) (sym same) was.sorted in
+    let shorter = rw c.in_err-found.was at c.take-taken.ensures.shorter in
+    record {
+      sorted = subst (IsStrictlySortedBy g.D.Ord.cmp) (sym c.take-taken.ensures.list) (sorted_without g.D.Ord.cmp _ c.args.due.now sorted);
+      counted = omega (arith, shorter, ap (λ t. length t.0) same, was.counted);
+      covered = was.covered;
+    }
+
+pub invariant_of-self-2 : goal.invariant_of-self-2
+invariant_of-self-2 g c =
+    let was = c.self.invariant in
+    let same : c.replace-dues.result ≡ c.self.inside.tree = c.replace-dues.ensures.value in
+    let sorted = subst (λ t. IsStrictlySortedBy g.D.Ord.cmp t.0) (sym same) was.sorted in
+    let shorter = rw c.in_ok-found.was at c.take-taken.ensures.shorter in
+    record {
+      sorted = subst (IsStrictlySortedBy g.D.Ord.cmp) (sym c.take-taken.ensures.list) (sorted_without g.D.Ord.cmp _ c.args.due.now sorted);
+      counted = omega (arith, shorter, ap (λ t. length t.0) same, was.counted);
+      covered = omega (arith, shorter, ap (λ t. length t.0) same, was.counted, was.covered, c.push_reserved.ensures);
+    }
+
+pub returns-in_err-found-clause-members : goal.returns-in_err-found-clause-members
+returns-in_err-found-clause-members g c = λ other.
+    let dues : c.replace-dues.result.0 ≡ c.args.self.now.dues = ap (λ t. t.0) c.replace-dues.ensures.value ∙ ap (λ q. q.dues) c.self.view_is in
+    ap (λ l. has g.D.Ord.cmp l other) c.take-taken.ensures.list
+    ∙ has_without g.D.Ord.cmp g.met.D.Ord.total _ c.args.due.now other
+    ∙ ap (λ l. not (eq_by_cmp g.D.Ord.cmp other c.args.due.now) && has g.D.Ord.cmp l other) dues
+
+pub returns-in_err-found-clause-sorted : goal.returns-in_err-found-clause-sorted
+returns-in_err-found-clause-sorted g c =
+    let sorted = subst (λ t. IsStrictlySortedBy g.D.Ord.cmp t.0) (sym c.replace-dues.ensures.value) c.self.invariant.sorted in
+    subst (IsStrictlySortedBy g.D.Ord.cmp) (sym c.take-taken.ensures.list) (sorted_without g.D.Ord.cmp _ c.args.due.now sorted)
+
+pub returns-clause-members : goal.returns-clause-members
+returns-clause-members g c = λ other.
+    let dues : c.replace-dues.result.0 ≡ c.args.self.now.dues = ap (λ t. t.0) c.replace-dues.ensures.value ∙ ap (λ q. q.dues) c.self.view_is in
+    ap (λ l. has g.D.Ord.cmp l other) c.take-taken.ensures.list
+    ∙ has_without g.D.Ord.cmp g.met.D.Ord.total _ c.args.due.now other
+    ∙ ap (λ l. not (eq_by_cmp g.D.Ord.cmp other c.args.due.now) && has g.D.Ord.cmp l other) dues
+
+pub returns-clause-sorted : goal.returns-clause-sorted
+returns-clause-sorted g c =
+    let sorted = subst (λ t. IsStrictlySortedBy g.D.Ord.cmp t.0) (sym c.replace-dues.ensures.value) c.self.invariant.sorted in
+    subst (IsStrictlySortedBy g.D.Ord.cmp) (sym c.take-taken.ensures.list) (sorted_without g.D.Ord.cmp _ c.args.due.now sorted)

@@ -1,0 +1,181 @@
+//! The queue of what is due, in order.
+ghost use Rattle.std.specs.Prelude.{◌≡◌, ◌+◌, ◌<◌, ◌≤◌, [], length, OnOk, slice_get, IfSome, IfOk, max, false, if◌then◌else◌};
+ghost use Rattle.std.specs.Prelude.{vec_len, vec_capacity};
+ghost use Rattle.std.specs.List.Sorted.{IsStrictlySortedBy};
+ghost use Rattle.std.specs.Option.{option_copied};
+ghost use Rattle.std.specs.BTreeSet.{insert_key};
+ghost use Rattle.amr_tables.specs.Queued.{values_of, has, found, without, count_of, IsLeast, HasMore, HasLess};
+
+use crate::tree::{self, Node, Tree};
+use std::alloc::{AllocError, Global};
+use std::marker::Model;
+use std::mem;
+
+/// Dues in order. Contracts see the list, and how many dues more there is room for.
+#[derive(Drop)]
+pub struct Queue<D: Ord> {
+    alloc: Global,
+    len: usize,
+    tree: Tree<D>,
+    spares: Vec<Box<Node<D>>>,
+}
+
+impl<D: Ord> Model for Queue<D> {
+    ghost use Rattle.std.specs.Prelude.{vec_len, vec_capacity};
+    ghost use Rattle.amr_tables.specs.Queued.{Queued, queued_code, IsQueue};
+
+    ghost Value = { Queued D };
+
+    ghost coded = { queued_code D.code };
+
+    ghost view = { λ q. record { dues = q.tree.0; room = vec_len q.spares } };
+
+    ghost invariant = { λ q. IsQueue D.cmp q.tree.0 q.len (vec_len q.spares) (vec_capacity q.spares) };
+}
+
+impl<D: Ord + Drop> Queue<D> {
+    /// The queue without a due.
+    pub fn new(alloc: Global) -> Queue<D>
+        ensures dues { result.dues ≡ [] }
+        ensures room { result.room ≡ 0 }
+    {
+        Queue {
+            alloc,
+            len: 0,
+            tree: Tree::new(),
+            spares: Vec::new(alloc),
+        }
+    }
+
+    /// Returns how many dues there are.
+    pub fn len(&self) -> usize
+        ensures len { result ≡ length self.now.dues }
+        ensures sorted { IsStrictlySortedBy D.cmp self.now.dues }
+    {
+        self.len
+    }
+
+    /// Returns how many dues more there is room for.
+    pub fn room(&self) -> usize
+        ensures { result ≡ self.now.room }
+    {
+        self.spares.len()
+    }
+
+    /// Returns whether a due is in the queue.
+    pub fn contains(&self, due: &D) -> bool
+        ensures { result ≡ has D.cmp self.now.dues due.now }
+    {
+        tree::contains(&self.tree, due)
+    }
+
+    /// Returns the first due.
+    pub fn first(&self) -> Option<&D>
+        ensures first { option_copied result ≡ slice_get self.now.dues 0 }
+        ensures least { IfSome result (λ due. IsLeast D.cmp self.now.dues due.now) }
+        ensures sorted { IsStrictlySortedBy D.cmp self.now.dues }
+    {
+        self.tree.first()
+    }
+
+    /// Lists the dues in order.
+    pub fn list(&self) -> Result<Vec<&D>, AllocError>
+        ensures { IfOk result (λ dues. values_of dues.items ≡ self.now.dues) }
+    {
+        let mut dues = Vec::new(self.alloc);
+        tree::list(&self.tree, &mut dues)?;
+        Ok(dues)
+    }
+
+    /// Makes room for `n` dues beside those that are there.
+    pub fn reserve(&mut self, n: usize) -> Result<(), AllocError>
+        ensures room { OnOk result (n ≤ self.new.room) }
+        ensures more { self.old.room ≤ self.new.room }
+        ensures at_most { self.new.room ≤ max self.old.room n }
+        ensures dues { self.new.dues ≡ self.old.dues }
+    {
+        let spare = self.spares.len();
+        if n <= spare {
+            return Ok(());
+        }
+        let Some(more) = self.len.checked_add(n - spare) else {
+            return Err(AllocError);
+        };
+        self.spares.reserve(more)?;
+        fill(self.alloc, &mut self.spares, n)
+    }
+
+    /// Puts a due into the queue. It takes no memory.
+    pub fn put(&mut self, due: D)
+        requires room { 0 < self.old.room }
+        requires absent { has D.cmp self.old.dues due ≡ false }
+        ensures dues { self.new.dues ≡ insert_key D.cmp self.old.dues due }
+        ensures members { HasMore D.cmp self.old.dues due self.new.dues }
+        ensures sorted { IsStrictlySortedBy D.cmp self.new.dues }
+        ensures room { self.new.room + 1 ≡ self.old.room }
+        ensures len { length self.new.dues ≡ length self.old.dues + 1 }
+    {
+        match self.spares.pop() {
+            Some(memory) => {
+                let dues = mem::replace(&mut self.tree, Tree::new());
+                self.tree = tree::put(dues, memory, due);
+                self.len += 1;
+            }
+            None => unreachable!(),
+        }
+    }
+
+    /// Takes a due out of the queue, and returns whether it was there. It takes no memory.
+    pub fn take(&mut self, due: &D) -> bool
+        ensures found { result ≡ has D.cmp self.old.dues due.now }
+        ensures dues { self.new.dues ≡ without D.cmp self.old.dues due.now }
+        ensures members { HasLess D.cmp self.old.dues due.now self.new.dues }
+        ensures sorted { IsStrictlySortedBy D.cmp self.new.dues }
+        ensures room { self.new.room ≡ self.old.room + (if result then 1 else 0) }
+        ensures len { length self.old.dues ≡ length self.new.dues + (if result then 1 else 0) }
+    {
+        self.take_out(due).is_some()
+    }
+
+    /// Takes a due out of the queue, if it is there, and returns it. It takes no memory.
+    pub fn take_out(&mut self, due: &D) -> Option<D>
+        ensures found { result ≡ found D.cmp self.old.dues due.now }
+        ensures dues { self.new.dues ≡ without D.cmp self.old.dues due.now }
+        ensures members { HasLess D.cmp self.old.dues due.now self.new.dues }
+        ensures sorted { IsStrictlySortedBy D.cmp self.new.dues }
+        ensures room { self.new.room ≡ self.old.room + count_of result }
+        ensures len { length self.old.dues ≡ length self.new.dues + count_of result }
+    {
+        let dues = mem::replace(&mut self.tree, Tree::new());
+        let taken = tree::take(dues, due);
+        self.tree = taken.tree;
+        let found = taken.found?;
+        self.len -= 1;
+        self.spares.push_reserved(found.memory);
+        Some(found.item)
+    }
+
+    /// Takes all dues out of the queue. It takes no memory.
+    pub fn clear(&mut self)
+        ensures dues { self.new.dues ≡ [] }
+        ensures room { self.new.room ≡ self.old.room + length self.old.dues }
+    {
+        let dues = mem::replace(&mut self.tree, Tree::new());
+        tree::scrap(dues, &mut self.spares);
+        self.len = 0;
+    }
+}
+
+/// Adds spare memory for dues until there is enough for `n`.
+fn fill<D: Drop>(alloc: Global, spares: &mut Vec<Box<Node<D>>>, n: usize) -> Result<(), AllocError>
+    requires { n ≤ vec_capacity spares.old }
+    ensures filled { OnOk result (n ≤ vec_len spares.new) }
+    ensures more { vec_len spares.old ≤ vec_len spares.new }
+    ensures at_most { vec_len spares.new ≤ max (vec_len spares.old) n }
+    ensures room { vec_capacity spares.new ≡ vec_capacity spares.old }
+{
+    while spares.len() < n {
+        spares.push_reserved(Box::new(alloc, Node::Spare)?);
+    }
+    Ok(())
+}

@@ -1,0 +1,374 @@
+//! A balanced tree: a list that is changed at a place in a number of steps that grows with the logarithm of its length. Calls nest as
+//! deep as the tree is high, and its height is at most about twice that logarithm.
+ghost use Rattle.std.specs.Prelude.{◌≡◌, ◌+◌, ◌^◌, ◌<◌, ◌≤◌, [], ◌∷◌, ◌++◌, length, max, OnOk, MatchOption, option_map, slice_get, vec_len, vec_capacity, false};
+ghost use Rattle.std.specs.List.Sorted.{IsStrictlySortedBy};
+ghost use Rattle.std.specs.Option.{option_copied};
+ghost use Rattle.std.specs.BTreeSet.{insert_key};
+ghost use Rattle.amr_tables.specs.Balanced.{node_view, IsBalanced, DifferByAtMost, IsHeightOf, IsLow};
+ghost use Rattle.amr_tables.specs.Parted.{IsPartsOf, IsFirstOf};
+ghost use Rattle.amr_tables.specs.Queued.{values_of, has, found, without, count_of};
+
+use std::alloc::AllocError;
+use std::cmp::Ordering;
+use std::marker::Model;
+use std::mem;
+
+/// A list in a tree. Contracts see the list and the tree's height.
+#[cycle(tree)]
+#[derive(Drop)]
+pub(crate) struct Tree<D> {
+    root: Option<Box<Node<D>>>,
+}
+
+/// The memory of a fork, and the fork that is kept there.
+#[cycle(tree)]
+#[derive(Drop)]
+pub(crate) enum Node<D> {
+    Spare,
+    /// An item between what is before it and what is after it.
+    Fork {
+        left: Tree<D>,
+        item: D,
+        height: usize,
+        right: Tree<D>,
+    },
+}
+
+impl<D> Model for Tree<D> {
+    ghost use Rattle.std.specs.Prelude.{ℕ, List, length};
+    ghost use Rattle.std.specs.Coded.{coded×, coded_list, coded_ℕ};
+
+    ghost Value = { List D × ℕ };
+
+    ghost coded = { coded× (coded_list D.code) coded_ℕ };
+
+    ghost use Rattle.amr_tables.specs.Balanced.{root_view, IsBalancedRoot};
+
+    ghost view = { λ t. root_view t.root };
+
+    ghost invariant = { λ t. IsBalancedRoot t.root };
+
+    ghost size = { λ t. length t.0 };
+
+    ghost use Rattle.amr_tables.specs.BalancedFalls.{root_falls};
+
+    ghost size_decreases = { λ t h. root_falls t.root };
+}
+
+/// The parts of a tree at its root, and the root's memory.
+#[derive(Drop)]
+struct Parts<D> {
+    memory: Box<Node<D>>,
+    left: Tree<D>,
+    item: D,
+    right: Tree<D>,
+}
+
+impl<D: Drop> Tree<D> {
+    /// The empty tree.
+    pub(crate) fn new() -> Tree<D>
+        ensures { result ≡ ([], 0) }
+    {
+        Tree { root: None }
+    }
+
+    /// Returns the height.
+    fn height(&self) -> usize
+        ensures height { result ≡ self.now.1 }
+        ensures low { IsLow self.now.1 (length self.now.0) }
+    {
+        match &self.root {
+            None => 0,
+            Some(node) => match &**node {
+                Node::Spare => 0,
+                Node::Fork { height, .. } => *height,
+            },
+        }
+    }
+
+    /// Returns the first item.
+    pub(crate) fn first(&self) -> Option<&D>
+        ensures { option_copied result ≡ slice_get self.now.0 0 }
+    {
+        match &self.root {
+            None => None,
+            Some(node) => match &**node {
+                Node::Spare => None,
+                Node::Fork { left, item, .. } => match left.first() {
+                    None => Some(item),
+                    Some(first) => Some(first),
+                },
+            },
+        }
+    }
+
+    /// Takes the tree apart at its root, if it has one.
+    fn part(self) -> Option<Parts<D>>
+        ensures { MatchOption result (self ≡ ([], 0)) (IsPartsOf self) }
+    {
+        let mut memory = self.root?;
+        match mem::replace(&mut *memory, Node::Spare) {
+            Node::Spare => None,
+            Node::Fork {
+                left,
+                item,
+                right,
+                ..
+            } => Some(Parts {
+                memory,
+                left,
+                item,
+                right,
+            }),
+        }
+    }
+}
+
+/// Joins two trees around an item, in memory that is at hand.
+fn fork<D: Drop>(mut memory: Box<Node<D>>, left: Tree<D>, item: D, right: Tree<D>) -> Tree<D>
+    requires near { DifferByAtMost 1 left.1 right.1 }
+    requires fits { length left.0 + length right.0 + 1 < 2 ^ 64 }
+    ensures { result ≡ (left.0 ++ item ∷ right.0, max left.1 right.1 + 1) }
+{
+    let height = left.height().max(right.height()) + 1;
+    *memory = Node::Fork {
+        left,
+        item,
+        height,
+        right,
+    };
+    Tree { root: Some(memory) }
+}
+
+/// Joins two trees around an item, where one may be two higher than the other.
+fn balance<D: Drop>(memory: Box<Node<D>>, left: Tree<D>, item: D, right: Tree<D>) -> Tree<D>
+    requires near { DifferByAtMost 2 left.1 right.1 }
+    requires fits { length left.0 + length right.0 + 1 < 2 ^ 64 }
+    ensures list { result.0 ≡ left.0 ++ item ∷ right.0 }
+    ensures height { IsHeightOf left.1 right.1 result.1 }
+{
+    let (left_height, right_height) = (left.height(), right.height());
+    if left_height > right_height + 1 {
+        lean_right(memory, left, item, right)
+    } else if right_height > left_height + 1 {
+        lean_left(memory, left, item, right)
+    } else {
+        fork(memory, left, item, right)
+    }
+}
+
+/// Joins two trees around an item, where the left one is two higher.
+fn lean_right<D: Drop>(memory: Box<Node<D>>, left: Tree<D>, item: D, right: Tree<D>) -> Tree<D>
+    requires two_higher { left.1 ≡ right.1 + 2 }
+    requires fits { length left.0 + length right.0 + 1 < 2 ^ 64 }
+    ensures list { result.0 ≡ left.0 ++ item ∷ right.0 }
+    ensures height { (left.1 ≤ result.1) × (result.1 ≤ left.1 + 1) }
+{
+    let Some(outer) = left.part() else {
+        unreachable!()
+    };
+    if outer.left.height() >= outer.right.height() {
+        let lower = fork(memory, outer.right, item, right);
+        return fork(outer.memory, outer.left, outer.item, lower);
+    }
+    let Some(inner) = outer.right.part() else {
+        unreachable!()
+    };
+    let first = fork(outer.memory, outer.left, outer.item, inner.left);
+    let second = fork(memory, inner.right, item, right);
+    fork(inner.memory, first, inner.item, second)
+}
+
+/// Joins two trees around an item, where the right one is two higher.
+fn lean_left<D: Drop>(memory: Box<Node<D>>, left: Tree<D>, item: D, right: Tree<D>) -> Tree<D>
+    requires two_higher { right.1 ≡ left.1 + 2 }
+    requires fits { length left.0 + length right.0 + 1 < 2 ^ 64 }
+    ensures list { result.0 ≡ left.0 ++ item ∷ right.0 }
+    ensures height { (right.1 ≤ result.1) × (result.1 ≤ right.1 + 1) }
+{
+    let Some(outer) = right.part() else {
+        unreachable!()
+    };
+    if outer.right.height() >= outer.left.height() {
+        let lower = fork(memory, left, item, outer.left);
+        return fork(outer.memory, lower, outer.item, outer.right);
+    }
+    let Some(inner) = outer.left.part() else {
+        unreachable!()
+    };
+    let first = fork(memory, left, item, inner.left);
+    let second = fork(outer.memory, inner.right, outer.item, outer.right);
+    fork(inner.memory, first, inner.item, second)
+}
+
+/// The first item of a tree, its memory, and the rest of the tree.
+#[derive(Drop)]
+struct First<D> {
+    item: D,
+    memory: Box<Node<D>>,
+    rest: Tree<D>,
+}
+
+/// Returns whether an item is in a tree.
+pub(crate) fn contains<D: Ord>(tree: &Tree<D>, item: &D) -> bool
+    requires { IsStrictlySortedBy D.cmp tree.now.0 }
+    ensures { result ≡ has D.cmp tree.now.0 item.now }
+{
+    match &tree.root {
+        None => false,
+        Some(node) => match &**node {
+            Node::Spare => false,
+            Node::Fork {
+                left,
+                item: here,
+                right,
+                ..
+            } => match item.cmp(here) {
+                Ordering::Less => contains(left, item),
+                Ordering::Equal => true,
+                Ordering::Greater => contains(right, item),
+            },
+        },
+    }
+}
+
+/// Lists the items of a tree, in order, after those that are listed.
+pub(crate) fn list<'a, D>(tree: &'a Tree<D>, items: &mut Vec<&'a D>) -> Result<(), AllocError>
+    ensures { OnOk result (values_of items.new.items ≡ values_of items.old.items ++ tree.now.0) }
+{
+    if let Some(node) = &tree.root {
+        if let Node::Fork {
+            left,
+            item,
+            right,
+            ..
+        } = &**node
+        {
+            list(left, items)?;
+            items.push(item)?;
+            list(right, items)?;
+        }
+    }
+    Ok(())
+}
+
+/// Puts an item into a tree in order, in memory that is at hand.
+pub(crate) fn put<D: Ord + Drop>(tree: Tree<D>, memory: Box<Node<D>>, item: D) -> Tree<D>
+    requires sorted { IsStrictlySortedBy D.cmp tree.0 }
+    requires absent { has D.cmp tree.0 item ≡ false }
+    requires fits { length tree.0 + 1 < 2 ^ 64 }
+    ensures list { result.0 ≡ insert_key D.cmp tree.0 item }
+    ensures longer { length result.0 ≡ length tree.0 + 1 }
+    ensures height { (tree.1 ≤ result.1) × (result.1 ≤ tree.1 + 1) }
+{
+    let Some(parts) = tree.part() else {
+        return fork(memory, Tree::new(), item, Tree::new());
+    };
+    if item.cmp(&parts.item).is_lt() {
+        let left = put(parts.left, memory, item);
+        balance(parts.memory, left, parts.item, parts.right)
+    } else {
+        let right = put(parts.right, memory, item);
+        balance(parts.memory, parts.left, parts.item, right)
+    }
+}
+
+/// Takes the first item out of a tree, if it has one.
+fn take_first<D: Drop>(tree: Tree<D>) -> Option<First<D>>
+    requires fits { length tree.0 < 2 ^ 64 }
+    ensures { MatchOption result (tree ≡ ([], 0)) (IsFirstOf tree) }
+{
+    let parts = tree.part()?;
+    match take_first(parts.left) {
+        None => Some(First {
+            item: parts.item,
+            memory: parts.memory,
+            rest: parts.right,
+        }),
+        Some(first) => Some(First {
+            item: first.item,
+            memory: first.memory,
+            rest: balance(parts.memory, first.rest, parts.item, parts.right),
+        }),
+    }
+}
+
+/// Joins two trees, one after the other.
+fn join<D: Drop>(left: Tree<D>, right: Tree<D>) -> Tree<D>
+    requires near { DifferByAtMost 1 left.1 right.1 }
+    requires fits { length left.0 + length right.0 < 2 ^ 64 }
+    ensures list { result.0 ≡ left.0 ++ right.0 }
+    ensures height { (max left.1 right.1 ≤ result.1) × (result.1 ≤ max left.1 right.1 + 1) }
+{
+    match take_first(right) {
+        None => left,
+        Some(first) => balance(first.memory, left, first.item, first.rest),
+    }
+}
+
+/// An item that was taken out of a tree, and its memory.
+#[derive(Drop)]
+pub(crate) struct Found<D> {
+    pub(crate) item: D,
+    pub(crate) memory: Box<Node<D>>,
+}
+
+/// What is left of a tree, and what was taken out of it.
+#[derive(Drop)]
+pub(crate) struct Taken<D> {
+    pub(crate) tree: Tree<D>,
+    pub(crate) found: Option<Found<D>>,
+}
+
+/// Takes an item out of a tree, if it's there.
+pub(crate) fn take<D: Ord + Drop>(tree: Tree<D>, item: &D) -> Taken<D>
+    requires sorted { IsStrictlySortedBy D.cmp tree.0 }
+    requires fits { length tree.0 < 2 ^ 64 }
+    ensures list { result.tree.0 ≡ without D.cmp tree.0 item.now }
+    ensures found { option_map (λ f. f.item) result.found ≡ found D.cmp tree.0 item.now }
+    ensures shorter { length tree.0 ≡ length result.tree.0 + count_of result.found }
+    ensures height { (tree.1 ≤ result.tree.1 + 1) × (result.tree.1 ≤ tree.1) }
+{
+    let Some(parts) = tree.part() else {
+        return Taken {
+            tree: Tree::new(),
+            found: None,
+        };
+    };
+    match item.cmp(&parts.item) {
+        Ordering::Less => {
+            let taken = take(parts.left, item);
+            Taken {
+                tree: balance(parts.memory, taken.tree, parts.item, parts.right),
+                found: taken.found,
+            }
+        }
+        Ordering::Equal => Taken {
+            tree: join(parts.left, parts.right),
+            found: Some(Found {
+                item: parts.item,
+                memory: parts.memory,
+            }),
+        },
+        Ordering::Greater => {
+            let taken = take(parts.right, item);
+            Taken {
+                tree: balance(parts.memory, parts.left, parts.item, taken.tree),
+                found: taken.found,
+            }
+        }
+    }
+}
+
+/// Takes a tree apart, and puts its memory beside memory that is spare.
+pub(crate) fn scrap<D: Drop>(tree: Tree<D>, spares: &mut Vec<Box<Node<D>>>)
+    requires { length tree.0 + vec_len spares.old ≤ vec_capacity spares.old }
+    ensures spares { vec_len spares.new ≡ vec_len spares.old + length tree.0 }
+    ensures room { vec_capacity spares.new ≡ vec_capacity spares.old }
+{
+    if let Some(parts) = tree.part() {
+        scrap(parts.left, spares);
+        scrap(parts.right, spares);
+        spares.push_reserved(parts.memory);
+    }
+}
