@@ -124,7 +124,8 @@ fn seek_time(argument: &[u8]) -> Said
 /// A trial, with the event of a script's line.
 #[tactic(auto, unfolding(crate::specs::Command::said_by))]
 fn trial(alloc: Global, argument: &[u8]) -> Result<Said, Unread>
-    ensures { ReadsSuch (WordSays Word.Trial argument.now) (said_by Word.Trial argument.now) result }
+    ensures { ReadsSuch (WordSays Word.Trial argument.now) (said_by Word.Trial argument.now)
+        result }
 {
     if argument.is_empty() {
         return Ok(Said::Malformed(Word::Trial));
@@ -198,7 +199,8 @@ impl Said {
     /// What the bytes of a line say. Memory is taken for the argument of `trial` and of `explain` alone.
     #[tactic(auto, unfolding(crate::specs::Command::said_of))]
     pub fn read(alloc: Global, line: &[u8]) -> Result<Said, Unread>
-        ensures { MatchResult result (LineSays line.now) (λ unread. FailsToRead line.now unread.word) }
+        ensures { MatchResult result (LineSays line.now)
+            (λ unread. FailsToRead line.now unread.word) }
     {
         if !is_text(line) {
             return Ok(Said::Malformed(Word::Unknown));

@@ -37,7 +37,8 @@ fn read_once<R: Read>(commands: &mut Inlet<R>, chunk: &mut [u8]) -> Result<usize
     requires { 0 < length chunk.old }
     ensures read { MatchResult result
         (λ n. (n ≤ length chunk.new)
-        × Consumes (R.remaining commands.old.reader) (R.remaining commands.new.reader) (take n chunk.new)
+        × Consumes (R.remaining commands.old.reader) (R.remaining commands.new.reader)
+        (take n chunk.new)
         × (n ≡ 0 → IsAtEnd (R.remaining commands.new.reader)))
         (λ broken. (broken ≡ Broken.Reading)
         × Keeps (R.remaining commands.old.reader) (R.remaining commands.new.reader)) }
@@ -59,7 +60,8 @@ fn finish<W: Write>(
 ) -> Result<(), WriteFailed>
     ensures kept { incident_of session.new ≡ incident_of session.old }
     ensures printed { (start : Option (List ℕ)) (bytes : List ℕ)
-        → Stands (incident_of session.old) start (W.contents out.old.writer) bytes session.old.cursor line.now
+        → Stands (incident_of session.old) start (W.contents out.old.writer) bytes
+        session.old.cursor line.now
         → MatchResult result
         (λ _. Printed (incident_of session.old) start (W.contents out.new.writer) bytes)
         (λ _. StopsShort (incident_of session.old) start (W.contents out.new.writer) bytes []) }
@@ -81,7 +83,8 @@ fn take_turn<R: Read, W: Write>(
     ensures kept { incident_of session.new ≡ incident_of session.old }
     ensures turned { Turns (incident_of session.old) (R.remaining commands.old.reader)
         (R.remaining commands.new.reader)
-        (W.contents out.old.writer) (W.contents out.new.writer) session.old.cursor session.new.cursor
+        (W.contents out.old.writer) (W.contents out.new.writer) session.old.cursor
+        session.new.cursor
         line.old line.new result }
     ensures counted { CountsTurn result commands.old.calls commands.new.calls }
     ensures ended { EndsBy result commands.old.failed commands.new.failed commands.new.calls

@@ -29,7 +29,8 @@ fn ended(
     cursor: usize,
     lines: Result<String, AllocError>,
 ) -> Result<String, AllocError>
-    ensures { IfOk result (λ text. IsOkAnd lines (λ lines. string_bytes text ≡ string_bytes lines ++ cursor_line word cursor)) }
+    ensures { IfOk result (λ text. IsOkAnd lines (λ lines. string_bytes text ≡ string_bytes lines
+        ++ cursor_line word cursor)) }
 {
     let mut text = lines?;
     text.push_str(cursor_text(alloc, word, cursor)?.as_str())?;
@@ -47,7 +48,8 @@ fn listed(alloc: Global, word: Word, cursor: usize, lines: Result<String, AllocE
 }
 
 fn verdict_lines(alloc: Global, session: &Session, labels: &Labels) -> Result<String, AllocError>
-    ensures { IfOk result (λ text. string_bytes text ≡ flat_map verdict_line (verdicts session.now.state labels.now)) }
+    ensures { IfOk result (λ text. string_bytes text
+        ≡ flat_map verdict_line (verdicts session.now.state labels.now)) }
 {
     let found = session.explain(labels)?;
     verdicts_text(alloc, found.as_slice())
@@ -55,70 +57,80 @@ fn verdict_lines(alloc: Global, session: &Session, labels: &Labels) -> Result<St
 
 /// Why an alert was told of, or not.
 pub(crate) fn explain(alloc: Global, session: &Session, labels: &Labels) -> Answer
-    ensures { Answered (incident_of session.now) session.now.cursor session.now.cursor (Asks (command.Explain labels.now)) result }
+    ensures { Answered (incident_of session.now) session.now.cursor session.now.cursor
+        (Asks (command.Explain labels.now)) result }
 {
     let lines = verdict_lines(alloc, session, labels);
     listed(alloc, Word::Explain, session.cursor(), lines)
 }
 
 fn alert_lines(alloc: Global, session: &Session) -> Result<String, AllocError>
-    ensures { IfOk result (λ text. string_bytes text ≡ flat_map alert_line (entries session.now.state.alerts)) }
+    ensures { IfOk result (λ text. string_bytes text
+        ≡ flat_map alert_line (entries session.now.state.alerts)) }
 {
     let found = views::alerts(session.state())?;
     alerts_text(alloc, found.as_slice())
 }
 
 pub(crate) fn alerts(alloc: Global, session: &Session) -> Answer
-    ensures { Answered (incident_of session.now) session.now.cursor session.now.cursor (Asks command.Alerts) result }
+    ensures { Answered (incident_of session.now) session.now.cursor session.now.cursor
+        (Asks command.Alerts) result }
 {
     let lines = alert_lines(alloc, session);
     listed(alloc, Word::Alerts, session.cursor(), lines)
 }
 
 fn silence_lines(alloc: Global, session: &Session) -> Result<String, AllocError>
-    ensures { IfOk result (λ text. string_bytes text ≡ flat_map silence_line (entries session.now.state.silences)) }
+    ensures { IfOk result (λ text. string_bytes text
+        ≡ flat_map silence_line (entries session.now.state.silences)) }
 {
     let found = views::silences(session.state())?;
     silences_text(alloc, found.as_slice())
 }
 
 pub(crate) fn silences(alloc: Global, session: &Session) -> Answer
-    ensures { Answered (incident_of session.now) session.now.cursor session.now.cursor (Asks command.Silences) result }
+    ensures { Answered (incident_of session.now) session.now.cursor session.now.cursor
+        (Asks command.Silences) result }
 {
     let lines = silence_lines(alloc, session);
     listed(alloc, Word::Silences, session.cursor(), lines)
 }
 
 fn group_lines(alloc: Global, session: &Session) -> Result<String, AllocError>
-    ensures { IfOk result (λ text. string_bytes text ≡ flat_map group_seen_line (groups_of session.now.state)) }
+    ensures { IfOk result (λ text. string_bytes text
+        ≡ flat_map group_seen_line (groups_of session.now.state)) }
 {
     let found = views::groups(session.state())?;
     groups_text(alloc, found.as_slice())
 }
 
 pub(crate) fn groups(alloc: Global, session: &Session) -> Answer
-    ensures { Answered (incident_of session.now) session.now.cursor session.now.cursor (Asks command.Groups) result }
+    ensures { Answered (incident_of session.now) session.now.cursor session.now.cursor
+        (Asks command.Groups) result }
 {
     let lines = group_lines(alloc, session);
     listed(alloc, Word::Groups, session.cursor(), lines)
 }
 
 fn log_lines(alloc: Global, session: &Session) -> Result<String, AllocError>
-    ensures { IfOk result (λ text. string_bytes text ≡ flat_map log_line (entries session.now.state.log)) }
+    ensures { IfOk result (λ text. string_bytes text
+        ≡ flat_map log_line (entries session.now.state.log)) }
 {
     let found = views::log(session.state())?;
     log_text(alloc, found.as_slice())
 }
 
 pub(crate) fn log(alloc: Global, session: &Session) -> Answer
-    ensures { Answered (incident_of session.now) session.now.cursor session.now.cursor (Asks command.Log) result }
+    ensures { Answered (incident_of session.now) session.now.cursor session.now.cursor
+        (Asks command.Log) result }
 {
     let lines = log_lines(alloc, session);
     listed(alloc, Word::Log, session.cursor(), lines)
 }
 
 pub(crate) fn transcript(alloc: Global, session: &Session) -> Answer
-    ensures { Answered (incident_of session.now) session.now.cursor session.now.cursor (Asks command.Transcript) result }
+    ensures { Answered (incident_of session.now) session.now.cursor session.now.cursor
+        (Asks command.Transcript) result }
 {
     let lines = notes_text(alloc, session.state().notes());
     listed(alloc, Word::Transcript, session.cursor(), lines)
@@ -126,7 +138,8 @@ pub(crate) fn transcript(alloc: Global, session: &Session) -> Answer
 
 /// Where the session stands.
 pub(crate) fn place(alloc: Global, session: &Session) -> Answer
-    ensures { Answered (incident_of session.now) session.now.cursor session.now.cursor (Asks command.Cursor) result }
+    ensures { Answered (incident_of session.now) session.now.cursor session.now.cursor
+        (Asks command.Cursor) result }
 {
     match place_text(
         alloc,

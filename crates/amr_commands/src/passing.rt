@@ -45,7 +45,8 @@ fn sum_of_moves(outcomes: &[Outcome]) -> Result<usize, AllocError>
 /// The lines of events, which follow on so many events.
 fn numbered_text(alloc: Global, passed: usize, outcomes: &[Outcome]) -> Result<String, AllocError>
     requires { passed + length outcomes.now < 2 ^ 64 }
-    ensures { IfOk result (λ text. string_bytes text ≡ numbered_lines (passed + 1) (map outcome_view outcomes.now)) }
+    ensures { IfOk result (λ text. string_bytes text
+        ≡ numbered_lines (passed + 1) (map outcome_view outcomes.now)) }
 {
     let mut text = String::new(alloc);
     let mut event = passed as u64;
@@ -65,7 +66,8 @@ fn passed_text(
     outcomes: &[Outcome],
 ) -> Result<String, AllocError>
     requires { from + length outcomes.now < 2 ^ 64 }
-    ensures { IfOk result (λ text. string_bytes text ≡ passing_text from word to (map outcome_view outcomes.now)) }
+    ensures { IfOk result (λ text. string_bytes text
+        ≡ passing_text from word to (map outcome_view outcomes.now)) }
 {
     let mut text = numbered_text(alloc, from, outcomes)?;
     let moves = sum_of_moves(outcomes)?;
@@ -82,9 +84,11 @@ fn moved(
     from: usize,
     outcomes: &[Outcome],
 ) -> Answer
-    requires { map outcome_view outcomes.now ≡ outcomes_passed session.old.config session.old.events from session.old.cursor }
+    requires { map outcome_view outcomes.now
+        ≡ outcomes_passed session.old.config session.old.events from session.old.cursor }
     ensures kept { incident_of session.new ≡ incident_of session.old }
-    ensures moved { Moves (incident_of session.old) from word session.old.cursor session.new.cursor result }
+    ensures moved { Moves (incident_of session.old) from word session.old.cursor session.new.cursor
+        result }
 {
     let to = session.cursor();
     if to <= from {
@@ -102,7 +106,8 @@ fn moved(
 /// Passes the next event.
 pub(crate) fn step(alloc: Global, session: &mut Session) -> Answer
     ensures kept { incident_of session.new ≡ incident_of session.old }
-    ensures answered { Answered (incident_of session.old) session.old.cursor session.new.cursor (Asks command.Step) result }
+    ensures answered { Answered (incident_of session.old) session.old.cursor session.new.cursor
+        (Asks command.Step) result }
 {
     let from = session.cursor();
     if from == session.events() {
@@ -117,7 +122,8 @@ pub(crate) fn step(alloc: Global, session: &mut Session) -> Answer
 /// Takes the last event back. It takes no memory.
 pub(crate) fn back(session: &mut Session) -> Answer
     ensures kept { incident_of session.new ≡ incident_of session.old }
-    ensures answered { Answered (incident_of session.old) session.old.cursor session.new.cursor (Asks command.Back) result }
+    ensures answered { Answered (incident_of session.old) session.old.cursor session.new.cursor
+        (Asks command.Back) result }
 {
     if session.cursor() == 0 {
         return Answer::Refused(Word::Back, Refusal::AtStart);
@@ -131,7 +137,8 @@ pub(crate) fn back(session: &mut Session) -> Answer
 /// Goes to so many events from the start.
 pub(crate) fn seek(alloc: Global, session: &mut Session, to: usize) -> Answer
     ensures kept { incident_of session.new ≡ incident_of session.old }
-    ensures answered { Answered (incident_of session.old) session.old.cursor session.new.cursor (Asks (command.Seek to)) result }
+    ensures answered { Answered (incident_of session.old) session.old.cursor session.new.cursor
+        (Asks (command.Seek to)) result }
 {
     let from = session.cursor();
     if session.events() < to {
@@ -146,7 +153,8 @@ pub(crate) fn seek(alloc: Global, session: &mut Session, to: usize) -> Answer
 /// Goes behind the last of the events at the front that are all at or before a moment.
 pub(crate) fn seek_time(alloc: Global, session: &mut Session, at: Moment) -> Answer
     ensures kept { incident_of session.new ≡ incident_of session.old }
-    ensures answered { Answered (incident_of session.old) session.old.cursor session.new.cursor (Asks (command.SeekTime at)) result }
+    ensures answered { Answered (incident_of session.old) session.old.cursor session.new.cursor
+        (Asks (command.SeekTime at)) result }
 {
     let from = session.cursor();
     match session.seek_time(at) {
@@ -158,7 +166,9 @@ pub(crate) fn seek_time(alloc: Global, session: &mut Session, at: Moment) -> Ans
 /// The text of an event that is tried.
 fn tried_text(alloc: Global, session: &mut Session, event: &Event) -> Result<String, AllocError>
     ensures same { session.new ≡ session.old }
-    ensures text { IfOk result (λ text. string_bytes text ≡ tried_lines session.old.cursor (outcome_of (state_in (incident_of session.old) session.old.cursor) event.now)) }
+    ensures text { IfOk result (λ text. string_bytes text
+        ≡ tried_lines session.old.cursor
+        (outcome_of (state_in (incident_of session.old) session.old.cursor) event.now)) }
 {
     let cursor = session.cursor();
     let outcome = session.trial(event)?;
@@ -171,7 +181,8 @@ fn tried_text(alloc: Global, session: &mut Session, event: &Event) -> Result<Str
 /// Tries an event, and leaves the session as it is.
 pub(crate) fn trial(alloc: Global, session: &mut Session, event: &Event) -> Answer
     ensures kept { incident_of session.new ≡ incident_of session.old }
-    ensures answered { Answered (incident_of session.old) session.old.cursor session.new.cursor (Asks (command.Trial event.now)) result }
+    ensures answered { Answered (incident_of session.old) session.old.cursor session.new.cursor
+        (Asks (command.Trial event.now)) result }
 {
     match tried_text(alloc, session, event) {
         Ok(text) => Answer::Built(text),

@@ -19,7 +19,8 @@ use std::io::Write;
 /// Does a command. One that finds no memory is undone.
 fn answer_command(alloc: Global, session: &mut Session, command: Command) -> Answer
     ensures kept { incident_of session.new ≡ incident_of session.old }
-    ensures answered { Answered (incident_of session.old) session.old.cursor session.new.cursor (Asks command) result }
+    ensures answered { Answered (incident_of session.old) session.old.cursor session.new.cursor
+        (Asks command) result }
 {
     match command {
         Command::Step => step(alloc, session),
@@ -40,7 +41,8 @@ fn answer_command(alloc: Global, session: &mut Session, command: Command) -> Ans
 /// Does what a line says.
 fn answer_said(alloc: Global, session: &mut Session, said: Said) -> Answer
     ensures kept { incident_of session.new ≡ incident_of session.old }
-    ensures answered { Answered (incident_of session.old) session.old.cursor session.new.cursor said result }
+    ensures answered { Answered (incident_of session.old) session.old.cursor session.new.cursor said
+        result }
 {
     match said {
         Said::Nothing => Answer::Nothing,
@@ -54,7 +56,8 @@ fn answer_said(alloc: Global, session: &mut Session, said: Said) -> Answer
 /// Does what the bytes of a line say.
 fn answer_bytes(alloc: Global, session: &mut Session, bytes: &[u8]) -> Answer
     ensures kept { incident_of session.new ≡ incident_of session.old }
-    ensures fated { length bytes.now ≤ longest → Fated (incident_of session.old) session.old.cursor session.new.cursor bytes.now result }
+    ensures fated { length bytes.now ≤ longest
+        → Fated (incident_of session.old) session.old.cursor session.new.cursor bytes.now result }
 {
     match Said::read(alloc, bytes) {
         Ok(said) => answer_said(alloc, session, said),

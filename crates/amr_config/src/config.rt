@@ -73,7 +73,8 @@ impl Config {
 
     /// The settings of the route with this number.
     fn settings_at(&self, route: usize) -> Option<&Settings>
-        ensures found { MatchOption result (length self.now.routes ≤ route) (λ found. (route < length self.now.routes) × (found.now ≡ settings_of self.now route)) }
+        ensures found { MatchOption result (length self.now.routes ≤ route)
+            (λ found. (route < length self.now.routes) × (found.now ≡ settings_of self.now route)) }
         ensures parents { AreParentsFirst self.now }
     {
         self.shared.settings.as_slice().get(route)
@@ -182,7 +183,8 @@ impl Config {
 
     /// The receiver with this name.
     pub fn receiver(&self, name: &str) -> Option<&Receiver>
-        ensures { option_copied result ≡ find (λ receiver. eq_by_cmp text_cmp receiver.name name.now) self.now.receivers }
+        ensures { option_copied result
+            ≡ find (λ receiver. eq_by_cmp text_cmp receiver.name name.now) self.now.receivers }
     {
         receiver_named(self.shared.stated.receivers.as_slice(), name)
     }
@@ -257,7 +259,8 @@ impl Config {
 
 /// The time interval with this name, among some.
 fn interval_named<'a>(intervals: &'a [NamedInterval], name: &str) -> Option<&'a NamedInterval>
-    ensures { option_copied result ≡ find (λ found. eq_by_cmp text_cmp found.name name.now) intervals.now }
+    ensures { option_copied result
+        ≡ find (λ found. eq_by_cmp text_cmp found.name name.now) intervals.now }
 {
     for interval in intervals {
         if interval.name.as_str().cmp(name) == Ordering::Equal {
@@ -269,7 +272,8 @@ fn interval_named<'a>(intervals: &'a [NamedInterval], name: &str) -> Option<&'a 
 
 /// The receiver with this name, among some.
 fn receiver_named<'a>(receivers: &'a [Receiver], name: &str) -> Option<&'a Receiver>
-    ensures { option_copied result ≡ find (λ receiver. eq_by_cmp text_cmp receiver.name name.now) receivers.now }
+    ensures { option_copied result
+        ≡ find (λ receiver. eq_by_cmp text_cmp receiver.name name.now) receivers.now }
 {
     for receiver in receivers {
         if receiver.name.as_str().cmp(name) == Ordering::Equal {

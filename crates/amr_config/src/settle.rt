@@ -17,7 +17,9 @@ fn receiver_under(
     route: &Route,
     above: Option<&Settings>,
 ) -> Result<Text, AllocError>
-    ensures { IfOk result (λ name. name ≡ unwrap_or route.now.receiver (option_map_or (λ settings. settings.receiver) (option_copied above.entry) [])) }
+    ensures { IfOk result (λ name. name
+        ≡ unwrap_or route.now.receiver
+        (option_map_or (λ settings. settings.receiver) (option_copied above.entry) [])) }
 {
     match (&route.receiver, above) {
         (Some(name), _) => name.clone(),
@@ -27,7 +29,9 @@ fn receiver_under(
 }
 
 fn grouping_under(route: &Route, above: Option<&Settings>) -> Result<Option<Grouping>, AllocError>
-    ensures { IfOk result (λ grouping. grouping ≡ option_or route.now.group_by (option_map_or (λ settings. settings.group_by) (option_copied above.entry) None)) }
+    ensures { IfOk result (λ grouping. grouping
+        ≡ option_or route.now.group_by
+        (option_map_or (λ settings. settings.group_by) (option_copied above.entry) None)) }
 {
     match (&route.group_by, above) {
         (Some(grouping), _) => Ok(Some(grouping.clone()?)),
@@ -41,7 +45,9 @@ fn path_under(
     route: &Route,
     above: Option<&Settings>,
 ) -> Result<Listing<Matchers>, AllocError>
-    ensures { IfOk result (λ path. path ≡ option_map_or (λ settings. settings.path) (option_copied above.entry) [] ++ sorted_matchers route.now.matchers ∷ []) }
+    ensures { IfOk result (λ path. path
+        ≡ option_map_or (λ settings. settings.path) (option_copied above.entry) []
+        ++ sorted_matchers route.now.matchers ∷ []) }
 {
     let mut path = match above {
         Some(settings) => settings.path.clone()?,
@@ -58,7 +64,8 @@ fn settings_under(
     route: &Route,
     above: Option<&Settings>,
 ) -> Result<Settings, AllocError>
-    ensures { IfOk result (λ settings. settings ≡ settled_under route.now (option_copied above.entry)) }
+    ensures { IfOk result (λ settings. settings
+        ≡ settled_under route.now (option_copied above.entry)) }
 {
     let group_wait = match above {
         Some(settings) => settings.group_wait,

@@ -49,7 +49,8 @@ fn mark_child(
     requires next { vec_len marks.old < length config.now.routes }
     requires child { parent_of config.now (vec_len marks.old) ≡ Some parent }
     requires so_far { marks.old.items ≡ marks_at config.now labels.now (vec_len marks.old) }
-    ensures { OnOk result (marks.new.items ≡ marks_at config.now labels.now (vec_len marks.old + 1)) }
+    ensures { OnOk result (marks.new.items
+        ≡ marks_at config.now labels.now (vec_len marks.old + 1)) }
 {
     let settings = config.route(marks.len());
     let above = marks[parent];
@@ -79,7 +80,8 @@ fn mark_next(
 ) -> Result<(), AllocError>
     requires next { vec_len marks.old < length config.now.routes }
     requires so_far { marks.old.items ≡ marks_at config.now labels.now (vec_len marks.old) }
-    ensures { OnOk result (marks.new.items ≡ marks_at config.now labels.now (vec_len marks.old + 1)) }
+    ensures { OnOk result (marks.new.items
+        ≡ marks_at config.now labels.now (vec_len marks.old + 1)) }
 {
     let settings = config.route(marks.len());
     match settings.parent {
@@ -94,7 +96,8 @@ fn mark_next(
 
 /// The marks of all routes.
 fn marks(alloc: Global, config: &Config, labels: &Labels) -> Result<Vec<Mark>, AllocError>
-    ensures { IfOk result (λ marks. marks.items ≡ marks_at config.now labels.now (length config.now.routes)) }
+    ensures { IfOk result (λ marks. marks.items
+        ≡ marks_at config.now labels.now (length config.now.routes)) }
 {
     let mut marks = Vec::new(alloc);
     for _route in 0..config.route_count() {

@@ -24,7 +24,8 @@ use std::alloc::{AllocError, Global};
 
 /// Makes an event happen, unless it is refused. The caller undoes what a refused event leaves.
 pub(crate) fn attempt(store: &mut Store, event: &Event) -> Result<Outcome, AllocError>
-    ensures outcome { IfOk result (λ outcome. Leads store.old.state event.now store.new.state outcome) }
+    ensures outcome { IfOk result
+        (λ outcome. Leads store.old.state event.now store.new.state outcome) }
     ensures kept { undone store.new ≡ undone store.old }
     ensures light { IfOk result (λ outcome.
         IsLightIfAccepted store.old event.now store.new outcome) }
@@ -69,7 +70,8 @@ fn happen(store: &mut Store, event: &Event) -> Result<Result<Done, Reason>, Allo
 /// than an event may make.
 fn go_to(store: &mut Store, at: Moment) -> Result<Option<usize>, AllocError>
     requires { at ≤ latest_read }
-    ensures made { IfOk result (λ made. moves_to store.new.state made ≡ run_moved at (advance move_limit at store.old.state)) }
+    ensures made { IfOk result (λ made. moves_to store.new.state made
+        ≡ run_moved at (advance move_limit at store.old.state)) }
     ensures kept { undone store.new ≡ undone store.old }
     ensures grown { OnOk result (GrownBy (1 + 2 * first_weight move_limit at store.old.state)
         store.old store.new) }
@@ -106,7 +108,8 @@ fn perform(store: &mut Store, prepared: Prepared) -> Result<Listing<usize>, Allo
 
 /// Returns the outcome of an event that was done, before which there were so many notifications.
 fn accepted(store: &Store, noted: usize, done: Done) -> Result<Outcome, AllocError>
-    ensures { IfOk result (λ outcome. outcome_view outcome ≡ acceptance done.moves (drop noted store.now.state.notes) done.skipped) }
+    ensures { IfOk result (λ outcome. outcome_view outcome
+        ≡ acceptance done.moves (drop noted store.now.state.notes) done.skipped) }
 {
     let notes = notes_from(store.alloc(), store.notes(), noted)?;
     Ok(Outcome::Accepted {

@@ -55,7 +55,8 @@ impl Engine {
     /// Applies an event, and records what it displaces, in at most four entries for each unit of the event's weight.
     /// A refused event changes nothing, and has an empty record.
     pub fn apply(&mut self, event: &Event) -> Result<Outcome, AllocError>
-        ensures outcome { IfOk result (λ outcome. outcome_view outcome ≡ outcome_of self.old.state event.now) }
+        ensures outcome { IfOk result (λ outcome. outcome_view outcome
+            ≡ outcome_of self.old.state event.now) }
         ensures state { OnOk result (self.new.state ≡ after_event self.old.state event.now) }
         ensures past { OnOk result (self.new.past ≡ self.old.past ++ self.old.state ∷ []) }
         ensures record_kept { IfOk result (λ outcome.
@@ -82,7 +83,8 @@ impl Engine {
     pub fn undo_last(&mut self)
         requires { 0 < length self.old.past }
         ensures past { self.old.past ≡ self.new.past ++ self.new.state ∷ [] }
-        ensures records { (last : List Displaced) × (self.old.records ≡ self.new.records ++ last ∷ []) }
+        ensures records { (last : List Displaced)
+            × (self.old.records ≡ self.new.records ++ last ∷ []) }
     {
         self.store.reopen();
         self.store.undo_open();

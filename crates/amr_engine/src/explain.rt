@@ -88,7 +88,8 @@ fn heard(
     clock: &Clock,
     integration: Option<&Integration>,
 ) -> Result<Finding, AllocError>
-    ensures { IfOk result (λ found. found ≡ heard store.now.state group.now labels.now clock.now (option_copied integration.entry)) }
+    ensures { IfOk result (λ found. found
+        ≡ heard store.now.state group.now labels.now clock.now (option_copied integration.entry)) }
 {
     match integration {
         None => Ok(Finding::Nowhere),
@@ -107,7 +108,9 @@ fn first_finding(
     integration: Option<&Integration>,
     clock: &Clock,
 ) -> Result<Finding, AllocError>
-    ensures { IfOk result (λ found. found ≡ finding store.now.state group.now labels.now (option_copied integration.entry) clock.now) }
+    ensures { IfOk result (λ found. found
+        ≡ finding store.now.state group.now labels.now (option_copied integration.entry)
+        clock.now) }
 {
     if let Some(found) = waiting(clock) {
         return Ok(found);
@@ -120,7 +123,8 @@ fn first_finding(
 
 /// The kind and the place of an integration, where there is one.
 fn kind_and_place(integration: Option<&Integration>) -> Result<Option<(Text, usize)>, AllocError>
-    ensures { IfOk result (λ named. named ≡ option_map kind_and_place (option_copied integration.entry)) }
+    ensures { IfOk result (λ named. named
+        ≡ option_map kind_and_place (option_copied integration.entry)) }
 {
     match integration {
         None => Ok(None),
@@ -136,7 +140,9 @@ fn verdict_at(
     clock: &Clock,
     integration: Option<&Integration>,
 ) -> Result<Verdict, AllocError>
-    ensures { IfOk result (λ verdict. verdict ≡ verdict_at store.now.state group.now labels.now clock.now (option_copied integration.entry)) }
+    ensures { IfOk result (λ verdict. verdict
+        ≡ verdict_at store.now.state group.now labels.now clock.now
+        (option_copied integration.entry)) }
 {
     Ok(Verdict::AtRoute {
         route: group.route,
@@ -167,7 +173,8 @@ fn add_verdicts(
     route: usize,
     found: &mut Vec<Verdict>,
 ) -> Result<(), AllocError>
-    ensures { OnOk result (found.new.items ≡ found.old.items ++ verdicts_at store.now.state labels.now route) }
+    ensures { OnOk result (found.new.items ≡ found.old.items
+        ++ verdicts_at store.now.state labels.now route) }
 {
     let group = group_spot(store.alloc(), store.config(), route, labels)?;
     let clock = clock_of(store, &group);
@@ -184,7 +191,9 @@ fn add_verdicts(
 
 /// The answers for each route that takes the alert.
 fn verdicts_of_routes(store: &Store, labels: &Labels) -> Result<Vec<Verdict>, AllocError>
-    ensures { IfOk result (λ found. found.items ≡ flat_map (verdicts_at store.now.state labels.now) (chosen store.now.state.config labels.now)) }
+    ensures { IfOk result (λ found. found.items
+        ≡ flat_map (verdicts_at store.now.state labels.now)
+        (chosen store.now.state.config labels.now)) }
 {
     let routes = store.config().routes_of(store.alloc(), labels)?;
     let mut found = Vec::new(store.alloc());
@@ -200,7 +209,8 @@ fn verdicts_of_stored(
     labels: &Labels,
     alert: Option<&Alert>,
 ) -> Result<Vec<Verdict>, AllocError>
-    ensures { IfOk result (λ found. found.items ≡ verdicts_of_stored store.now.state labels.now (option_copied alert.entry)) }
+    ensures { IfOk result (λ found. found.items
+        ≡ verdicts_of_stored store.now.state labels.now (option_copied alert.entry)) }
 {
     match alert {
         None => Ok(vec![in store.alloc(); Verdict::Unknown]?),

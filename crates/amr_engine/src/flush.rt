@@ -47,7 +47,11 @@ pub(crate) fn flush(store: &mut Store, at: Moment, group: &Spot) -> Result<(), A
 fn wind(store: &mut Store, at: Moment, group: &Spot) -> Result<(), AllocError>
     requires { at ≤ latest_read }
     ensures ok { OnOk result (store.new.state
-        ≡ set_clock group.now (λ clock. record clock { next_flush = at + group_interval_of store.old.state.config group.now.route; flushed = true }) store.old.state) }
+        ≡ set_clock group.now
+        (λ clock.
+        record clock
+        { next_flush = at + group_interval_of store.old.state.config group.now.route; flushed = true
+        }) store.old.state) }
     ensures kept { undone store.new ≡ undone store.old }
     ensures grown { GrownBy 1 store.old store.new }
 {
@@ -87,7 +91,8 @@ fn let_through(
     route: usize,
     members: &[Member],
 ) -> Result<Vec<Member>, AllocError>
-    ensures { IfOk result (λ through. through.items ≡ let_through store.now.state at route members.now) }
+    ensures { IfOk result (λ through. through.items
+        ≡ let_through store.now.state at route members.now) }
 {
     let mut through = Vec::new(store.alloc());
     for (labels, alert) in members {
@@ -105,7 +110,8 @@ fn notify_all(
     group: &Spot,
     through: &[Member],
 ) -> Result<(), AllocError>
-    ensures ok { OnOk result (store.new.state ≡ notify_all at group.now through.now store.old.state) }
+    ensures ok { OnOk result (store.new.state
+        ≡ notify_all at group.now through.now store.old.state) }
     ensures kept { undone store.new ≡ undone store.old }
     ensures grown { GrownBy (2 * turns store.old.state group.now) store.old store.new }
 {
@@ -166,7 +172,8 @@ fn notify_each(
     parted: &Parted,
 ) -> Result<(), AllocError>
     ensures ok { OnOk result (store.new.state
-        ≡ fold (told_by at group.now parted.now) store.old.state (integrations_of store.old.state.config group.now.route)) }
+        ≡ fold (told_by at group.now parted.now) store.old.state
+        (integrations_of store.old.state.config group.now.route)) }
     ensures kept { undone store.new ≡ undone store.old }
     ensures grown { GrownBy (2 * turns store.old.state group.now) store.old store.new }
 {
@@ -185,7 +192,8 @@ fn notify(
     parted: &Parted,
     integration: &Integration,
 ) -> Result<(), AllocError>
-    ensures ok { OnOk result (store.new.state ≡ told_by at group.now parted.now store.old.state integration.now) }
+    ensures ok { OnOk result (store.new.state
+        ≡ told_by at group.now parted.now store.old.state integration.now) }
     ensures kept { undone store.new ≡ undone store.old }
     ensures grown { GrownBy 2 store.old store.new }
 {
@@ -244,7 +252,9 @@ fn tell(
     parted: &Parted,
     integration: &Integration,
 ) -> Result<(), AllocError>
-    ensures ok { OnOk result (store.new.state ≡ tell_parted at group.now key.now parted.now integration.now.send_resolved store.old.state) }
+    ensures ok { OnOk result (store.new.state
+        ≡ tell_parted at group.now key.now parted.now integration.now.send_resolved
+        store.old.state) }
     ensures kept { undone store.new ≡ undone store.old }
     ensures grown { GrownBy 2 store.old store.new }
 {
@@ -277,7 +287,8 @@ fn note_told(
     parted: &Parted,
 ) -> Result<Option<Note>, AllocError>
     ensures { IfOk result (λ note. option_to_list note
-        ≡ notes_told at group.now key.now send_resolved parted.now.firing.items parted.now.resolved.items) }
+        ≡ notes_told at group.now key.now send_resolved parted.now.firing.items
+        parted.now.resolved.items) }
 {
     if parted.firing.is_empty() && !send_resolved {
         return Ok(None);
@@ -329,7 +340,8 @@ fn told_resolved(alloc: Global, members: &[Member]) -> Result<Listing<ResolvedAl
 
 /// Appends the notification, if there is one.
 fn append(store: &mut Store, note: Option<Note>) -> Result<(), AllocError>
-    ensures ok { OnOk result (store.new.state ≡ record store.old.state { notes = store.old.state.notes ++ option_to_list note }) }
+    ensures ok { OnOk result (store.new.state
+        ≡ record store.old.state { notes = store.old.state.notes ++ option_to_list note }) }
     ensures kept { undone store.new ≡ undone store.old }
     ensures grown { GrownBy 1 store.old store.new }
 {
@@ -348,7 +360,8 @@ fn drop_resolved(
     group: &Spot,
     members: &[Member],
 ) -> Result<(), AllocError>
-    ensures ok { OnOk result (store.new.state ≡ drop_resolved at group.now members.now store.old.state) }
+    ensures ok { OnOk result (store.new.state
+        ≡ drop_resolved at group.now members.now store.old.state) }
     ensures kept { undone store.new ≡ undone store.old }
     ensures grown { GrownBy (1 + length members.now) store.old store.new }
 {
@@ -366,7 +379,8 @@ fn forget_resolved(
     group: &Spot,
     members: &[Member],
 ) -> Result<(), AllocError>
-    ensures ok { OnOk result (store.new.state ≡ fold (forget group.now) store.old.state (resolved_of at members.now)) }
+    ensures ok { OnOk result (store.new.state
+        ≡ fold (forget group.now) store.old.state (resolved_of at members.now)) }
     ensures kept { undone store.new ≡ undone store.old }
     ensures grown { GrownBy (length members.now) store.old store.new }
 {

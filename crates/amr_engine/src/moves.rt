@@ -40,7 +40,8 @@ fn make(store: &mut Store, due: Due) -> Result<(), AllocError>
 /// Makes all moves due at or before a moment, and counts them; none where there are more than an event may make.
 pub(crate) fn advance(store: &mut Store, at: Moment) -> Result<Option<usize>, AllocError>
     requires { at ≤ latest_read }
-    ensures ok { IfOk result (λ made. moves_to store.new.state made ≡ counted_run (advance move_limit at store.old.state)) }
+    ensures ok { IfOk result (λ made. moves_to store.new.state made
+        ≡ counted_run (advance move_limit at store.old.state)) }
     ensures kept { undone store.new ≡ undone store.old }
     ensures grown { OnOk result (GrownBy (2 * first_weight move_limit at store.old.state)
         store.old store.new) }

@@ -30,8 +30,10 @@ pub(crate) fn sift(
     posted: &[PostedAlert],
 ) -> Result<Sifted, AllocError>
     requires { now + timeout < before_year_10000 }
-    ensures valid { IfOk result (λ sifted. sifted.valid.items ≡ filter_map (completed now timeout) posted.now) }
-    ensures skipped { IfOk result (λ sifted. sifted.skipped ≡ skipped_from 1 now timeout posted.now) }
+    ensures valid { IfOk result (λ sifted. sifted.valid.items
+        ≡ filter_map (completed now timeout) posted.now) }
+    ensures skipped { IfOk result (λ sifted. sifted.skipped
+        ≡ skipped_from 1 now timeout posted.now) }
 {
     let mut valid = Vec::new(alloc);
     let mut skipped = Listing::new(alloc);
@@ -47,7 +49,8 @@ pub(crate) fn sift(
 /// What is stored of a new alert.
 #[tactic(auto, unfolding(amr_rules::specs::Alerts::joined))]
 fn joined(store: &Store, labels: &Labels, alert: Alert) -> Alert
-    ensures { result ≡ joined store.now.state.moment (map.get store.now.state.alerts labels.now) alert }
+    ensures { result
+        ≡ joined store.now.state.moment (map.get store.now.state.alerts labels.now) alert }
 {
     match store.alerts().get(labels) {
         Some(stored) => merge(store.moment(), stored, alert),

@@ -62,7 +62,8 @@ fn prepare_post(
     posted: &[PostedAlert],
 ) -> Result<Result<Prepared, Reason>, AllocError>
     requires { at ≤ latest_read }
-    ensures { IfOk result (λ prepared. IsPrepared store.now.state at (act.Post posted.now) prepared) }
+    ensures { IfOk result
+        (λ prepared. IsPrepared store.now.state at (act.Post posted.now) prepared) }
 {
     let timeout = store.config().resolve_timeout();
     let sifted = sift(store.alloc(), at, timeout, posted)?;
@@ -79,7 +80,8 @@ fn prepare_silence(
     at: Moment,
     posted: &PostedSilence,
 ) -> Result<Result<Prepared, Reason>, AllocError>
-    ensures { IfOk result (λ prepared. IsPrepared store.now.state at (act.Silence posted.now) prepared) }
+    ensures { IfOk result
+        (λ prepared. IsPrepared store.now.state at (act.Silence posted.now) prepared) }
 {
     match set_silence(store.alloc(), at, posted, store.silences())? {
         Err(reason) => Ok(Err(reason)),
@@ -110,7 +112,8 @@ fn prepare_expiry(
 
 /// Prepares a reload.
 fn prepare_reload(read: &Result<Config, Reason>) -> Result<Result<Prepared, Reason>, AllocError>
-    ensures { IfOk result (λ prepared. (s : State) (at : ℕ) → IsPrepared s at (act.Reload (by_number read.now)) prepared) }
+    ensures { IfOk result (λ prepared. (s : State) (at : ℕ)
+        → IsPrepared s at (act.Reload (by_number read.now)) prepared) }
 {
     match read {
         Ok(config) => Ok(Ok(Prepared::Reload(config.clone()?))),

@@ -19,7 +19,8 @@ pub(crate) fn store_posting(
     posting: Posting,
 ) -> Result<(), AllocError>
     ensures ok { OnOk result (store.new.state
-        ≡ with_silences store.old.state (posting_stored id new_id posting store.old.state.silences)) }
+        ≡ with_silences store.old.state
+        (posting_stored id new_id posting store.old.state.silences)) }
     ensures kept { undone store.new ≡ undone store.old }
     ensures grown { GrownBy 2 store.old store.new }
 {
@@ -38,7 +39,8 @@ fn store_under(
     id: Option<SilenceId>,
     silence: Option<Silence>,
 ) -> Result<(), AllocError>
-    ensures ok { OnOk result (store.new.state ≡ with_silences store.old.state (stored_under id silence store.old.state.silences)) }
+    ensures ok { OnOk result (store.new.state
+        ≡ with_silences store.old.state (stored_under id silence store.old.state.silences)) }
     ensures kept { undone store.new ≡ undone store.old }
     ensures grown { GrownBy 1 store.old store.new }
 {

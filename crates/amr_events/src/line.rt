@@ -79,7 +79,8 @@ fn reload(alloc: Global, value: &Value) -> Result<Result<Config, Reason>, AllocE
 /// The act that the object states.
 #[tactic(auto, unfolding(crate::specs::Lines::act_in, crate::specs::Lines::post_of, crate::specs::Lines::silencing_of, crate::specs::Lines::expiry_of))]
 fn act(alloc: Global, line: &Value) -> Result<Act, LineError>
-    ensures { ReadsSuch (λ act. ActIs (view line.now) (act_of act)) result (act_in (view line.now)) }
+    ensures { ReadsSuch (λ act. ActIs (view line.now) (act_of act)) result
+        (act_in (view line.now)) }
 {
     if act_count(line) != 1 {
         return Err(LineError::Faulty);

@@ -57,7 +57,8 @@ impl Interner {
     /// The number of the label set, where it was seen.
     pub fn find(&self, labels: &Labels) -> Option<usize>
         ensures known { IfSome result (λ id. slice_get self.now id ≡ Some labels.now) }
-        ensures unknown { IfNone result (list_any (eq_by_cmp label_set_cmp labels.now) self.now ≡ false) }
+        ensures unknown { IfNone result (list_any (eq_by_cmp label_set_cmp labels.now) self.now
+            ≡ false) }
     {
         self.seen.get_index_of(labels)
     }

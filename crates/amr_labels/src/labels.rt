@@ -104,7 +104,8 @@ impl Labels {
 
     /// The labels under some names.
     pub fn kept_by_names(&self, alloc: Global, names: &[Text]) -> Result<Labels, AllocError>
-        ensures { IfOk result (λ kept. kept ≡ map.retain_keys self.now (λ name. list_any (eq_by_cmp text_cmp name) names.now)) }
+        ensures { IfOk result (λ kept. kept
+            ≡ map.retain_keys self.now (λ name. list_any (eq_by_cmp text_cmp name) names.now)) }
     {
         Ok(Labels {
             texts: self.texts.kept_by_names(alloc, names)?,

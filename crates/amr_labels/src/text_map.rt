@@ -40,7 +40,8 @@ impl Model for TextMap {
 /// The tree of the pairs. Of equal names the last counts.
 fn tree_of(alloc: Global, pairs: &[(Text, Text)]) -> Result<BTreeMap<Text, Text>, AllocError>
     ensures ordered { IfOk result (λ tree. IsOrdered text_cmp tree) }
-    ensures made { IfOk result (λ tree. map.from_sorted {R = text_cmp} tree.entries ≡ map.from_entries (reverse pairs.now)) }
+    ensures made { IfOk result (λ tree. map.from_sorted {R = text_cmp} tree.entries
+        ≡ map.from_entries (reverse pairs.now)) }
 {
     let mut tree = BTreeMap::new(alloc);
     for pair in pairs {
@@ -89,7 +90,8 @@ fn named(
     pairs: &[(Text, Text)],
     names: &[Text],
 ) -> Result<Vec<(Text, Text)>, AllocError>
-    ensures { IfOk result (λ kept. kept.items ≡ filter (λ pair. list_any (eq_by_cmp text_cmp pair.0) names.now) pairs.now) }
+    ensures { IfOk result (λ kept. kept.items
+        ≡ filter (λ pair. list_any (eq_by_cmp text_cmp pair.0) names.now) pairs.now) }
 {
     let mut kept = Vec::new(alloc);
     for pair in pairs {
@@ -167,7 +169,8 @@ impl TextMap {
 
     /// The texts that are not empty.
     pub fn without_empty_texts(&self, alloc: Global) -> Result<TextMap, AllocError>
-        ensures { IfOk result (λ kept. kept ≡ map.retain_keys self.now (λ name. not (is_empty (value_of self.now name)))) }
+        ensures { IfOk result (λ kept. kept
+            ≡ map.retain_keys self.now (λ name. not (is_empty (value_of self.now name)))) }
     {
         let kept = filled(alloc, self.entries())?;
         TextMap::of_sorted(alloc, kept)
@@ -175,7 +178,8 @@ impl TextMap {
 
     /// The texts under some names.
     pub fn kept_by_names(&self, alloc: Global, names: &[Text]) -> Result<TextMap, AllocError>
-        ensures { IfOk result (λ kept. kept ≡ map.retain_keys self.now (λ name. list_any (eq_by_cmp text_cmp name) names.now)) }
+        ensures { IfOk result (λ kept. kept
+            ≡ map.retain_keys self.now (λ name. list_any (eq_by_cmp text_cmp name) names.now)) }
     {
         let kept = named(alloc, self.entries(), names)?;
         TextMap::of_sorted(alloc, kept)

@@ -54,7 +54,8 @@ fn accepted_text(
     notes: &[Shared<Note>],
     skipped: &[usize],
 ) -> Result<String, AllocError>
-    ensures { IfOk result (λ text. string_bytes text ≡ flat_map note_line notes.now ++ skipped_lines event skipped.now) }
+    ensures { IfOk result (λ text. string_bytes text ≡ flat_map note_line notes.now
+        ++ skipped_lines event skipped.now) }
 {
     let mut text = notes_text(alloc, notes)?;
     if !skipped.is_empty() {
@@ -76,7 +77,8 @@ pub fn notes_text(alloc: Global, notes: &[Shared<Note>]) -> Result<String, Alloc
 
 /// The lines of an event's outcome. Events are counted from 1; an event that is only tried is event 0.
 pub fn event_text(alloc: Global, event: u64, outcome: &Outcome) -> Result<String, AllocError>
-    ensures { IfOk result (λ text. string_bytes text ≡ event_lines event (outcome_view outcome.now)) }
+    ensures { IfOk result (λ text. string_bytes text
+        ≡ event_lines event (outcome_view outcome.now)) }
 {
     match outcome {
         Outcome::Accepted {

@@ -181,7 +181,9 @@ fn put_set(
     key: &str,
     labels: &LabelMap<()>,
 ) -> Result<(), AllocError>
-    ensures { OnOk result (members_view members.new.entries ≡ with_member key.now (label_sets_data (set.items labels.now)) (members_view members.old.entries)) }
+    ensures { OnOk result (members_view members.new.entries
+        ≡ with_member key.now (label_sets_data (set.items labels.now))
+        (members_view members.old.entries)) }
 {
     put(members, alloc, key, set_value(alloc, labels)?)
 }

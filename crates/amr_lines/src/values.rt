@@ -37,7 +37,8 @@ pub(crate) fn put_text(
     key: &str,
     text: &str,
 ) -> Result<(), AllocError>
-    ensures { OnOk result (members_view members.new.entries ≡ with_member key.now (string text.now) (members_view members.old.entries)) }
+    ensures { OnOk result (members_view members.new.entries
+        ≡ with_member key.now (string text.now) (members_view members.old.entries)) }
 {
     put(members, alloc, key, Value::try_from_str(alloc, text)?)
 }
@@ -49,7 +50,8 @@ pub(crate) fn put_texts(
     key: &str,
     texts: &[(Text, Text)],
 ) -> Result<(), AllocError>
-    ensures { OnOk result (members_view members.new.entries ≡ with_member key.now (texts_data texts.now) (members_view members.old.entries)) }
+    ensures { OnOk result (members_view members.new.entries
+        ≡ with_member key.now (texts_data texts.now) (members_view members.old.entries)) }
 {
     put(members, alloc, key, texts_value(alloc, texts)?)
 }
@@ -61,7 +63,8 @@ pub(crate) fn put_moment(
     key: &str,
     moment: Moment,
 ) -> Result<(), AllocError>
-    ensures { OnOk result (members_view members.new.entries ≡ with_member key.now (moment_data moment) (members_view members.old.entries)) }
+    ensures { OnOk result (members_view members.new.entries
+        ≡ with_member key.now (moment_data moment) (members_view members.old.entries)) }
 {
     put(members, alloc, key, moment_value(alloc, moment)?)
 }
@@ -129,7 +132,9 @@ fn put_firing(
     alloc: Global,
     alerts: &[FiringAlert],
 ) -> Result<(), AllocError>
-    ensures { OnOk result (members_view members.new.entries ≡ with_member (codes "firing") (array (items_of (map firing_data alerts.now))) (members_view members.old.entries)) }
+    ensures { OnOk result (members_view members.new.entries
+        ≡ with_member (codes "firing") (array (items_of (map firing_data alerts.now)))
+        (members_view members.old.entries)) }
 {
     put(members, alloc, "firing", firing_values(alloc, alerts)?)
 }
@@ -140,7 +145,9 @@ fn put_resolved(
     alloc: Global,
     alerts: &[ResolvedAlert],
 ) -> Result<(), AllocError>
-    ensures { OnOk result (members_view members.new.entries ≡ with_member (codes "resolved") (array (items_of (map resolved_data alerts.now))) (members_view members.old.entries)) }
+    ensures { OnOk result (members_view members.new.entries
+        ≡ with_member (codes "resolved") (array (items_of (map resolved_data alerts.now)))
+        (members_view members.old.entries)) }
 {
     put(members, alloc, "resolved", resolved_values(alloc, alerts)?)
 }

@@ -35,7 +35,8 @@ fn put_finding(
     members: &mut Map<String, Value>,
     finding: &Finding,
 ) -> Result<(), AllocError>
-    ensures { OnOk result (members_view members.new.entries ≡ with_members (finding_members finding.now) (members_view members.old.entries)) }
+    ensures { OnOk result (members_view members.new.entries
+        ≡ with_members (finding_members finding.now) (members_view members.old.entries)) }
 {
     match finding {
         Finding::Waiting { due } => put_moment(members, alloc, "due", *due),
@@ -58,7 +59,8 @@ fn put_integration(
     members: &mut Map<String, Value>,
     integration: &Option<(Text, usize)>,
 ) -> Result<(), AllocError>
-    ensures { OnOk result (members_view members.new.entries ≡ with_members (integration_members integration.now) (members_view members.old.entries)) }
+    ensures { OnOk result (members_view members.new.entries
+        ≡ with_members (integration_members integration.now) (members_view members.old.entries)) }
 {
     match integration {
         None => Ok(()),
@@ -77,7 +79,8 @@ fn at_route_value(
     integration: &Option<(Text, usize)>,
     finding: &Finding,
 ) -> Result<Value, AllocError>
-    ensures { IfOk result (λ v. view v ≡ verdict_data (AtRoute route receiver.now integration.now finding.now)) }
+    ensures { IfOk result (λ v. view v
+        ≡ verdict_data (AtRoute route receiver.now integration.now finding.now)) }
 {
     let mut members = Map::new(alloc);
     put_text(&mut members, alloc, "verdict", finding_name(finding))?;

@@ -38,7 +38,8 @@ impl Comparison {
     ) -> Result<Comparison, MatcherError>
         ensures operator { IfOk result (λ comparison. operator_of comparison ≡ operator) }
         ensures own { IfOk result (λ comparison. own_value comparison ≡ own) }
-        ensures refused { IsErrOf result BadPattern → (takes_pattern operator ≡ true) × MayRefuse own }
+        ensures refused { IsErrOf result BadPattern → (takes_pattern operator ≡ true)
+            × MayRefuse own }
     {
         match operator {
             Operator::Equal => Ok(Comparison::Is(own)),
@@ -74,7 +75,8 @@ impl Comparison {
 
     /// What the comparison with the value says.
     pub(crate) fn compares(&self, alloc: Global, value: &str) -> Result<bool, AllocError>
-        ensures answer { IfOk result (λ found. found ≡ compares (operator_of self.now) (own_value self.now) value.now) }
+        ensures answer { IfOk result (λ found. found
+            ≡ compares (operator_of self.now) (own_value self.now) value.now) }
         ensures plain { takes_pattern (operator_of self.now) ≡ false → IsOk result }
     {
         match self {

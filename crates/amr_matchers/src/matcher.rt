@@ -42,8 +42,10 @@ impl Matcher {
         operator: Operator,
         value: Text,
     ) -> Result<Matcher, MatcherError>
-        ensures made { IfOk result (λ matcher. matcher ≡ record { name = name; operator = operator; value = value }) }
-        ensures refused { IsErrOf result BadPattern → (takes_pattern operator ≡ true) × MayRefuse value }
+        ensures made { IfOk result (λ matcher. matcher
+            ≡ record { name = name; operator = operator; value = value }) }
+        ensures refused { IsErrOf result BadPattern → (takes_pattern operator ≡ true)
+            × MayRefuse value }
     {
         let comparison = Comparison::new(alloc, operator, value)?;
         Ok(Matcher { name, comparison })

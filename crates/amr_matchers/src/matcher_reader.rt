@@ -47,7 +47,8 @@ impl Model for Reader {
 
 /// Appends what a backslash and the character stand for.
 fn push_escaped(text: &mut String, c: char) -> Result<(), AllocError>
-    ensures { OnOk result (string_bytes text.new ≡ string_bytes text.old ++ encode_utf8_all (escaped_of c)) }
+    ensures { OnOk result (string_bytes text.new ≡ string_bytes text.old
+        ++ encode_utf8_all (escaped_of c)) }
 {
     if c == '"' {
         text.push('"')
@@ -120,7 +121,8 @@ impl Reader {
 
     /// Reads the next character. Answers whether a matcher text goes on so.
     pub fn read(&mut self, alloc: Global, c: char) -> Result<bool, AllocError>
-        ensures { IfOk result (λ goes_on. reading.next self.old c ≡ (if goes_on then Some self.new else None)) }
+        ensures { IfOk result (λ goes_on. reading.next self.old c
+            ≡ (if goes_on then Some self.new else None)) }
     {
         match step_from(self.braced, self.place, c) {
             Some(step) => {
@@ -134,7 +136,8 @@ impl Reader {
 
     /// The matchers, where a text may end here.
     pub fn finish(self, alloc: Global) -> Result<Option<Vec<Draft>>, AllocError>
-        ensures { IfOk result (λ found. option_map (λ drafts. drafts.items) found ≡ reading.ended self) }
+        ensures { IfOk result (λ found. option_map (λ drafts. drafts.items) found
+            ≡ reading.ended self) }
     {
         let mut reader = self;
         match ending(reader.braced, reader.place) {

@@ -119,12 +119,17 @@ impl Session {
 
     /// Passes the next event, also one that is refused, and answers what it comes to.
     pub fn step(&mut self) -> Result<Outcome, SessionError>
-        ensures outcome { IfOk result (λ outcome. (event : _) → slice_get self.old.events self.old.cursor ≡ Some event → outcome_view outcome ≡ outcome_of self.old.state event) }
+        ensures outcome { IfOk result (λ outcome. (event : _)
+            → slice_get self.old.events self.old.cursor ≡ Some event → outcome_view outcome
+            ≡ outcome_of self.old.state event) }
         ensures inside { OnOk result (self.old.cursor < length self.old.events) }
-        ensures ok { OnOk result (self.new ≡ at_cursor self.old.config self.old.events (self.old.cursor + 1)) }
+        ensures ok { OnOk result (self.new
+            ≡ at_cursor self.old.config self.old.events (self.old.cursor + 1)) }
         ensures err { OnErr result (self.new ≡ self.old) }
-        ensures at_end { self.old.cursor ≡ length self.old.events → result ≡ Err SessionError.AtEnd }
-        ensures memory { IfErr result (λ error. self.old.cursor < length self.old.events → error ≡ SessionError.Memory) }
+        ensures at_end { self.old.cursor ≡ length self.old.events → result
+            ≡ Err SessionError.AtEnd }
+        ensures memory { IfErr result (λ error. self.old.cursor < length self.old.events → error
+            ≡ SessionError.Memory) }
     {
         if self.cursor == self.script.len() {
             return Err(SessionError::AtEnd);
@@ -137,7 +142,8 @@ impl Session {
     /// Undoes the last event. It takes no memory.
     pub fn back(&mut self) -> Result<(), AtStart>
         ensures at_start { self.old.cursor ≡ 0 → IsErr result × (self.new ≡ self.old) }
-        ensures back { 0 < self.old.cursor → IsOk result × (self.new ≡ at_cursor self.old.config self.old.events (self.old.cursor - 1)) }
+        ensures back { 0 < self.old.cursor → IsOk result
+            × (self.new ≡ at_cursor self.old.config self.old.events (self.old.cursor - 1)) }
     {
         if self.cursor == 0 {
             return Err(AtStart);
@@ -158,13 +164,15 @@ impl Session {
     /// Moves the cursor to a place, whole or not at all, and answers what the events come to that are passed forward.
     /// To the cursor or below it takes no memory.
     pub fn seek(&mut self, to: usize) -> Result<Vec<Outcome>, SessionError>
-        ensures outcomes { IfOk result (λ outcomes. map outcome_view outcomes.items ≡ outcomes_passed self.old.config self.old.events self.old.cursor to) }
+        ensures outcomes { IfOk result (λ outcomes. map outcome_view outcomes.items
+            ≡ outcomes_passed self.old.config self.old.events self.old.cursor to) }
         ensures inside { OnOk result (to ≤ length self.old.events) }
         ensures ok { OnOk result (self.new ≡ at_cursor self.old.config self.old.events to) }
         ensures err { OnErr result (self.new ≡ self.old) }
         ensures back { to ≤ self.old.cursor → IsOkAnd result (λ outcomes. outcomes.items ≡ []) }
         ensures out_of_range { length self.old.events < to → result ≡ Err SessionError.OutOfRange }
-        ensures memory { IfErr result (λ error. to ≤ length self.old.events → error ≡ SessionError.Memory) }
+        ensures memory { IfErr result (λ error. to ≤ length self.old.events → error
+            ≡ SessionError.Memory) }
     {
         if self.script.len() < to {
             return Err(SessionError::OutOfRange);
@@ -175,10 +183,14 @@ impl Session {
     /// Moves the cursor behind the last of the events at the front that are all at or before a moment, as `seek` does.
     /// The clock isn't moved to the moment.
     pub fn seek_time(&mut self, at: Moment) -> Result<Vec<Outcome>, AllocError>
-        ensures outcomes { IfOk result (λ outcomes. map outcome_view outcomes.items ≡ outcomes_passed self.old.config self.old.events self.old.cursor (events_until at self.old.events)) }
-        ensures ok { OnOk result (self.new ≡ at_cursor self.old.config self.old.events (events_until at self.old.events)) }
+        ensures outcomes { IfOk result (λ outcomes. map outcome_view outcomes.items
+            ≡ outcomes_passed self.old.config self.old.events self.old.cursor
+            (events_until at self.old.events)) }
+        ensures ok { OnOk result (self.new
+            ≡ at_cursor self.old.config self.old.events (events_until at self.old.events)) }
         ensures err { OnErr result (self.new ≡ self.old) }
-        ensures back { events_until at self.old.events ≤ self.old.cursor → IsOkAnd result (λ outcomes. outcomes.items ≡ []) }
+        ensures back { events_until at self.old.events ≤ self.old.cursor
+            → IsOkAnd result (λ outcomes. outcomes.items ≡ []) }
     {
         let to = events_until(&self.script, at);
         self.move_to(to)
@@ -187,7 +199,8 @@ impl Session {
     /// Moves the cursor to a place that there is.
     fn move_to(&mut self, to: usize) -> Result<Vec<Outcome>, AllocError>
         requires { to ≤ length self.old.events }
-        ensures outcomes { IfOk result (λ outcomes. map outcome_view outcomes.items ≡ outcomes_passed self.old.config self.old.events self.old.cursor to) }
+        ensures outcomes { IfOk result (λ outcomes. map outcome_view outcomes.items
+            ≡ outcomes_passed self.old.config self.old.events self.old.cursor to) }
         ensures ok { OnOk result (self.new ≡ at_cursor self.old.config self.old.events to) }
         ensures err { OnErr result (self.new ≡ self.old) }
         ensures back { to ≤ self.old.cursor → IsOkAnd result (λ outcomes. outcomes.items ≡ []) }
@@ -220,7 +233,8 @@ impl Session {
     fn forward(&mut self, to: usize) -> Result<Vec<Outcome>, AllocError>
         requires from { self.old.cursor ≤ to }
         requires inside { to ≤ length self.old.events }
-        ensures outcomes { IfOk result (λ outcomes. map outcome_view outcomes.items ≡ outcomes_passed self.old.config self.old.events self.old.cursor to) }
+        ensures outcomes { IfOk result (λ outcomes. map outcome_view outcomes.items
+            ≡ outcomes_passed self.old.config self.old.events self.old.cursor to) }
         ensures ok { OnOk result (self.new ≡ at_cursor self.old.config self.old.events to) }
         ensures config { self.new.config ≡ self.old.config }
         ensures events { self.new.events ≡ self.old.events }
@@ -239,7 +253,8 @@ impl Session {
 
     /// What an event comes to in the present state, in which all stays as it is.
     pub fn trial(&mut self, event: &Event) -> Result<Outcome, AllocError>
-        ensures outcome { IfOk result (λ outcome. outcome_view outcome ≡ outcome_of self.old.state event.now) }
+        ensures outcome { IfOk result (λ outcome. outcome_view outcome
+            ≡ outcome_of self.old.state event.now) }
         ensures same { self.new ≡ self.old }
     {
         let outcome = self.engine.apply(event)?;

@@ -72,7 +72,8 @@ fn inhibits(
 ) -> Result<bool, AllocError>
     requires target { all_hold rule.now.target target.now ≡ true }
     requires source { is_source ≡ all_hold rule.now.source target.now }
-    ensures { IfOk result (λ mutes. mutes ≡ inhibits now rule.now (source.now, alert.now) target.now) }
+    ensures { IfOk result (λ mutes. mutes
+        ≡ inhibits now rule.now (source.now, alert.now) target.now) }
 {
     if alert.is_resolved_at(now) {
         return Ok(false);
@@ -88,7 +89,8 @@ fn inhibitor_by<'a>(
     alerts: &'a Keyed<Labels, Alert>,
     rule: &InhibitRule,
 ) -> Result<Option<&'a Labels>, AllocError>
-    ensures { IfOk result (λ found. option_copied found ≡ inhibitor_by now target.now (shown label_set_cmp alerts.now) rule.now) }
+    ensures { IfOk result (λ found. option_copied found
+        ≡ inhibitor_by now target.now (shown label_set_cmp alerts.now) rule.now) }
 {
     if !rule.target.matches_all(alloc, target)? {
         return Ok(None);
@@ -108,7 +110,8 @@ fn first_source<'a>(
 ) -> Result<Option<&'a Labels>, AllocError>
     requires target { all_hold rule.now.target target.now ≡ true }
     requires source { is_source ≡ all_hold rule.now.source target.now }
-    ensures { IfOk result (λ found. option_copied found ≡ inhibitor_by now target.now (shown label_set_cmp alerts.now) rule.now) }
+    ensures { IfOk result (λ found. option_copied found
+        ≡ inhibitor_by now target.now (shown label_set_cmp alerts.now) rule.now) }
 {
     for (source, alert) in alerts.iter() {
         if inhibits(alloc, now, rule, source, alert, target, is_source)? {
@@ -127,9 +130,11 @@ pub fn inhibited_by(
     now: Moment,
     target: &Labels,
 ) -> Result<Option<(usize, Labels)>, AllocError>
-    ensures named { IfOk result (λ found. found ≡ inhibition_from 0 now target.now (shown label_set_cmp alerts.now) rules.now) }
+    ensures named { IfOk result (λ found. found
+        ≡ inhibition_from 0 now target.now (shown label_set_cmp alerts.now) rules.now) }
     ensures exactly { IfOk result (λ found.
-        (config : Config) → config.rules ≡ rules.now → is_inhibited config (shown label_set_cmp alerts.now) now target.now ≡ is_some found) }
+        (config : Config) → config.rules ≡ rules.now
+        → is_inhibited config (shown label_set_cmp alerts.now) now target.now ≡ is_some found) }
 {
     for (place, rule) in rules.iter().enumerate() {
         if let Some(source) = inhibitor_by(alloc, now, target, alerts, rule)? {
@@ -161,8 +166,10 @@ pub fn silenced_by(
     now: Moment,
     labels: &Labels,
 ) -> Result<Option<SilenceId>, AllocError>
-    ensures named { IfOk result (λ found. found ≡ silencer_of now labels.now (shown nat_cmp silences.now)) }
-    ensures exactly { IfOk result (λ found. is_silenced (shown nat_cmp silences.now) now labels.now ≡ is_some found) }
+    ensures named { IfOk result (λ found. found
+        ≡ silencer_of now labels.now (shown nat_cmp silences.now)) }
+    ensures exactly { IfOk result (λ found. is_silenced (shown nat_cmp silences.now) now labels.now
+        ≡ is_some found) }
 {
     for (id, silence) in silences.iter() {
         if silences_labels(alloc, now, silence, labels)? {

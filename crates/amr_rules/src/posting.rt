@@ -93,7 +93,8 @@ fn from_now(now: Moment, silence: Silence) -> Silence
 
 /// What a post of a silence comes to beside the stored one that it names.
 fn posting_over(now: Moment, old: Option<&Silence>, silence: Silence) -> Result<Posting, AllocError>
-    ensures { IfOk result (λ posting. posting ≡ posting_over now (option_copied old.entry) silence) }
+    ensures { IfOk result (λ posting. posting
+        ≡ posting_over now (option_copied old.entry) silence) }
 {
     match old {
         None => Ok(Posting::New(from_now(now, silence), None)),
@@ -117,7 +118,8 @@ pub(crate) fn decided_post(
     posted: &PostedSilence,
     old: Option<&Silence>,
 ) -> Result<Option<Posting>, AllocError>
-    ensures { IfOk result (λ posting. ok_or posting 17 ≡ decided_post now posted.now (option_copied old.entry)) }
+    ensures { IfOk result (λ posting. ok_or posting 17
+        ≡ decided_post now posted.now (option_copied old.entry)) }
 {
     match &posted.matchers {
         None => Ok(None),

@@ -22,7 +22,8 @@ pub fn set_silence(
     posted: &PostedSilence,
     silences: &Keyed<SilenceId, Silence>,
 ) -> Result<Result<Posting, Reason>, AllocError>
-    ensures { IfOk result (λ decision. after_decision posted.now (shown nat_cmp silences.now) decision
+    ensures { IfOk result
+        (λ decision. after_decision posted.now (shown nat_cmp silences.now) decision
         ≡ after_post now posted.now (shown nat_cmp silences.now)) }
 {
     let old = named(silences, posted);

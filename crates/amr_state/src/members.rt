@@ -15,7 +15,8 @@ pub type Member = (Labels, Alert);
 
 /// Whether an alert that is placed there belongs to the group.
 fn is_of_group(store: &Store, spot: &Spot, group: &Spot) -> Result<bool, AllocError>
-    ensures { IfOk result (λ is. is ≡ eq_by_cmp spot_cmp (group_spot store.now.state.config spot.now) group.now) }
+    ensures { IfOk result (λ is. is
+        ≡ eq_by_cmp spot_cmp (group_spot store.now.state.config spot.now) group.now) }
 {
     if spot.route != group.route {
         return Ok(false);

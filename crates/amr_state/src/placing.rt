@@ -59,7 +59,8 @@ fn place_on(
     labels: &Labels,
     alert: &Alert,
 ) -> Result<(), AllocError>
-    ensures ok { OnOk result (store.new.state ≡ place_on labels.now alert.now store.old.state route) }
+    ensures ok { OnOk result (store.new.state
+        ≡ place_on labels.now alert.now store.old.state route) }
     ensures kept { undone store.new ≡ undone store.old }
     ensures grown { GrownBy 2 store.old store.new }
 {

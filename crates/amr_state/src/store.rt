@@ -260,7 +260,9 @@ impl Store {
 
     /// Stores an alert.
     pub fn insert_alert(&mut self, labels: &Labels, alert: Alert) -> Result<(), AllocError>
-        ensures ok { OnOk result (self.new.state ≡ record self.old.state { alerts = map.insert self.old.state.alerts labels.now alert }) }
+        ensures ok { OnOk result (self.new.state
+            ≡ record self.old.state
+            { alerts = map.insert self.old.state.alerts labels.now alert }) }
         ensures kept { undone self.new ≡ undone self.old }
         ensures grown { GrownBy 1 self.old self.new }
     {
@@ -269,7 +271,8 @@ impl Store {
 
     /// Removes a stored alert.
     pub fn remove_alert(&mut self, labels: &Labels) -> Result<(), AllocError>
-        ensures ok { OnOk result (self.new.state ≡ record self.old.state { alerts = map.remove self.old.state.alerts labels.now }) }
+        ensures ok { OnOk result (self.new.state
+            ≡ record self.old.state { alerts = map.remove self.old.state.alerts labels.now }) }
         ensures kept { undone self.new ≡ undone self.old }
         ensures grown { GrownBy 1 self.old self.new }
     {
@@ -278,7 +281,9 @@ impl Store {
 
     /// Adds a copy of an alert to a group.
     pub(crate) fn place_copy(&mut self, spot: &Spot, alert: Alert) -> Result<(), AllocError>
-        ensures ok { OnOk result (self.new.state ≡ record self.old.state { placements = map.insert self.old.state.placements spot.now alert }) }
+        ensures ok { OnOk result (self.new.state
+            ≡ record self.old.state
+            { placements = map.insert self.old.state.placements spot.now alert }) }
         ensures kept { undone self.new ≡ undone self.old }
         ensures grown { GrownBy 1 self.old self.new }
     {
@@ -287,7 +292,9 @@ impl Store {
 
     /// Removes an alert from its group.
     pub fn remove_copy(&mut self, spot: &Spot) -> Result<(), AllocError>
-        ensures ok { OnOk result (self.new.state ≡ record self.old.state { placements = map.remove self.old.state.placements spot.now }) }
+        ensures ok { OnOk result (self.new.state
+            ≡ record self.old.state
+            { placements = map.remove self.old.state.placements spot.now }) }
         ensures kept { undone self.new ≡ undone self.old }
         ensures grown { GrownBy 1 self.old self.new }
     {
@@ -296,7 +303,8 @@ impl Store {
 
     /// Sets a group's timer.
     pub fn set_clock(&mut self, group: &Spot, clock: Clock) -> Result<(), AllocError>
-        ensures ok { OnOk result (self.new.state ≡ record self.old.state { clocks = map.insert self.old.state.clocks group.now clock }) }
+        ensures ok { OnOk result (self.new.state
+            ≡ record self.old.state { clocks = map.insert self.old.state.clocks group.now clock }) }
         ensures kept { undone self.new ≡ undone self.old }
         ensures grown { GrownBy 1 self.old self.new }
     {
@@ -305,7 +313,8 @@ impl Store {
 
     /// Removes a group.
     pub fn remove_clock(&mut self, group: &Spot) -> Result<(), AllocError>
-        ensures ok { OnOk result (self.new.state ≡ record self.old.state { clocks = map.remove self.old.state.clocks group.now }) }
+        ensures ok { OnOk result (self.new.state
+            ≡ record self.old.state { clocks = map.remove self.old.state.clocks group.now }) }
         ensures kept { undone self.new ≡ undone self.old }
         ensures grown { GrownBy 1 self.old self.new }
     {
@@ -314,7 +323,8 @@ impl Store {
 
     /// Stores a silence.
     pub fn insert_silence(&mut self, id: SilenceId, silence: Silence) -> Result<(), AllocError>
-        ensures ok { OnOk result (self.new.state ≡ record self.old.state { silences = map.insert self.old.state.silences id silence }) }
+        ensures ok { OnOk result (self.new.state
+            ≡ record self.old.state { silences = map.insert self.old.state.silences id silence }) }
         ensures kept { undone self.new ≡ undone self.old }
         ensures grown { GrownBy 1 self.old self.new }
     {
@@ -323,7 +333,9 @@ impl Store {
 
     /// Puts another configuration in force, and removes all groups and their members.
     pub fn replace_config(&mut self, config: Config) -> Result<(), AllocError>
-        ensures ok { OnOk result (self.new.state ≡ record self.old.state { config = config; placements = map.empty; clocks = map.empty }) }
+        ensures ok { OnOk result (self.new.state
+            ≡ record self.old.state
+            { config = config; placements = map.empty; clocks = map.empty }) }
         ensures kept { undone self.new ≡ undone self.old }
         ensures grown { GrownBy (1 + len self.old.state.clocks + len self.old.state.placements)
             self.old self.new }
@@ -335,7 +347,8 @@ impl Store {
 
     /// Writes an entry of the notification log.
     pub fn write_log(&mut self, key: &LogKey, entry: LogEntry) -> Result<(), AllocError>
-        ensures ok { OnOk result (self.new.state ≡ record self.old.state { log = map.insert self.old.state.log key.now entry }) }
+        ensures ok { OnOk result (self.new.state
+            ≡ record self.old.state { log = map.insert self.old.state.log key.now entry }) }
         ensures kept { undone self.new ≡ undone self.old }
         ensures grown { GrownBy 1 self.old self.new }
     {
@@ -348,7 +361,8 @@ impl Store {
 
     /// Appends a notification.
     pub fn append_note(&mut self, note: Note) -> Result<(), AllocError>
-        ensures ok { OnOk result (self.new.state ≡ record self.old.state { notes = self.old.state.notes ++ note ∷ [] }) }
+        ensures ok { OnOk result (self.new.state
+            ≡ record self.old.state { notes = self.old.state.notes ++ note ∷ [] }) }
         ensures kept { undone self.new ≡ undone self.old }
         ensures grown { GrownBy 1 self.old self.new }
     {
@@ -374,7 +388,8 @@ impl Store {
 
     /// Puts a stored alert, or none, under its labels.
     fn set_alert(&mut self, labels: &Labels, alert: Option<Alert>) -> Result<(), AllocError>
-        ensures ok { OnOk result (self.new.state ≡ record self.old.state { alerts = map.set self.old.state.alerts labels.now alert }) }
+        ensures ok { OnOk result (self.new.state
+            ≡ record self.old.state { alerts = map.set self.old.state.alerts labels.now alert }) }
         ensures kept { undone self.new ≡ undone self.old }
         ensures grown { GrownBy 1 self.old self.new }
     {
@@ -390,7 +405,8 @@ impl Store {
 
     /// Puts a silence, or none, under its id.
     fn set_silence(&mut self, id: SilenceId, silence: Option<Silence>) -> Result<(), AllocError>
-        ensures ok { OnOk result (self.new.state ≡ record self.old.state { silences = map.set self.old.state.silences id silence }) }
+        ensures ok { OnOk result (self.new.state
+            ≡ record self.old.state { silences = map.set self.old.state.silences id silence }) }
         ensures kept { undone self.new ≡ undone self.old }
         ensures grown { GrownBy 1 self.old self.new }
     {
@@ -403,7 +419,9 @@ impl Store {
 
     /// Puts a member, or none, under its route and labels.
     fn set_placement(&mut self, spot: &Spot, alert: Option<Alert>) -> Result<(), AllocError>
-        ensures ok { OnOk result (self.new.state ≡ record self.old.state { placements = map.set self.old.state.placements spot.now alert }) }
+        ensures ok { OnOk result (self.new.state
+            ≡ record self.old.state
+            { placements = map.set self.old.state.placements spot.now alert }) }
         ensures kept { undone self.new ≡ undone self.old }
         ensures grown { GrownBy 1 self.old self.new }
     {
@@ -416,7 +434,8 @@ impl Store {
 
     /// Puts a group's timer, or none.
     fn change_clock(&mut self, group: &Spot, clock: Option<Clock>) -> Result<(), AllocError>
-        ensures ok { OnOk result (self.new.state ≡ record self.old.state { clocks = map.set self.old.state.clocks group.now clock }) }
+        ensures ok { OnOk result (self.new.state
+            ≡ record self.old.state { clocks = map.set self.old.state.clocks group.now clock }) }
         ensures kept { undone self.new ≡ undone self.old }
         ensures grown { GrownBy 1 self.old self.new }
     {
@@ -433,7 +452,8 @@ impl Store {
 
     /// Removes all members of all groups.
     fn clear_placements(&mut self) -> Result<(), AllocError>
-        ensures ok { OnOk result (self.new.state ≡ record self.old.state { placements = map.empty }) }
+        ensures ok { OnOk result (self.new.state
+            ≡ record self.old.state { placements = map.empty }) }
         ensures kept { undone self.new ≡ undone self.old }
         ensures grown { GrownBy (len self.old.state.placements) self.old self.new }
     {

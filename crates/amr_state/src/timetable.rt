@@ -46,8 +46,10 @@ impl Timetable {
     pub(crate) fn new(alloc: Global) -> Timetable
         ensures alerts { shown label_set_cmp result.alerts ≡ map.empty }
         ensures clocks { shown spot_cmp result.clocks ≡ map.empty }
-        ensures alerts_entered { (key : LabelSet) → is_entered label_set_cmp result.alerts key ≡ false }
-        ensures clocks_entered { (key : spots.Spot) → is_entered spot_cmp result.clocks key ≡ false }
+        ensures alerts_entered { (key : LabelSet) → is_entered label_set_cmp result.alerts key
+            ≡ false }
+        ensures clocks_entered { (key : spots.Spot) → is_entered spot_cmp result.clocks key
+            ≡ false }
     {
         Timetable {
             alerts: Keyed::new(alloc),
@@ -73,7 +75,8 @@ impl Timetable {
     /// The queue of what is due.
     pub(crate) fn queue(&self) -> &Queue<Due>
         ensures { result.now.dues ≡
-            in_order due_cmp (dues_of (shown label_set_cmp self.now.alerts) (shown spot_cmp self.now.clocks)) }
+            in_order due_cmp
+            (dues_of (shown label_set_cmp self.now.alerts) (shown spot_cmp self.now.clocks)) }
     {
         &self.queue
     }
@@ -82,10 +85,14 @@ impl Timetable {
     pub(crate) fn clear_entered(&mut self)
         ensures alerts { shown label_set_cmp self.new.alerts ≡ shown label_set_cmp self.old.alerts }
         ensures clocks { shown spot_cmp self.new.clocks ≡ shown spot_cmp self.old.clocks }
-        ensures alert_places { (key : LabelSet) → has_place label_set_cmp self.new.alerts key ≡ has_place label_set_cmp self.old.alerts key }
-        ensures clock_places { (key : spots.Spot) → has_place spot_cmp self.new.clocks key ≡ has_place spot_cmp self.old.clocks key }
-        ensures alerts_entered { (key : LabelSet) → is_entered label_set_cmp self.new.alerts key ≡ false }
-        ensures clocks_entered { (key : spots.Spot) → is_entered spot_cmp self.new.clocks key ≡ false }
+        ensures alert_places { (key : LabelSet) → has_place label_set_cmp self.new.alerts key
+            ≡ has_place label_set_cmp self.old.alerts key }
+        ensures clock_places { (key : spots.Spot) → has_place spot_cmp self.new.clocks key
+            ≡ has_place spot_cmp self.old.clocks key }
+        ensures alerts_entered { (key : LabelSet) → is_entered label_set_cmp self.new.alerts key
+            ≡ false }
+        ensures clocks_entered { (key : spots.Spot) → is_entered spot_cmp self.new.clocks key
+            ≡ false }
     {
         self.alerts.clear_entered();
         self.clocks.clear_entered();
@@ -98,13 +105,16 @@ impl Timetable {
         labels: &Labels,
         alert: Option<Alert>,
     ) -> Result<Option<(Labels, Option<Alert>)>, AllocError>
-        ensures entry { IfOk result (λ entry. entry ≡ entry_of label_set_cmp self.old.alerts labels.now) }
+        ensures entry { IfOk result (λ entry. entry
+            ≡ entry_of label_set_cmp self.old.alerts labels.now) }
         ensures shown { OnOk result (shown label_set_cmp self.new.alerts ≡
             map.set (shown label_set_cmp self.old.alerts) labels.now alert) }
-        ensures entered { OnOk result (Enters label_set_cmp self.old.alerts self.new.alerts labels.now) }
+        ensures entered { OnOk result
+            (Enters label_set_cmp self.old.alerts self.new.alerts labels.now) }
         ensures made { OnOk result (IsTrue (has_place label_set_cmp self.new.alerts labels.now)) }
         ensures err { OnErr result (IsUnchanged label_set_cmp self.old.alerts self.new.alerts) }
-        ensures places { (other : LabelSet) → IsTrue (has_place label_set_cmp self.old.alerts other) →
+        ensures places { (other : LabelSet) → IsTrue (has_place label_set_cmp self.old.alerts other)
+            →
             IsTrue (has_place label_set_cmp self.new.alerts other) }
         ensures clocks { self.new.clocks ≡ self.old.clocks }
         ensures room { IfOk result (λ entry. IsTrue (is_some entry) → 0 < journal.new.entry_room) }
@@ -156,8 +166,10 @@ impl Timetable {
         requires { IsTrue (has_place label_set_cmp self.old.alerts labels) }
         ensures shown { shown label_set_cmp self.new.alerts ≡
             map.set (shown label_set_cmp self.old.alerts) labels alert }
-        ensures places { (other : LabelSet) → has_place label_set_cmp self.new.alerts other ≡ has_place label_set_cmp self.old.alerts other }
-        ensures entered { (other : LabelSet) → is_entered label_set_cmp self.new.alerts other ≡ is_entered label_set_cmp self.old.alerts other }
+        ensures places { (other : LabelSet) → has_place label_set_cmp self.new.alerts other
+            ≡ has_place label_set_cmp self.old.alerts other }
+        ensures entered { (other : LabelSet) → is_entered label_set_cmp self.new.alerts other
+            ≡ is_entered label_set_cmp self.old.alerts other }
         ensures clocks { self.new.clocks ≡ self.old.clocks }
     {
         let old = moment_at(&self.alerts, &labels);
@@ -171,8 +183,10 @@ impl Timetable {
         requires { IsTrue (has_place spot_cmp self.old.clocks group) }
         ensures shown { shown spot_cmp self.new.clocks ≡
             map.set (shown spot_cmp self.old.clocks) group clock }
-        ensures places { (other : spots.Spot) → has_place spot_cmp self.new.clocks other ≡ has_place spot_cmp self.old.clocks other }
-        ensures entered { (other : spots.Spot) → is_entered spot_cmp self.new.clocks other ≡ is_entered spot_cmp self.old.clocks other }
+        ensures places { (other : spots.Spot) → has_place spot_cmp self.new.clocks other
+            ≡ has_place spot_cmp self.old.clocks other }
+        ensures entered { (other : spots.Spot) → is_entered spot_cmp self.new.clocks other
+            ≡ is_entered spot_cmp self.old.clocks other }
         ensures alerts { self.new.alerts ≡ self.old.alerts }
     {
         let old = moments_at(&self.clocks, group.spot());
@@ -195,8 +209,10 @@ struct GroupMoments {
 fn put_back<K: Key + Drop, V: Drop>(table: &mut Keyed<K, V>, key: &K, value: Option<V>)
     requires { IsTrue (has_place K.cmp table.old key.now) }
     ensures shown { shown K.cmp table.new ≡ map.set (shown K.cmp table.old) key.now value }
-    ensures places { (other : K) → has_place K.cmp table.new other ≡ has_place K.cmp table.old other }
-    ensures entered { (other : K) → is_entered K.cmp table.new other ≡ is_entered K.cmp table.old other }
+    ensures places { (other : K) → has_place K.cmp table.new other
+        ≡ has_place K.cmp table.old other }
+    ensures entered { (other : K) → is_entered K.cmp table.new other
+        ≡ is_entered K.cmp table.old other }
     ensures keys { table.new.numbers ≡ table.old.numbers }
     ensures enough { HasPlaces K.cmp table.new }
 {

@@ -65,7 +65,8 @@ pub fn log(store: &Store) -> Result<Vec<(LogKey, LogEntry)>, AllocError>
 
 /// The label sets of the members of a group.
 fn member_labels(store: &Store, group: &Spot) -> Result<Listing<Labels>, AllocError>
-    ensures { IfOk result (λ found. found ≡ map (λ member. member.0) (members store.now.state group.now)) }
+    ensures { IfOk result (λ found. found
+        ≡ map (λ member. member.0) (members store.now.state group.now)) }
 {
     let mut found = Listing::new(store.alloc());
     let members = members_of(store, group)?;

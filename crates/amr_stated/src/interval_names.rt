@@ -21,7 +21,8 @@ pub(crate) fn names_member(
     value: &Value,
     key: &str,
 ) -> Result<Option<Listing<Text>>, ConfigError>
-    ensures { Gives (λ s. s) result (stated (names_at (view whole.now)) (place_path place.now) key.now (view value.now)) }
+    ensures { Gives (λ s. s) result
+        (stated (names_at (view whole.now)) (place_path place.now) key.now (view value.now)) }
 {
     match member(value, key) {
         Some(found) => Ok(Some(names(alloc, whole, &Place::Member(place, key), found)?)),
@@ -36,7 +37,8 @@ fn names(
     place: &Place,
     value: &Value,
 ) -> Result<Listing<Text>, ConfigError>
-    ensures { Gives (λ ts. ts) result (names_at (view whole.now) (place_path place.now) (view value.now)) }
+    ensures { Gives (λ ts. ts) result
+        (names_at (view whole.now) (place_path place.now) (view value.now)) }
 {
     let items = items(alloc, place, value)?;
     let mut names = Listing::new(alloc);
@@ -55,7 +57,8 @@ fn add_name(
     item: &Value,
     names: &mut Listing<Text>,
 ) -> Result<(), ConfigError>
-    ensures { Changes (λ ts. ts) result names.new (name_into (view whole.now) (place_path place.now) index (view item.now) names.old) }
+    ensures { Changes (λ ts. ts) result names.new
+        (name_into (view whole.now) (place_path place.now) index (view item.now) names.old) }
 {
     let here = Place::Item(place, index);
     let name = text(alloc, &here, item)?;

@@ -60,7 +60,8 @@ pub(crate) fn items<'v>(
     place: &Place,
     value: &'v Value,
 ) -> Result<&'v [Value], ConfigError>
-    ensures { Gives (λ s. items_view s.now) result (items_at (place_path place.now) (view value.now)) }
+    ensures { Gives (λ s. items_view s.now) result
+        (items_at (place_path place.now) (view value.now)) }
 {
     match value.as_array() {
         Some(items) => Ok(items),
@@ -86,7 +87,8 @@ fn text_item(
     item: &Value,
     texts: &mut Listing<Text>,
 ) -> Result<(), ConfigError>
-    ensures { Changes (λ ts. ts) result texts.new (text_into (place_path place.now) index (view item.now) texts.old) }
+    ensures { Changes (λ ts. ts) result texts.new
+        (text_into (place_path place.now) index (view item.now) texts.old) }
 {
     let text = text(alloc, &Place::Item(place, index), item)?;
     texts.push(Text::from_str(alloc, text)?)?;
@@ -111,7 +113,8 @@ pub(crate) fn flag_member(
     value: &Value,
     key: &str,
 ) -> Result<Option<bool>, ConfigError>
-    ensures { Gives (λ b. b) result (stated flag_at (place_path place.now) key.now (view value.now)) }
+    ensures { Gives (λ b. b) result
+        (stated flag_at (place_path place.now) key.now (view value.now)) }
 {
     match member(value, key) {
         Some(found) => Ok(Some(flag(alloc, &Place::Member(place, key), found)?)),
@@ -125,7 +128,8 @@ pub(crate) fn span_member(
     value: &Value,
     key: &str,
 ) -> Result<Option<Span>, ConfigError>
-    ensures { Gives (λ b. b) result (stated span_at (place_path place.now) key.now (view value.now)) }
+    ensures { Gives (λ b. b) result
+        (stated span_at (place_path place.now) key.now (view value.now)) }
 {
     match member(value, key) {
         Some(found) => Ok(Some(span(alloc, &Place::Member(place, key), found)?)),
@@ -139,7 +143,8 @@ pub(crate) fn text_member(
     value: &Value,
     key: &str,
 ) -> Result<Option<Text>, ConfigError>
-    ensures { Gives (λ s. s) result (stated text_at (place_path place.now) key.now (view value.now)) }
+    ensures { Gives (λ s. s) result
+        (stated text_at (place_path place.now) key.now (view value.now)) }
 {
     match member(value, key) {
         Some(found) => {
@@ -156,7 +161,8 @@ pub(crate) fn texts_member(
     value: &Value,
     key: &str,
 ) -> Result<Option<Listing<Text>>, ConfigError>
-    ensures { Gives (λ s. s) result (stated texts_at (place_path place.now) key.now (view value.now)) }
+    ensures { Gives (λ s. s) result
+        (stated texts_at (place_path place.now) key.now (view value.now)) }
 {
     match member(value, key) {
         Some(found) => Ok(Some(texts(alloc, &Place::Member(place, key), found)?)),

@@ -30,7 +30,8 @@ fn timeout(alloc: Global, value: &Value) -> Result<Option<Span>, ConfigError>
 }
 
 fn timeout_member(alloc: Global, value: &Value) -> Result<Option<Option<Span>>, ConfigError>
-    ensures { Gives (λ o. o) result (optional timeout_in (member_of (codes "global") (view value.now))) }
+    ensures { Gives (λ o. o) result
+        (optional timeout_in (member_of (codes "global") (view value.now))) }
 {
     match member(value, "global") {
         Some(found) => Ok(Some(timeout(alloc, found)?)),

@@ -27,7 +27,8 @@ pub(crate) fn read_mute_time_intervals(
     alloc: Global,
     value: &Value,
 ) -> Result<Listing<NamedInterval>, ConfigError>
-    ensures { Gives (λ is. is) result (intervals_at (codes "mute_time_intervals") (view value.now) []) }
+    ensures { Gives (λ is. is) result
+        (intervals_at (codes "mute_time_intervals") (view value.now) []) }
 {
     read_intervals(alloc, value, "mute_time_intervals", Listing::new(alloc))
 }
@@ -54,7 +55,8 @@ fn with_intervals(
     value: &Value,
     intervals: Listing<NamedInterval>,
 ) -> Result<Listing<NamedInterval>, ConfigError>
-    ensures { Gives (λ is. is) result (intervals_from (place_path place.now) (Some (view value.now)) intervals) }
+    ensures { Gives (λ is. is) result
+        (intervals_from (place_path place.now) (Some (view value.now)) intervals) }
 {
     let items = items(alloc, place, value)?;
     let mut intervals = intervals;
@@ -72,7 +74,8 @@ fn add_interval(
     value: &Value,
     intervals: &mut Listing<NamedInterval>,
 ) -> Result<(), ConfigError>
-    ensures { Changes (λ is. is) result intervals.new (interval_into (place_path place.now) index (view value.now) intervals.old) }
+    ensures { Changes (λ is. is) result intervals.new
+        (interval_into (place_path place.now) index (view value.now) intervals.old) }
 {
     let here = Place::Item(place, index);
     let interval = interval(alloc, &here, value, intervals.as_slice())?;
@@ -87,7 +90,8 @@ fn interval(
     value: &Value,
     before: &[NamedInterval],
 ) -> Result<NamedInterval, ConfigError>
-    ensures { Gives (λ i. i) result (interval_at before.now (place_path place.now) (view value.now)) }
+    ensures { Gives (λ i. i) result
+        (interval_at before.now (place_path place.now) (view value.now)) }
 {
     if !value.is_object() {
         return Err(place.faulty(alloc));
@@ -116,7 +120,8 @@ fn new_name(
     value: &Value,
     before: &[NamedInterval],
 ) -> Result<Text, ConfigError>
-    ensures { Gives (λ name. name) result (new_name_at before.now (place_path place.now) (view value.now)) }
+    ensures { Gives (λ name. name) result
+        (new_name_at before.now (place_path place.now) (view value.now)) }
 {
     let name = text(alloc, place, value)?;
     if is_taken(name, before) {
@@ -139,7 +144,8 @@ fn interval_members(
     place: &Place,
     value: &Value,
 ) -> Result<Listing<IntervalMember>, ConfigError>
-    ensures { Gives (λ ms. ms) result (interval_members_at (place_path place.now) (view value.now)) }
+    ensures { Gives (λ ms. ms) result
+        (interval_members_at (place_path place.now) (view value.now)) }
 {
     let items = items(alloc, place, value)?;
     let mut members = Listing::new(alloc);
@@ -157,7 +163,8 @@ fn add_interval_member(
     value: &Value,
     members: &mut Listing<IntervalMember>,
 ) -> Result<(), ConfigError>
-    ensures { Changes (λ ms. ms) result members.new (interval_member_into (place_path place.now) index (view value.now) members.old) }
+    ensures { Changes (λ ms. ms) result members.new
+        (interval_member_into (place_path place.now) index (view value.now) members.old) }
 {
     let member = interval_member(alloc, &Place::Item(place, index), value)?;
     members.push(member)?;
@@ -206,7 +213,8 @@ fn location_member(
     value: &Value,
     key: &str,
 ) -> Result<Option<bool>, ConfigError>
-    ensures { Gives (λ l. l) result (stated location_at (place_path place.now) key.now (view value.now)) }
+    ensures { Gives (λ l. l) result
+        (stated location_at (place_path place.now) key.now (view value.now)) }
 {
     match member(value, key) {
         Some(found) => Ok(Some(location(alloc, &Place::Member(place, key), found)?)),
@@ -282,7 +290,8 @@ fn ranges_member(
     value: &Value,
     key: &str,
 ) -> Result<Option<Listing<Range>>, ConfigError>
-    ensures { Gives (λ rs. rs) result (stated (ranges_at (range_in field)) (place_path place.now) key.now (view value.now)) }
+    ensures { Gives (λ rs. rs) result
+        (stated (ranges_at (range_in field)) (place_path place.now) key.now (view value.now)) }
 {
     match member(value, key) {
         Some(found) => Ok(Some(ranges(alloc, field, &Place::Member(place, key), found)?)),
@@ -297,7 +306,8 @@ fn ranges(
     place: &Place,
     value: &Value,
 ) -> Result<Listing<Range>, ConfigError>
-    ensures { Gives (λ rs. rs) result (ranges_at (range_in field) (place_path place.now) (view value.now)) }
+    ensures { Gives (λ rs. rs) result
+        (ranges_at (range_in field) (place_path place.now) (view value.now)) }
 {
     let items = items(alloc, place, value)?;
     let mut ranges = Listing::new(alloc);
@@ -316,7 +326,8 @@ fn add_range(
     value: &Value,
     ranges: &mut Listing<Range>,
 ) -> Result<(), ConfigError>
-    ensures { Changes (λ rs. rs) result ranges.new (range_into (range_in field) (place_path place.now) index (view value.now) ranges.old) }
+    ensures { Changes (λ rs. rs) result ranges.new
+        (range_into (range_in field) (place_path place.now) index (view value.now) ranges.old) }
 {
     match field.range(value) {
         Some(range) => {
@@ -333,7 +344,8 @@ fn days_member(
     value: &Value,
     key: &str,
 ) -> Result<Option<Listing<DayRange>>, ConfigError>
-    ensures { Gives (λ rs. rs) result (stated (ranges_at day_range_in) (place_path place.now) key.now (view value.now)) }
+    ensures { Gives (λ rs. rs) result
+        (stated (ranges_at day_range_in) (place_path place.now) key.now (view value.now)) }
 {
     match member(value, key) {
         Some(found) => Ok(Some(day_ranges(alloc, &Place::Member(place, key), found)?)),
@@ -343,7 +355,8 @@ fn days_member(
 
 #[tactic(auto, unfolding(crate::specs::ReadIntervals::ranges_at))]
 fn day_ranges(alloc: Global, place: &Place, value: &Value) -> Result<Listing<DayRange>, ConfigError>
-    ensures { Gives (λ rs. rs) result (ranges_at day_range_in (place_path place.now) (view value.now)) }
+    ensures { Gives (λ rs. rs) result
+        (ranges_at day_range_in (place_path place.now) (view value.now)) }
 {
     let items = items(alloc, place, value)?;
     let mut ranges = Listing::new(alloc);
@@ -361,7 +374,8 @@ fn add_day_range(
     value: &Value,
     ranges: &mut Listing<DayRange>,
 ) -> Result<(), ConfigError>
-    ensures { Changes (λ rs. rs) result ranges.new (range_into day_range_in (place_path place.now) index (view value.now) ranges.old) }
+    ensures { Changes (λ rs. rs) result ranges.new
+        (range_into day_range_in (place_path place.now) index (view value.now) ranges.old) }
 {
     match day_range(value) {
         Some(range) => {
@@ -378,7 +392,8 @@ fn times_member(
     value: &Value,
     key: &str,
 ) -> Result<Option<Listing<TimeRange>>, ConfigError>
-    ensures { Gives (λ rs. rs) result (stated times_at (place_path place.now) key.now (view value.now)) }
+    ensures { Gives (λ rs. rs) result
+        (stated times_at (place_path place.now) key.now (view value.now)) }
 {
     match member(value, key) {
         Some(found) => Ok(Some(times(alloc, &Place::Member(place, key), found)?)),
@@ -406,7 +421,8 @@ fn add_time_range(
     value: &Value,
     ranges: &mut Listing<TimeRange>,
 ) -> Result<(), ConfigError>
-    ensures { Changes (λ rs. rs) result ranges.new (time_range_into (place_path place.now) index (view value.now) ranges.old) }
+    ensures { Changes (λ rs. rs) result ranges.new
+        (time_range_into (place_path place.now) index (view value.now) ranges.old) }
 {
     let range = time_range(alloc, &Place::Item(place, index), value)?;
     ranges.push(range)?;

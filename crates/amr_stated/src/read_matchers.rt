@@ -23,7 +23,8 @@ fn matcher(
     name: &str,
     value: &str,
 ) -> Result<Matcher, ConfigError>
-    ensures { Reads (λ m. m ∷ []) result (matcher_at operator (place_path place.now) name.now value.now) }
+    ensures { Reads (λ m. m
+        ∷ []) result (matcher_at operator (place_path place.now) name.now value.now) }
 {
     if name.is_empty() {
         return Err(place.faulty(alloc));
@@ -47,7 +48,8 @@ fn add_stated(
     value: &Value,
     matchers: &mut Vec<Matcher>,
 ) -> Result<(), ConfigError>
-    ensures { ReadsInto (λ ms. ms.items) result matchers.new (stated_into operator (place_path place.now) name.now (view value.now) matchers.old.items) }
+    ensures { ReadsInto (λ ms. ms.items) result matchers.new
+        (stated_into operator (place_path place.now) name.now (view value.now) matchers.old.items) }
 {
     let value = text(alloc, place, value)?;
     let made = matcher(alloc, operator, place, name, value)?;
@@ -64,7 +66,9 @@ fn add_member(
     value: &Value,
     matchers: &mut Vec<Matcher>,
 ) -> Result<(), ConfigError>
-    ensures { ReadsInto (λ ms. ms.items) result matchers.new (matcher_into operator (place_path place.now) name.now (view value.now) matchers.old.items) }
+    ensures { ReadsInto (λ ms. ms.items) result matchers.new
+        (matcher_into operator (place_path place.now) name.now (view value.now)
+        matchers.old.items) }
 {
     if value.is_null() {
         return Ok(());
@@ -88,7 +92,8 @@ fn add_members(
     value: &Value,
     matchers: &mut Vec<Matcher>,
 ) -> Result<(), ConfigError>
-    ensures { ReadsInto (λ ms. ms.items) result matchers.new (members_into operator (place_path place.now) (view value.now) matchers.old.items) }
+    ensures { ReadsInto (λ ms. ms.items) result matchers.new
+        (members_into operator (place_path place.now) (view value.now) matchers.old.items) }
 {
     let Some(members) = value.as_object() else {
         return Err(place.faulty(alloc));
@@ -109,7 +114,8 @@ fn add_object(
     key: &str,
     matchers: &mut Vec<Matcher>,
 ) -> Result<(), ConfigError>
-    ensures { ReadsInto (λ ms. ms.items) result matchers.new (object_into operator (place_path place.now) key.now (view value.now) matchers.old.items) }
+    ensures { ReadsInto (λ ms. ms.items) result matchers.new
+        (object_into operator (place_path place.now) key.now (view value.now) matchers.old.items) }
 {
     match member(value, key) {
         Some(found) => add_members(alloc, operator, &Place::Member(place, key), found, matchers),
@@ -146,7 +152,8 @@ fn add_text(
     value: &Value,
     matchers: &mut Vec<Matcher>,
 ) -> Result<(), ConfigError>
-    ensures { ReadsInto (λ ms. ms.items) result matchers.new (spelled_into (place_path place.now) index (view value.now) matchers.old.items) }
+    ensures { ReadsInto (λ ms. ms.items) result matchers.new
+        (spelled_into (place_path place.now) index (view value.now) matchers.old.items) }
 {
     let here = Place::Item(place, index);
     let text = text(alloc, &here, value)?;
@@ -163,7 +170,8 @@ fn add_texts(
     value: &Value,
     matchers: &mut Vec<Matcher>,
 ) -> Result<(), ConfigError>
-    ensures { ReadsInto (λ ms. ms.items) result matchers.new (texts_into (place_path place.now) (view value.now) matchers.old.items) }
+    ensures { ReadsInto (λ ms. ms.items) result matchers.new
+        (texts_into (place_path place.now) (view value.now) matchers.old.items) }
 {
     let items = items(alloc, place, value)?;
     for (index, item) in items.iter().enumerate() {
@@ -181,7 +189,8 @@ fn add_list(
     key: &str,
     matchers: &mut Vec<Matcher>,
 ) -> Result<(), ConfigError>
-    ensures { ReadsInto (λ ms. ms.items) result matchers.new (list_into (place_path place.now) key.now (view value.now) matchers.old.items) }
+    ensures { ReadsInto (λ ms. ms.items) result matchers.new
+        (list_into (place_path place.now) key.now (view value.now) matchers.old.items) }
 {
     match member(value, key) {
         Some(found) => add_texts(alloc, &Place::Member(place, key), found, matchers),
@@ -199,7 +208,8 @@ pub(crate) fn read_matchers(
     texts: &str,
     value: &Value,
 ) -> Result<Matchers, ConfigError>
-    ensures { Reads (λ ms. ms) result (matchers_at (place_path place.now) equal.now patterns.now texts.now (view value.now)) }
+    ensures { Reads (λ ms. ms) result
+        (matchers_at (place_path place.now) equal.now patterns.now texts.now (view value.now)) }
 {
     let mut matchers = Vec::new(alloc);
     add_object(alloc, Operator::Equal, place, value, equal, &mut matchers)?;

@@ -65,7 +65,8 @@ fn add_entry(
     value: &Value,
     entries: &mut Listing<Integration>,
 ) -> Result<(), ConfigError>
-    ensures { Changes (λ es. es) result entries.new (entry_into kind.now (place_path place.now) index (view value.now) entries.old) }
+    ensures { Changes (λ es. es) result entries.new
+        (entry_into kind.now (place_path place.now) index (view value.now) entries.old) }
 {
     let here = Place::Item(place, index);
     if !value.is_object() {
@@ -90,7 +91,8 @@ fn entries(
     place: &Place,
     value: &Value,
 ) -> Result<Listing<Integration>, ConfigError>
-    ensures { Gives (λ es. es) result (entries_at kind.now (place_path place.now) (view value.now)) }
+    ensures { Gives (λ es. es) result
+        (entries_at kind.now (place_path place.now) (view value.now)) }
 {
     let items = items(alloc, place, value)?;
     let mut entries = Listing::new(alloc);
@@ -165,7 +167,8 @@ fn add_kind(
     value: &Value,
     kinds: &mut Vec<Kind>,
 ) -> Result<(), ConfigError>
-    ensures { Changes (λ ks. ks.items) result kinds.new (kind_into before (place_path place.now) key.now (view value.now) kinds.old.items) }
+    ensures { Changes (λ ks. ks.items) result kinds.new
+        (kind_into before (place_path place.now) key.now (view value.now) kinds.old.items) }
 {
     if !stands(before, key) {
         return Ok(());
@@ -190,7 +193,8 @@ fn add_kinds(
     value: &Value,
     kinds: &mut Vec<Kind>,
 ) -> Result<(), ConfigError>
-    ensures { Changes (λ ks. ks.items) result kinds.new (kinds_at before (place_path place.now) (view value.now) kinds.old.items) }
+    ensures { Changes (λ ks. ks.items) result kinds.new
+        (kinds_at before (place_path place.now) (view value.now) kinds.old.items) }
 {
     let Some(members) = value.as_object() else {
         return Err(place.faulty(alloc));
@@ -256,7 +260,8 @@ fn add_receiver(
     value: &Value,
     receivers: &mut Listing<Receiver>,
 ) -> Result<(), ConfigError>
-    ensures { Changes (λ rs. rs) result receivers.new (receiver_into (place_path place.now) index (view value.now) receivers.old) }
+    ensures { Changes (λ rs. rs) result receivers.new
+        (receiver_into (place_path place.now) index (view value.now) receivers.old) }
 {
     let receiver = read_receiver(alloc, &Place::Item(place, index), value)?;
     receivers.push(receiver)?;

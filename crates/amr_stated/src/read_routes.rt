@@ -73,7 +73,8 @@ fn read_front(
     place: &Place,
     value: &Value,
 ) -> Result<Front, ConfigError>
-    ensures { Gives (λ front. front) result (front_at (view whole.now) (place_path place.now) (view value.now)) }
+    ensures { Gives (λ front. front) result
+        (front_at (view whole.now) (place_path place.now) (view value.now)) }
 {
     let active = names_member(alloc, whole, place, value, "active_time_intervals")?;
     let continues = flag_member(alloc, place, value, "continue")?;
@@ -96,7 +97,8 @@ fn read_back(
     place: &Place,
     value: &Value,
 ) -> Result<Back, ConfigError>
-    ensures { Gives (λ back. back) result (back_at (view whole.now) (place_path place.now) (view value.now)) }
+    ensures { Gives (λ back. back) result
+        (back_at (view whole.now) (place_path place.now) (view value.now)) }
 {
     let mute = names_member(alloc, whole, place, value, "mute_time_intervals")?;
     let receiver = text_member(alloc, place, value, "receiver")?;
@@ -118,7 +120,8 @@ fn add_own(
     value: &Value,
     routes: &mut Listing<Route>,
 ) -> Result<(), ConfigError>
-    ensures { ReadsInto (λ rs. rs) result routes.new (own_into (view whole.now) (place_path place.now) parent (view value.now) routes.old) }
+    ensures { ReadsInto (λ rs. rs) result routes.new
+        (own_into (view whole.now) (place_path place.now) parent (view value.now) routes.old) }
 {
     if !value.is_object() {
         return Err(place.faulty(alloc));
@@ -144,7 +147,8 @@ fn add_own(
 /// The routes below a route.
 #[tactic(auto, unfolding(crate::specs::RouteParts::children_at))]
 fn children<'v>(alloc: Global, place: &Place, value: &'v Value) -> Result<&'v [Value], ConfigError>
-    ensures { Gives (λ s. items_view s.now) result (children_at (place_path place.now) (view value.now)) }
+    ensures { Gives (λ s. items_view s.now) result
+        (children_at (place_path place.now) (view value.now)) }
 {
     match member(value, "routes") {
         Some(found) => items(alloc, &Place::Member(place, "routes"), found),
@@ -162,7 +166,9 @@ fn add_route(
     value: &Value,
     routes: &mut Listing<Route>,
 ) -> Result<(), ConfigError>
-    ensures { ReadsInto (λ rs. rs) result routes.new (add_route (view whole.now) left (place_path place.now) parent (view value.now) routes.old) }
+    ensures { ReadsInto (λ rs. rs) result routes.new
+        (add_route (view whole.now) left (place_path place.now) parent (view value.now)
+        routes.old) }
 {
     if left == 0 {
         return Err(ConfigError::Refused(Refusal::TooDeep));

@@ -53,7 +53,8 @@ fn add_rule(
     value: &Value,
     rules: &mut Listing<InhibitRule>,
 ) -> Result<(), ConfigError>
-    ensures { ReadsInto (λ rules. rules) result rules.new (rule_into (place_path place.now) index (view value.now) rules.old) }
+    ensures { ReadsInto (λ rules. rules) result rules.new
+        (rule_into (place_path place.now) index (view value.now) rules.old) }
 {
     let rule = read_rule(alloc, &Place::Item(place, index), value)?;
     rules.push(rule)?;

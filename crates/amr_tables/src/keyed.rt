@@ -93,9 +93,11 @@ impl<K: Key + Drop, V: Drop> Keyed<K, V> {
     /// Makes a place for a key, without a value, unless it has one.
     pub fn make_place(&mut self, key: K) -> Result<(), AllocError>
         ensures made { OnOk result (IsTrue (has_place K.cmp self.new key)) }
-        ensures places { (other : K) → IsTrue (has_place K.cmp self.old other) → IsTrue (has_place K.cmp self.new other) }
+        ensures places { (other : K) → IsTrue (has_place K.cmp self.old other)
+            → IsTrue (has_place K.cmp self.new other) }
         ensures shown { shown K.cmp self.new ≡ shown K.cmp self.old }
-        ensures entered { (other : K) → is_entered K.cmp self.new other ≡ is_entered K.cmp self.old other }
+        ensures entered { (other : K) → is_entered K.cmp self.new other
+            ≡ is_entered K.cmp self.old other }
         ensures keys { GrowsBy K.cmp (places_for K.cmp self.old key) self.old self.new }
     {
         if self.numbers.contains_key(&key) {
@@ -113,8 +115,10 @@ impl<K: Key + Drop, V: Drop> Keyed<K, V> {
         requires { IsTrue (has_place K.cmp self.old key.now) }
         ensures answer { result ≡ map.get (shown K.cmp self.old) key.now }
         ensures shown { shown K.cmp self.new ≡ map.set (shown K.cmp self.old) key.now value }
-        ensures places { (other : K) → has_place K.cmp self.new other ≡ has_place K.cmp self.old other }
-        ensures entered { (other : K) → is_entered K.cmp self.new other ≡ is_entered K.cmp self.old other }
+        ensures places { (other : K) → has_place K.cmp self.new other
+            ≡ has_place K.cmp self.old other }
+        ensures entered { (other : K) → is_entered K.cmp self.new other
+            ≡ is_entered K.cmp self.old other }
         ensures keys { self.new.numbers ≡ self.old.numbers }
         ensures enough { HasPlaces K.cmp self.new }
     {
@@ -137,9 +141,11 @@ impl<K: Key + Drop, V: Drop> Keyed<K, V> {
     /// Marks a key's place as entered.
     pub fn enter(&mut self, key: &K)
         requires { IsTrue (has_place K.cmp self.old key.now) }
-        ensures entered { (other : K) → is_entered K.cmp self.new other ≡ (eq_by_cmp K.cmp other key.now || is_entered K.cmp self.old other) }
+        ensures entered { (other : K) → is_entered K.cmp self.new other
+            ≡ (eq_by_cmp K.cmp other key.now || is_entered K.cmp self.old other) }
         ensures shown { shown K.cmp self.new ≡ shown K.cmp self.old }
-        ensures places { (other : K) → has_place K.cmp self.new other ≡ has_place K.cmp self.old other }
+        ensures places { (other : K) → has_place K.cmp self.new other
+            ≡ has_place K.cmp self.old other }
         ensures keys { self.new.numbers ≡ self.old.numbers }
     {
         match self.numbers.get(key) {
@@ -168,13 +174,15 @@ pub fn change<K: Key + Exact + Drop, V: Drop, E>(
     value: Option<V>,
 ) -> Result<Option<(K, Option<V>)>, AllocError>
     ensures entry { IfOk result (λ entry. entry ≡ entry_of K.cmp table.old key.now) }
-    ensures shown { OnOk result (shown K.cmp table.new ≡ map.set (shown K.cmp table.old) key.now value) }
+    ensures shown { OnOk result (shown K.cmp table.new
+        ≡ map.set (shown K.cmp table.old) key.now value) }
     ensures entered { OnOk result (Enters K.cmp table.old table.new key.now) }
     ensures made { OnOk result (IsTrue (has_place K.cmp table.new key.now)) }
     ensures err { OnErr result (IsUnchanged K.cmp table.old table.new) }
     ensures keys { GrowsBy K.cmp (places_for K.cmp table.old key.now) table.old table.new }
     ensures enough { OnOk result (HasPlaces K.cmp table.new) }
-    ensures places { (other : K) → IsTrue (has_place K.cmp table.old other) → IsTrue (has_place K.cmp table.new other) }
+    ensures places { (other : K) → IsTrue (has_place K.cmp table.old other)
+        → IsTrue (has_place K.cmp table.new other) }
     ensures room { IfOk result (λ entry. IsTrue (is_some entry) → 0 < journal.new.entry_room) }
     ensures closed { journal.new.closed ≡ journal.old.closed }
     ensures current { journal.new.current ≡ journal.old.current }
@@ -198,7 +206,8 @@ fn make_room<K: Key + Exact + Drop, V: Drop, E>(
 ) -> Result<K, AllocError>
     ensures key { IfOk result (λ copy. copy ≡ key.now) }
     ensures made { OnOk result (IsTrue (has_place K.cmp table.new key.now)) }
-    ensures places { (other : K) → IsTrue (has_place K.cmp table.old other) → IsTrue (has_place K.cmp table.new other) }
+    ensures places { (other : K) → IsTrue (has_place K.cmp table.old other)
+        → IsTrue (has_place K.cmp table.new other) }
     ensures same { IsUnchanged K.cmp table.old table.new }
     ensures keys { GrowsBy K.cmp (places_for K.cmp table.old key.now) table.old table.new }
     ensures room { OnOk result (0 < journal.new.entry_room) }

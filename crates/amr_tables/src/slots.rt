@@ -75,7 +75,8 @@ impl<V> Table for Slots<V> {
 
     fn make_place(&mut self, key: usize) -> Result<(), AllocError>
         ensures made { OnOk result (IsTrue (nat_lt key (length self.new))) }
-        ensures places { (k : ℕ) → IsTrue (nat_lt k (length self.old)) → IsTrue (nat_lt k (length self.new)) }
+        ensures places { (k : ℕ) → IsTrue (nat_lt k (length self.old))
+            → IsTrue (nat_lt k (length self.new)) }
         ensures values { (k : ℕ) → value_at self.new k ≡ value_at self.old k }
         ensures err { OnErr result (self.new ≡ self.old) }
         ensures more { length self.old ≤ length self.new }

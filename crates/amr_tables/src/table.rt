@@ -30,7 +30,8 @@ pub trait Table {
     /// Makes a place for the key, without a value, unless it has one.
     fn make_place(&mut self, key: Self::Key) -> Result<(), AllocError>
         ensures made { OnOk result (IsTrue (is_placed self.new key)) }
-        ensures places { (k : Self.Key) → IsTrue (is_placed self.old k) → IsTrue (is_placed self.new k) }
+        ensures places { (k : Self.Key) → IsTrue (is_placed self.old k)
+            → IsTrue (is_placed self.new k) }
         ensures values { (k : Self.Key) → look_at self.new k ≡ look_at self.old k }
         ensures err { OnErr result (self.new ≡ self.old) };
 

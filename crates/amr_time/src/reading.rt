@@ -164,7 +164,9 @@ fn nanoseconds_of(day: i32, seconds: u32, fraction: u64, offset: i32) -> i128
     requires seconds_in { seconds < 86400 }
     requires fraction_in { fraction < 2 ^ 60 }
     requires offset_in { IsWithin 1440 offset }
-    ensures { result ≡ day *ℤ pos 86_400_000_000_000 +ℤ pos (seconds * 1_000_000_000 + fraction) -ℤ offset *ℤ pos 60_000_000_000 }
+    ensures { result
+        ≡ day *ℤ pos 86_400_000_000_000 +ℤ pos (seconds * 1_000_000_000 + fraction) -ℤ offset *ℤ pos
+        60_000_000_000 }
 {
     let clock = seconds as u64 * 1_000_000_000 + fraction;
     day as i128 * 86_400_000_000_000 + clock as i128 - offset as i128 * 60_000_000_000

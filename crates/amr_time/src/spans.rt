@@ -161,7 +161,8 @@ fn word_len(bytes: &[u8]) -> usize
 /// A number of units in nanoseconds, and what follows, or one more than the longest duration where it is longer.
 fn scaled(digits: &[u8], unit: u64, rest: u64) -> u64
     requires unit_in { 1 ≤ unit }
-    ensures { min 315_360_000_000_000_001 result ≡ min 315_360_000_000_000_001 (decimal digits.now * unit + rest) }
+    ensures { min 315_360_000_000_000_001 result
+        ≡ min 315_360_000_000_000_001 (decimal digits.now * unit + rest) }
 {
     let number = capped(digits, TOO_LONG);
     let total = number as u128 * unit as u128 + rest as u128;
@@ -171,7 +172,8 @@ fn scaled(digits: &[u8], unit: u64, rest: u64) -> u64
 #[tactic(auto, unfolding(crate::specs::SpanRead::parts_at))]
 fn parts(units: &[Unit], bytes: &[u8]) -> Option<u64>
     requires { All (λ u. 1 ≤ u.nanoseconds) units.now }
-    ensures { SameOrTooLong result (parts_at (map (λ u. (u.letters.now, u.nanoseconds)) units.now) bytes.now) }
+    ensures { SameOrTooLong result
+        (parts_at (map (λ u. (u.letters.now, u.nanoseconds)) units.now) bytes.now) }
 {
     match units {
         [] => { if bytes.is_empty() { Some(0) } else { None } }

@@ -51,7 +51,8 @@ fn push_nine(out: &mut String, number: u32) -> Result<(), AllocError>
 /// Adds a fraction of a second where there is one.
 fn push_fraction(out: &mut String, nanoseconds: u32) -> Result<(), AllocError>
     ensures { OnOk result
-        (string_bytes out.new ≡ string_bytes out.old ++ fraction_text (fraction_digits nanoseconds)) }
+        (string_bytes out.new ≡ string_bytes out.old
+        ++ fraction_text (fraction_digits nanoseconds)) }
 {
     if nanoseconds != 0 {
         out.push('.')?;
@@ -64,7 +65,8 @@ fn push_date(out: &mut String, day: u32) -> Result<(), AllocError>
     requires { day ≤ 2_932_896 }
     ensures { OnOk result
         (string_bytes out.new
-        ≡ string_bytes out.old ++ (let date = date_of day in date_text date.year date.month date.day)) }
+        ≡ string_bytes out.old
+        ++ (let date = date_of day in date_text date.year date.month date.day)) }
 {
     let date = date_with_number(day);
     push_four(out, date.0)?;
