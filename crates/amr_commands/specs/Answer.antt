@@ -8,7 +8,8 @@ use Rattle.amr_lines.specs.declared.word.Word.TheVariants as word
 use Rattle.amr_lines.specs.LastLines.{moves_line, cursor_line, refused_line}
 use Rattle.amr_command_lines.specs.declared.command.Said.{Said}
 use Rattle.amr_command_lines.specs.Said.{word_of}
-use Rattle.amr_commands.specs.Replies.{Incident, Reply, reply_of, moved, listed, MayFindNoMemory}
+use Rattle.amr_replay.specs.Session.{View}
+use Rattle.amr_commands.specs.Replies.{Incident, incident_of, Reply, reply_of, moved, listed, MayFindNoMemory}
 use Rattle.amr_commands.specs.Talk.{Fate, reply, MayBe}
 use Rattle.amr_commands.specs.declared.answer.Refusal.{Refusal}
 use Rattle.amr_commands.specs.declared.answer.Refusal.TheVariants.{Memory, BadTime, BadLine, LineTooLong, AtEnd, AtStart, OutOfRange}
@@ -41,6 +42,10 @@ abbrev pub Answered : Incident → ℕ → ℕ → Said → Answer → Type 0
 Answered incident cursor cursor' said answer =
     (reply_of incident cursor said ≡ left cursor' answer)
     ⊎ (MayFindNoMemory incident cursor said × (left cursor' answer ≡ left cursor (Refused (word_of said) Memory)))
+
+-- so of a session before and after
+abbrev pub AnsweredBy : View → View → Said → Answer → Type 0
+AnsweredBy before after said answer = Answered (incident_of before) before.cursor after.cursor said answer
 
 -- the line had a fate
 pub record Fated (incident : Incident) (cursor cursor' : ℕ) (line : Text) (answer : Answer) : Type 0 where

@@ -9,8 +9,7 @@ ghost use Rattle.amr_lines.specs.Verdicts.{verdict_line};
 ghost use Rattle.amr_lines.specs.LastLines.{cursor_line};
 ghost use Rattle.amr_command_lines.specs.declared.command.Said.TheVariants.{Asks};
 ghost use Rattle.amr_command_lines.specs.declared.command.Command.TheVariants as command;
-ghost use Rattle.amr_commands.specs.Replies.{incident_of};
-ghost use Rattle.amr_commands.specs.Answer.{Answered, Lists};
+ghost use Rattle.amr_commands.specs.Answer.{AnsweredBy, Lists};
 
 use crate::answer::{Answer, Refusal};
 use amr_labels::Labels;
@@ -57,8 +56,7 @@ fn verdict_lines(alloc: Global, session: &Session, labels: &Labels) -> Result<St
 
 /// Why an alert was told of, or not.
 pub(crate) fn explain(alloc: Global, session: &Session, labels: &Labels) -> Answer
-    ensures { Answered (incident_of session.now) session.now.cursor session.now.cursor
-        (Asks (command.Explain labels.now)) result }
+    ensures { AnsweredBy session.now session.now (Asks (command.Explain labels.now)) result }
 {
     let lines = verdict_lines(alloc, session, labels);
     listed(alloc, Word::Explain, session.cursor(), lines)
@@ -73,8 +71,7 @@ fn alert_lines(alloc: Global, session: &Session) -> Result<String, AllocError>
 }
 
 pub(crate) fn alerts(alloc: Global, session: &Session) -> Answer
-    ensures { Answered (incident_of session.now) session.now.cursor session.now.cursor
-        (Asks command.Alerts) result }
+    ensures { AnsweredBy session.now session.now (Asks command.Alerts) result }
 {
     let lines = alert_lines(alloc, session);
     listed(alloc, Word::Alerts, session.cursor(), lines)
@@ -89,8 +86,7 @@ fn silence_lines(alloc: Global, session: &Session) -> Result<String, AllocError>
 }
 
 pub(crate) fn silences(alloc: Global, session: &Session) -> Answer
-    ensures { Answered (incident_of session.now) session.now.cursor session.now.cursor
-        (Asks command.Silences) result }
+    ensures { AnsweredBy session.now session.now (Asks command.Silences) result }
 {
     let lines = silence_lines(alloc, session);
     listed(alloc, Word::Silences, session.cursor(), lines)
@@ -105,8 +101,7 @@ fn group_lines(alloc: Global, session: &Session) -> Result<String, AllocError>
 }
 
 pub(crate) fn groups(alloc: Global, session: &Session) -> Answer
-    ensures { Answered (incident_of session.now) session.now.cursor session.now.cursor
-        (Asks command.Groups) result }
+    ensures { AnsweredBy session.now session.now (Asks command.Groups) result }
 {
     let lines = group_lines(alloc, session);
     listed(alloc, Word::Groups, session.cursor(), lines)
@@ -121,16 +116,14 @@ fn log_lines(alloc: Global, session: &Session) -> Result<String, AllocError>
 }
 
 pub(crate) fn log(alloc: Global, session: &Session) -> Answer
-    ensures { Answered (incident_of session.now) session.now.cursor session.now.cursor
-        (Asks command.Log) result }
+    ensures { AnsweredBy session.now session.now (Asks command.Log) result }
 {
     let lines = log_lines(alloc, session);
     listed(alloc, Word::Log, session.cursor(), lines)
 }
 
 pub(crate) fn transcript(alloc: Global, session: &Session) -> Answer
-    ensures { Answered (incident_of session.now) session.now.cursor session.now.cursor
-        (Asks command.Transcript) result }
+    ensures { AnsweredBy session.now session.now (Asks command.Transcript) result }
 {
     let lines = notes_text(alloc, session.state().notes());
     listed(alloc, Word::Transcript, session.cursor(), lines)
@@ -138,8 +131,7 @@ pub(crate) fn transcript(alloc: Global, session: &Session) -> Answer
 
 /// Where the session stands.
 pub(crate) fn place(alloc: Global, session: &Session) -> Answer
-    ensures { Answered (incident_of session.now) session.now.cursor session.now.cursor
-        (Asks command.Cursor) result }
+    ensures { AnsweredBy session.now session.now (Asks command.Cursor) result }
 {
     match place_text(
         alloc,

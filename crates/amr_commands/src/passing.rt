@@ -5,7 +5,7 @@ ghost use Rattle.amr_engine.specs.Outcomes.{outcome_view};
 ghost use Rattle.amr_engine.specs.Events.{outcome_of};
 ghost use Rattle.amr_replay.specs.Session.{outcomes_passed};
 ghost use Rattle.amr_commands.specs.Replies.{incident_of, state_in, numbered_lines, moves_in, passing_text, tried_lines};
-ghost use Rattle.amr_commands.specs.Answer.{Moves, Answered};
+ghost use Rattle.amr_commands.specs.Answer.{Moves, AnsweredBy};
 ghost use Rattle.amr_command_lines.specs.declared.command.Said.TheVariants.{Asks};
 ghost use Rattle.amr_command_lines.specs.declared.command.Command.TheVariants as command;
 
@@ -106,8 +106,7 @@ fn moved(
 /// Passes the next event.
 pub(crate) fn step(alloc: Global, session: &mut Session) -> Answer
     ensures kept { incident_of session.new ≡ incident_of session.old }
-    ensures answered { Answered (incident_of session.old) session.old.cursor session.new.cursor
-        (Asks command.Step) result }
+    ensures answered { AnsweredBy session.old session.new (Asks command.Step) result }
 {
     let from = session.cursor();
     if from == session.events() {
@@ -122,8 +121,7 @@ pub(crate) fn step(alloc: Global, session: &mut Session) -> Answer
 /// Takes the last event back. It takes no memory.
 pub(crate) fn back(session: &mut Session) -> Answer
     ensures kept { incident_of session.new ≡ incident_of session.old }
-    ensures answered { Answered (incident_of session.old) session.old.cursor session.new.cursor
-        (Asks command.Back) result }
+    ensures answered { AnsweredBy session.old session.new (Asks command.Back) result }
 {
     if session.cursor() == 0 {
         return Answer::Refused(Word::Back, Refusal::AtStart);
@@ -137,8 +135,7 @@ pub(crate) fn back(session: &mut Session) -> Answer
 /// Goes to so many events from the start.
 pub(crate) fn seek(alloc: Global, session: &mut Session, to: usize) -> Answer
     ensures kept { incident_of session.new ≡ incident_of session.old }
-    ensures answered { Answered (incident_of session.old) session.old.cursor session.new.cursor
-        (Asks (command.Seek to)) result }
+    ensures answered { AnsweredBy session.old session.new (Asks (command.Seek to)) result }
 {
     let from = session.cursor();
     if session.events() < to {
@@ -153,8 +150,7 @@ pub(crate) fn seek(alloc: Global, session: &mut Session, to: usize) -> Answer
 /// Goes behind the last of the events at the front that are all at or before a moment.
 pub(crate) fn seek_time(alloc: Global, session: &mut Session, at: Moment) -> Answer
     ensures kept { incident_of session.new ≡ incident_of session.old }
-    ensures answered { Answered (incident_of session.old) session.old.cursor session.new.cursor
-        (Asks (command.SeekTime at)) result }
+    ensures answered { AnsweredBy session.old session.new (Asks (command.SeekTime at)) result }
 {
     let from = session.cursor();
     match session.seek_time(at) {
@@ -181,8 +177,7 @@ fn tried_text(alloc: Global, session: &mut Session, event: &Event) -> Result<Str
 /// Tries an event, and leaves the session as it is.
 pub(crate) fn trial(alloc: Global, session: &mut Session, event: &Event) -> Answer
     ensures kept { incident_of session.new ≡ incident_of session.old }
-    ensures answered { Answered (incident_of session.old) session.old.cursor session.new.cursor
-        (Asks (command.Trial event.now)) result }
+    ensures answered { AnsweredBy session.old session.new (Asks (command.Trial event.now)) result }
 {
     match tried_text(alloc, session, event) {
         Ok(text) => Answer::Built(text),

@@ -4,7 +4,7 @@ ghost use Rattle.amr_lines.specs.Outlet.{FailsAt};
 ghost use Rattle.amr_command_lines.specs.declared.command.Said.TheVariants.{Asks};
 ghost use Rattle.amr_command_lines.specs.Line.{longest, Holds};
 ghost use Rattle.amr_commands.specs.Replies.{incident_of};
-ghost use Rattle.amr_commands.specs.Answer.{Answered, Fated};
+ghost use Rattle.amr_commands.specs.Answer.{AnsweredBy, Fated};
 ghost use Rattle.amr_commands.specs.Talk.{Answers};
 
 use crate::answer::{Answer, Refusal, write_answer};
@@ -19,8 +19,7 @@ use std::io::Write;
 /// Does a command. One that finds no memory is undone.
 fn answer_command(alloc: Global, session: &mut Session, command: Command) -> Answer
     ensures kept { incident_of session.new ≡ incident_of session.old }
-    ensures answered { Answered (incident_of session.old) session.old.cursor session.new.cursor
-        (Asks command) result }
+    ensures answered { AnsweredBy session.old session.new (Asks command) result }
 {
     match command {
         Command::Step => step(alloc, session),
@@ -41,8 +40,7 @@ fn answer_command(alloc: Global, session: &mut Session, command: Command) -> Ans
 /// Does what a line says.
 fn answer_said(alloc: Global, session: &mut Session, said: Said) -> Answer
     ensures kept { incident_of session.new ≡ incident_of session.old }
-    ensures answered { Answered (incident_of session.old) session.old.cursor session.new.cursor said
-        result }
+    ensures answered { AnsweredBy session.old session.new said result }
 {
     match said {
         Said::Nothing => Answer::Nothing,

@@ -44,20 +44,30 @@ pub record AreSettled (parts : Parts) : Type 0 where
   pub settings : parts.settings ≡ settled (config_of_parts parts)
   pub parents : AreParentsFirst (config_of_parts parts)
 
+-- the receiver of a route that states this, below its parent's settings, if it has a parent
+abbrev pub receiver_under : Route → Option Settings → List ℕ
+receiver_under route above = unwrap_or route.receiver (option_map_or (λ settings. settings.receiver) above [])
+
+abbrev pub grouping_under : Route → Option Settings → Option GroupBy
+grouping_under route above = option_or route.group_by (option_map_or (λ settings. settings.group_by) above None)
+
+abbrev pub path_under : Route → Option Settings → List (List Matcher)
+path_under route above = option_map_or (λ settings. settings.path) above [] ++ sorted_matchers route.matchers ∷ []
+
 -- the settings of a route that states this, below its parent's settings, if it has a parent
 unfoldable pub settled_under : Route → Option Settings → Settings
 settled_under route above = record {
   parent = route.parent;
   matchers = route.matchers;
   continues = route.continues;
-  receiver = unwrap_or route.receiver (option_map_or (λ settings. settings.receiver) above []);
-  group_by = option_or route.group_by (option_map_or (λ settings. settings.group_by) above None);
+  receiver = receiver_under route above;
+  group_by = grouping_under route above;
   group_wait = unwrap_or route.group_wait (option_map_or (λ settings. settings.group_wait) above (30 * second));
   group_interval = unwrap_or route.group_interval (option_map_or (λ settings. settings.group_interval) above (5 * minute));
   repeat_interval = unwrap_or route.repeat_interval (option_map_or (λ settings. settings.repeat_interval) above (4 * hour));
   active_time_intervals = route.active_time_intervals;
   mute_time_intervals = route.mute_time_intervals;
-  path = option_map_or (λ settings. settings.path) above [] ++ sorted_matchers route.matchers ∷ [];
+  path = path_under route above;
 }
 
 -- the settings of the first routes

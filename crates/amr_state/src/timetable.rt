@@ -2,7 +2,7 @@
 ghost use Rattle.std.specs.Prelude.{None, Some, ◌≡◌, ◌≤◌, ◌<◌, ◌+◌, ◌-◌, IsTrue, is_some, if◌then◌else◌, false, length, OnOk, OnErr, IfOk};
 ghost use Rattle.amr_labels.specs.Labels.{LabelSet, label_set_cmp};
 ghost use Rattle.amr_labels.specs.Map as map;
-ghost use Rattle.amr_tables.specs.Numbered.{shown, has_place, is_entered, entry_of, Enters, IsUnchanged, HasPlaces};
+ghost use Rattle.amr_tables.specs.Numbered.{shown, has_place, entry_of, Enters, KeepsPlaces, SamePlaces, SameEntered, NoneEntered, IsUnchanged, HasPlaces};
 ghost use Rattle.amr_tables.specs.Queued.{in_order, count_of};
 ghost use Rattle.amr_state.specs.declared.spot.Spot as spots;
 ghost use Rattle.amr_state.specs.State.{spot_cmp};
@@ -46,10 +46,8 @@ impl Timetable {
     pub(crate) fn new(alloc: Global) -> Timetable
         ensures alerts { shown label_set_cmp result.alerts ≡ map.empty }
         ensures clocks { shown spot_cmp result.clocks ≡ map.empty }
-        ensures alerts_entered { (key : LabelSet) → is_entered label_set_cmp result.alerts key
-            ≡ false }
-        ensures clocks_entered { (key : spots.Spot) → is_entered spot_cmp result.clocks key
-            ≡ false }
+        ensures alerts_entered { NoneEntered label_set_cmp result.alerts }
+        ensures clocks_entered { NoneEntered spot_cmp result.clocks }
     {
         Timetable {
             alerts: Keyed::new(alloc),
@@ -85,14 +83,10 @@ impl Timetable {
     pub(crate) fn clear_entered(&mut self)
         ensures alerts { shown label_set_cmp self.new.alerts ≡ shown label_set_cmp self.old.alerts }
         ensures clocks { shown spot_cmp self.new.clocks ≡ shown spot_cmp self.old.clocks }
-        ensures alert_places { (key : LabelSet) → has_place label_set_cmp self.new.alerts key
-            ≡ has_place label_set_cmp self.old.alerts key }
-        ensures clock_places { (key : spots.Spot) → has_place spot_cmp self.new.clocks key
-            ≡ has_place spot_cmp self.old.clocks key }
-        ensures alerts_entered { (key : LabelSet) → is_entered label_set_cmp self.new.alerts key
-            ≡ false }
-        ensures clocks_entered { (key : spots.Spot) → is_entered spot_cmp self.new.clocks key
-            ≡ false }
+        ensures alert_places { SamePlaces label_set_cmp self.old.alerts self.new.alerts }
+        ensures clock_places { SamePlaces spot_cmp self.old.clocks self.new.clocks }
+        ensures alerts_entered { NoneEntered label_set_cmp self.new.alerts }
+        ensures clocks_entered { NoneEntered spot_cmp self.new.clocks }
     {
         self.alerts.clear_entered();
         self.clocks.clear_entered();
@@ -113,9 +107,7 @@ impl Timetable {
             (Enters label_set_cmp self.old.alerts self.new.alerts labels.now) }
         ensures made { OnOk result (IsTrue (has_place label_set_cmp self.new.alerts labels.now)) }
         ensures err { OnErr result (IsUnchanged label_set_cmp self.old.alerts self.new.alerts) }
-        ensures places { (other : LabelSet) → IsTrue (has_place label_set_cmp self.old.alerts other)
-            →
-            IsTrue (has_place label_set_cmp self.new.alerts other) }
+        ensures places { KeepsPlaces label_set_cmp self.old.alerts self.new.alerts }
         ensures clocks { self.new.clocks ≡ self.old.clocks }
         ensures room { IfOk result (λ entry. IsTrue (is_some entry) → 0 < journal.new.entry_room) }
         ensures closed { journal.new.closed ≡ journal.old.closed }
@@ -144,8 +136,7 @@ impl Timetable {
         ensures entered { OnOk result (Enters spot_cmp self.old.clocks self.new.clocks group.now) }
         ensures made { OnOk result (IsTrue (has_place spot_cmp self.new.clocks group.now)) }
         ensures err { OnErr result (IsUnchanged spot_cmp self.old.clocks self.new.clocks) }
-        ensures places { (other : spots.Spot) → IsTrue (has_place spot_cmp self.old.clocks other) →
-            IsTrue (has_place spot_cmp self.new.clocks other) }
+        ensures places { KeepsPlaces spot_cmp self.old.clocks self.new.clocks }
         ensures alerts { self.new.alerts ≡ self.old.alerts }
         ensures room { IfOk result (λ entry. IsTrue (is_some entry) → 0 < journal.new.entry_room) }
         ensures closed { journal.new.closed ≡ journal.old.closed }
@@ -166,10 +157,8 @@ impl Timetable {
         requires { IsTrue (has_place label_set_cmp self.old.alerts labels) }
         ensures shown { shown label_set_cmp self.new.alerts ≡
             map.set (shown label_set_cmp self.old.alerts) labels alert }
-        ensures places { (other : LabelSet) → has_place label_set_cmp self.new.alerts other
-            ≡ has_place label_set_cmp self.old.alerts other }
-        ensures entered { (other : LabelSet) → is_entered label_set_cmp self.new.alerts other
-            ≡ is_entered label_set_cmp self.old.alerts other }
+        ensures places { SamePlaces label_set_cmp self.old.alerts self.new.alerts }
+        ensures entered { SameEntered label_set_cmp self.old.alerts self.new.alerts }
         ensures clocks { self.new.clocks ≡ self.old.clocks }
     {
         let old = moment_at(&self.alerts, &labels);
@@ -183,10 +172,8 @@ impl Timetable {
         requires { IsTrue (has_place spot_cmp self.old.clocks group) }
         ensures shown { shown spot_cmp self.new.clocks ≡
             map.set (shown spot_cmp self.old.clocks) group clock }
-        ensures places { (other : spots.Spot) → has_place spot_cmp self.new.clocks other
-            ≡ has_place spot_cmp self.old.clocks other }
-        ensures entered { (other : spots.Spot) → is_entered spot_cmp self.new.clocks other
-            ≡ is_entered spot_cmp self.old.clocks other }
+        ensures places { SamePlaces spot_cmp self.old.clocks self.new.clocks }
+        ensures entered { SameEntered spot_cmp self.old.clocks self.new.clocks }
         ensures alerts { self.new.alerts ≡ self.old.alerts }
     {
         let old = moments_at(&self.clocks, group.spot());
@@ -209,10 +196,8 @@ struct GroupMoments {
 fn put_back<K: Key + Drop, V: Drop>(table: &mut Keyed<K, V>, key: &K, value: Option<V>)
     requires { IsTrue (has_place K.cmp table.old key.now) }
     ensures shown { shown K.cmp table.new ≡ map.set (shown K.cmp table.old) key.now value }
-    ensures places { (other : K) → has_place K.cmp table.new other
-        ≡ has_place K.cmp table.old other }
-    ensures entered { (other : K) → is_entered K.cmp table.new other
-        ≡ is_entered K.cmp table.old other }
+    ensures places { SamePlaces K.cmp table.old table.new }
+    ensures entered { SameEntered K.cmp table.old table.new }
     ensures keys { table.new.numbers ≡ table.old.numbers }
     ensures enough { HasPlaces K.cmp table.new }
 {

@@ -1,5 +1,5 @@
 -- Values under numbered keys.
-use Rattle.std.specs.Prelude.{◌≡◌, ℕ, Bool, false, List, Option, None, Some, if◌then◌else◌, is_some, ◌||◌, option_map, ◌<◌, ◌≤◌, ◌+◌, T, length, refl}
+use Rattle.std.specs.Prelude.{◌≡◌, ℕ, Bool, false, List, Option, None, Some, if◌then◌else◌, is_some, ◌||◌, option_map, ◌<◌, ◌≤◌, ◌+◌, T, IsTrue, length, refl}
 use Rattle.std.specs.Option.{option_map_or}
 use Rattle.std.specs.List.{filter_map}
 use Rattle.std.specs.declared.cmp.Ordering.{Ordering}
@@ -49,6 +49,22 @@ module _ {K V : Type 0} where
     unfoldable pub entry_of : Numbered K V → K → Option (K × Option V)
     entry_of t key = if is_entered t key then None else Some (key, get (shown t) key)
 
+    -- no place is lost
+    abbrev pub KeepsPlaces : Numbered K V → Numbered K V → Type 0
+    KeepsPlaces old changed = (key : K) → IsTrue (has_place old key) → IsTrue (has_place changed key)
+
+    -- the same keys have places
+    abbrev pub SamePlaces : Numbered K V → Numbered K V → Type 0
+    SamePlaces old changed = (key : K) → has_place changed key ≡ has_place old key
+
+    -- the same places are entered
+    abbrev pub SameEntered : Numbered K V → Numbered K V → Type 0
+    SameEntered old changed = (key : K) → is_entered changed key ≡ is_entered old key
+
+    -- no place is entered
+    abbrev pub NoneEntered : Numbered K V → Type 0
+    NoneEntered t = (key : K) → is_entered t key ≡ false
+
     -- the key's place is entered, and each that was before
     abbrev pub Enters : Numbered K V → Numbered K V → K → Type 0
     Enters old changed key = (other : K) → is_entered changed other ≡ (eq_by_cmp R other key || is_entered old other)
@@ -67,7 +83,7 @@ module _ {K V : Type 0} where
 
     -- the tables show the same, and the same places are entered
     abbrev pub IsUnchanged : Numbered K V → Numbered K V → Type 0
-    IsUnchanged old changed = (shown changed ≡ shown old) × ((key : K) → is_entered changed key ≡ is_entered old key)
+    IsUnchanged old changed = (shown changed ≡ shown old) × SameEntered old changed
 
     -- keys strictly rise, each number has a place, no two keys have one number, and no mark is beside the places
     pub record IsNumbering (t : Numbered K V) : Type 0 where

@@ -1,10 +1,9 @@
 //! Values under keys, each at the place of the key's number.
-ghost use Rattle.std.specs.Prelude.{◌≡◌, ◌||◌, [], IsTrue, Option, is_some, false, OnOk, OnErr, IfOk, ◌<◌};
+ghost use Rattle.std.specs.Prelude.{◌≡◌, [], IsTrue, Option, is_some, false, OnOk, OnErr, IfOk, ◌<◌};
 ghost use Rattle.std.specs.Option.{option_copied};
-ghost use Rattle.std.specs.Ordering.{eq_by_cmp};
 ghost use Rattle.std.specs.FinMap.{IsAntisymmetric};
 ghost use Rattle.amr_labels.specs.Map as map;
-ghost use Rattle.amr_tables.specs.Numbered.{shown, has_place, is_entered, entry_of, Enters, IsUnchanged, GrowsBy, HasPlaces, places_for};
+ghost use Rattle.amr_tables.specs.Numbered.{shown, has_place, is_entered, entry_of, Enters, KeepsPlaces, SamePlaces, SameEntered, NoneEntered, IsUnchanged, GrowsBy, HasPlaces, places_for};
 
 use crate::entries::Entries;
 use crate::journal::Journal;
@@ -52,7 +51,7 @@ impl<K: Key + Drop, V: Drop> Keyed<K, V> {
     /// The table without a key.
     pub fn new(alloc: Global) -> Keyed<K, V>
         ensures shown { shown K.cmp result ≡ map.empty }
-        ensures entered { (key : K) → is_entered K.cmp result key ≡ false }
+        ensures entered { NoneEntered K.cmp result }
         ensures keys { result.numbers ≡ [] }
         ensures enough { HasPlaces K.cmp result }
     {
@@ -93,11 +92,9 @@ impl<K: Key + Drop, V: Drop> Keyed<K, V> {
     /// Makes a place for a key, without a value, unless it has one.
     pub fn make_place(&mut self, key: K) -> Result<(), AllocError>
         ensures made { OnOk result (IsTrue (has_place K.cmp self.new key)) }
-        ensures places { (other : K) → IsTrue (has_place K.cmp self.old other)
-            → IsTrue (has_place K.cmp self.new other) }
+        ensures places { KeepsPlaces K.cmp self.old self.new }
         ensures shown { shown K.cmp self.new ≡ shown K.cmp self.old }
-        ensures entered { (other : K) → is_entered K.cmp self.new other
-            ≡ is_entered K.cmp self.old other }
+        ensures entered { SameEntered K.cmp self.old self.new }
         ensures keys { GrowsBy K.cmp (places_for K.cmp self.old key) self.old self.new }
     {
         if self.numbers.contains_key(&key) {
@@ -115,10 +112,8 @@ impl<K: Key + Drop, V: Drop> Keyed<K, V> {
         requires { IsTrue (has_place K.cmp self.old key.now) }
         ensures answer { result ≡ map.get (shown K.cmp self.old) key.now }
         ensures shown { shown K.cmp self.new ≡ map.set (shown K.cmp self.old) key.now value }
-        ensures places { (other : K) → has_place K.cmp self.new other
-            ≡ has_place K.cmp self.old other }
-        ensures entered { (other : K) → is_entered K.cmp self.new other
-            ≡ is_entered K.cmp self.old other }
+        ensures places { SamePlaces K.cmp self.old self.new }
+        ensures entered { SameEntered K.cmp self.old self.new }
         ensures keys { self.new.numbers ≡ self.old.numbers }
         ensures enough { HasPlaces K.cmp self.new }
     {
@@ -141,11 +136,9 @@ impl<K: Key + Drop, V: Drop> Keyed<K, V> {
     /// Marks a key's place as entered.
     pub fn enter(&mut self, key: &K)
         requires { IsTrue (has_place K.cmp self.old key.now) }
-        ensures entered { (other : K) → is_entered K.cmp self.new other
-            ≡ (eq_by_cmp K.cmp other key.now || is_entered K.cmp self.old other) }
+        ensures entered { Enters K.cmp self.old self.new key.now }
         ensures shown { shown K.cmp self.new ≡ shown K.cmp self.old }
-        ensures places { (other : K) → has_place K.cmp self.new other
-            ≡ has_place K.cmp self.old other }
+        ensures places { SamePlaces K.cmp self.old self.new }
         ensures keys { self.new.numbers ≡ self.old.numbers }
     {
         match self.numbers.get(key) {
@@ -156,9 +149,9 @@ impl<K: Key + Drop, V: Drop> Keyed<K, V> {
 
     /// Takes back that places are entered, of all.
     pub fn clear_entered(&mut self)
-        ensures entered { (key : K) → is_entered K.cmp self.new key ≡ false }
+        ensures entered { NoneEntered K.cmp self.new }
         ensures shown { shown K.cmp self.new ≡ shown K.cmp self.old }
-        ensures places { (key : K) → has_place K.cmp self.new key ≡ has_place K.cmp self.old key }
+        ensures places { SamePlaces K.cmp self.old self.new }
         ensures keys { self.new.numbers ≡ self.old.numbers }
     {
         self.entered.clear();
@@ -181,8 +174,7 @@ pub fn change<K: Key + Exact + Drop, V: Drop, E>(
     ensures err { OnErr result (IsUnchanged K.cmp table.old table.new) }
     ensures keys { GrowsBy K.cmp (places_for K.cmp table.old key.now) table.old table.new }
     ensures enough { OnOk result (HasPlaces K.cmp table.new) }
-    ensures places { (other : K) → IsTrue (has_place K.cmp table.old other)
-        → IsTrue (has_place K.cmp table.new other) }
+    ensures places { KeepsPlaces K.cmp table.old table.new }
     ensures room { IfOk result (λ entry. IsTrue (is_some entry) → 0 < journal.new.entry_room) }
     ensures closed { journal.new.closed ≡ journal.old.closed }
     ensures current { journal.new.current ≡ journal.old.current }
@@ -206,8 +198,7 @@ fn make_room<K: Key + Exact + Drop, V: Drop, E>(
 ) -> Result<K, AllocError>
     ensures key { IfOk result (λ copy. copy ≡ key.now) }
     ensures made { OnOk result (IsTrue (has_place K.cmp table.new key.now)) }
-    ensures places { (other : K) → IsTrue (has_place K.cmp table.old other)
-        → IsTrue (has_place K.cmp table.new other) }
+    ensures places { KeepsPlaces K.cmp table.old table.new }
     ensures same { IsUnchanged K.cmp table.old table.new }
     ensures keys { GrowsBy K.cmp (places_for K.cmp table.old key.now) table.old table.new }
     ensures room { OnOk result (0 < journal.new.entry_room) }
