@@ -2,7 +2,9 @@
 use Rattle.std.specs.Prelude.{◌≡◌, ℕ, ◌<◌, ◌*◌, List, [], ◌∷◌, ◌++◌, map, Option, Some, None, slice_get, unwrap_or}
 use Rattle.std.specs.Option.{option_map_or, option_or}
 use Rattle.std.specs.List.{range_with_len}
+use Rattle.amr_matchers.specs.Matchers.{Matcher}
 use Rattle.amr_time.specs.Time.{second, minute, hour}
+use Rattle.amr_stated.specs.declared.route.Grouping.{Grouping}
 use Rattle.amr_stated.specs.declared.route.Route.{Route}
 use Rattle.amr_config.specs.declared.settings.Settings.{Settings}
 use Rattle.amr_config.specs.declared.config.Parts.{Parts}
@@ -48,7 +50,7 @@ pub record AreSettled (parts : Parts) : Type 0 where
 abbrev pub receiver_under : Route → Option Settings → List ℕ
 receiver_under route above = unwrap_or route.receiver (option_map_or (λ settings. settings.receiver) above [])
 
-abbrev pub grouping_under : Route → Option Settings → Option GroupBy
+abbrev pub grouping_under : Route → Option Settings → Option Grouping
 grouping_under route above = option_or route.group_by (option_map_or (λ settings. settings.group_by) above None)
 
 abbrev pub path_under : Route → Option Settings → List (List Matcher)

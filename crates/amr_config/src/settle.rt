@@ -1,8 +1,7 @@
 //! What holds at each route, from what the routes state.
-ghost use Rattle.std.specs.Prelude.{◌≡◌, ◌*◌, [], ◌∷◌, ◌++◌, None, IfOk, unwrap_or, option_and_then, slice_get};
-ghost use Rattle.std.specs.Option.{option_copied, option_map_or, option_or};
-ghost use Rattle.amr_config.specs.Routing.{sorted_matchers};
-ghost use Rattle.amr_config.specs.Settled.{stated_config, settled, settled_under, AreParentsFirst};
+ghost use Rattle.std.specs.Prelude.{◌≡◌, IfOk, option_and_then, slice_get};
+ghost use Rattle.std.specs.Option.{option_copied};
+ghost use Rattle.amr_config.specs.Settled.{stated_config, settled, settled_under, receiver_under, grouping_under, path_under, AreParentsFirst};
 
 use crate::settings::Settings;
 use crate::sorted::sorted;
@@ -18,8 +17,7 @@ fn receiver_under(
     above: Option<&Settings>,
 ) -> Result<Text, AllocError>
     ensures { IfOk result (λ name. name
-        ≡ unwrap_or route.now.receiver
-        (option_map_or (λ settings. settings.receiver) (option_copied above.entry) [])) }
+        ≡ receiver_under route.now (option_copied above.entry)) }
 {
     match (&route.receiver, above) {
         (Some(name), _) => name.clone(),
@@ -30,8 +28,7 @@ fn receiver_under(
 
 fn grouping_under(route: &Route, above: Option<&Settings>) -> Result<Option<Grouping>, AllocError>
     ensures { IfOk result (λ grouping. grouping
-        ≡ option_or route.now.group_by
-        (option_map_or (λ settings. settings.group_by) (option_copied above.entry) None)) }
+        ≡ grouping_under route.now (option_copied above.entry)) }
 {
     match (&route.group_by, above) {
         (Some(grouping), _) => Ok(Some(grouping.clone()?)),
@@ -46,8 +43,7 @@ fn path_under(
     above: Option<&Settings>,
 ) -> Result<Listing<Matchers>, AllocError>
     ensures { IfOk result (λ path. path
-        ≡ option_map_or (λ settings. settings.path) (option_copied above.entry) []
-        ++ sorted_matchers route.now.matchers ∷ []) }
+        ≡ path_under route.now (option_copied above.entry)) }
 {
     let mut path = match above {
         Some(settings) => settings.path.clone()?,
