@@ -6,6 +6,7 @@ pub mod Parents
 pub mod Placing
 pub mod Ranges
 pub mod Refused
+pub mod Remembered
 pub mod Settling
 pub mod TreeOrder
 pub mod Whole

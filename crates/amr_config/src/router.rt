@@ -1,0 +1,109 @@
+//! A configuration that remembers the groups of each label set it has seen. The state of a replay holds it in place of the configuration, so
+//! that what was worked out travels with the configuration through a reload and back. What it remembers is no part of what contracts see.
+ghost use Rattle.std.specs.Prelude.{◌≡◌, IfOk};
+ghost use Rattle.amr_config.specs.Groups.{groups_of, group_at};
+
+use crate::config::Config;
+use amr_labels::{Labels, Listing, Shared};
+use std::alloc::{AllocError, Global};
+use std::collections::BTreeMap;
+use std::marker::Model;
+
+/// A configuration that remembers the groups of label sets. Contracts see the configuration.
+#[derive(Drop)]
+pub struct Router {
+    alloc: Global,
+    config: Config,
+    known: BTreeMap<Labels, Shared<Listing<RouteGroup>>>,
+}
+
+/// A group of alerts: a route, and the group labels that it keeps of the alerts' labels.
+#[derive(Drop)]
+pub struct RouteGroup {
+    /// The route's number in preorder.
+    pub route: usize,
+    pub labels: Labels,
+}
+
+impl Model for Router {
+    ghost use Rattle.amr_config.specs.Config.{Config};
+    ghost use Rattle.amr_config.specs.Groups.{IsKnown};
+
+    ghost Value = { Config };
+
+    ghost view = { λ router. router.config };
+
+    ghost invariant = { λ router. IsKnown router.config router.known };
+}
+
+impl Router {
+    /// Takes a configuration, of which nothing is remembered yet.
+    pub fn new(alloc: Global, config: Config) -> Router
+        ensures { result ≡ config }
+    {
+        Router {
+            alloc,
+            config,
+            known: BTreeMap::new(alloc),
+        }
+    }
+
+    /// Returns the configuration.
+    pub fn config(&self) -> &Config
+        ensures { result.now ≡ self.now }
+    {
+        &self.config
+    }
+
+    /// Returns the groups that take an alert with these labels, by route. Routes are asked once for each label set.
+    pub fn groups_of(&mut self, labels: &Labels) -> Result<Shared<Listing<RouteGroup>>, AllocError>
+        ensures groups { IfOk result (λ groups. groups ≡ groups_of self.old labels.now) }
+        ensures same { self.new ≡ self.old }
+    {
+        match self.known.get(labels) {
+            Some(groups) => groups.clone(),
+            None => self.learn(labels),
+        }
+    }
+
+    /// Works out the groups that take an alert with these labels, and remembers them.
+    fn learn(&mut self, labels: &Labels) -> Result<Shared<Listing<RouteGroup>>, AllocError>
+        ensures groups { IfOk result (λ groups. groups ≡ groups_of self.old labels.now) }
+        ensures same { self.new ≡ self.old }
+    {
+        let groups = Shared::new(self.alloc, groups_of(self.alloc, &self.config, labels)?)?;
+        self.known.insert(labels.clone()?, groups.clone()?)?;
+        Ok(groups)
+    }
+}
+
+/// Works out the groups that take an alert with these labels, by route.
+#[tactic(auto, unfolding(crate::specs::Groups::groups_of))]
+fn groups_of(
+    alloc: Global,
+    config: &Config,
+    labels: &Labels,
+) -> Result<Listing<RouteGroup>, AllocError>
+    ensures { IfOk result (λ groups. groups ≡ groups_of config.now labels.now) }
+{
+    let mut groups = Listing::new(alloc);
+    for route in &config.routes_of(alloc, labels)? {
+        groups.push(group_at(alloc, config, *route, labels)?)?;
+    }
+    Ok(groups)
+}
+
+/// Works out the group of an alert with these labels at a route.
+fn group_at(
+    alloc: Global,
+    config: &Config,
+    route: usize,
+    labels: &Labels,
+) -> Result<RouteGroup, AllocError>
+    ensures { IfOk result (λ group. group ≡ group_at config.now labels.now route) }
+{
+    Ok(RouteGroup {
+        route,
+        labels: config.group_of(alloc, route, labels)?,
+    })
+}
