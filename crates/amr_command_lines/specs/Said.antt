@@ -26,7 +26,8 @@ WordSays name argument said = (said ≡ said_by name argument) ⊎ ((name ≡ wo
 abbrev pub TextSays : Text → Said → Type 0
 TextSays text said = (said ≡ said_in text) ⊎ ((word_named (word_in text) ≡ word.Trial) × Tries (argument_in text) said)
 
--- The line says this. It is `said_of` of the line, but that the event of a trial is any that its text is read as.
+-- The line says this. It is `said_of` of the line, but that the event of a trial is any that its
+-- text is read as.
 abbrev pub LineSays : Text → Said → Type 0
 LineSays line said = (said ≡ said_of line) ⊎ ((is_utf8 line ≡ true) × (word_named (word_in (trimmed line)) ≡ word.Trial) × Tries (argument_in (trimmed line)) said)
 

@@ -196,7 +196,8 @@ fn read_text(alloc: Global, text: &[u8]) -> Result<Said, Unread>
 }
 
 impl Said {
-    /// What the bytes of a line say. Memory is taken for the argument of `trial` and of `explain` alone.
+    /// What the bytes of a line say. Memory is taken for the argument of `trial` and of `explain`
+    /// alone.
     #[tactic(auto, unfolding(crate::specs::Command::said_of))]
     pub fn read(alloc: Global, line: &[u8]) -> Result<Said, Unread>
         ensures { MatchResult result (LineSays line.now)

@@ -6,8 +6,8 @@ use std::alloc::Global;
 /// The most bytes of a command line, its end not counted.
 pub const LONGEST: usize = 1_048_576;
 
-/// The bytes of a line so far. Of a line that is too long no more is known than that, and of one that finds no memory
-/// only its length up to there.
+/// The bytes of a line so far. Of a line that is too long no more is known than that, and of one
+/// that finds no memory only its length up to there.
 #[derive(Debug, Drop)]
 pub struct Line {
     bytes: Vec<u8>,
