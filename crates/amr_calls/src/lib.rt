@@ -1,4 +1,5 @@
-//! The calls that no command of the program makes, or whose answers none shows. It has tests alone: a crate with tests is proved twice, and this one is small.
+//! Tests of calls that no command of the program makes, or whose results none shows. They are in a
+//! crate of their own because a crate with tests is proved twice, and this one is small.
 #![tactic(auto)]
 
 #[cfg(test)]

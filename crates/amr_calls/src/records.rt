@@ -1,4 +1,4 @@
-//! How many entries the records of events have.
+//! Tests of how many entries the records of events have.
 use amr_config::Config;
 use amr_events::Script;
 use amr_replay::Session;
@@ -15,7 +15,7 @@ const EACH_MILLISECOND: &str =
     r#"{"route":{"receiver":"ops","group_by":["alertname"],"group_interval":"1ms"},
     "receivers":[{"name":"ops","webhook_configs":[{}]}]}"#;
 
-/// An alert of two days, and a day of flushes.
+/// An alert of two days, and one day of flushes.
 const TWO_DAYS: &str =
     r#"{"at":"2024-05-01T10:00:00Z","alerts":[{"labels":{"alertname":"X"},"startsAt":"2024-05-01T10:00:00Z","endsAt":"2024-05-03T10:00:00Z"}]}
 {"at":"2024-05-01T10:00:30Z","tick":true}
@@ -30,14 +30,14 @@ const RELOADED: &str =
 {"at":"2024-05-01T10:02:00Z","reload":{"route":{"receiver":"ops","group_by":["team"]},"receivers":[{"name":"ops","webhook_configs":[{}]}]}}
 "#;
 
-/// An event that is refused for one move too many, and one that makes as many as it may.
+/// An event that is refused for one move too many, and one that makes as many as allowed.
 const TEN_THOUSAND_MOVES: &str =
     r#"{"at":"2024-05-01T10:00:00Z","alerts":[{"labels":{"alertname":"X"},"startsAt":"2024-05-01T10:00:00Z","endsAt":"2024-05-01T20:00:00Z"}]}
 {"at":"2024-05-01T10:00:40Z","tick":true}
 {"at":"2024-05-01T10:00:39.999Z","tick":true}
 "#;
 
-/// The session after all events of the script.
+/// Returns the session after all events of the script.
 fn passed(alloc: Global, config: &str, script: &str) -> Result<Session, Fail> {
     let value = Value::from_slice(alloc, config.as_bytes()).map_err(|_| "no JSON")?;
     let config = Config::read(alloc, &value).map_err(|_| "no configuration")?;
@@ -49,7 +49,8 @@ fn passed(alloc: Global, config: &str, script: &str) -> Result<Session, Fail> {
     Ok(session)
 }
 
-/// Whether there are as many records as bounds, none has no entry unless its bound is 0, and each keeps within its bound.
+/// Returns whether there is one record for each bound, and each has at most that many entries, but
+/// at least one unless its bound is 0.
 fn are_within(session: &Session, bounds: &[usize]) -> bool {
     session.records() == bounds.len()
         && bounds.iter().enumerate().all(|(index, bound)| is_within(
@@ -76,7 +77,8 @@ fn a_reload(rt: HostRuntime) -> Result<(), Fail> {
     Ok(())
 }
 
-/// Ten thousand moves of one group change four places: the clock, the group's timer, its log entry, and the notifications.
+/// Checks that 10,000 moves of one group change four places: the clock, the group timer, its log
+/// entry, and the notifications.
 #[test]
 fn moves_of_one_group(rt: HostRuntime) -> Result<(), Fail> {
     let session = passed(rt.alloc(), EACH_MILLISECOND, TEN_THOUSAND_MOVES)?;

@@ -1,4 +1,4 @@
-//! What no command of the program shows.
+//! Tests of what no command of the program shows.
 use amr_interner::Interner;
 use amr_labels::{Labels, Text};
 use amr_matchers::{Matchers, ParseError};
@@ -6,7 +6,8 @@ use amr_time::{Moment, Span, next_multiple, write_moment};
 use std::alloc::{AllocError, Global};
 use std::test::Fail;
 
-/// Texts that are no matcher texts, and the place at which no matcher text goes on.
+/// Texts that aren't matcher texts, and the byte offset of the first character that no matcher text
+/// can have there.
 const FAULTY: [(&str, usize); 26] = [
     ("foo", 3),
     ("a b=c", 2),
@@ -52,7 +53,7 @@ fn faulty_matcher_texts_are_refused_at_their_places(rt: HostRuntime) -> Result<(
     Ok(())
 }
 
-/// No event of a script reaches it.
+/// No event of a script can be so late.
 #[test]
 fn the_last_moment_is_written_and_has_a_multiple(rt: HostRuntime) -> Result<(), Fail> {
     let last = Moment::from_nanoseconds(253_402_300_799_999_999_999);
@@ -67,7 +68,7 @@ fn the_last_moment_is_written_and_has_a_multiple(rt: HostRuntime) -> Result<(), 
     Ok(())
 }
 
-/// The set of one label.
+/// Returns the set of one label.
 fn label_set(alloc: Global, name: &str) -> Result<Labels, Fail> {
     let mut pairs = Vec::new(alloc);
     pairs.push((Text::from_str(alloc, name)?, Text::from_str(alloc, "1")?))?;
@@ -75,19 +76,20 @@ fn label_set(alloc: Global, name: &str) -> Result<Labels, Fail> {
     Ok(found.ok_or("the name is empty")?)
 }
 
-/// The number of a label set, which is given one where it has none.
+/// Returns the number of a label set, and gives it one if it has none.
 fn number_of(alloc: Global, seen: &mut Interner, name: &str) -> Result<usize, Fail> {
     let labels = label_set(alloc, name)?;
     Ok(seen.id_of(&labels)?)
 }
 
-/// Whether a label set has a number, and which.
+/// Returns the number of a label set, if it has one.
 fn known_number(alloc: Global, seen: &Interner, name: &str) -> Result<Option<usize>, Fail> {
     let labels = label_set(alloc, name)?;
     Ok(seen.find(&labels))
 }
 
-/// Three label sets are seen, the last as the first.
+/// Shows three label sets to the interner, the last the same as the first, and returns whether
+/// their numbers are right.
 fn see(alloc: Global, seen: &mut Interner) -> Result<bool, Fail> {
     let is_new = known_number(alloc, seen, "b")?.is_none();
     let first = number_of(alloc, seen, "b")?;
@@ -96,7 +98,7 @@ fn see(alloc: Global, seen: &mut Interner) -> Result<bool, Fail> {
     Ok(is_new && first == 0 && second == 1 && third == 0)
 }
 
-/// Whether they are known by their numbers.
+/// Returns whether they are known by their numbers.
 fn are_known(alloc: Global, seen: &Interner) -> Result<bool, Fail> {
     let number = known_number(alloc, seen, "a")?;
     Ok(number == Some(1) && seen.len() == 2 && seen.labels_of(1).value_of("a") == "1")

@@ -1,4 +1,4 @@
--- What a command line says.
+-- What a command line is parsed as.
 use Rattle.std.specs.Prelude.{◌==◌, List, [], ◌∷◌, length, Option, None, if◌then◌else◌}
 use Rattle.std.specs.Option.{option_map_or}
 use Rattle.std.specs.List.{list_all}
@@ -55,7 +55,7 @@ trial_said argument = option_map_or (λ event. Asks (command.Trial event)) (even
 abbrev pub explain_said : Text → Said
 explain_said argument = option_map_or (λ labels. Asks (command.Explain labels)) (labels_in argument) (Unfit word.Explain)
 
--- what a word says with what follows it
+-- what a word is parsed as, with what follows it
 unfoldable pub said_by : Word → Text → Said
 said_by word.Step argument = said_alone word.Step command.Step argument
 said_by word.Back argument = said_alone word.Back command.Back argument
@@ -71,10 +71,10 @@ said_by word.Transcript argument = said_alone word.Transcript command.Transcript
 said_by word.Cursor argument = said_alone word.Cursor command.Cursor argument
 said_by word.Unknown argument = Malformed word.Unknown
 
--- what a text says, which has no white space at its ends
+-- what a text without white space at its ends is parsed as
 unfoldable pub said_in : Text → Said
 said_in text = if length text == 0 then Nothing else said_by (word_named (word_in text)) (argument_in text)
 
--- what a line says
+-- what a line is parsed as
 unfoldable pub said_of : Text → Said
 said_of line = if is_utf8 line then said_in (trimmed line) else Malformed word.Unknown

@@ -1,4 +1,4 @@
--- A command line in parts: a word, and an argument that white space parts from it.
+-- The parts of a command line: a word, white space, and an argument.
 use Rattle.std.specs.Prelude.{ℕ, ◌+◌, ◌-◌, ◌*◌, ◌^◌, min, Bool, ◌&&◌, nat_le, List, length, take, drop, fold}
 use Rattle.std.specs.List.{prefix_len, suffix_len, position_or_len, before_first}
 use Rattle.amr_events.specs.Scripts.{is_space}
@@ -22,10 +22,10 @@ argument_in text = trimmed_front (drop (position_or_len is_space text) text)
 abbrev pub is_digit : ℕ → Bool
 is_digit byte = nat_le 48 byte && nat_le byte 57
 
--- the number that digits say
+-- the number that digits spell
 abbrev pub number_of : List ℕ → ℕ
 number_of digits = fold (λ n digit. n * 10 + (digit - 48)) 0 digits
 
--- the same up to 64 bits, and the greatest of those for a greater one
+-- the same if it has no more than 64 bits, and otherwise the greatest that has
 abbrev pub number_within : List ℕ → ℕ
 number_within digits = min (number_of digits) (2 ^ 64 - 1)

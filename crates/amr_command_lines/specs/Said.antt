@@ -1,4 +1,4 @@
--- What reading a command line gives.
+-- What parsing a command line may return.
 use Rattle.std.specs.Prelude.{◌≡◌, ◌⊎◌, ⊤, true, Result, MatchResult}
 use Rattle.std.specs.Str.{is_utf8}
 use Rattle.amr_labels.specs.Labels.{Text}
@@ -14,19 +14,20 @@ use Rattle.amr_command_lines.specs.declared.command.Unread.{Unread}
 use Rattle.amr_command_lines.specs.Parts.{trimmed, word_in, argument_in}
 use Rattle.amr_command_lines.specs.Command.{word_named, said_by, said_in, said_of}
 
--- the event of a trial is one that its text is read as, by what `regex` refuses in it
+-- the event of a trial is one that its text may be read as, given what `regex` refuses in it
 abbrev pub Tries : Text → Said → Type 0
 Tries argument said = (event : Event) × (said ≡ Asks (command.Trial event)) × LineIs argument event
 
--- a word says this with what follows it
+-- a word may be parsed as this, with what follows it
 abbrev pub WordSays : Word → Text → Said → Type 0
 WordSays name argument said = (said ≡ said_by name argument) ⊎ ((name ≡ word.Trial) × Tries argument said)
 
--- a text says this, which has no white space at its ends
+-- a text without white space at its ends may be parsed as this
 abbrev pub TextSays : Text → Said → Type 0
 TextSays text said = (said ≡ said_in text) ⊎ ((word_named (word_in text) ≡ word.Trial) × Tries (argument_in text) said)
 
--- The line says this. It is `said_of` of the line, but that the event of a trial is any that its text is read as.
+-- The line may be parsed as this. It is `said_of` of the line, except that the event of a trial is
+-- any that its text may be read as.
 abbrev pub LineSays : Text → Said → Type 0
 LineSays line said = (said ≡ said_of line) ⊎ ((is_utf8 line ≡ true) × (word_named (word_in (trimmed line)) ≡ word.Trial) × Tries (argument_in (trimmed line)) said)
 
@@ -66,7 +67,7 @@ ArgumentTakesMemory command.Log = ⊥
 ArgumentTakesMemory command.Transcript = ⊥
 ArgumentTakesMemory command.Cursor = ⊥
 
--- reading it takes memory: the argument is JSON
+-- parsing it takes memory, because the argument is JSON
 abbrev pub ReadingTakesMemory : Said → Type 0
 ReadingTakesMemory Nothing = ⊥
 ReadingTakesMemory (Asks command) = ArgumentTakesMemory command
@@ -74,15 +75,15 @@ ReadingTakesMemory (Malformed word) = ⊥
 ReadingTakesMemory BadMoment = ⊥
 ReadingTakesMemory (Unfit word) = ⊤
 
--- this was read, or there was no memory to read it
+-- this was returned, or memory ran out
 abbrev pub Reads : Said → Result Said Unread → Type 0
 Reads said result = MatchResult result (λ read. read ≡ said) (λ unread. ReadingTakesMemory said × (word_of said ≡ unread.word))
 
--- what was read is such, or there was no memory to read it
+-- what was returned satisfies this, or memory ran out
 abbrev pub ReadsSuch : (Said → Type 0) → Said → Result Said Unread → Type 0
 ReadsSuch IsSuch said result = MatchResult result IsSuch (λ unread. ReadingTakesMemory said × (word_of said ≡ unread.word))
 
--- the line has this word, and an argument whose reading may find no memory
+-- the line has this word, and an argument for which memory may run out
 pub record FailsToRead (line : Text) (word : Word) : Type 0 where
   pub said : Said
   pub says : LineSays line said

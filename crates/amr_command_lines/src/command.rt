@@ -1,4 +1,5 @@
-//! What a command line says.
+//! Parsing a command line: the word, and the argument that its command takes. A session calls
+//! `Said::read` for each line. Nothing here is executed.
 ghost use Rattle.std.specs.Prelude.{◌≡◌, MatchResult};
 ghost use Rattle.std.specs.Str.{is_utf8};
 ghost use Rattle.amr_command_lines.specs.Command.{word_named, said_alone, seek_said, seek_time_said, trial_said, explain_said, with_argument, said_by, said_in, said_of, moment_in};
@@ -13,12 +14,13 @@ use amr_time::{Moment, read_moment};
 use std::alloc::Global;
 use std::str::from_utf8;
 
-/// A command, with its argument.
+/// A command of a session, with its argument.
 #[derive(Drop)]
 pub enum Command {
     Step,
     Back,
-    /// To so many events from the start; the greatest number stands for all that are greater.
+    /// Moves the cursor to this many events from the start. A number too large for a `usize` is
+    /// read as the greatest.
     Seek(usize),
     SeekTime(Moment),
     Trial(Event),
@@ -31,21 +33,21 @@ pub enum Command {
     Cursor,
 }
 
-/// What a line says.
+/// What a line was parsed as.
 #[derive(Drop)]
 pub enum Said {
-    /// There is nothing but white space.
+    /// The line is empty but for white space.
     Nothing,
     Asks(Command),
-    /// The word isn't known, or its argument is absent, one too many, or no number.
+    /// The word isn't known, or its argument is missing, superfluous, or not a number.
     Malformed(Word),
-    /// The argument is no moment.
+    /// The argument isn't a moment.
     BadMoment,
-    /// The argument is no event, or no label set.
+    /// The argument isn't an event, or not a label set.
     Unfit(Word),
 }
 
-/// There is no memory for the argument of this word.
+/// Memory ran out for the argument of this word.
 #[derive(Clone, Copy, Debug, PartialEq, Eq)]
 pub struct Unread {
     pub word: Word,
@@ -66,7 +68,7 @@ const KNOWN_WORDS: [Word; 12] = [
     Word::Cursor,
 ];
 
-/// The word that a text is.
+/// Returns the word that a text is, or `Unknown`.
 #[tactic(auto, unfolding(crate::specs::Command::word_named))]
 fn word_of(text: &[u8]) -> Word
     ensures { result ≡ word_named text.now }
@@ -79,7 +81,7 @@ fn word_of(text: &[u8]) -> Word
     Word::Unknown
 }
 
-/// A command that takes no argument.
+/// Parses a command that takes no argument.
 fn alone(word: Word, command: Command, argument: &[u8]) -> Said
     ensures { result ≡ said_alone word command argument.now }
 {
@@ -90,6 +92,7 @@ fn alone(word: Word, command: Command, argument: &[u8]) -> Said
     }
 }
 
+/// Parses the argument of `seek`, a decimal number of events.
 fn seek(argument: &[u8]) -> Said
     ensures { result ≡ with_argument Word.Seek seek_said argument.now }
 {
@@ -99,6 +102,7 @@ fn seek(argument: &[u8]) -> Said
     Said::Asks(Command::Seek(number(argument)))
 }
 
+/// Reads a moment, in RFC 3339.
 #[tactic(auto, unfolding(crate::specs::Command::moment_in))]
 fn moment(text: &[u8]) -> Option<Moment>
     ensures { result ≡ moment_in text.now }
@@ -109,6 +113,7 @@ fn moment(text: &[u8]) -> Option<Moment>
     }
 }
 
+/// Parses the argument of `seek-time`.
 fn seek_time(argument: &[u8]) -> Said
     ensures { result ≡ with_argument Word.SeekTime seek_time_said argument.now }
 {
@@ -121,7 +126,7 @@ fn seek_time(argument: &[u8]) -> Said
     }
 }
 
-/// A trial, with the event of a script's line.
+/// Parses the argument of `trial`, which is an event as on a line of a script.
 #[tactic(auto, unfolding(crate::specs::Command::said_by))]
 fn trial(alloc: Global, argument: &[u8]) -> Result<Said, Unread>
     ensures { ReadsSuch (WordSays Word.Trial argument.now) (said_by Word.Trial argument.now)
@@ -137,6 +142,7 @@ fn trial(alloc: Global, argument: &[u8]) -> Result<Said, Unread>
     }
 }
 
+/// Parses the argument of `explain`, which is a label set as a JSON object.
 fn explain(alloc: Global, argument: &[u8]) -> Result<Said, Unread>
     ensures { Reads (with_argument Word.Explain explain_said argument.now) result }
 {
@@ -152,7 +158,7 @@ fn explain(alloc: Global, argument: &[u8]) -> Result<Said, Unread>
     }
 }
 
-/// What a word says with what follows it.
+/// Parses a word's argument.
 #[tactic(auto, unfolding(crate::specs::Command::said_by))]
 fn read_argument(alloc: Global, word: Word, argument: &[u8]) -> Result<Said, Unread>
     ensures { ReadsSuch (WordSays word argument.now) (said_by word argument.now) result }
@@ -174,7 +180,7 @@ fn read_argument(alloc: Global, word: Word, argument: &[u8]) -> Result<Said, Unr
     }
 }
 
-/// Whether the bytes are a text in UTF-8.
+/// Returns whether the bytes are UTF-8.
 fn is_text(line: &[u8]) -> bool
     ensures { result ≡ is_utf8 line.now }
 {
@@ -184,7 +190,7 @@ fn is_text(line: &[u8]) -> bool
     }
 }
 
-/// What a text says, which has no white space at its ends.
+/// Parses a text without white space at its ends.
 #[tactic(auto, unfolding(crate::specs::Command::said_in))]
 fn read_text(alloc: Global, text: &[u8]) -> Result<Said, Unread>
     ensures { ReadsSuch (TextSays text.now) (said_in text.now) result }
@@ -196,7 +202,7 @@ fn read_text(alloc: Global, text: &[u8]) -> Result<Said, Unread>
 }
 
 impl Said {
-    /// What the bytes of a line say. Memory is taken for the argument of `trial` and of `explain` alone.
+    /// Parses the bytes of a line. Only the arguments of `trial` and `explain` take memory.
     #[tactic(auto, unfolding(crate::specs::Command::said_of))]
     pub fn read(alloc: Global, line: &[u8]) -> Result<Said, Unread>
         ensures { MatchResult result (LineSays line.now)

@@ -15,7 +15,7 @@ pub(crate) fn all_digits(text: &[u8]) -> bool
     text.iter().all(|byte| is_digit(*byte))
 }
 
-/// The number that the digits say, or the greatest of a `usize` where that is less.
+/// Returns the number that the digits spell, or the greatest `usize` if that is less.
 pub(crate) fn number(digits: &[u8]) -> usize
     ensures { result ≡ number_within digits.now }
 {

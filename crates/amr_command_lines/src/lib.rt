@@ -1,4 +1,5 @@
-//! Command lines: the bytes of a line, and what it says.
+//! The command lines of a session: holding a line while it is read, and parsing it. `amr_commands`
+//! executes what is parsed; nothing here knows the session.
 #![tactic(auto)]
 
 mod command;

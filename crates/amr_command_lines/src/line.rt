@@ -1,13 +1,14 @@
-//! The line that is being read.
+//! The line that is being read, byte by byte. It never fails: a line that is too long, or for which
+//! memory runs out, is only marked as such, and the session answers with a refusal.
 ghost use Rattle.std.specs.Prelude.{[], ◌∷◌, ◌++◌, ◌≡◌, ◌≤◌, List, ℕ, true};
 
 use std::alloc::Global;
 
-/// The most bytes of a command line, its end not counted.
+/// The most bytes of a command line, without its line feed.
 pub const LONGEST: usize = 1_048_576;
 
-/// The bytes of a line so far. Of a line that is too long no more is known than that, and of one that finds no memory
-/// only its length up to there.
+/// The bytes of a line so far. If the line is too long, only that is known of it; if memory ran
+/// out, only its length.
 #[derive(Debug, Drop)]
 pub struct Line {
     bytes: Vec<u8>,
@@ -18,9 +19,9 @@ pub struct Line {
 /// What is known of a line.
 #[derive(Clone, Copy, Debug)]
 pub enum Content<'a> {
-    /// It has more bytes than a command line.
+    /// The line has more than `LONGEST` bytes.
     TooLong,
-    /// It isn't too long, and there is no memory for it.
+    /// The line isn't too long, but memory ran out for it.
     Unheld,
     Held(&'a [u8]),
 }
@@ -29,7 +30,7 @@ impl Line {
     ghost use Rattle.amr_command_lines.specs.Content.{IsContent};
     ghost use Rattle.amr_command_lines.specs.Line.{Holds, IsHeld};
 
-    /// Nothing yet.
+    /// Returns an empty line. It takes no memory.
     pub fn new(alloc: Global) -> Line
         ensures empty { Holds result [] }
         ensures held { IsHeld result }
@@ -41,7 +42,7 @@ impl Line {
         }
     }
 
-    /// One more byte. This never fails.
+    /// Appends a byte. It never fails.
     pub fn push(&mut self, byte: u8)
         ensures { (bytes : List ℕ) → Holds self.old bytes → Holds self.new (bytes ++ byte ∷ []) }
     {
@@ -59,7 +60,7 @@ impl Line {
         }
     }
 
-    /// A new line. It keeps its memory.
+    /// Empties the line, and keeps its memory.
     pub fn clear(&mut self)
         ensures empty { Holds self.new [] }
         ensures held { IsHeld self.new }
@@ -69,7 +70,7 @@ impl Line {
         self.is_held = true;
     }
 
-    /// What the line is.
+    /// Returns what is known of the line.
     pub fn content(&self) -> Content<'_>
         ensures { (bytes : List ℕ) → Holds self.now bytes → IsContent bytes result }
     {

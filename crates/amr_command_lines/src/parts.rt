@@ -1,17 +1,17 @@
-//! A line in parts.
+//! Cutting a command line into its word and its argument, at white space.
 ghost use Rattle.std.specs.Prelude.{◌≡◌, ◌≤◌, length};
 ghost use Rattle.std.specs.List.{prefix_len, position_or_len};
 ghost use Rattle.amr_events.specs.Scripts.{is_space as is_space_byte};
 ghost use Rattle.amr_command_lines.specs.Parts.{trimmed_front, trimmed_back, trimmed as trimmed_text, word_in, argument_in};
 
-/// White space of JSON.
+/// Returns whether the byte is white space of JSON (RFC 8259).
 fn is_space(byte: u8) -> bool
     ensures { result ≡ is_space_byte byte }
 {
     matches!(byte, b' ' | b'\t' | b'\n' | b'\r')
 }
 
-/// How much white space stands at the front.
+/// Returns how many bytes of white space the text begins with.
 #[tactic(auto, using(crate::proofs::Fronts::front_len))]
 fn space_len(text: &[u8]) -> usize
     ensures value { result ≡ prefix_len is_space_byte text.now }
@@ -20,7 +20,7 @@ fn space_len(text: &[u8]) -> usize
     text.iter().take_while(|byte| is_space(**byte)).count()
 }
 
-/// How many bytes stand before the first white space.
+/// Returns how many bytes are before the first white space.
 #[tactic(auto, using(crate::proofs::Fronts::front_len))]
 fn word_len(text: &[u8]) -> usize
     ensures value { result ≡ position_or_len is_space_byte text.now }
@@ -45,21 +45,21 @@ fn without_back(text: &[u8]) -> &[u8]
     &text[..end]
 }
 
-/// A line without the white space at both ends.
+/// Returns a line without the white space at both ends.
 pub(crate) fn trimmed(line: &[u8]) -> &[u8]
     ensures { result.now ≡ trimmed_text line.now }
 {
     without_back(without_front(line))
 }
 
-/// What stands before the first white space.
+/// Returns what is before the first white space.
 pub(crate) fn word(text: &[u8]) -> &[u8]
     ensures { result.now ≡ word_in text.now }
 {
     &text[..word_len(text)]
 }
 
-/// What stands after the word and the white space that follows it.
+/// Returns what is after the word and the white space that follows it.
 pub(crate) fn argument(text: &[u8]) -> &[u8]
     ensures { result.now ≡ argument_in text.now }
 {

@@ -1,4 +1,4 @@
--- From what was done for a line, and what was written, to its answer.
+-- The answer to a line, from what was done for it and what was written.
 use Rattle.std.proofs.Common.{ℕ, ◌≤◌, length, sym, ap, subst, inl, inr, Option, Result}
 use Rattle.std.proofs.lemmas.Result.{MatchResult-weaker}
 use Rattle.std.specs.Io.KnownBytes.{Appends}
@@ -17,12 +17,12 @@ use Rattle.amr_commands.specs.declared.answer.Refusal.TheVariants.{Memory}
 use Rattle.amr_commands.specs.declared.answer.Answer.{Answer}
 use Rattle.amr_commands.specs.declared.answer.Answer.TheVariants.{Refused}
 
--- the line was read, and done or undone
+-- the line was parsed, and done or undone
 pub fated_done : (i : Incident) (n n' : ℕ) (line : Text) (said : Said) (answer : Answer) → length line ≤ longest → LineSays line said → Answered i n n' said answer → Fated i n n' line answer
 fated_done i n n' line said answer short says (inl replied) = record { fate = Done said; may_be = (short, says); replied = replied }
 fated_done i n n' line said answer short says (inr w) = record { fate = Undone said; may_be = (short, says, w.0); replied = sym w.1 }
 
--- what takes memory to be read may find none
+-- memory may run out for what takes memory to parse
 reading_may_fail : (i : Incident) (n : ℕ) (said : Said) → ReadingTakesMemory said → MayFindNoMemory i n said
 reading_may_fail i n Nothing h = h
 reading_may_fail i n (Asks command.Step) h = absurd h
@@ -41,7 +41,7 @@ reading_may_fail i n (Malformed word) h = h
 reading_may_fail i n BadMoment h = h
 reading_may_fail i n (Unfit word) h = tt
 
--- there was no memory to read it
+-- memory ran out for parsing it
 pub fated_unread : (i : Incident) (n : ℕ) (line : Text) (word : Word) → length line ≤ longest → FailsToRead line word → Fated i n n line (Refused word Memory)
 fated_unread i n line word short fails =
     record {
@@ -50,7 +50,7 @@ fated_unread i n line word short fails =
       replied = ap (λ w. left n (Refused w Memory)) fails.named;
     }
 
--- what was to be written was written
+-- the answer was written
 pub answers_written : {E : Type 0} (i : Incident) (n n' : ℕ) (line : Text) (answer : Answer) (old new : Option Text) (r : Result Unit E)
     → Fated i n n' line answer → WritesText old new r (answer_text n' answer) → Answers i n n' line old new r
 answers_written i n n' line answer old new r f wrote =

@@ -1,4 +1,4 @@
--- What commands leave.
+-- What each command leaves.
 use Rattle.std.proofs.Common.{◌≡◌, ℕ, ◌+◌, ◌-◌, ◌<◌, ◌≤◌, true, false, nat_lt, nat_le, length, refl, sym, ap, ◌∙◌, inl, inr, arith, rules, tests, IfOk, IsOkAnd, Ok, Err, Result, String, string_bytes, ◌++◌}
 use Rattle.std.specs.List.{flat_map}
 use Rattle.std.specs.declared.alloc.Global.{Global}

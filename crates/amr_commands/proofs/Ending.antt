@@ -1,4 +1,4 @@
--- What the ends of a conversation have done, one turn after the others.
+-- Which end has failed, one turn after another.
 use Rattle.std.proofs.Common.{◌≡◌, ℕ, Bool, Ok, Result, ◌∙◌}
 use Rattle.std.proofs.lemmas.Result.{MatchResult-at_ok}
 use Rattle.amr_commands.specs.declared.conversation.Broken.{Broken}
@@ -12,7 +12,7 @@ ended_before r turn first read read' calls start write write' e ended f s =
     let kept = MatchResult-at_ok _ _ turn e ended in
     (kept.0 ∙ f, kept.1 ∙ s)
 
--- one end broke in the turn, and neither before it
+-- one end failed in the turn, and neither before it
 pub BreaksBy-before : (broken : Broken) (first read read' : Bool) (calls : ℕ) (start write write' : Bool)
     → BreaksBy broken read read' calls write write' → read ≡ first → write ≡ start → BreaksBy broken first read' calls start write'
 BreaksBy-before Reading first read read' calls start write write' (ended, kept) f s = (ended, kept ∙ s)

@@ -1,4 +1,4 @@
--- Commands that pass events: their lines, one after the other, and where the cursor is then.
+-- Commands that pass events: their lines, one after another, and the cursor after them.
 use Rattle.std.proofs.Common.{◌≡◌, ℕ, ◌+◌, ◌<◌, ◌≤◌, List, [], ◌∷◌, ◌++◌, length, take, drop, map, get_or, Some, slice_get, refl, sym, ap, ◌∙◌, subst, arith, append_assoc, append-nil, length-drop, ⊎_elim, String, string_bytes}
 use Rattle.std.specs.declared.alloc.Global.{Global}
 use Rattle.std.proofs.lemmas.List.{take_more, length-map, length-take, map-append, drop_all}
@@ -18,7 +18,7 @@ use Rattle.amr_commands.specs.Answer.{left, Moves}
 use Rattle.amr_commands.specs.declared.answer.Answer.{Answer}
 use Rattle.amr_commands.specs.declared.answer.Answer.TheVariants.{Built, SoughtBack}
 
--- one line more
+-- one more line
 numbered_push : (n : ℕ) (os : List Outcome) (o : Outcome) → numbered_lines n (os ++ o ∷ []) ≡ numbered_lines n os ++ event_lines (n + length os) o
 numbered_push n [] o = append-nil _ ∙ ap (λ k. event_lines k o) (omega arith)
 numbered_push n (p ∷ os) o =

@@ -1,4 +1,4 @@
--- A session's last line.
+-- The last line of a session.
 use Rattle.std.proofs.Common.{◌≡◌, ℕ, List, [], ◌∷◌, ◌++◌, take, append-nil, sym, ap, ◌∙◌, subst, Ok, Err, Option, Result, MatchResult}
 use Rattle.std.specs.Io.KnownBytes.{Appends, Consumes}
 use Rattle.std.proofs.KnownBytes.{Appends-trans, Consumes-trans}
@@ -12,7 +12,7 @@ use Rattle.amr_commands.specs.Talk.{Heard, reply, MayBe, out, Answers, Told, Sto
 use Rattle.amr_commands.specs.Converse.{Printed, Stands, PrintedAt, Turned, Turns}
 use Rattle.amr_commands.proofs.Talks.{out-append, AllMayBe-append, Told-ended, Told-nil}
 
--- the same outcome on the left, the other one's on the right
+-- one outcome of the first result, and the other outcome of the second
 either : {X E : Type 0} (P Q : X → Type 0) (S T : E → Type 0) (r : Result X E) → MatchResult r P S → MatchResult r Q T → MatchResult r P T
 either P Q S T (Ok x) p q = p
 either P Q S T (Err e) p q = q
@@ -40,14 +40,14 @@ Printed-last incident start mid now bytes cursor cursor' line r answered (rest, 
     }) a.did)
     (Told-ended incident start mid now bytes cursor cursor' rest r t a)
 
--- a read that gave nothing
+-- a read that gave no byte
 pub Consumes-nothing : (a b c : Option (List ℕ)) (bs chunk : List ℕ) (n : ℕ) → n ≡ 0 → Consumes a b bs → Consumes b c (take n chunk) → Consumes a c bs
 Consumes-nothing a b c bs chunk n e p q =
     let none : take n chunk ≡ [] = ap (λ k. take k chunk) e in
     subst (Consumes a c) (append-nil bs) (subst (λ l. Consumes a c (bs ++ l)) none (Consumes-trans a b c bs (take n chunk) p q))
 
 module _ {E : Type 0} (incident : Incident) (source left left' start mid now : Option (List ℕ)) (bytes : List ℕ) (cursor cursor' : ℕ) (line line' : Line) (r : Result Unit E) (xs ys : List ℕ) where
-  -- a read whose bytes were heard
+  -- a read whose bytes were taken in
   pub Stands-heard : (x : Unit) → xs ≡ ys → Hears incident mid cursor line now cursor' line' r xs → r ≡ Ok x → Consumes left left' ys → Consumes source left bytes → Stands incident start mid bytes cursor line
       → (bytes' : List ℕ) × Consumes source left' bytes' × Stands incident start now bytes' cursor' line'
   Stands-heard x same hears e consumes consumed (rest, t, holds) =
@@ -64,14 +64,14 @@ module _ (incident incident' : Incident) (source left left' start now now' : Opt
       → (bytes' : List ℕ) × Consumes source left' bytes' × MatchResult r (λ turn. Turned turn incident left' start now' bytes' cursor' line') (λ broken. PrintedAt broken incident start now' bytes')
   turned same turns consumed stands = subst (λ es. Turns es left left' now now' cursor cursor' line line' r) same turns source start bytes consumed stands
 
-  -- a turn that went well
+  -- a turn without a failure
   pub Turned-at_ok : (turn : Turn) → incident' ≡ incident → Turns incident' left left' now now' cursor cursor' line line' r → r ≡ Ok turn → Consumes source left bytes → Stands incident start now bytes cursor line
       → (bytes' : List ℕ) × Consumes source left' bytes' × Turned turn incident left' start now' bytes' cursor' line'
   Turned-at_ok turn same turns e consumed stands =
       let (bytes', consumed', did) = turned same turns consumed stands in
       (bytes', consumed', MatchResult-at_ok _ _ turn e did)
 
-  -- a turn at which an end broke
+  -- a turn in which an end failed
   pub PrintedAt-at_err : (broken : Broken) → incident' ≡ incident → Turns incident' left left' now now' cursor cursor' line line' r → r ≡ Err broken → Consumes source left bytes → Stands incident start now bytes cursor line
       → (bytes' : List ℕ) × Consumes source left' bytes' × PrintedAt broken incident start now' bytes'
   PrintedAt-at_err broken same turns e consumed stands =

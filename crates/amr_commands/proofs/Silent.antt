@@ -20,7 +20,7 @@ empty_is_no_word : word_named (word_in (trimmed [])) ≡ word.Unknown
 unfolding word_named
 empty_is_no_word = refl
 
--- an empty line says nothing
+-- an empty line is parsed as nothing
 says_nothing : (said : Said) → LineSays [] said → Nothing ≡ said
 says_nothing said (inl e) = sym (cc (e, empty_says))
 says_nothing said (inr (text, trial, tries)) = absurd (cc (empty_is_no_word, trial))

@@ -1,4 +1,4 @@
--- A conversation, one byte at a time.
+-- A session, one byte at a time.
 use Rattle.std.proofs.Common.{◌≡◌, ◌≢◌, ℕ, List, [], ◌∷◌, ◌++◌, map, flat_map, refl, sym, ap, ◌∙◌, subst, append_assoc, append-nil, Ok, Err, Option, Result, MatchResult, IfOk, IfErr}
 use Rattle.std.specs.List.{All}
 use Rattle.std.proofs.lemmas.List.Elements.{All-append, All-cons, All-nil}
@@ -33,7 +33,7 @@ lines-append (g ∷ hs) h = ap (λ l. g.line ∷ l) (lines-append hs h)
 All-push : {X : Type 0} (P : X → Type 0) (xs : List X) (x : X) → All P xs → P x → All P (xs ++ x ∷ [])
 All-push P xs x p q = All-append P xs (x ∷ []) p (All-cons P x [] q (All-nil P))
 
--- the line feed of the rest makes it a whole line
+-- the line feed makes the rest a whole line
 joined : (bytes rest : List ℕ) (lines : List (List ℕ)) → bytes ≡ flat_map ended lines ++ rest → bytes ++ 10 ∷ [] ≡ flat_map ended (lines ++ rest ∷ []) ++ []
 joined bytes rest lines e =
     ap (λ l. l ++ 10 ∷ []) e ∙ append_assoc (flat_map ended lines) rest (10 ∷ []) ∙ sym (ap (λ l. flat_map ended lines ++ l) (append-nil (ended rest))) ∙ sym (flat_map-append ended lines (rest ∷ [])) ∙ sym (append-nil _)
@@ -117,7 +117,7 @@ IfErr-all : {X E : Type 0} (r : Result X E) (P : E → Type 0) → ((e : E) → 
 IfErr-all (Ok x) P h = tt
 IfErr-all (Err e) P h = h e
 
--- an answer whose writer was flushed, with whatever outcome
+-- an answer whose writer was flushed, whether that failed or not
 pub Answers-flushed : {E F : Type 0} (incident : Incident) (cursor cursor' : ℕ) (line : List ℕ) (old mid now : Option (List ℕ)) (r : Result Unit E) (x : Unit) (flushed : Result Unit F)
     → r ≡ Ok x → Keeps mid now → Answers incident cursor cursor' line old mid r → Answers incident cursor cursor' line old now flushed
 Answers-flushed incident cursor cursor' line old mid now r x flushed e k a =
@@ -145,6 +145,6 @@ Told-line_err incident start mid now bytes cursor cursor' rest r x b feed e t a 
     subst (λ l. StopsInside incident start now (bytes ++ l ∷ [])) (sym feed)
     ([], StopsShort-more incident start now bytes [] (10 ∷ []) (MatchResult-at_err _ _ x e (Told-ended incident start mid now bytes cursor cursor' rest r t a)))
 
--- bytes that come after those that were heard
+-- bytes that come after those that were taken in
 pub StopsInside-more : (incident : Incident) (start now : Option (List ℕ)) (bytes more : List ℕ) → StopsInside incident start now bytes → StopsInside incident start now (bytes ++ more)
 StopsInside-more incident start now bytes more (tail, s) = (tail ++ more, StopsShort-more incident start now bytes (10 ∷ tail) more s)

@@ -1,4 +1,4 @@
--- What is to be written for a line, and what was done for it.
+-- What is written for a line, and what was done for it.
 use Rattle.std.specs.Prelude.{◌≡◌, ℕ, ◌<◌, [], ◌⊎◌, Result, IsOkAnd, String, string_bytes}
 use Rattle.std.specs.declared.alloc.Global.{Global}
 use Rattle.std.specs.declared.alloc.AllocError.{AllocError}
@@ -25,7 +25,7 @@ refusal_number AtEnd = 22
 refusal_number AtStart = 23
 refusal_number OutOfRange = 24
 
--- what is written at the cursor
+-- what is written, with the cursor there
 abbrev pub answer_text : ℕ → Answer → Text
 answer_text cursor Nothing = []
 answer_text cursor (Built text) = string_bytes text
@@ -33,33 +33,34 @@ answer_text cursor WentBack = cursor_line word.Back cursor
 answer_text cursor (SoughtBack word) = moves_line word cursor 0
 answer_text cursor (Refused word refusal) = refused_line word cursor (refusal_number refusal)
 
--- this is left: the cursor, and what is to be written
+-- the command leaves this: the cursor, and what is written
 abbrev pub left : ℕ → Answer → Reply
 left cursor answer = record { cursor = cursor; text = answer_text cursor answer }
 
--- it was done, or it found no memory and was undone
+-- the command was done, or memory ran out and it was undone
 abbrev pub Answered : Incident → ℕ → ℕ → Said → Answer → Type 0
 Answered incident cursor cursor' said answer =
     (reply_of incident cursor said ≡ left cursor' answer)
     ⊎ (MayFindNoMemory incident cursor said × (left cursor' answer ≡ left cursor (Refused (word_of said) Memory)))
 
--- so of a session before and after
+-- the same for a session before and after
 abbrev pub AnsweredBy : View → View → Said → Answer → Type 0
 AnsweredBy before after said answer = Answered (incident_of before) before.cursor after.cursor said answer
 
--- the line had a fate
+-- the line ended in one of these ways
 pub record Fated (incident : Incident) (cursor cursor' : ℕ) (line : Text) (answer : Answer) : Type 0 where
   pub fate : Fate
   pub may_be : MayBe incident cursor line fate
   pub replied : reply incident cursor fate ≡ left cursor' answer
 
--- the cursor was moved to a place and this is to be written, or it found no memory on the way forward and was undone
+-- the cursor was moved there and this is written, or memory ran out on the way forward and the
+-- command was undone
 abbrev pub Moves : Incident → ℕ → Word → ℕ → ℕ → Answer → Type 0
 Moves incident from word to cursor' answer =
     (moved incident from word to ≡ left cursor' answer)
     ⊎ ((from < to) × (left cursor' answer ≡ left from (Refused word Memory)))
 
--- lines are listed, or they found no memory
+-- lines are listed, or memory ran out for them
 abbrev pub Lists : ℕ → Word → Result (String Global) AllocError → Answer → Type 0
 Lists cursor word lines answer =
     IsOkAnd lines (λ text. listed cursor word (string_bytes text) ≡ left cursor answer)

@@ -13,7 +13,8 @@ use Rattle.amr_commands.specs.declared.conversation.Broken.TheVariants.{Reading,
 use Rattle.amr_commands.specs.declared.conversation.Turn.{Turn}
 use Rattle.amr_commands.specs.declared.conversation.Turn.TheVariants.{More, Ended}
 
--- the bytes are these lines and a last one without a line feed, and the whole text of them all was printed
+-- The bytes are these lines and a last one without a line feed, and the output for all of them was
+-- written.
 pub record Printed (incident : Incident) (start now : Option Text) (bytes : Text) : Type 0 where
   pub heard : List Heard
   pub last : Heard
@@ -21,22 +22,23 @@ pub record Printed (incident : Incident) (start now : Option Text) (bytes : Text
   pub may_be : AllMayBe incident 0 (heard ++ last ∷ [])
   pub written : Appends start now (out incident 0 (heard ++ last ∷ []))
 
--- the conversation stands at this line
+-- the session has answered the whole lines so far, and holds the rest
 abbrev pub Stands : Incident → Option Text → Option Text → Text → ℕ → Line → Type 0
 Stands incident start now bytes cursor line = (rest : Text) × Told incident start now bytes cursor rest × Holds line rest
 
--- what is printed where an end broke: the text of the whole lines that were read, or a beginning of the text
+-- what is written if an end fails: the output for the whole lines that were read, or a prefix of
+-- the output
 abbrev pub PrintedAt : Broken → Incident → Option Text → Option Text → Text → Type 0
 PrintedAt Reading incident start now bytes = (cursor : ℕ) × (rest : Text) × Told incident start now bytes cursor rest
 PrintedAt Writing incident start now bytes = StopsInside incident start now bytes ⊎ StopsShort incident start now bytes []
 
--- a session from the start to its end, or to the end that broke
+-- a session from the start to its end, or to the end that failed
 abbrev pub Converses : Incident → Option Text → Option Text → Option Text → Option Text → Result Unit Broken → Type 0
 Converses incident source left start now r = (bytes : Text) × Consumes source left bytes × MatchResult r
     (λ _. IsAtEnd left × Printed incident start now bytes)
     (λ broken. PrintedAt broken incident start now bytes)
 
--- one read, and what it brought heard
+-- one read, and the lines that end in it
 abbrev pub Turned : Turn → Incident → Option Text → Option Text → Option Text → Text → ℕ → Line → Type 0
 Turned More incident left start now bytes cursor line = Stands incident start now bytes cursor line
 Turned Ended incident left start now bytes cursor line = IsAtEnd left × Printed incident start now bytes
@@ -48,8 +50,9 @@ Turns incident left left' now now' cursor cursor' line line' r = (source start :
     (λ turn. Turned turn incident left' start now' bytes' cursor' line')
     (λ broken. PrintedAt broken incident start now' bytes')
 
--- Each fault is that of its own end: one of reading says that the reader failed, or was called as often as it may be, and one of writing that the
--- writer failed. An end that failed is never passed over.
+-- Each fault is that of its own end: a fault of reading says that the reader failed or was called
+-- as often as it may be, and one of writing that the writer failed. An end that failed is always
+-- reported.
 abbrev pub BreaksBy : Broken → Bool → Bool → ℕ → Bool → Bool → Type 0
 BreaksBy Reading read_failed read_failed' calls write_failed write_failed' = HasEnded read_failed' calls × (write_failed' ≡ write_failed)
 BreaksBy Writing read_failed read_failed' calls write_failed write_failed' = (read_failed' ≡ read_failed) × (write_failed' ≡ true)

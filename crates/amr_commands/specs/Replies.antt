@@ -39,7 +39,7 @@ pub record Reply : Type 0 where
 abbrev pub refused : ℕ → Word → ℕ → Reply
 refused cursor word reason = record { cursor = cursor; text = refused_line word cursor reason }
 
--- the lines of events, the first of them being event n
+-- the lines of events; the first has the number n
 abbrev pub numbered_lines : ℕ → List Outcome → Text
 numbered_lines n [] = []
 numbered_lines n (outcome ∷ outcomes) = event_lines n outcome ++ numbered_lines (n + 1) outcomes
@@ -52,7 +52,8 @@ moves_in (Refused reason) = 0
 abbrev pub passing_text : ℕ → Word → ℕ → List Outcome → Text
 passing_text cursor word to passed = numbered_lines (cursor + 1) passed ++ moves_line word to (sum_by moves_in passed)
 
--- to another place: the lines of the events that are passed forward, and the sum of their moves
+-- a move to another place: the lines of the events that are passed forward, and the sum of their
+-- moves
 unfoldable pub moved : Incident → ℕ → Word → ℕ → Reply
 moved incident cursor word to =
     record { cursor = to; text = passing_text cursor word to (outcomes_passed incident.config incident.events cursor to) }
@@ -60,11 +61,11 @@ moved incident cursor word to =
 abbrev pub listed : ℕ → Word → Text → Reply
 listed cursor word lines = record { cursor = cursor; text = lines ++ cursor_line word cursor }
 
--- an event that is tried is event 0
+-- an event that is tried has the number 0
 abbrev pub tried_lines : ℕ → Outcome → Text
 tried_lines cursor outcome = event_lines 0 outcome ++ moves_line word.Trial cursor (moves_in outcome)
 
--- what a command leaves where memory is found
+-- what a command leaves if memory doesn't run out
 unfoldable pub reply_to : Incident → ℕ → Command → Reply
 reply_to incident n Step = if nat_lt n (length incident.events) then moved incident n word.Step (n + 1) else refused n word.Step 22
 reply_to incident n Back = if nat_lt 0 n then record { cursor = n - 1; text = cursor_line word.Back (n - 1) } else refused n word.Back 23
@@ -79,7 +80,7 @@ reply_to incident n Log = listed n word.Log (flat_map log_line (entries (state_i
 reply_to incident n Transcript = listed n word.Transcript (flat_map note_line (state_in incident n).notes)
 reply_to incident n Cursor = record { cursor = n; text = place_line n (length incident.events) (state_in incident n).moment }
 
--- the command takes memory there, so it may find none
+-- the command takes memory there, so memory may run out
 abbrev pub TakesMemory : Incident → ℕ → Command → Type 0
 TakesMemory incident n Step = n < length incident.events
 TakesMemory incident n Back = ⊥
@@ -94,7 +95,7 @@ TakesMemory incident n Log = ⊤
 TakesMemory incident n Transcript = ⊤
 TakesMemory incident n Cursor = ⊤
 
--- what a line leaves that says this
+-- what a line leaves that was parsed as this
 abbrev pub reply_of : Incident → ℕ → Said → Reply
 reply_of incident n Nothing = record { cursor = n; text = [] }
 reply_of incident n (Asks command) = reply_to incident n command
@@ -102,7 +103,7 @@ reply_of incident n (Malformed word) = refused n word 13
 reply_of incident n BadMoment = refused n word.SeekTime 3
 reply_of incident n (Unfit word) = refused n word 13
 
--- reading it takes memory, or doing it
+-- parsing it takes memory, or executing it
 abbrev pub MayFindNoMemory : Incident → ℕ → Said → Type 0
 MayFindNoMemory incident n Nothing = ⊥
 MayFindNoMemory incident n (Asks command) = TakesMemory incident n command

@@ -11,14 +11,14 @@ use Rattle.amr_command_lines.specs.Said.{LineSays, word_of}
 use Rattle.amr_commands.specs.Lines.{Cuts, ended, IsOneLine}
 use Rattle.amr_commands.specs.Replies.{Incident, Reply, refused, reply_of, MayFindNoMemory}
 
--- what becomes of a line: it is too long; there is no memory to hold it, or for what it says; it is done
+-- how a line ends: it is too long; memory ran out to hold it, or to parse or execute it; it is done
 pub data Fate : Type 0 where
   TooLong : Fate
   Unheld : Fate
   Undone : Said → Fate
   Done : Said → Fate
 
--- a line that was read, and what became of it
+-- a line that was read, and how it ended
 pub record Heard : Type 0 where
   pub line : Text
   pub fate : Fate
@@ -30,8 +30,9 @@ reply incident cursor Unheld = refused cursor word.Unknown 0
 reply incident cursor (Undone said) = refused cursor (word_of said) 0
 reply incident cursor (Done said) = reply_of incident cursor said
 
--- This may become of a line. It is undone only if it takes memory, and only a line with a byte finds no memory to hold it: so an empty line, as the one
--- behind a line feed at the end, prints nothing.
+-- A line may end like this. It is undone only if it takes memory, and memory to hold it can run out
+-- only if it has a byte. So an empty line, like the one after a line feed at the end, prints
+-- nothing.
 abbrev pub MayBe : Incident → ℕ → Text → Fate → Type 0
 MayBe incident cursor line TooLong = longest < length line
 MayBe incident cursor line Unheld = (0 < length line) × (length line ≤ longest)
@@ -48,12 +49,12 @@ abbrev pub out : Incident → ℕ → List Heard → Text
 out incident cursor [] = []
 out incident cursor (h ∷ hs) = (reply incident cursor h.fate).text ++ out incident ((reply incident cursor h.fate).cursor) hs
 
--- each may have become what it became
+-- each may have ended as it did
 abbrev pub AllMayBe : Incident → ℕ → List Heard → Type 0
 AllMayBe incident cursor [] = ⊤
 AllMayBe incident cursor (h ∷ hs) = MayBe incident cursor h.line h.fate × AllMayBe incident ((reply incident cursor h.fate).cursor) hs
 
--- one line was answered: whole at `Ok`, and by a beginning of its text at `Err`
+-- one line was answered: its whole output was written at `Ok`, and a prefix of it at `Err`
 pub record Answers {E : Type 0} (incident : Incident) (cursor cursor' : ℕ) (line : Text) (old new : Option Text) (r : Result Unit E) : Type 0 where
   pub fate : Fate
   pub may_be : MayBe incident cursor line fate
@@ -69,7 +70,8 @@ pub record Told (incident : Incident) (start now : Option Text) (bytes : Text) (
   pub place : cursor ≡ after incident 0 heard
   pub written : Appends start now (out incident 0 heard)
 
--- the writer failed at a line: it has a beginning of the text up to that line, after which this stands
+-- the writer failed at a line: it has got a prefix of the output up to that line; these bytes
+-- follow the line
 pub record StopsShort (incident : Incident) (start now : Option Text) (bytes after_line : Text) : Type 0 where
   pub heard : List Heard
   pub last : Heard
@@ -79,11 +81,11 @@ pub record StopsShort (incident : Incident) (start now : Option Text) (bytes aft
   pub may_be : AllMayBe incident 0 (heard ++ last ∷ [])
   pub written : AppendsBeginning start now (out incident 0 (heard ++ last ∷ []))
 
--- the writer failed at a line with its line feed
+-- the writer failed at a line that has its line feed
 abbrev pub StopsInside : Incident → Option Text → Option Text → Text → Type 0
 StopsInside incident start now bytes = (more : Text) × StopsShort incident start now bytes (10 ∷ more)
 
--- what bytes that go on a conversation do to it
+-- what more bytes do to a session
 abbrev pub Hears : {E : Type 0} → Incident → Option Text → ℕ → Line → Option Text → ℕ → Line → Result Unit E → Text → Type 0
 Hears incident w c line w' c' line' r bytes = (start : Option Text) (before rest : Text)
     → Told incident start w before c rest → Holds line rest

@@ -1,4 +1,5 @@
-//! What is to be written for a command.
+//! What is written for a command line. Each answer is decided first and written after; a refusal
+//! and a step back are written without memory.
 ghost use Rattle.std.specs.Prelude.{◌≡◌};
 ghost use Rattle.amr_lines.specs.Outlet.{WritesText, FailsAt};
 ghost use Rattle.amr_commands.specs.Answer.{refusal_number, answer_text};
@@ -8,27 +9,27 @@ use amr_lines::{
 };
 use std::io::Write;
 
-/// Why a command is refused.
+/// Why a command is refused. The numbers are listed in `docs/FORMATS.md`.
 #[derive(Clone, Copy, Debug, PartialEq, Eq)]
 pub(crate) enum Refusal {
     /// An allocation failed.
     Memory,
-    /// The argument is no moment.
+    /// The argument isn't a moment.
     BadTime,
-    /// The line is no command.
+    /// The line isn't a command.
     BadLine,
-    /// The line has more bytes than a command line.
+    /// The line has more bytes than a command line may have.
     LineTooLong,
-    /// No event is left.
+    /// The cursor is at the end of the script.
     AtEnd,
-    /// No event was passed.
+    /// The cursor is at the start of the script.
     AtStart,
-    /// The script has fewer events.
+    /// The script has fewer events than that.
     OutOfRange,
 }
 
 impl Refusal {
-    /// The number that is printed.
+    /// Returns the number that is printed.
     fn number(self) -> u64
         ensures { result ≡ refusal_number self }
     {
@@ -44,11 +45,12 @@ impl Refusal {
     }
 }
 
-/// What is to be written. But for a text that is built already, it is written without memory.
+/// What is written for a command. Only `Built` has taken memory; the others are written without
+/// any.
 #[derive(Drop)]
 pub(crate) enum Answer {
     Nothing,
-    /// The whole text of a command.
+    /// The whole output of a command.
     Built(String),
     /// The line of a step back.
     WentBack,
@@ -57,7 +59,7 @@ pub(crate) enum Answer {
     Refused(Word, Refusal),
 }
 
-/// Writes an answer, at the cursor that the command left.
+/// Writes an answer; `cursor` is where the command has left the cursor.
 pub(crate) fn write_answer<W: Write>(
     out: &mut Outlet<W>,
     cursor: usize,

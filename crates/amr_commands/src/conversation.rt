@@ -1,4 +1,5 @@
-//! A session over any reader and any writer.
+//! A session over any reader and any writer: commands are read, cut into lines, and answered.
+//! `amr_program` calls `converse`. A test can call it with any bytes.
 ghost use Rattle.std.specs.Prelude.{◌≡◌, ℕ, ◌<◌, ◌≤◌, List, [], length, take, Option, MatchResult};
 ghost use Rattle.std.specs.Io.KnownBytes.{Consumes, Keeps, IsAtEnd};
 ghost use Rattle.amr_lines.specs.Inlet.{CountsCall};
@@ -18,7 +19,7 @@ use std::io::{Read, Write};
 /// How many bytes are asked for at once.
 const CHUNK: usize = 4096;
 
-/// The end that broke.
+/// Which end failed.
 #[derive(Clone, Copy, Debug, PartialEq, Eq)]
 pub enum Broken {
     Reading,
@@ -70,7 +71,7 @@ fn finish<W: Write>(
     answer_line(alloc, session, line, out)
 }
 
-/// Reads once, and answers what it brought.
+/// Reads once, and answers the lines that end in what was read.
 fn take_turn<R: Read, W: Write>(
     alloc: Global,
     session: &mut Session,
@@ -103,10 +104,10 @@ fn take_turn<R: Read, W: Write>(
     }
 }
 
-/// Reads commands to their end, and prints what each says, line by line.
+/// Reads commands until they end, and writes the answer to each line.
 ///
-/// The writer is flushed after each line. Reading ends at the call of read numbered 1,099,511,627,776, as at an error of the reader; a line
-/// that is cut so is not done.
+/// It flushes the writer after each line. Reading also ends at an error of the reader, and at the
+/// read numbered 1,099,511,627,776. A line that is cut short by either isn't executed.
 pub fn converse<R: Read, W: Write>(
     alloc: Global,
     session: &mut Session,

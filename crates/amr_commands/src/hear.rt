@@ -1,4 +1,4 @@
-//! The bytes of the commands, heard as they come.
+//! Taking in the bytes of commands as they come, and answering each line at its line feed.
 ghost use Rattle.std.specs.Prelude.{◌≡◌, [], ◌∷◌};
 ghost use Rattle.amr_lines.specs.Outlet.{FailsAt};
 ghost use Rattle.amr_commands.specs.Replies.{incident_of};
@@ -11,7 +11,7 @@ use amr_replay::Session;
 use std::alloc::Global;
 use std::io::Write;
 
-/// Hears one byte, and answers the line that it ends.
+/// Takes in one byte. If it is a line feed, answers the line.
 fn hear_byte<W: Write>(
     alloc: Global,
     session: &mut Session,
@@ -34,7 +34,7 @@ fn hear_byte<W: Write>(
     Ok(())
 }
 
-/// Hears bytes, and answers each line that ends among them.
+/// Takes in bytes, and answers each line that ends among them.
 pub(crate) fn hear<W: Write>(
     alloc: Global,
     session: &mut Session,

@@ -1,4 +1,5 @@
-//! The commands of a session over any reader and any writer.
+//! The commands of a session: executing them, and reading and answering them over any reader and
+//! writer. `amr_program` opens the session and calls `converse`.
 #![tactic(auto)]
 
 mod answer;

@@ -1,4 +1,5 @@
-//! The commands that leave the session as it is.
+//! The commands that only look: `explain`, the listings, and `cursor`. None of them moves the
+//! cursor or changes the state.
 ghost use Rattle.std.specs.Prelude.{◌≡◌, ◌++◌, IfOk, IsOkAnd, string_bytes};
 ghost use Rattle.std.specs.List.{flat_map};
 ghost use Rattle.amr_labels.specs.Map.{entries};
@@ -21,7 +22,7 @@ use amr_replay::Session;
 use amr_state::views;
 use std::alloc::{AllocError, Global};
 
-/// Lines, and the last line of their command.
+/// Returns a command's lines followed by its last line.
 fn ended(
     alloc: Global,
     word: Word,
@@ -36,7 +37,7 @@ fn ended(
     Ok(text)
 }
 
-/// Answers a command with lines.
+/// Returns the answer with a command's lines, or the refusal if memory ran out for them.
 fn listed(alloc: Global, word: Word, cursor: usize, lines: Result<String, AllocError>) -> Answer
     ensures { Lists cursor word lines result }
 {
@@ -54,7 +55,7 @@ fn verdict_lines(alloc: Global, session: &Session, labels: &Labels) -> Result<St
     verdicts_text(alloc, found.as_slice())
 }
 
-/// Why an alert was told of, or not.
+/// Executes `explain`: why an alert with these labels was or wasn't in a notification.
 pub(crate) fn explain(alloc: Global, session: &Session, labels: &Labels) -> Answer
     ensures { AnsweredBy session.now session.now (Asks (command.Explain labels.now)) result }
 {
@@ -129,7 +130,7 @@ pub(crate) fn transcript(alloc: Global, session: &Session) -> Answer
     listed(alloc, Word::Transcript, session.cursor(), lines)
 }
 
-/// Where the session stands.
+/// Executes `cursor`, which prints the cursor, the number of events, and the clock.
 pub(crate) fn place(alloc: Global, session: &Session) -> Answer
     ensures { AnsweredBy session.now session.now (Asks command.Cursor) result }
 {

@@ -1,4 +1,6 @@
-//! The commands that move the cursor.
+//! The commands that move the cursor or try an event: `step`, `back`, `seek`, `seek-time` and
+//! `trial`. If memory runs out for the output, the cursor goes back, so that a refused command
+//! changes nothing.
 ghost use Rattle.std.specs.Prelude.{◌≡◌, ◌+◌, ◌<◌, ◌≤◌, ◌^◌, ◌++◌, IfOk, map, length, string_bytes};
 ghost use Rattle.std.specs.List.{sum_by};
 ghost use Rattle.amr_engine.specs.Outcomes.{outcome_view};
@@ -17,7 +19,7 @@ use amr_replay::Session;
 use amr_time::Moment;
 use std::alloc::{AllocError, Global};
 
-/// The moves that an event made.
+/// Returns how many moves an event made. A refused event made none.
 fn moves_of(outcome: &Outcome) -> usize
     ensures { result ≡ moves_in (outcome_view outcome.now) }
 {
@@ -31,7 +33,7 @@ fn moves_of(outcome: &Outcome) -> usize
     }
 }
 
-/// The sum of the moves. Events of which it is greater than a `usize` find no memory.
+/// Returns the sum of the moves. A sum that doesn't fit a `usize` counts as out of memory.
 fn sum_of_moves(outcomes: &[Outcome]) -> Result<usize, AllocError>
     ensures { IfOk result (λ sum. sum ≡ sum_by moves_in (map outcome_view outcomes.now)) }
 {
@@ -42,7 +44,7 @@ fn sum_of_moves(outcomes: &[Outcome]) -> Result<usize, AllocError>
     Ok(sum)
 }
 
-/// The lines of events, which follow on so many events.
+/// Returns the lines of events; `passed` is how many events come before them.
 fn numbered_text(alloc: Global, passed: usize, outcomes: &[Outcome]) -> Result<String, AllocError>
     requires { passed + length outcomes.now < 2 ^ 64 }
     ensures { IfOk result (λ text. string_bytes text
@@ -57,7 +59,7 @@ fn numbered_text(alloc: Global, passed: usize, outcomes: &[Outcome]) -> Result<S
     Ok(text)
 }
 
-/// The text of a command that passes events.
+/// Returns the output of a command that passes events.
 fn passed_text(
     alloc: Global,
     word: Word,
@@ -75,8 +77,8 @@ fn passed_text(
     Ok(text)
 }
 
-/// Answers a command that moved the cursor away from a place. Where the text of the events passed finds no memory, the cursor
-/// goes back to that place, which takes none.
+/// Returns the answer to a command that moved the cursor from `from`. If memory runs out for its
+/// output, moves the cursor back, which takes no memory.
 fn moved(
     alloc: Global,
     session: &mut Session,
@@ -103,7 +105,7 @@ fn moved(
     }
 }
 
-/// Passes the next event.
+/// Executes `step`, which passes the next event.
 pub(crate) fn step(alloc: Global, session: &mut Session) -> Answer
     ensures kept { incident_of session.new ≡ incident_of session.old }
     ensures answered { AnsweredBy session.old session.new (Asks command.Step) result }
@@ -118,7 +120,7 @@ pub(crate) fn step(alloc: Global, session: &mut Session) -> Answer
     }
 }
 
-/// Takes the last event back. It takes no memory.
+/// Executes `back`, which undoes the last event. It takes no memory.
 pub(crate) fn back(session: &mut Session) -> Answer
     ensures kept { incident_of session.new ≡ incident_of session.old }
     ensures answered { AnsweredBy session.old session.new (Asks command.Back) result }
@@ -132,7 +134,7 @@ pub(crate) fn back(session: &mut Session) -> Answer
     }
 }
 
-/// Goes to so many events from the start.
+/// Executes `seek`, which moves the cursor to `to` events from the start.
 pub(crate) fn seek(alloc: Global, session: &mut Session, to: usize) -> Answer
     ensures kept { incident_of session.new ≡ incident_of session.old }
     ensures answered { AnsweredBy session.old session.new (Asks (command.Seek to)) result }
@@ -147,7 +149,8 @@ pub(crate) fn seek(alloc: Global, session: &mut Session, to: usize) -> Answer
     }
 }
 
-/// Goes behind the last of the events at the front that are all at or before a moment.
+/// Executes `seek-time`, which moves the cursor after the first events that are all at or before a
+/// moment.
 pub(crate) fn seek_time(alloc: Global, session: &mut Session, at: Moment) -> Answer
     ensures kept { incident_of session.new ≡ incident_of session.old }
     ensures answered { AnsweredBy session.old session.new (Asks (command.SeekTime at)) result }
@@ -159,7 +162,7 @@ pub(crate) fn seek_time(alloc: Global, session: &mut Session, at: Moment) -> Ans
     }
 }
 
-/// The text of an event that is tried.
+/// Returns the output of a trial of an event.
 fn tried_text(alloc: Global, session: &mut Session, event: &Event) -> Result<String, AllocError>
     ensures same { session.new ≡ session.old }
     ensures text { IfOk result (λ text. string_bytes text
@@ -174,7 +177,7 @@ fn tried_text(alloc: Global, session: &mut Session, event: &Event) -> Result<Str
     Ok(text)
 }
 
-/// Tries an event, and leaves the session as it is.
+/// Executes `trial`, which tries an event and changes nothing.
 pub(crate) fn trial(alloc: Global, session: &mut Session, event: &Event) -> Answer
     ensures kept { incident_of session.new ≡ incident_of session.old }
     ensures answered { AnsweredBy session.old session.new (Asks (command.Trial event.now)) result }

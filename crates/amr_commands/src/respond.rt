@@ -1,4 +1,4 @@
-//! One line answered.
+//! Answering one command line: parsing it, executing the command, and writing the answer.
 ghost use Rattle.std.specs.Prelude.{◌≡◌, ◌≤◌, List, ℕ, length};
 ghost use Rattle.amr_lines.specs.Outlet.{FailsAt};
 ghost use Rattle.amr_command_lines.specs.declared.command.Said.TheVariants.{Asks};
@@ -16,7 +16,7 @@ use amr_replay::Session;
 use std::alloc::Global;
 use std::io::Write;
 
-/// Does a command. One that finds no memory is undone.
+/// Executes a command. If memory runs out, the command is undone and refused.
 fn answer_command(alloc: Global, session: &mut Session, command: Command) -> Answer
     ensures kept { incident_of session.new ≡ incident_of session.old }
     ensures answered { AnsweredBy session.old session.new (Asks command) result }
@@ -37,7 +37,7 @@ fn answer_command(alloc: Global, session: &mut Session, command: Command) -> Ans
     }
 }
 
-/// Does what a line says.
+/// Executes what a line was parsed as.
 fn answer_said(alloc: Global, session: &mut Session, said: Said) -> Answer
     ensures kept { incident_of session.new ≡ incident_of session.old }
     ensures answered { AnsweredBy session.old session.new said result }
@@ -51,7 +51,7 @@ fn answer_said(alloc: Global, session: &mut Session, said: Said) -> Answer
     }
 }
 
-/// Does what the bytes of a line say.
+/// Parses the bytes of a line, and executes the command.
 fn answer_bytes(alloc: Global, session: &mut Session, bytes: &[u8]) -> Answer
     ensures kept { incident_of session.new ≡ incident_of session.old }
     ensures fated { length bytes.now ≤ longest
@@ -63,7 +63,7 @@ fn answer_bytes(alloc: Global, session: &mut Session, bytes: &[u8]) -> Answer
     }
 }
 
-/// Answers a line.
+/// Answers a line, even one that is too long or isn't held.
 fn answer(alloc: Global, session: &mut Session, line: &Line) -> Answer
     ensures kept { incident_of session.new ≡ incident_of session.old }
     ensures fated { (bytes : List ℕ) → Holds line.now bytes
@@ -76,7 +76,7 @@ fn answer(alloc: Global, session: &mut Session, line: &Line) -> Answer
     }
 }
 
-/// Answers a line, and writes what is to be written.
+/// Answers a line, and writes the answer.
 fn write_line<W: Write>(
     alloc: Global,
     session: &mut Session,
@@ -93,7 +93,7 @@ fn write_line<W: Write>(
     write_answer(out, session.cursor(), &answer)
 }
 
-/// The same, and hands on what the writer holds back.
+/// Like `write_line`, then flushes the writer.
 pub(crate) fn answer_line<W: Write>(
     alloc: Global,
     session: &mut Session,

@@ -1,4 +1,4 @@
--- What is read is what is stated, and a refusal of shape is that of the first fault.
+-- What is read is what the file says, and a refusal of its shape is that of the first fault.
 use Rattle.std.proofs.Common.{◌≡◌, ℕ, Bool, true, false, List, ◌++◌, Option, Some, None, Result, Ok, Err, inl, inr, refl, sym, ap, subst, ◌∙◌}
 use Rattle.std.proofs.lemmas.List.{append-nil}
 use Rattle.serde_json.specs.Data.{Data}

@@ -68,7 +68,7 @@ module _ (config : Config) (labels : LabelSet) (first : AreParentsFirst config) 
   unfolding is_open
   open_child n parent e = ap (list_all (λ m. matches_route config labels m && not (is_cut_off config labels m))) (line_of-child config first n parent e)
 
-  -- a route that takes and closes nothing leaves a mark as it is
+  -- a route that takes and closes nothing doesn't change a mark
   mark_stays : (n q : ℕ) → takes_from config labels q n ≡ false → closes config labels q n ≡ false → mark_of config labels (n + 1) q ≡ mark_of config labels n q
   unfolding mark_of
   mark_stays n q t c =
@@ -87,7 +87,7 @@ module _ (config : Config) (labels : LabelSet) (first : AreParentsFirst config) 
       let t : takes_from config labels q n ≡ false = ap (λ b. is_child config q n && b) e ∙ and-false (is_child config q n) in
       mark_stays n q t (ap (λ b. b && not (route_is (λ route. route.continues) config n)) t)
 
-  -- a mark that isn't open says nothing
+  -- a mark that isn't open never changes
   not_open : (n m q : ℕ) → is_open config labels q ≡ false → mark_of config labels n q ≡ mark_of config labels m q
   unfolding mark_of
   not_open n m q e = rw e refl
@@ -112,7 +112,7 @@ module _ (config : Config) (labels : LabelSet) (first : AreParentsFirst config) 
       (any_none_below (closes config labels n) (n + 1) (λ m h. ap (λ b. (b && matches_route config labels m) && not (route_is (λ route. route.continues) config m)) (none m h)))
       ∙ ap (λ b. mark (is_open config labels n) b b) (and-false (is_open config labels n))
 
-  -- marks that stay, and that of the route itself
+  -- marks that don't change, and that of the route itself
   more : (n : ℕ) (b : Bool) → is_open config labels n ≡ b → (marks : List Mark) → marks ≡ map (mark_of config labels (n + 1)) (range_with_len 0 n) → marks ++ mark b false false ∷ [] ≡ marks_at config labels (n + 1)
   unfolding marks_at
   more n b o marks e =
@@ -157,7 +157,7 @@ module _ (config : Config) (labels : LabelSet) (first : AreParentsFirst config) 
       open_child n parent e ∙ ap (λ b. (matches_route config labels n && not b) && is_open config labels parent) cut
       ∙ ap (λ b. b && is_open config labels parent) (and-false (matches_route config labels n))
 
-  -- a closed mark has nothing to learn
+  -- a closed mark doesn't change
   closed_stays : (n parent : ℕ) → is_open config labels parent ≡ true → list_any (closes config labels parent) (range_with_len 0 n) ≡ true → mark_of config labels (n + 1) parent ≡ mark_of config labels n parent
   unfolding mark_of
   closed_stays n parent o c =
@@ -244,7 +244,7 @@ module _ (config : Config) (labels : LabelSet) where
   unfolding mark_of is_open
   chosen_mark n = open_untaken (is_open config labels n) _
 
-  -- the routes whose marks say so at the end are those that the rule chooses
+  -- the routes with chosen marks at the end are those that the rule chooses
   pub chosen_from_marks : (marks : List Mark) → marks ≡ marks_at config labels (length config.routes) → chosen_numbers marks (length marks) ≡ chosen config labels
   unfolding marks_at chosen
   chosen_from_marks marks e =

@@ -1,4 +1,4 @@
--- What the settings of a configuration say of its routes.
+-- The settings of a configuration, and the routes that they come from.
 use Rattle.std.proofs.Common.{◌≡◌, ℕ, zero, suc, ◌<◌, ◌≤◌, List, [], ◌∷◌, length, get_or, map, Option, Some, None, MatchOption, Bor, reverse, refl, ap, ◌∙◌, arith}
 use Rattle.std.specs.Option.{option_map_or, option_or}
 use Rattle.std.specs.List.{slice_get}
@@ -30,7 +30,7 @@ settings_found config settings n (Some x) e h =
     let lt : n < length config.routes = omega arith in
     (lt, h.4 (omega arith) x.now ∙ ap (λ s. get_or s n x.now) e ∙ get_or-settled config n x.now lt)
 
--- no route above a place where there is none
+-- there is no route above a number without a route
 no_line : (config : Config) (most n : ℕ) → length config.routes ≤ n → line_within most config n ≡ n ∷ []
 no_line config zero n h = refl
 no_line config (suc most) n h =

@@ -1,4 +1,4 @@
--- In what is read each parent stands before its children.
+-- In what was parsed each parent comes before its children.
 use Rattle.std.proofs.Common.{◌≡◌, Ok}
 use Rattle.serde_json.specs.Data.{Data}
 use Rattle.amr_stated.specs.declared.stated.Stated.{Stated}

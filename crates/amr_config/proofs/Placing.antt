@@ -1,4 +1,4 @@
--- Insertion in a sorted list of matchers.
+-- Insertion into a sorted list of matchers.
 use Rattle.std.proofs.Common.{◌≡◌, ℕ, ◌+◌, Bool, true, false, cond, List, [], ◌∷◌, refl, ap, ◌∙◌, add-one}
 use Rattle.std.specs.List.{insert}
 use Rattle.std.specs.Ordering.{is_gt}

@@ -1,4 +1,4 @@
--- Tests of all numbers below one.
+-- Tests of all numbers below a limit.
 use Rattle.std.proofs.Common.{◌≡◌, ℕ, zero, suc, ◌+◌, ◌<◌, ◌≤◌, Bool, true, false, [], ◌∷◌, ◌++◌, map, refl, sym, ap, ◌∙◌, arith}
 use Rattle.std.specs.Prelude.{◌||◌}
 use Rattle.std.specs.List.{list_any, filter, range_with_len}
@@ -28,7 +28,7 @@ any_below_from f g a (suc n) (suc most) le same none =
     let here : f a ≡ g a = same a (omega arith) (omega arith) in
     ap (λ b. b || list_any f (range_with_len (a + 1) most)) here ∙ ap (λ b. g a || b) rest
 
--- one test passes where the other does below a number, and nowhere from there on
+-- below a number one test passes if the other does, and from there on it never passes
 pub any_below : (f g : ℕ → Bool) (n most : ℕ) → n ≤ most → ((m : ℕ) → m < n → f m ≡ g m) → ((m : ℕ) → n ≤ m → f m ≡ false) → list_any f (range_with_len 0 most) ≡ list_any g (range_with_len 0 n)
 any_below f g n most le same none =
     any_below_from f g 0 n most le (λ m l h. same m (omega (arith, h))) (λ m h. none m (omega (arith, h)))

@@ -1,4 +1,4 @@
--- A configuration is refused as too deep exactly where one of its routes stands too deep.
+-- A configuration is refused as too deep exactly if one of its routes is too deep.
 use Rattle.std.proofs.Common.{◌≡◌, ℕ, Bool, true, false, if◌then◌else◌, List, [], Option, Some, None, Result, Ok, Err, refl, ap, subst, inl, inr, not, arith}
 use Rattle.std.specs.List.{list_any, Contains}
 use Rattle.serde_json.specs.Data.{Data}
@@ -74,7 +74,7 @@ only_deep d false is refused = absurd (shallow_config d is refused)
 pub deep_is_refused : DeepIsRefused
 deep_is_refused d = (λ refused. deep_stands d (only_deep d (is_too_deep d) refl refused), λ has. told d (stands_deep d has))
 
--- ---- answers where a pattern may be refused
+-- ---- answers if a pattern may be refused
 
 none_met : (reading : Reading Config) → reading ≡ plain (Err TooDeep) → (refusal : Refusal) → IsBadPattern reading.patterns refusal → ⊥
 none_met reading is refusal (path, text, met, may, faulty) =

@@ -1,4 +1,4 @@
--- What a route states, below what holds above it, is what holds there.
+-- The settings of a route from its own and its parent's are those that it has.
 use Rattle.std.proofs.Common.{◌≡◌, ℕ, ◌+◌, ◌*◌, ◌<◌, false, List, [], ◌∷◌, ◌++◌, length, get_or, map, reverse, Option, Some, None, refl, sym, ap, ◌∙◌, arith, unwrap_or, option_and_then}
 use Rattle.std.specs.Option.{option_map_or, option_or}
 use Rattle.std.specs.List.{slice_get, range_with_len}

@@ -1,4 +1,4 @@
--- The routes that are read stand in preorder.
+-- The routes that are parsed are in preorder.
 use Rattle.std.proofs.Math.Nat.{eq-or-lt_of_le}
 use Rattle.std.proofs.Common.{◌≡◌, inl, inr, ℕ, zero, suc, ◌+◌, ◌<◌, ◌≤◌, List, [], ◌∷◌, ◌++◌, length, Option, Some, None, Ok, codes, refl, sym, ap, ◌∙◌, arith, append_assoc}
 use Rattle.std.specs.Option.{option_map_or}
@@ -23,12 +23,12 @@ use Rattle.amr_stated.proofs.Preorder.{ok_same, bind_ok, own_adds, found_ok}
 abbrev pub parent_at : List Route → ℕ → Option ℕ
 parent_at routes n = option_map_or (λ (route : Route). route.parent) (slice_get routes n) None
 
--- the second is the first, or stands above it
+-- the second is the first, or is above it
 pub data IsAbove (routes : List Route) : ℕ → ℕ → Type 0 where
   Itself : (n : ℕ) → IsAbove routes n n
   Further : (n parent above : ℕ) → parent_at routes n ≡ Some parent → IsAbove routes parent above → IsAbove routes n above
 
--- the parent of each route but the first is the route before it, or stands above that one
+-- the parent of each route but the first is the route before it, or a route above that one
 abbrev pub IsLinked : List Route → Type 0
 IsLinked routes = (n : ℕ) → suc n < length routes → (parent : ℕ) × (parent_at routes (suc n) ≡ Some parent) × IsAbove routes n parent
 
@@ -58,7 +58,7 @@ above_above : (routes : List Route) (n m parent : ℕ) → IsAbove routes n m �
 above_above routes _ _ parent (Itself n) e = Further n parent parent e (Itself parent)
 above_above routes _ _ top (Further n parent above is up) e = Further n parent top is (above_above routes parent above top up e)
 
--- where a route with this parent may be added next
+-- the next route to be added may have this parent
 record MayFollow (routes : List Route) (parent : Option ℕ) : Type 0 where
   linked : IsLinked routes
   follows : (last : ℕ) → suc last ≡ length routes → (p : ℕ) × (parent ≡ Some p) × IsAbove routes last p
@@ -82,7 +82,7 @@ linked_push routes route may n lt =
           (p, parent_further routes (route ∷ []) (suc n) before ∙ is, above_further routes (route ∷ []) n p up)
     ]
 
--- below a route, after it and some that stand below it
+-- below a route, after it and some that are below it
 record Open (routes : List Route) (top : ℕ) : Type 0 where
   linked : IsLinked routes
   within : top < length routes

@@ -1,4 +1,4 @@
--- What holds of every configuration that is read.
+-- What is true of every configuration that was read.
 use Rattle.std.proofs.Common.{◌≡◌, ℕ, zero, suc, ◌+◌, ◌<◌, Bool, true, false, true≢false, List, [], ◌∷◌, length, Option, Some, None, Ok, refl, sym, ap, ◌∙◌, arith}
 use Rattle.std.specs.List.{Contains, list_any, slice_get}
 use Rattle.std.specs.Prelude.{not, ◌||◌, ◌==◌, if◌then◌else◌, map}
@@ -29,7 +29,7 @@ use Rattle.amr_config.proofs.Parents.{parents_first}
 use Rattle.amr_config.proofs.TreeOrder.{IsAbove, Itself, Further, IsTree, walked_tree, parent_within}
 use Rattle.std.proofs.lemmas.Option.{same_Some, none-some}
 
--- what a configuration that is read was judged from
+-- what was parsed for a configuration, and was validated
 pub record WasJudged (d : Data) (config : Config) : Type 0 where
   pub stated : Stated
   pub shallow : is_too_deep d ≡ false
@@ -90,7 +90,7 @@ of_judged d config was =
 pub routes_are_in_preorder : RoutesAreInPreorder
 routes_are_in_preorder d config e = of_judged d config (was_judged d config e)
 
--- ---- what was judged
+-- what was parsed passes the validation
 
 record IsGood (stated : Stated) : Type 0 where
   none_lost : list_any (is_lost stated.receivers) stated.routes ≡ false

@@ -1,4 +1,4 @@
--- What is asked of a configuration whose shapes are right.
+-- Validating a configuration that parsed.
 use Rattle.std.specs.Prelude.{List, [], ◌∷◌, Bool, true, false, not, ◌&&◌, ◌||◌, Option, Some, None, length, codes, if◌then◌else◌, ◌==◌}
 use Rattle.std.specs.Option.{option_map_or, is_none}
 use Rattle.std.specs.List.{list_any}
@@ -18,7 +18,7 @@ use Rattle.amr_config.specs.Shape.{are_different}
 unfoldable pub is_known : List Receiver → Text → Bool
 is_known receivers name = list_any (λ receiver. eq_by_cmp text_cmp receiver.name name) receivers
 
--- the route names a receiver that isn't there
+-- the route names a receiver that doesn't exist
 unfoldable pub is_lost : List Receiver → Route → Bool
 is_lost receivers route = option_map_or (λ name. not (is_known receivers name)) route.receiver false
 
@@ -26,14 +26,14 @@ abbrev pub is_zero : Option Span → Bool
 is_zero None = false
 is_zero (Some span) = span == 0
 
--- a stated interval that isn't to be zero is
+-- an interval that must not be zero is zero
 unfoldable pub has_zero : Route → Bool
 has_zero route = is_zero route.group_interval || is_zero route.repeat_interval
 
 abbrev pub is_bad_name : Text → Bool
 is_bad_name name = (length name == 0) || eq_by_cmp text_cmp name (codes "...")
 
--- a name that is empty or stands for all labels, or stands twice
+-- a name is empty, or is the one for all labels, or is repeated
 unfoldable pub has_bad_names : List Text → Bool
 has_bad_names names = list_any is_bad_name names || not (are_different names)
 
@@ -45,11 +45,11 @@ groups_badly (Some (Named names)) = has_bad_names names
 unfoldable pub is_badly_grouped : Route → Bool
 is_badly_grouped route = groups_badly route.group_by
 
--- the route states time intervals
+-- the route has time intervals
 abbrev pub has_intervals : Route → Bool
 has_intervals route = not (length route.active_time_intervals == 0) || not (length route.mute_time_intervals == 0)
 
--- the root matches all alerts at all times, and names a receiver
+-- the root has matchers, `continue` or time intervals, or it has no receiver
 unfoldable pub is_bad_root : Route → Bool
 is_bad_root route = not (length route.matchers == 0) || route.continues || is_none route.receiver || has_intervals route
 
@@ -61,7 +61,7 @@ root_is_bad (root ∷ routes) = is_bad_root root
 abbrev pub is_name_of : Text → List Receiver → Bool
 is_name_of name receivers = list_any (λ receiver. eq_by_cmp text_cmp name receiver.name) receivers
 
--- no name stands twice
+-- no name is repeated
 abbrev pub are_named_apart : List Receiver → Bool
 are_named_apart [] = true
 are_named_apart (receiver ∷ receivers) = not (is_name_of receiver.name receivers) && are_named_apart receivers

@@ -7,10 +7,10 @@ use Rattle.amr_config.specs.Config.{Config}
 use Rattle.amr_config.specs.Reading.{config_of, ConfigIs}
 use Rattle.amr_stated.specs.Levels.{HasDeepRoute}
 
--- a configuration is refused as too deep exactly where a route stands at level 33 or deeper
+-- a configuration is refused as too deep exactly if a route is at level 33 or deeper
 abbrev pub DeepIsRefused : Type 0
 DeepIsRefused = (d : Data) → (config_of d ≡ Err TooDeep) ↔ HasDeepRoute d
 
--- that is so of each answer that reading may give, whichever patterns are refused
+-- the same holds of each answer that reading may give, whichever patterns are refused
 abbrev pub DeepIsAnswered : Type 0
 DeepIsAnswered = (d : Data) (answer : Result Config Refusal) → ConfigIs d answer → (answer ≡ Err TooDeep) ↔ HasDeepRoute d

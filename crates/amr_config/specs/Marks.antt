@@ -1,4 +1,4 @@
--- What is known of a route, once some routes have been seen.
+-- What is known of a route when some routes have been seen.
 use Rattle.std.specs.Prelude.{ℕ, Bool, false, not, ◌&&◌, List, map, slice_get}
 use Rattle.std.specs.Option.{option_map_or}
 use Rattle.std.specs.List.{list_all, list_any, filter, range_with_len}
@@ -15,11 +15,11 @@ is_open config labels n = list_all (λ m. matches_route config labels m && not (
 abbrev pub takes_from : Config → LabelSet → ℕ → ℕ → Bool
 takes_from config labels n child = is_child config n child && matches_route config labels child
 
--- a child that matches and does not let the alert go on
+-- a child that matches and doesn't have `continue`
 abbrev pub closes : Config → LabelSet → ℕ → ℕ → Bool
 closes config labels n child = is_child config n child && matches_route config labels child && not (route_is (λ route. route.continues) config child)
 
--- the route with this number, once the routes up to the stage have been seen
+-- the mark of the route with this number when the routes below the stage have been seen
 unfoldable pub mark_of : Config → LabelSet → ℕ → ℕ → Mark
 mark_of config labels stage n = record {
   is_open = is_open config labels n;
@@ -31,10 +31,10 @@ mark_of config labels stage n = record {
 unfoldable pub marks_at : Config → LabelSet → ℕ → List Mark
 marks_at config labels stage = map (mark_of config labels stage) (range_with_len 0 stage)
 
--- open, and no child takes the alert
+-- the mark is open, and no child takes the alert
 abbrev pub is_chosen_mark : Mark → Bool
 is_chosen_mark mark = mark.is_open && not mark.is_taken
 
--- the places below a number whose marks are chosen
+-- the numbers below a limit whose marks are chosen
 abbrev pub chosen_numbers : List Mark → ℕ → List ℕ
 chosen_numbers marks n = filter (λ k. option_map_or is_chosen_mark (slice_get marks k) false) (range_with_len 0 n)

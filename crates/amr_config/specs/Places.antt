@@ -1,4 +1,4 @@
--- Places in sorted lists.
+-- Indices in sorted lists.
 use Rattle.std.specs.Prelude.{ℕ, ◌+◌, List, [], ◌∷◌, if◌then◌else◌}
 use Rattle.std.specs.Ordering.{is_gt}
 use Rattle.amr_matchers.specs.Matchers.{Matcher, matcher_cmp}

@@ -1,4 +1,4 @@
--- What holds at each route, by itself or from above.
+-- The settings of each route, its own and inherited ones.
 use Rattle.std.specs.Prelude.{◌≡◌, ℕ, ◌<◌, ◌*◌, List, [], ◌∷◌, ◌++◌, map, Option, Some, None, slice_get, unwrap_or}
 use Rattle.std.specs.Option.{option_map_or, option_or}
 use Rattle.std.specs.List.{range_with_len}
@@ -12,7 +12,7 @@ use Rattle.amr_stated.specs.declared.stated.Stated.{Stated}
 use Rattle.amr_config.specs.Config.{Config}
 use Rattle.amr_config.specs.Routing.{route_numbers, route_is, parent_of, inherited, group_wait_of, group_interval_of, repeat_interval_of, receiver_name_of, active_intervals_of, mute_intervals_of, path_of, sorted_matchers}
 
--- the settings of the route with this number, and the defaults where there is none
+-- the settings of the route with this number; the defaults if there is no such route
 unfoldable pub settings_of : Config → ℕ → Settings
 settings_of config n = record {
   parent = parent_of config n;
@@ -38,7 +38,7 @@ stated_config stated = record { routes = stated.routes; receivers = stated.recei
 abbrev pub config_of_parts : Parts → Config
 config_of_parts parts = stated_config parts.stated
 
--- each parent stands before its children
+-- each parent comes before its children
 abbrev pub AreParentsFirst : Config → Type 0
 AreParentsFirst config = (n parent : ℕ) → parent_of config n ≡ Some parent → parent < n
 
@@ -46,7 +46,7 @@ pub record AreSettled (parts : Parts) : Type 0 where
   pub settings : parts.settings ≡ settled (config_of_parts parts)
   pub parents : AreParentsFirst (config_of_parts parts)
 
--- the receiver of a route that states this, below its parent's settings, if it has a parent
+-- the receiver of a route, given its parent's settings, if it has a parent
 abbrev pub receiver_under : Route → Option Settings → List ℕ
 receiver_under route above = unwrap_or route.receiver (option_map_or (λ settings. settings.receiver) above [])
 
@@ -56,7 +56,7 @@ grouping_under route above = option_or route.group_by (option_map_or (λ setting
 abbrev pub path_under : Route → Option Settings → List (List Matcher)
 path_under route above = option_map_or (λ settings. settings.path) above [] ++ sorted_matchers route.matchers ∷ []
 
--- the settings of a route that states this, below its parent's settings, if it has a parent
+-- the settings of a route, given its parent's settings, if it has a parent
 unfoldable pub settled_under : Route → Option Settings → Settings
 settled_under route above = record {
   parent = route.parent;

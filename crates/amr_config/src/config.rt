@@ -1,4 +1,6 @@
-//! A configuration, shared by those who hold it.
+//! A configuration that was read and validated, with the settings of each route resolved. The
+//! engine asks it for routing, grouping, timing and receivers. Its content is shared, so a clone is
+//! cheap.
 ghost use Rattle.std.specs.Prelude.{◌≡◌, ℕ, ◌<◌, ◌≤◌, length, IfOk, MatchOption, map};
 ghost use Rattle.std.specs.Option.{option_copied};
 ghost use Rattle.std.specs.Ordering.{eq_by_cmp};
@@ -18,16 +20,16 @@ use std::cmp::Ordering;
 use std::marker::Model;
 use std::rc::Rc;
 
-/// What a configuration holds: what it states, and what holds at each route.
+/// The content of a configuration: what the file says, and the resolved settings of each route.
 #[derive(Debug, Drop)]
 pub(crate) struct Parts {
     pub(crate) stated: Stated,
     pub(crate) settings: Listing<Settings>,
 }
 
-/// A configuration. Clones share what it holds.
+/// A configuration. Clones share its content.
 ///
-/// Routes are named by their numbers, which count them in preorder from 0, the root.
+/// Routes are named by their numbers, which count them in preorder; the root is 0.
 #[derive(Debug, Drop)]
 pub struct Config {
     shared: Rc<Parts>,
@@ -60,7 +62,7 @@ impl Exact for Config {
 }
 
 impl Config {
-    /// The configuration that is stated.
+    /// Builds the configuration, and resolves the settings of its routes.
     pub(crate) fn from_stated(alloc: Global, stated: Stated) -> Result<Config, AllocError>
         requires { AreParentsFirst (stated_config stated) }
         ensures { IfOk result (λ config. config ≡ stated_config stated) }
@@ -71,7 +73,7 @@ impl Config {
         })
     }
 
-    /// The settings of the route with this number.
+    /// Returns the settings of a route, or `None` if there is no such route.
     fn settings_at(&self, route: usize) -> Option<&Settings>
         ensures found { MatchOption result (length self.now.routes ≤ route)
             (λ found. (route < length self.now.routes) × (found.now ≡ settings_of self.now route)) }
@@ -80,28 +82,28 @@ impl Config {
         self.shared.settings.as_slice().get(route)
     }
 
-    /// How many routes there are.
+    /// Returns the number of routes, with the root.
     pub fn route_count(&self) -> usize
         ensures { result ≡ length self.now.routes }
     {
         self.shared.stated.routes.len()
     }
 
-    /// How many receivers there are.
+    /// Returns the number of receivers.
     pub fn receiver_count(&self) -> usize
         ensures { result ≡ length self.now.receivers }
     {
         self.shared.stated.receivers.len()
     }
 
-    /// The inhibition rules.
+    /// Returns the inhibition rules (`inhibit_rules` of Alertmanager's configuration).
     pub fn rules(&self) -> &[InhibitRule]
         ensures { result.now ≡ self.now.rules }
     {
         self.shared.stated.rules.as_slice()
     }
 
-    /// When a posted alert without an end is over, counted from its post.
+    /// Returns how long after its post an alert without an end is resolved (`resolve_timeout`).
     pub fn resolve_timeout(&self) -> Span
         ensures { result ≡ self.now.resolve_timeout }
     {
@@ -111,7 +113,7 @@ impl Config {
 
 #[tactic(auto, using(crate::proofs::Inherited::inherited_past), unfolding(crate::specs::Settled::settings_of))]
 impl Config {
-    /// How long a group of the route waits before its first flush (`group_wait` of Alertmanager's configuration).
+    /// Returns how long a new group of the route waits for its first flush (`group_wait`).
     pub fn group_wait(&self, route: usize) -> Span
         ensures { result ≡ group_wait_of self.now route }
     {
@@ -121,7 +123,7 @@ impl Config {
         }
     }
 
-    /// How long a group of the route waits from one flush to the next (`group_interval`).
+    /// Returns how long a group of the route waits between flushes (`group_interval`).
     pub fn group_interval(&self, route: usize) -> Span
         ensures { result ≡ group_interval_of self.now route }
     {
@@ -131,7 +133,7 @@ impl Config {
         }
     }
 
-    /// How long a notification that still stands isn't repeated (`repeat_interval`).
+    /// Returns how long a notification isn't repeated if nothing changes (`repeat_interval`).
     pub fn repeat_interval(&self, route: usize) -> Span
         ensures { result ≡ repeat_interval_of self.now route }
     {
@@ -141,7 +143,7 @@ impl Config {
         }
     }
 
-    /// The name of the receiver that the route notifies.
+    /// Returns the name of the route's receiver.
     pub fn receiver_name(&self, alloc: Global, route: usize) -> Result<Text, AllocError>
         ensures { IfOk result (λ name. name ≡ receiver_name_of self.now route) }
     {
@@ -151,7 +153,9 @@ impl Config {
         }
     }
 
-    /// The matchers of each route from the root down to this one, each list sorted by name, value and operator.
+    /// Returns the matchers of each route from the root down to this one, each list sorted by name,
+    /// value and operator. The notification log tells routes with the same receiver and group apart
+    /// by it.
     pub fn path(&self, alloc: Global, route: usize) -> Result<Listing<Matchers>, AllocError>
         ensures { IfOk result (λ path. path ≡ path_of self.now route) }
     {
@@ -165,7 +169,7 @@ impl Config {
         }
     }
 
-    /// The group labels that an alert with these labels has at the route (`group_by`).
+    /// Returns the group labels of an alert at the route (`group_by`).
     #[tactic(auto, using(crate::proofs::Inherited::inherited_past), unfolding(crate::specs::Settled::settings_of, crate::specs::Routing::group_of))]
     pub fn group_of(
         &self,
@@ -181,7 +185,7 @@ impl Config {
         }
     }
 
-    /// The receiver with this name.
+    /// Returns the receiver with a name.
     pub fn receiver(&self, name: &str) -> Option<&Receiver>
         ensures { option_copied result
             ≡ find (λ receiver. eq_by_cmp text_cmp receiver.name name.now) self.now.receivers }
@@ -189,7 +193,7 @@ impl Config {
         receiver_named(self.shared.stated.receivers.as_slice(), name)
     }
 
-    /// The integrations of the route's receiver, by kind and then by place.
+    /// Returns the integrations of the route's receiver, by kind and then by index.
     pub fn integrations(&self, route: usize) -> &[Integration]
         ensures { result.now ≡ integrations_of self.now route }
     {
@@ -203,7 +207,8 @@ impl Config {
         }
     }
 
-    /// Whether the route notifies at the moment: it names no `active_time_intervals`, or the moment is in one of them.
+    /// Returns whether the route notifies at a moment: it has no `active_time_intervals`, or the
+    /// moment is in one of them.
     pub fn is_active_at(&self, route: usize, moment: Moment) -> bool
         ensures { result ≡ is_active_at self.now route moment }
     {
@@ -216,7 +221,7 @@ impl Config {
         }
     }
 
-    /// Whether the route is muted at the moment, by one of its `mute_time_intervals`.
+    /// Returns whether the route is muted at a moment, by one of its `mute_time_intervals`.
     pub fn is_muted_at(&self, route: usize, moment: Moment) -> bool
         ensures { result ≡ is_muted_at self.now route moment }
     {
@@ -232,7 +237,7 @@ impl Config {
         names.iter().any(|name| self.is_within(name, moment))
     }
 
-    /// Whether the moment is in the interval with this name.
+    /// Returns whether a moment is in the interval with a name.
     #[tactic(auto, unfolding(crate::specs::Routing::is_within))]
     fn is_within(&self, name: &Text, moment: Moment) -> bool
         ensures { result ≡ is_within self.now moment name.now }
@@ -244,7 +249,7 @@ impl Config {
         }
     }
 
-    /// What holds at the route, stated by it, inherited or by default.
+    /// Returns the settings of a route: its own, inherited, or default.
     pub fn route(&self, id: usize) -> &Settings
         requires { id < length self.now.routes }
         ensures value { result.now ≡ settings_of self.now id }
@@ -257,7 +262,7 @@ impl Config {
     }
 }
 
-/// The time interval with this name, among some.
+/// Returns the time interval with a name.
 fn interval_named<'a>(intervals: &'a [NamedInterval], name: &str) -> Option<&'a NamedInterval>
     ensures { option_copied result
         ≡ find (λ found. eq_by_cmp text_cmp found.name name.now) intervals.now }
@@ -270,7 +275,7 @@ fn interval_named<'a>(intervals: &'a [NamedInterval], name: &str) -> Option<&'a 
     None
 }
 
-/// The receiver with this name, among some.
+/// Returns the receiver with a name.
 fn receiver_named<'a>(receivers: &'a [Receiver], name: &str) -> Option<&'a Receiver>
     ensures { option_copied result
         ≡ find (λ receiver. eq_by_cmp text_cmp receiver.name name.now) receivers.now }
@@ -283,7 +288,7 @@ fn receiver_named<'a>(receivers: &'a [Receiver], name: &str) -> Option<&'a Recei
     None
 }
 
-/// The labels that a grouping keeps.
+/// Returns the labels that a grouping keeps.
 fn grouped_by(
     alloc: Global,
     grouping: &Option<Grouping>,

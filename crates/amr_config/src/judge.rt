@@ -1,4 +1,5 @@
-//! What is asked of a configuration whose shapes are right.
+//! Validates a configuration that parsed, by the rules of Alertmanager's configuration reference.
+//! `Config::read` calls `refusal`. Nothing is changed or resolved here.
 ghost use Rattle.std.specs.Prelude.{◌≡◌};
 ghost use Rattle.std.specs.List.{list_any};
 ghost use Rattle.std.specs.Ordering.{eq_by_cmp};
@@ -19,7 +20,7 @@ fn is_known(receivers: &[Receiver], name: &str) -> bool
         .any(|receiver| same(receiver.name.as_str(), name))
 }
 
-/// Whether the route names a receiver that isn't there.
+/// Returns whether the route names a receiver that doesn't exist.
 #[tactic(auto, unfolding(crate::specs::Judging::is_lost))]
 fn is_lost(receivers: &[Receiver], route: &Route) -> bool
     ensures { result ≡ lost_of receivers.now route.now }
@@ -66,7 +67,7 @@ fn is_among(text: &Text, texts: &[Text]) -> bool
         .any(|other| same(text.as_str(), other.as_str()))
 }
 
-/// Whether no text stands twice.
+/// Returns whether all texts differ.
 fn are_apart(texts: &[Text]) -> bool
     ensures { result ≡ are_different texts.now }
 {
@@ -130,7 +131,8 @@ fn has_intervals(route: &Route) -> bool
     !route.active_time_intervals.is_empty() || !route.mute_time_intervals.is_empty()
 }
 
-/// Whether the root has matchers, `continue` or time intervals, or no receiver.
+/// Returns whether the root is faulty: it has matchers, `continue` or time intervals, or it has no
+/// receiver.
 fn is_root_bad(routes: &[Route]) -> bool
     ensures { result ≡ root_is_bad routes.now }
 {
@@ -148,7 +150,7 @@ fn is_name_of(name: &Text, receivers: &[Receiver]) -> bool
         .any(|receiver| same(name.as_str(), receiver.name.as_str()))
 }
 
-/// Whether no name of a receiver stands twice.
+/// Returns whether all receivers have different names.
 fn are_named_apart(receivers: &[Receiver]) -> bool
     ensures { result ≡ apart_of receivers.now }
 {
@@ -160,7 +162,7 @@ fn are_named_apart(receivers: &[Receiver]) -> bool
     true
 }
 
-/// The refusal with the least number.
+/// Returns the first reason against a configuration, in the order of their numbers.
 #[tactic(auto, unfolding(crate::specs::Judging::refusal_of))]
 pub(crate) fn refusal(stated: &Stated) -> Option<Refusal>
     ensures { result ≡ refusal_of stated.now }

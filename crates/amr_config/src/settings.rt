@@ -1,11 +1,12 @@
-//! A route's settings, stated there or inherited.
+//! The settings of a route, its own and inherited ones.
 
 use amr_labels::{Listing, Text};
 use amr_matchers::Matchers;
 use amr_stated::Grouping;
 use amr_time::Span;
 
-/// What holds at a route, stated by it or by the nearest route above that states it, or by default.
+/// The settings of a route. Each is the route's own, or that of the nearest route above that has
+/// it, or the default.
 #[derive(Debug, Drop)]
 pub struct Settings {
     pub parent: Option<usize>,
@@ -13,7 +14,8 @@ pub struct Settings {
     pub matchers: Matchers,
     pub continues: bool,
     pub receiver: Text,
-    /// How alerts are grouped; not at all where no route states it.
+    /// How alerts are grouped; `None` if neither the route nor one above has `group_by`, which
+    /// gives one group without labels.
     pub group_by: Option<Grouping>,
     /// 30 seconds by default.
     pub group_wait: Span,

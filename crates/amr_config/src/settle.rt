@@ -1,4 +1,6 @@
-//! What holds at each route, from what the routes state.
+//! Resolves the inherited settings of each route. Alertmanager's `route` reference says which are
+//! inherited: receiver, grouping and the three intervals, but not matchers, `continue` or time
+//! intervals.
 ghost use Rattle.std.specs.Prelude.{◌≡◌, IfOk, option_and_then, slice_get};
 ghost use Rattle.std.specs.Option.{option_copied};
 ghost use Rattle.amr_config.specs.Settled.{stated_config, settled, settled_under, receiver_under, grouping_under, path_under, AreParentsFirst};
@@ -53,7 +55,7 @@ fn path_under(
     Ok(path)
 }
 
-/// The settings of a route below these.
+/// Returns the settings of a route, given those of its parent, if it has one.
 #[tactic(auto, unfolding(crate::specs::Settled::settled_under))]
 fn settings_under(
     alloc: Global,
@@ -90,7 +92,7 @@ fn settings_under(
     })
 }
 
-/// The settings of a parent.
+/// Returns the settings of a parent, if there is one.
 fn above<'a>(settings: &'a [Settings], parent: Option<usize>) -> Option<&'a Settings>
     ensures { option_copied result ≡ option_and_then (slice_get settings.now) parent }
 {
@@ -100,7 +102,7 @@ fn above<'a>(settings: &'a [Settings], parent: Option<usize>) -> Option<&'a Sett
     }
 }
 
-/// The settings of all routes.
+/// Returns the settings of all routes. A parent comes before its children, so one pass is enough.
 pub(crate) fn settle(alloc: Global, stated: &Stated) -> Result<Listing<Settings>, AllocError>
     requires { AreParentsFirst (stated_config stated.now) }
     ensures { IfOk result (λ settings. settings ≡ settled (stated_config stated.now)) }

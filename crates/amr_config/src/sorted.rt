@@ -1,4 +1,4 @@
-//! Matchers in order.
+//! Sorting the matchers of a route, for its path in the notification log's key.
 ghost use Rattle.std.specs.Prelude.{◌≡◌, ◌≤◌, length, IfOk, OnOk};
 ghost use Rattle.amr_config.specs.Routing.{with_matcher, sorted_matchers};
 ghost use Rattle.amr_config.specs.Places.{place_in};
@@ -7,7 +7,8 @@ use amr_matchers::{Matcher, Matchers};
 use std::alloc::{AllocError, Global};
 use std::cmp::Ordering;
 
-/// The place of a matcher in a sorted list: before the first that is greater.
+/// Returns the index at which a matcher is inserted into a sorted list: before the first that is
+/// greater.
 fn place_of(matchers: &[Matcher], matcher: &Matcher) -> usize
     ensures value { result ≡ place_in matchers.now matcher.now }
     ensures bound { result ≤ length matchers.now }
@@ -20,7 +21,7 @@ fn place_of(matchers: &[Matcher], matcher: &Matcher) -> usize
     matchers.len()
 }
 
-/// Puts a matcher in its place in a sorted list.
+/// Inserts a matcher into a sorted list.
 fn insert(sorted: &mut Vec<Matcher>, matcher: &Matcher) -> Result<(), AllocError>
     ensures { OnOk result (sorted.new.items ≡ with_matcher sorted.old.items matcher.now) }
 {
@@ -29,7 +30,7 @@ fn insert(sorted: &mut Vec<Matcher>, matcher: &Matcher) -> Result<(), AllocError
     Ok(())
 }
 
-/// The matchers by name, value and operator.
+/// Returns the matchers sorted by name, value and operator.
 pub(crate) fn sorted(alloc: Global, matchers: &Matchers) -> Result<Matchers, AllocError>
     ensures { IfOk result (λ made. made ≡ sorted_matchers matchers.now) }
 {

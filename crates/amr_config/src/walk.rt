@@ -1,4 +1,5 @@
-//! The walk through the routing tree.
+//! Routing: which routes take an alert. One pass over the routes in preorder marks each route, and
+//! its parent if it matches.
 ghost use Rattle.std.specs.Prelude.{◌≡◌, ◌+◌, ◌<◌, ◌≤◌, length, vec_len, IfOk, OnOk, Some, false};
 ghost use Rattle.amr_matchers.specs.Matchers.{all_hold};
 ghost use Rattle.amr_config.specs.Routing.{chosen, parent_of, matches_route};
@@ -8,19 +9,19 @@ use crate::config::Config;
 use amr_labels::Labels;
 use std::alloc::{AllocError, Global};
 
-/// What is known of a route, once some routes after it have been seen.
+/// What is known of a route when some of the routes after it have been seen.
 #[derive(Clone, Copy)]
 pub(crate) struct Mark {
-    /// The alert comes to the route, and the route matches it.
+    /// The alert gets to the route, and the route matches it.
     is_open: bool,
-    /// A child takes the alert.
+    /// A child matches the alert.
     is_taken: bool,
-    /// A child takes the alert and doesn't let it go on to the children after it.
+    /// A child matches the alert and doesn't have `continue`, so no later child gets it.
     is_closed: bool,
 }
 
 impl Mark {
-    /// The mark of a route that was just seen.
+    /// Returns the mark of a route when it is first seen.
     fn seen(is_open: bool) -> Mark
         ensures { result ≡ record { is_open = is_open; is_taken = false; is_closed = false } }
     {
@@ -94,7 +95,7 @@ fn mark_next(
     }
 }
 
-/// The marks of all routes.
+/// Returns the marks of all routes.
 fn marks(alloc: Global, config: &Config, labels: &Labels) -> Result<Vec<Mark>, AllocError>
     ensures { IfOk result (λ marks. marks.items
         ≡ marks_at config.now labels.now (length config.now.routes)) }
@@ -106,7 +107,7 @@ fn marks(alloc: Global, config: &Config, labels: &Labels) -> Result<Vec<Mark>, A
     Ok(marks)
 }
 
-/// The places of the marks that are chosen.
+/// Returns the numbers of the chosen routes.
 fn chosen_places(alloc: Global, marks: &[Mark]) -> Result<Vec<usize>, AllocError>
     ensures { IfOk result (λ places. places.items ≡ chosen_numbers marks.now (length marks.now)) }
 {
@@ -120,10 +121,11 @@ fn chosen_places(alloc: Global, marks: &[Mark]) -> Result<Vec<usize>, AllocError
 }
 
 impl Config {
-    /// The numbers of the routes that take an alert with these labels, rising.
+    /// Returns the numbers of the routes that take an alert with these labels, in ascending order.
     ///
-    /// An alert enters at the root and goes to the children in order. After the first child that matches it stops, unless that child
-    /// has `continue: true`. A route none of whose children match takes the alert itself (`route` of Alertmanager's configuration).
+    /// An alert enters at the root and goes to the children in order. It stops after the first
+    /// child that matches it, unless that child has `continue: true`. If no child of a route
+    /// matches, the route takes the alert itself (`route` of Alertmanager's configuration).
     pub fn routes_of(&self, alloc: Global, labels: &Labels) -> Result<Vec<usize>, AllocError>
         ensures { IfOk result (λ routes. routes.items ≡ chosen self.now labels.now) }
     {

@@ -10,7 +10,7 @@ use Rattle.amr_engine.specs.Events.{move_limit}
 use Rattle.amr_state.specs.Dues.{next_due}
 use Rattle.amr_engine.specs.Moves.{move, advance, counted_run}
 
--- so many moves more
+-- this many moves more
 abbrev pub plus_moves : Option (ℕ × State) → ℕ → Option (ℕ × State)
 plus_moves run n = option_map (λ r. (r.0 + n, r.1)) run
 
@@ -38,7 +38,7 @@ pub plus_none : (r : Option (ℕ × State)) → plus_moves r 0 ≡ r
 plus_none None = refl
 plus_none (Some r) = ap (λ k. Some (k, r.1)) (omega arith)
 
--- one more move keeps the account
+-- one more move keeps the count
 pub goes_on : (limit made : ℕ) (at : Moment) (s before : State) (d : Due) → counted_run (advance limit at before) ≡ plus_moves (counted_run (advance (limit - made) at s)) made
     → made < limit → Some d ≡ next_due at s → counted_run (advance limit at before) ≡ plus_moves (counted_run (advance (limit - (made + 1)) at (move d s))) (made + 1)
 goes_on limit made at s before d so_far less some =
@@ -47,13 +47,13 @@ goes_on limit made at s before d so_far less some =
     ∙ ap (λ r. plus_moves r made) (advance_some (limit - (made + 1)) at s d (sym some))
     ∙ plus_twice (counted_run (advance (limit - (made + 1)) at (move d s))) made
 
--- nothing more is due after so many moves
+-- nothing more is due after this many moves
 pub stops : (limit made : ℕ) (at : Moment) (s before : State) → counted_run (advance limit at before) ≡ plus_moves (counted_run (advance (limit - made) at s)) made
     → None ≡ next_due at s → Some (made, s) ≡ counted_run (advance limit at before)
 stops limit made at s before so_far none =
     sym (so_far ∙ ap (λ r. plus_moves r made) (advance_none (limit - made) at s (sym none)) ∙ ap (λ k. Some (k, s)) (omega arith))
 
--- the limit is reached, and something is due
+-- the limit is reached, and something is still due
 pub is_over : (limit made : ℕ) (at : Moment) (s before : State) (d : Due) → counted_run (advance limit at before) ≡ plus_moves (counted_run (advance (limit - made) at s)) made
     → limit ≤ made → Some d ≡ next_due at s → None ≡ counted_run (advance limit at before)
 is_over limit made at s before d so_far all some =

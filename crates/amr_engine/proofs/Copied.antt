@@ -31,7 +31,7 @@ equal Less e = absurd (cc)
 equal Equal e = refl
 equal Greater e = absurd (cc)
 
--- different keys don't tie
+-- different keys don't compare as equal
 apart : (q k : Spot) → (q ≡ k → ⊥) → eq_by_cmp spot_cmp q k ≡ false
 apart q k differ =
     elim (eq_by_cmp spot_cmp q k) as (λ b. eq_by_cmp spot_cmp q k ≡ b → b ≡ false) [
@@ -39,7 +39,7 @@ apart q k differ =
       | false ↦ λ e. refl
     ] refl
 
--- a member elsewhere leaves a place free
+-- a member elsewhere leaves a key free
 still_free : (s : State) (labels : LabelSet) (alert : Alert) (route : ℕ) (q : Spot) → (q ≡ spot_at route labels → ⊥) → get s.placements q ≡ None → get (place_on labels alert s route).placements q ≡ None
 still_free s labels alert route q differ free =
     get-insert spot_cmp_total s.placements (spot_at route labels) alert q

@@ -1,4 +1,4 @@
--- What becomes of an event, from what was found of it.
+-- The outcome of an event, case by case.
 use Rattle.std.proofs.Common.{◌≡◌, true, false, ℕ, List, [], ◌∷◌, Option, None, Some, Result, Ok, Err, length, drop, refl, sym, ap, subst, ◌∙◌}
 use Rattle.std.specs.Prelude.{if◌then◌else◌, nat_lt, ◌==◌}
 use Rattle.amr_time.specs.Time.{Moment}
@@ -18,7 +18,7 @@ use Rattle.amr_events.specs.Reasons.{reason_number}
 use Rattle.amr_engine.proofs.RunsLaws.{run_within-sound}
 use Rattle.amr_engine.proofs.TickLaws.{Judged, advances_keep}
 
--- a refused event leaves the state
+-- a refused event doesn't change the state
 pub is_refused : (s : State) (event : Event) (reason : Reason) → do_event s event ≡ Err reason → ComesTo s event s (refusal reason)
 unfolding after_event outcome_of
 is_refused s event reason e = record {
@@ -36,7 +36,7 @@ is_accepted s event moves end count skipped e counted left = record {
   outcome = ap (λ n. acceptance n (drop (length s.notes) end.notes) skipped) counted ∙ ap (acceptance (length moves) (drop (length s.notes) end.notes)) left ∙ sym (ap (outcome_from s event) e);
 }
 
--- the event is past
+-- the event is before the clock
 pub past : (s : State) (event : Event) → nat_lt event.at s.moment ≡ true → do_event s event ≡ Err 20
 unfolding do_within
 past s event h = ap (λ b. if b then Err 20 else judge move_limit s event (after_act (at_moment event.at s) event.act)) h
@@ -45,7 +45,7 @@ pub not_past : (s : State) (event : Event) → nat_lt event.at s.moment ≡ fals
 unfolding do_within
 not_past s event h = ap (λ b. if b then Err 20 else judge move_limit s event (after_act (at_moment event.at s) event.act)) h
 
--- the moves of a run, where there is one
+-- the moves of a run, if it ends within the limit
 pub none_run : (at : Moment) (o : Option (List Due × State)) → None ≡ run_moved at o → o ≡ None
 none_run at None e = refl
 none_run at (Some r) e = absurd (cc)
@@ -63,7 +63,7 @@ some_run at (Some r) count next e =
     let parts : ◌≡◌ {A = ℕ × State} (count, next) (length r.0, at_moment at r.1) = cc in
     record { moves = r.0; moved = r.1; ran = refl; counted = ap (λ (p : ℕ × State). p.0) parts; ends = ap (λ (p : ℕ × State). p.1) parts }
 
--- the act has a reason against it
+-- the action has a reason against it
 pub act_refused : (s : State) (at : Moment) (act : Act) (reason : Reason) → nat_lt at s.moment ≡ false
     → after_act (at_moment at s) act ≡ Err reason → ComesTo s (event_at at act) s (refusal reason)
 act_refused s at act reason h own =
@@ -76,7 +76,7 @@ act_is_over s at act at_once h own over =
     is_refused s (event_at at act) 21
     (not_past s (event_at at act) h ∙ ap (judge move_limit s (event_at at act)) own ∙ ap (finish (event_at at act)) (none_run at (advance move_limit at s) over))
 
--- the act is done after the moves
+-- the action is done after the moves
 pub act_accepted : (s : State) (at : Moment) (act : Act) (at_once : State) (count : ℕ) (next done : State) (skipped : List ℕ) → nat_lt at s.moment ≡ false
     → after_act (at_moment at s) act ≡ Ok at_once → Some (count, next) ≡ run_moved at (advance move_limit at s) → after_act next act ≡ Ok done
     → skipped ≡ skipped_of (at_moment at s) act → ComesTo s (event_at at act) done (acceptance count (drop (length s.notes) done.notes) skipped)
@@ -98,7 +98,7 @@ stays_after s at run count next is ran =
       moment = ap (λ (x : State). x.moment) r.ends;
     }
 
--- what the moves leave
+-- what the moves leave as it is
 pub stays : (s : State) (at : Moment) (count : ℕ) (next : State) → Some (count, next) ≡ run_moved at (advance move_limit at s) → Stays s at next
 stays s at count next ran = stays_after s at (advance move_limit at s) count next refl ran
 
@@ -109,7 +109,7 @@ module _ (s : State) (event : Event) (at : Moment) (act : Act) (at_is : at ≡ e
   the_event : event_at at act ≡ event
   the_event = λ i. event_at (at_is i) (act_is i)
 
-  -- the act has its own reason against it
+  -- the action has its own reason against it
   pub refused_by_act : (reason : code.Reason) → IsPrepared s at act (Err reason) → ComesTo s event s (refusal (reason_number reason))
   unfolding the_event
   refused_by_act reason own = subst (λ (e : Event). ComesTo s e s (refusal (reason_number reason))) the_event (act_refused s at act (reason_number reason) h own)
@@ -119,7 +119,7 @@ module _ (s : State) (event : Event) (at : Moment) (act : Act) (at_is : at ≡ e
   refused_by_moves prepared does over =
       subst (λ (e : Event). ComesTo s e s (refusal 21)) the_event (act_is_over s at act (performed prepared (at_moment at s)) h (does.does (at_moment at s) (at_first s at)) over)
 
-  -- the act is done after the moves
+  -- the action is done after the moves
   pub done_after_moves : (prepared : prepare.Prepared) (count : ℕ) (next done : State) (skipped : List ℕ) → Does s at act prepared → Some (count, next) ≡ run_moved at (advance move_limit at s)
       → done ≡ performed prepared next → skipped ≡ skipped_by prepared → ComesTo s event done (acceptance count (drop (length s.notes) done.notes) skipped)
   done_after_moves prepared count next done skipped does ran acted left =
@@ -127,6 +127,6 @@ module _ (s : State) (event : Event) (at : Moment) (act : Act) (at_is : at ≡ e
       (act_accepted s at act (performed prepared (at_moment at s)) count next done skipped h (does.does (at_moment at s) (at_first s at)) ran
       (does.does next (stays s at count next ran) ∙ ap (λ (x : State). Ok x) (sym acted)) (left ∙ does.skips))
 
--- an event that is past
+-- an event before the clock
 pub past_refused : (s : State) (event : Event) → nat_lt event.at s.moment ≡ true → ComesTo s event s (refusal 20)
 past_refused s event h = is_refused s event 20 (past s event h)

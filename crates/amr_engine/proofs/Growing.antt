@@ -34,7 +34,7 @@ use Rattle.amr_engine.proofs.Copied.{copies_are_members}
 abbrev spent_by : State → Option (List Due × State) → ℕ
 spent_by s run = option_map_or (λ q. moves_weight s q.0) run 0
 
--- what is to be shown of the moves after a first one
+-- what has to be shown of the moves after a first one
 abbrev Follows : ℕ → Moment → State → Type 0
 Follows n at s = (r : List Due × State) → advance n at s ≡ Some r → first_weight n at s ≡ moves_weight s r.0
 
@@ -68,7 +68,7 @@ none_spent limit at s k =
     let same : first_weight (limit - 0) at s ≡ first_weight limit at s = ap (λ n. first_weight n at s) all in
     omega (arith, same)
 
--- one more move keeps the account
+-- one more move keeps the count
 pub spent : (limit made : ℕ) (at : Moment) (s next : State) (d : Due) (now later bound : ℕ) → now + 2 * first_weight (limit - made) at s ≤ bound
     → made < limit → Some d ≡ next_due at s → next ≡ move d s → later ≤ now + 2 * move_weight s d d.kind → later + 2 * first_weight (limit - (made + 1)) at next ≤ bound
 spent limit made at s next d now later bound so_far less some is grown =
@@ -78,7 +78,7 @@ spent limit made at s next d now later bound so_far less some is grown =
     let same : first_weight (limit - (made + 1)) at next ≡ first_weight (limit - (made + 1)) at (move d s) = ap (λ (x : State). first_weight (limit - (made + 1)) at x) is in
     omega (arith, left, same, so_far, grown)
 
--- what follows from the fact at a value
+-- what follows for the value of a result
 pub on_value : {T E : Type 0} (r : Result T E) (P : T → Type 0) → ((x : T) → P x) → IfOk r P
 on_value (Ok x) P f = f x
 on_value (Err e) P f = tt
@@ -87,14 +87,14 @@ pub light_outcome : (before : Kept) (event : Event) (after : Kept) → IsLight b
 light_outcome before event after light (Accepted moves notes skipped) = light
 light_outcome before event after light (Refused reason) = tt
 
--- one more of a list is done, and the rest is left
+-- one more item of a list is done, and the rest is left
 one_more : {X : Type 0} (f : X → ℕ) (xs : List X) (i : ℕ) (x : X) → i < length xs → x ≡ get_or xs i x → sum_by f (drop i xs) ≡ f x + sum_by f (drop (i + 1) xs)
 one_more f xs i x less is = sum_by-drop_more f xs i x less ∙ ap (λ y. f y + sum_by f (drop (i + 1) xs)) (sym is)
 
 pub fold_left : {X : Type 0} (f : State → X → State) (s : State) (xs : List X) (i : ℕ) (x : X) → i < length xs → x ≡ get_or xs i x → fold f s (drop i xs) ≡ fold f (f s x) (drop (i + 1) xs)
 fold_left f s xs i x less is = at_drop_more (fold f s) xs i x less ∙ ap (λ y. fold f (f s y) (drop (i + 1) xs)) (sym is)
 
--- one more alert is placed
+-- one more alert is inserted into its groups
 pub placed_more : (config was : Config) (alerts : List (LabelSet × Alert)) (i : ℕ) (alert : LabelSet × Alert) (now later bound : ℕ) → now + 2 * copies config (drop i alerts) ≤ bound
     → i < length alerts → alert ≡ get_or alerts i alert → was ≡ config → later ≤ now + 2 * length (chosen was alert.0) → later + 2 * copies config (drop (i + 1) alerts) ≤ bound
 placed_more config was alerts i alert now later bound so_far less is same grown =
@@ -102,7 +102,7 @@ placed_more config was alerts i alert now later bound so_far less is same grown 
     let here : length (chosen was alert.0) ≡ length (chosen config alert.0) = ap (λ c. length (chosen c alert.0)) same in
     omega (arith, left, here, so_far, grown)
 
--- one more alert is put
+-- one more alert is stored
 pub put_more : (config was : Config) (alerts : List (LabelSet × Alert)) (i : ℕ) (alert : LabelSet × Alert) (now later bound : ℕ) → now + alerts_weight config (drop i alerts) ≤ bound
     → i < length alerts → alert ≡ get_or alerts i alert → was ≡ config → later ≤ now + alert_weight was alert.0 → later + alerts_weight config (drop (i + 1) alerts) ≤ bound
 put_more config was alerts i alert now later bound so_far less is same grown =
@@ -110,7 +110,7 @@ put_more config was alerts i alert now later bound so_far less is same grown =
     let here : alert_weight was alert.0 ≡ alert_weight config alert.0 = ap (λ c. alert_weight c alert.0) same in
     omega (arith, left, here, so_far, grown)
 
--- a reload's entries
+-- the entries of a reload
 pub reloaded : (s : State) (config replacing : Config) (alerts : List (LabelSet × Alert)) (after : State) (now replaced placed : ℕ) → after ≡ with_config s config → replacing ≡ config
     → alerts ≡ entries s.alerts → replaced ≤ now + (1 + len s.clocks + len s.placements) → placed ≤ replaced + 2 * copies replacing alerts → placed ≤ now + reload_entries s after
 reloaded s config replacing alerts after now replaced placed is same all first then =
@@ -118,7 +118,7 @@ reloaded s config replacing alerts after now replaced placed is same all first t
     ap (λ (x : State). len x.placements) is ∙ copies_are_members s config ∙ (λ i. copies (sym same i) (sym all i)) in
     omega (arith, members, first, then)
 
--- the whole of an accepted event
+-- an accepted event as a whole
 light_event : (s : State) (at : Moment) (act : Act) (prepared : prepare.Prepared) (count : ℕ) (next after : State) (now moved done : ℕ) → Does s at act prepared
     → Some (count, next) ≡ run_moved at (advance move_limit at s) → moved ≤ now + (1 + 2 * first_weight move_limit at s) → done ≤ moved + entries_of prepared next after
     → done ≤ now + 4 * event_weight s (event_at at act) after

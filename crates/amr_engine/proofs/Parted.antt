@@ -1,4 +1,4 @@
--- Turns of integrations by parted members, and members that leave.
+-- Notifying by members that are split into firing and resolved ones, and dropping members.
 use Rattle.std.specs.Prelude.{◌≡◌, Bool, true, false, not, ◌&&◌, List, [], ◌∷◌, ◌++◌, Some, length, ◌==◌, if◌then◌else◌, Result, Ok, Err}
 use Rattle.std.specs.Result.{OnOk}
 use Rattle.std.specs.List.{fold, list_all, filter}
@@ -21,7 +21,7 @@ use Rattle.amr_engine.specs.declared.flush.Parted.{Parted}
 use Rattle.amr_engine.specs.Flush.{Members, firing_of, resolved_of, log_key_of, notes_told, notify, notify_all, set_clock, mark_if_empty, forget, drop_resolved}
 use Rattle.amr_engine.specs.Parting.{IsParted, told_by, tell_parted, entry_of}
 
--- what follows from the fact at a value
+-- what follows for the value of a result
 pub on_ok : {T E : Type 0} (r : Result T E) (P Q : Type 0) → (P → Q) → OnOk r P → OnOk r Q
 on_ok (Ok x) P Q f p = f p
 on_ok (Err e) P Q f p = p
@@ -35,7 +35,7 @@ turn at group firing resolved firing_labels resolved_labels s integration =
       notes = s.notes ++ notes_told at group key integration.send_resolved firing resolved;
     } else s
 
--- a turn by parted members is a turn of all
+-- notifying by split members is notifying by all
 pub notified : (at : Moment) (group : Spot) (members : Members) (parted : Parted) → IsParted at members parted → (s : State) (integration : Integration)
     → told_by at group parted s integration ≡ notify at group members s integration
 unfolding notify
@@ -51,7 +51,7 @@ notified_all at group [] parted s some is = absurd (cc)
 notified_all at group (member ∷ members) parted s some is =
     fold_same (told_by at group parted) (notify at group (member ∷ members)) (notified at group (member ∷ members) parted is) s (integrations_of s.config group.route)
 
--- the log's entry, and then the note
+-- the log entry, and then the notification
 pub told_at : (s logged : State) (at : Moment) (group : Spot) (key : LogKey) (parted : Parted) (send_resolved : Bool) (entry : LogEntry) (added notes : List Note)
     → logged ≡ record s { log = insert s.log key entry } → entry ≡ entry_of at parted → added ≡ notes → (record s { log = insert s.log key (entry_of at parted); notes = s.notes ++ notes }) ≡ tell_parted at group key parted send_resolved s
     → record logged { notes = logged.notes ++ added } ≡ tell_parted at group key parted send_resolved s
@@ -70,13 +70,13 @@ marked_one : (at : Moment) (group : Spot) (member : LabelSet × Alert) (members 
 marked_one at group member members s true rest = rest
 marked_one at group member members s false rest = refl
 
--- a group is empty where all of its members are resolved
+-- a group is empty if all of its members are resolved
 marked : (at : Moment) (group : Spot) (members : Members) (s : State)
     → mark_if_empty at group (firing_of at members) s ≡ (if all_resolved at members then emptied at group s else s)
 marked at group [] s = refl
 marked at group (member ∷ members) s = marked_one at group member members s (is_resolved_at at member.1) (marked at group members s)
 
--- what is left of the group where all of its members are resolved, and where some is not
+-- what is left of the group if all of its members are resolved, and if some member isn't
 pub dropped : (at : Moment) (group : Spot) (members : Members) (s forgotten : State) (b : Bool) → b ≡ all_resolved at members
     → forgotten ≡ fold (forget group) s (resolved_of at members)
     → (if b then emptied at group forgotten else forgotten) ≡ drop_resolved at group members s

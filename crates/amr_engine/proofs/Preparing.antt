@@ -1,4 +1,4 @@
--- What an act does after the moves of its event, from what was found of it before them.
+-- What an action does after the moves of its event, from what was prepared before them.
 use Rattle.std.proofs.Common.{◌≡◌, true, false, ℕ, List, [], ◌∷◌, Option, None, Some, Ok, Err, length, refl, sym, ap, ◌∙◌, arith}
 use Rattle.std.specs.Prelude.{◌==◌, Result}
 use Rattle.std.specs.Option.{option_map_or}

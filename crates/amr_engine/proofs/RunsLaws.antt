@@ -1,4 +1,4 @@
--- Runs: what is run within a limit is the one run of no more steps.
+-- Runs: what is run within a limit is the only run, if it has no more steps.
 use Rattle.std.specs.Prelude.{◌≡◌, ℕ, zero, suc, List, [], ◌∷◌, Option, Some, None, length, ◌≤◌, ◌++◌}
 use Rattle.std.specs.Option.{option_map, option_map_or}
 use Rattle.std.proofs.Common.{refl, sym, ap, ◌∙◌, subst, arith}
@@ -66,7 +66,7 @@ module _ {S D : Type 0} (next : S → Option D) (step : D → S → S) where
       ap (λ o. option_map_or (λ d. option_map (after_step d) (run_within limit (step d s))) o (ran [] s)) r.0
       ∙ ap (option_map (after_step d)) (run_within-complete limit (step d s) ds end r.1 (omega arith))
 
-  -- nothing is run within a limit where one more step is next
+  -- nothing is run within a limit if one more step is next
   pub run_within-none : (limit : ℕ) (s : S) (ds : List D) → length ds ≡ suc limit → Begins s ds → run_within limit s ≡ None
   run_within-none limit s [] h b = absurd (omega arith)
   run_within-none zero s (d ∷ ds) h b = ap (λ o. option_map_or (λ d. None) o (ran [] s)) b.0
@@ -78,7 +78,7 @@ module _ {S D : Type 0} (next : S → Option D) (step : D → S → S) where
   no_rest d None e = refl
   no_rest d (Some x) e = absurd (cc)
 
-  -- nothing is run within a limit only where one more step is next
+  -- nothing is run within a limit only if one more step is next
   pub none-run_within : (limit : ℕ) (s : S) → run_within limit s ≡ None → (ds : List D) × (length ds ≡ suc limit) × Begins s ds
   none-run_within zero s e =
       elim (next s) as (λ o. next s ≡ o → option_map_or (λ d. None) o (ran [] s) ≡ None → (ds : List D) × (length ds ≡ 1) × Begins s ds) [
@@ -91,7 +91,8 @@ module _ {S D : Type 0} (next : S → Option D) (step : D → S → S) where
         | Some d ↦ λ is e. let rest = none-run_within limit (step d s) (no_rest d (run_within limit (step d s)) e) in (d ∷ rest.0, ap suc rest.1, (is, rest.2))
       ] refl e
 
--- Two ways to say what is next, of which the first says nothing that the second does not say too, as an earlier moment and a later one.
+-- Two ways to say what is next: what the first says is next, the second does too. The first is up
+-- to an earlier moment, the second up to a later one.
 module _ {S D : Type 0} (next later : S → Option D) (step : D → S → S) (agree : (s : S) (d : D) → next s ≡ Some d → later s ≡ Some d) where
   -- the longer run goes through the end of the shorter one
   pub Runs-split : (s : S) (ds es : List D) (mid end : S) → run.Runs next step s ds mid → run.Runs later step s es end
@@ -103,7 +104,7 @@ module _ {S D : Type 0} (next later : S → Option D) (step : D → S → S) (ag
       let more = Runs-split (step d s) ds es mid end r.1 (subst (λ (x : D). run.Runs later step (step x s) es end) same q.1) in
       (more.0, (λ i. same i ∷ more.1 i), more.2)
 
-  -- where the longer run ends, so does a shorter one, in no more steps
+  -- if the longer run ends, so does a shorter one, in no more steps
   pub Runs-shorter : (s : S) (es : List D) (end : S) → run.Runs later step s es end → (ds : List D) × (mid : S) × (length ds ≤ length es) × run.Runs next step s ds mid
   Runs-shorter s [] end q = ([], s, omega arith, (none_next s (next s) refl q.0, refl))
     where

@@ -1,4 +1,4 @@
--- What an event leaves in the store: it is accepted, and its record is closed, or it is put back.
+-- What an event leaves in the store: its record is closed if it is accepted, and else put back.
 use Rattle.std.specs.Prelude.{◌≡◌, ℕ, Bool, true, false, List, [], ◌∷◌, ◌++◌, length, ◌<◌, ◌≤◌, ◌*◌}
 use Rattle.std.proofs.Common.{refl, sym, ap, subst, ◌∙◌, arith}
 use Rattle.amr_events.specs.Events.{Event}
@@ -19,7 +19,7 @@ abbrev pub IsLeft : Bool → Kept → Kept → Type 0
 IsLeft true tried left = left ≡ undone tried
 IsLeft false tried left = left ≡ tried
 
--- the store that an event leaves, whose open record leads back to the store before
+-- the store that an event leaves; its open record leads back to the store before
 pub record Settled (event : Event) (begun left : Kept) (outcome : Outcome) : Type 0 where
   pub undone_is : undone left ≡ begun
   pub state : left.state ≡ after_event begun.state event
@@ -68,7 +68,7 @@ module _ (begun left : Kept) (e : undone left ≡ begun) where
       (λ i. befores (added i) (same i)) ∙ befores_push left.records left.current left.state
       ∙ (λ i. befores (records_are i) (state_back i) ++ state_back i ∷ [])
 
--- where an event failed, the store is the one before
+-- after a failed event, the store is the one before
 pub put_back_whole : (begun tried after : Kept) → begun.current ≡ [] → undone tried ≡ undone begun → after ≡ undone tried → after ≡ begun
 put_back_whole begun tried after idle kept is = is ∙ kept ∙ undone-idle begun idle
 
@@ -87,7 +87,7 @@ pub records_undone : (reopened after : Kept) → after ≡ undone reopened → a
 unfolding undone
 records_undone reopened after is = ap (λ (k : Kept). k.records) is
 
--- there is a record of each event
+-- there is a record for each event
 pub some_record : (store : Kept) (past : List State) → befores store.records store.state ≡ past → 0 < length past → 0 < length store.records
 some_record store past is h =
     let same : length past ≡ length store.records = ap length (sym is) ∙ length-befores store.records store.state in

@@ -1,4 +1,4 @@
--- What is made of an event.
+-- What applying an event leaves, and what it returns.
 use Rattle.std.specs.Prelude.{◌≡◌, ℕ, List, Option, Result, Ok, Err, length, drop}
 use Rattle.std.specs.Option.{option_map}
 use Rattle.amr_time.specs.Time.{Moment}
@@ -13,26 +13,27 @@ use Rattle.amr_engine.specs.Outcomes.{acceptance, refusal, outcome_view}
 use Rattle.amr_engine.specs.declared.outcome.Outcome as code_outcome
 use Rattle.amr_engine.specs.declared.outcome.Outcome.TheVariants.{Accepted, Refused}
 
--- how many moves there were, and the state after them with the clock at the moment
+-- the number of the moves, and the state after them with the clock at the moment
 abbrev pub run_moved : Moment → Option (List Due × State) → Option (ℕ × State)
 run_moved at run = option_map (λ r. (length r.0, at_moment at r.1)) run
 
--- the state after the event, and what it comes to
+-- the state after the event, and its outcome
 pub record ComesTo (s : State) (event : Event) (after : State) (told : Outcome) : Type 0 where
   pub state : after ≡ after_event s event
   pub outcome : told ≡ outcome_of s event
 
--- the state that is left: the next one where something was done, and where there is a reason against it the one before
+-- the state that is left: the next one if the event was done, and the one before if there is a
+-- reason against it
 abbrev pub state_left : State → State → Result Done code.Reason → State
 state_left s next (Ok done) = next
 state_left s next (Err reason) = s
 
--- what is told of it
+-- the outcome that is returned
 abbrev pub told_of : State → State → Result Done code.Reason → Outcome
 told_of s next (Ok done) = acceptance done.moves (drop (length s.notes) next.notes) done.skipped
 told_of s next (Err reason) = refusal (reason_number reason)
 
--- what was done, on the way to the next state, is what the event comes to
+-- what was done and the next state are what the event leads to
 abbrev pub IsDone : State → Event → State → Result Done code.Reason → Type 0
 IsDone s event next done = ComesTo s event (state_left s next done) (told_of s next done)
 
@@ -41,6 +42,6 @@ abbrev pub state_after : State → State → code_outcome.Outcome → State
 state_after s next (Accepted moves notes skipped) = next
 state_after s next (Refused reason) = s
 
--- the next state, where the outcome accepts the event, is what the event leads to
+-- the outcome, with the next state if it accepts the event, is what the event leads to
 abbrev pub Leads : State → Event → State → code_outcome.Outcome → Type 0
 Leads s event next outcome = ComesTo s event (state_after s next outcome) (outcome_view outcome)

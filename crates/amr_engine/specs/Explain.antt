@@ -1,4 +1,4 @@
--- Why an alert was told of, or not.
+-- Why an alert was or wasn't in a notification.
 use Rattle.std.specs.Prelude.{ℕ, false, List, [], ◌∷◌, Option, Some, None, if◌then◌else◌, map, option_map, unwrap_or}
 use Rattle.std.specs.Option.{option_or}
 use Rattle.std.specs.List.{flat_map}
@@ -23,7 +23,7 @@ use Rattle.amr_engine.specs.Flush.{log_key_of}
 abbrev pub waiting : Clock → Option Finding
 waiting clock = if clock.flushed then None else Some (Waiting clock.next_flush)
 
--- what the log says at the integration: it was told of the alert, or it is due
+-- what the log says at the integration: it was notified of the alert, or the next flush decides
 abbrev pub logged : LabelSet → Clock → Option LogEntry → Finding
 logged labels clock None = Due clock.next_flush
 logged labels clock (Some entry) = if contains entry.firing labels then Told entry.time else Due clock.next_flush
@@ -32,17 +32,18 @@ abbrev pub heard : State → Spot → LabelSet → Clock → Option Integration 
 heard s group labels clock None = Nowhere
 heard s group labels clock (Some integration) = logged labels clock (get s.log (log_key_of s.config group integration))
 
--- the first that holds: the group waits for its first flush; a stage takes the alert away; what the log says
+-- the first that applies: the group waits for its first flush; a stage mutes the alert; what the
+-- log says
 abbrev pub finding : State → Spot → LabelSet → Option Integration → Clock → Finding
 finding s group labels integration clock =
     unwrap_or (option_or (waiting clock) (taken_away s s.moment group.route labels)) (heard s group labels clock integration)
 
--- each integration of a receiver, or the receiver once where it has none
+-- each integration of a receiver, or one entry for a receiver without one
 abbrev pub asked : List Integration → List (Option Integration)
 asked [] = None ∷ []
 asked (integration ∷ integrations) = map Some (integration ∷ integrations)
 
--- the clock of a group; a group with a member has one
+-- the group timer; a group with a member has one
 abbrev pub clock_of : State → Spot → Clock
 clock_of s group = unwrap_or (get s.clocks group) (record { next_flush = 0; flushed = false; empty_since = None })
 
@@ -63,6 +64,6 @@ verdicts_of_stored s labels None = Unknown ∷ []
 verdicts_of_stored s labels (Some alert) =
     if is_resolved_at s.moment alert then Ended ∷ [] else flat_map (verdicts_at s labels) (chosen s.config labels)
 
--- the answers to the question why, asked at the state's moment
+-- the answers of `explain`, at the clock
 unfoldable pub verdicts : State → LabelSet → List Verdict
 verdicts s labels = verdicts_of_stored s labels (get s.alerts labels)

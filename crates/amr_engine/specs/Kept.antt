@@ -1,4 +1,4 @@
--- What an event's record is, and how long it may be.
+-- The record of an event, and how long it may be.
 use Rattle.std.specs.Prelude.{◌≡◌, ◌≤◌, ◌*◌, List, [], ◌∷◌, ◌++◌, length, Result, Ok, Err}
 use Rattle.amr_events.specs.Events.{Event}
 use Rattle.amr_events.specs.declared.reason.Reason.{Reason}
@@ -19,14 +19,15 @@ abbrev pub IsEmptyIfRefused : Outcome → List Displaced → Type 0
 IsEmptyIfRefused (Accepted moves notes skipped) r = Unit {0}
 IsEmptyIfRefused (Refused reason) r = r ≡ []
 
--- the last record is put back to the state before the event, and has at most four entries for each unit of the event's weight
+-- The last record leads back to the state before the event, and has at most four entries for each
+-- unit of the event's weight.
 pub record RecordOf (before : Steps) (event : Event) (after : Steps) (outcome : Outcome) (r : List Displaced) : Type 0 where
   pub added : after.records ≡ before.records ++ r ∷ []
   pub back : put_back r after.state ≡ before.state
   pub empty : IsEmptyIfRefused outcome r
   pub short : length r ≤ 4 * event_weight before.state event after.state
 
--- the open record has at most four entries more for each unit of the event's weight
+-- the open record grew by at most four entries for each unit of the event's weight
 abbrev pub IsLight : Kept → Event → Kept → Type 0
 IsLight before event after = GrownBy (4 * event_weight before.state event after.state) before after
 

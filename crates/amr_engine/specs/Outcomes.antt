@@ -1,4 +1,4 @@
--- What the code's outcomes say.
+-- The outcome that the code returns, as an outcome of the definitions.
 use Rattle.std.specs.Prelude.{ℕ, List}
 use Rattle.amr_events.specs.Reasons.{reason_number}
 use Rattle.amr_state.specs.declared.note.Note.{Note}

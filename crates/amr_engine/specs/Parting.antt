@@ -1,4 +1,4 @@
--- A turn of an integration, by the members that are parted.
+-- Notifying an integration of members that are already split into firing and resolved ones.
 use Rattle.std.specs.Prelude.{◌≡◌, Bool, ◌++◌, if◌then◌else◌}
 use Rattle.amr_labels.specs.Map.{get, insert}
 use Rattle.amr_time.specs.Time.{Moment}
@@ -19,11 +19,11 @@ pub record IsParted (at : Moment) (members : Members) (parted : Parted) : Type 0
   pub firing_labels : parted.firing_labels ≡ labels_of (firing_of at members)
   pub resolved_labels : parted.resolved_labels ≡ labels_of (resolved_of at members)
 
--- the log's entry
+-- the log entry
 abbrev pub entry_of : Moment → Parted → LogEntry
 entry_of at parted = record { time = at; firing = parted.firing_labels; resolved = parted.resolved_labels }
 
--- the log's test
+-- the dedup check
 abbrev pub is_due : State → Moment → Spot → LogKey → Parted → Integration → Bool
 is_due s at group key parted integration =
     needs_update (get s.log key) parted.firing_labels parted.resolved_labels integration.send_resolved at (repeat_interval_of s.config group.route)
@@ -34,7 +34,7 @@ tell_parted at group key parted send_resolved s = record s {
   notes = s.notes ++ notes_told at group key send_resolved parted.firing.items parted.resolved.items;
 }
 
--- the integration's turn
+-- the integration is notified if the dedup check says so
 abbrev pub told_by : Moment → Spot → Parted → State → Integration → State
 told_by at group parted s integration =
     if is_due s at group (log_key_of s.config group integration) parted integration

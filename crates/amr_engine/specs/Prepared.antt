@@ -1,4 +1,4 @@
--- An act that is prepared before the moves of its event.
+-- An action that is prepared before the moves of its event.
 use Rattle.std.specs.Prelude.{◌≡◌, ◌≤◌, ℕ, ◌+◌, ◌*◌, List, [], Ok, Err, Result}
 use Rattle.std.specs.List.{fold}
 use Rattle.amr_labels.specs.Map.{insert}
@@ -13,7 +13,7 @@ use Rattle.amr_engine.specs.declared.prepare.Prepared as prepare
 use Rattle.amr_engine.specs.declared.prepare.Prepared.TheVariants.{Put, Silence, Expire, Reload, Tick}
 use Rattle.amr_engine.specs.Events.{after_act, at_moment, put, with_silences, with_config, skipped_of}
 
--- the state after a prepared act that is done on it
+-- the state after a prepared action
 abbrev pub performed : prepare.Prepared → State → State
 performed (Put sifted) s = fold put s sifted.valid.items
 performed (Silence id new_id posting) s = with_silences s (posting_stored id new_id posting s.silences)
@@ -21,7 +21,7 @@ performed (Expire id ended) s = with_silences s (insert s.silences id ended)
 performed (Reload config) s = with_config s config
 performed Tick s = s
 
--- the places of the alerts that a prepared act skips
+-- the positions of the alerts that a prepared action skips
 abbrev pub skipped_by : prepare.Prepared → List ℕ
 skipped_by (Put sifted) = sifted.skipped
 skipped_by (Silence id new_id posting) = []
@@ -29,7 +29,8 @@ skipped_by (Expire id ended) = []
 skipped_by (Reload config) = []
 skipped_by Tick = []
 
--- how many entries a prepared act adds to the open record at most, from the state before it to the state after it
+-- how many entries a prepared action adds to the open record at most, given the states before and
+-- after it
 abbrev pub entries_of : prepare.Prepared → State → State → ℕ
 entries_of (Put sifted) before after = alerts_weight before.config sifted.valid.items
 entries_of (Silence id new_id posting) before after = 2
@@ -37,19 +38,19 @@ entries_of (Expire id ended) before after = 1
 entries_of (Reload config) before after = reload_entries before after
 entries_of Tick before after = 0
 
--- what the moves of an event at a moment leave, with the clock at that moment
+-- what the moves of an event leave as it is, with the clock at the event
 pub record Stays (s : State) (at : Moment) (next : State) : Type 0 where
   pub silences : next.silences ≡ s.silences
   pub config : next.config ≡ s.config
   pub moment : next.moment ≡ at
 
--- on each state that the moves may leave the act does what is prepared
+-- on each state that the moves may leave, the action does what was prepared
 pub record Does (s : State) (at : Moment) (act : Act) (prepared : prepare.Prepared) : Type 0 where
   pub does : (next : State) → Stays s at next → after_act next act ≡ Ok (performed prepared next)
   pub skips : skipped_by prepared ≡ skipped_of (at_moment at s) act
   pub light : (next after : State) → Stays s at next → entries_of prepared next after ≤ 1 + 2 * act_weight next after act
 
--- what an act is prepared as, or its own reason against it
+-- what an action is prepared as, or its own reason against it
 abbrev pub IsPrepared : State → Moment → Act → Result prepare.Prepared code.Reason → Type 0
 IsPrepared s at act (Ok prepared) = Does s at act prepared
 IsPrepared s at act (Err reason) = after_act (at_moment at s) act ≡ Err (reason_number reason)

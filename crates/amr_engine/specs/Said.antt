@@ -1,4 +1,4 @@
--- What is next, and what an event comes to, said by relations.
+-- The next move and the outcome of an event, defined by relations and not by a computation.
 use Rattle.std.specs.Prelude.{◌≡◌, ℕ, suc, is_ok, true, false, List, [], ◌∷◌, Ok, Err, length, ◌≤◌, nat_lt, ◌⊎◌}
 use Rattle.std.specs.Ordering.{is_gt}
 use Rattle.amr_events.specs.Events.{Event, Reason}
@@ -9,17 +9,19 @@ use Rattle.amr_state.specs.Dues.{due_cmp, next_due}
 use Rattle.amr_engine.specs.Moves.{move, Advances}
 use Rattle.amr_engine.specs.Events.{after_act, at_moment}
 
--- the item is one of the list
+-- the item is in the list
 abbrev pub IsIn : Due → List Due → Type 0
 IsIn due [] = ⊥
 IsIn due (other ∷ rest) = (due ≡ other) ⊎ IsIn due rest
 
--- the item is one of the list, and none of the list goes before it
+-- the item is in the list, and nothing in the list goes before it
 pub record IsLeast (due : Due) (list : List Due) : Type 0 where
   pub among : IsIn due list
   pub before_all : (other : Due) → IsIn other list → is_gt (due_cmp due other) ≡ false
 
--- an accepted event: it is not past, its act has no reason against it on the state before, its moves are each the least that is due up to its moment and they are no more than the limit, and then its act is done
+-- An accepted event isn't before the clock; its action has no reason against it on the state
+-- before; its moves are each the least that is due up to its moment, and no more than the limit;
+-- and then its action is done.
 pub record Does (limit : ℕ) (s : State) (event : Event) (moves : List Due) (after : State) : Type 0 where
   pub not_past : nat_lt event.at s.moment ≡ false
   pub acceptable : is_ok (after_act (at_moment event.at s) event.act) ≡ true
@@ -28,12 +30,12 @@ pub record Does (limit : ℕ) (s : State) (event : Event) (moves : List Due) (af
   pub few : length moves ≤ limit
   pub acted : after_act (at_moment event.at moved) event.act ≡ Ok after
 
--- the event is past
+-- the event is before the clock
 pub record IsPast (s : State) (event : Event) (reason : Reason) : Type 0 where
   pub past : nat_lt event.at s.moment ≡ true
   pub number : reason ≡ 20
 
--- the act has its own reason against it on the state before, with the clock at the event
+-- the action has its own reason against it on the state before, with the clock at the event
 pub record HasOwnReason (s : State) (event : Event) (reason : Reason) : Type 0 where
   pub not_past : nat_lt event.at s.moment ≡ false
   pub own : after_act (at_moment event.at s) event.act ≡ Err reason
@@ -47,6 +49,6 @@ pub record HasTooManyMoves (limit : ℕ) (s : State) (event : Event) (reason : R
   pub many : length moves ≡ suc limit
   pub number : reason ≡ 21
 
--- the first that stands is the reason that refuses the event
+-- the first that applies is the reason that refuses the event
 abbrev pub Refuses : ℕ → State → Event → Reason → Type 0
 Refuses limit s event reason = IsPast s event reason ⊎ (HasOwnReason s event reason ⊎ HasTooManyMoves limit s event reason)

@@ -1,5 +1,5 @@
--- The stages of a flush that take alerts away, in their order. A flush drops what a stage takes away, and an explanation names the
--- first stage that does.
+-- The stages of a flush that mute alerts, in their order. A flush drops the members that a stage
+-- mutes, and `explain` names the first stage that does.
 use Rattle.std.specs.Prelude.{ℕ, Option, Some, None, if◌then◌else◌, option_map}
 use Rattle.std.specs.Option.{option_or}
 use Rattle.amr_labels.specs.Labels.{LabelSet}
@@ -10,11 +10,11 @@ use Rattle.amr_state.specs.State.{State}
 use Rattle.amr_engine.specs.declared.explain.Finding.{Finding}
 use Rattle.amr_engine.specs.declared.explain.Finding.TheVariants.{Inhibited, OutsideActive, TimeMuted, Silenced}
 
--- a rule inhibits the alert
+-- an inhibition rule mutes the alert
 abbrev pub by_inhibition : State → Moment → LabelSet → Option Finding
 by_inhibition s at labels = option_map (λ found. Inhibited found.0 found.1) (inhibition_from 0 at labels s.alerts s.config.rules)
 
--- the route names active time intervals, and the moment is in none of them
+-- the route has active time intervals, and the moment is in none of them
 abbrev pub by_active_time : State → Moment → ℕ → Option Finding
 by_active_time s at route = if is_active_at s.config route at then None else Some OutsideActive
 
@@ -22,11 +22,11 @@ by_active_time s at route = if is_active_at s.config route at then None else Som
 abbrev pub by_mute_time : State → Moment → ℕ → Option Finding
 by_mute_time s at route = if is_muted_at s.config route at then Some TimeMuted else None
 
--- a silence silences the alert
+-- a silence mutes the alert
 abbrev pub by_silence : State → Moment → LabelSet → Option Finding
 by_silence s at labels = option_map Silenced (silencer_of at labels s.silences)
 
--- the first stage that takes an alert with these labels away from the route
+-- the first stage that mutes an alert with these labels on the route
 unfoldable pub taken_away : State → Moment → ℕ → LabelSet → Option Finding
 taken_away s at route labels =
     option_or (by_inhibition s at labels)

@@ -1,4 +1,4 @@
--- How much an event may displace.
+-- The weight of an event: how much it may displace.
 use Rattle.std.specs.Prelude.{ℕ, zero, suc, List, [], ◌∷◌, ◌+◌, ◌*◌, length}
 use Rattle.std.specs.Option.{option_map_or}
 use Rattle.std.specs.List.{sum_by}
@@ -35,7 +35,7 @@ abbrev pub moves_weight : State → List Due → ℕ
 moves_weight s [] = 0
 moves_weight s (due ∷ dues) = move_weight s due due.kind + moves_weight (move due s) dues
 
--- the weight of the moves up to a moment, of so many at most
+-- the weight of the moves up to a moment, of at most this many
 abbrev pub first_weight : ℕ → Moment → State → ℕ
 first_weight zero at s = 0
 first_weight (suc most) at s = option_map_or (λ due. move_weight s due due.kind + first_weight most at (move due s)) (next_due at s) 0
@@ -43,7 +43,8 @@ first_weight (suc most) at s = option_map_or (λ due. move_weight s due due.kind
 abbrev pub groups_weight : State → ℕ
 groups_weight s = len s.clocks + len s.placements
 
--- the entries of a reload: the configuration, the groups and members of before, and for each member of after itself and its group's timer
+-- the entries of a reload: one for the configuration, one for each group and member before, and two
+-- for each member after, for itself and its group's timer
 abbrev pub reload_entries : State → State → ℕ
 reload_entries before after = 1 + groups_weight before + 2 * groups_weight after
 
@@ -66,7 +67,8 @@ act_weight before after Act.Tick = 0
 abbrev pub weight : State → List Due → State → State → Event → ℕ
 weight s moves moved after event = 2 + moves_weight s moves + act_weight (at_moment event.at moved) after event.act
 
--- the weight of an event, from the state before it to the state after it; none where too many moves are due
+-- the weight of an event, from the state before it to the state after it; none where too many moves
+-- are due
 abbrev pub event_weight : State → Event → State → ℕ
 event_weight s event after = option_map_or (λ run. weight s run.0 run.1 after event) (advance move_limit event.at s) 0
 

@@ -1,4 +1,6 @@
-//! One event: whether it is refused, its moves, and its act.
+//! One event, applied in place: whether it is refused, the moves that are due before it, and its
+//! action. `Engine::apply` calls `attempt` with an open record, and puts the record back if the
+//! event is refused or memory runs out. Nothing here undoes a change.
 ghost use Rattle.std.specs.Prelude.{◌≡◌, ◌≤◌, ◌+◌, ◌*◌, OnOk, IfOk, length, drop};
 ghost use Rattle.amr_time.specs.Time.{latest_read};
 ghost use Rattle.amr_state.specs.Kept.{GrownBy, undone};
@@ -22,7 +24,8 @@ use amr_state::{Note, Store};
 use amr_time::Moment;
 use std::alloc::{AllocError, Global};
 
-/// Makes an event happen, unless it is refused. The caller undoes what a refused event leaves.
+/// Applies an event to the store in place. If it is refused or memory runs out, the store is left
+/// half-changed, and the caller must put the open record back.
 pub(crate) fn attempt(store: &mut Store, event: &Event) -> Result<Outcome, AllocError>
     ensures outcome { IfOk result
         (λ outcome. Leads store.old.state event.now store.new.state outcome) }
@@ -37,14 +40,17 @@ pub(crate) fn attempt(store: &mut Store, event: &Event) -> Result<Outcome, Alloc
     }
 }
 
-/// What an accepted event did: how many moves it made, and the places of the alerts that it skipped.
+/// What an accepted event did: how many moves it made, and the positions of the posted alerts that
+/// it skipped, from 1.
 #[derive(Drop)]
 struct Done {
     moves: usize,
     skipped: Listing<usize>,
 }
 
-/// Prepares the event's act, makes the moves up to the event, and performs the act.
+/// Prepares the event's action, makes the moves that are due up to the event, and performs the
+/// action. The action is judged before the first move, so that a refusal for it never depends on
+/// how many timers fire.
 fn happen(store: &mut Store, event: &Event) -> Result<Result<Done, Reason>, AllocError>
     ensures done { IfOk result (λ done. IsDone store.old.state event.now store.new.state done) }
     ensures kept { undone store.new ≡ undone store.old }
@@ -66,8 +72,8 @@ fn happen(store: &mut Store, event: &Event) -> Result<Result<Done, Reason>, Allo
     }
 }
 
-/// Makes the moves up to a moment, and advances the clock to it. Returns how many moves it made, or none if more are due
-/// than an event may make.
+/// Makes every move due at or before `at`, then advances the clock to `at`. Returns the number of
+/// moves, or `None` if more than 10,000 are due.
 fn go_to(store: &mut Store, at: Moment) -> Result<Option<usize>, AllocError>
     requires { at ≤ latest_read }
     ensures made { IfOk result (λ made. moves_to store.new.state made
@@ -81,7 +87,7 @@ fn go_to(store: &mut Store, at: Moment) -> Result<Option<usize>, AllocError>
     Ok(made)
 }
 
-/// Performs a prepared act, and returns the places of the alerts that it skips.
+/// Performs a prepared action. Returns the positions of the alerts that it skips, from 1.
 fn perform(store: &mut Store, prepared: Prepared) -> Result<Listing<usize>, AllocError>
     ensures done { IfOk result (λ skipped. store.new.state ≡ performed prepared store.old.state) }
     ensures skipped { IfOk result (λ skipped. skipped ≡ skipped_by prepared) }
@@ -106,7 +112,8 @@ fn perform(store: &mut Store, prepared: Prepared) -> Result<Listing<usize>, Allo
     Ok(Listing::new(store.alloc()))
 }
 
-/// Returns the outcome of an event that was done, before which there were so many notifications.
+/// Returns the outcome of an accepted event. `noted` is how many notifications the transcript had
+/// before it.
 fn accepted(store: &Store, noted: usize, done: Done) -> Result<Outcome, AllocError>
     ensures { IfOk result (λ outcome. outcome_view outcome
         ≡ acceptance done.moves (drop noted store.now.state.notes) done.skipped) }
@@ -119,7 +126,7 @@ fn accepted(store: &Store, noted: usize, done: Done) -> Result<Outcome, AllocErr
     })
 }
 
-/// Returns the notifications from a place on.
+/// Returns the notifications of the transcript from an index on.
 fn notes_from(
     alloc: Global,
     notes: &[Shared<Note>],

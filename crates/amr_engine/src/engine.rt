@@ -1,4 +1,5 @@
-//! The engine: a state, and the records by which the events that it passed can be undone.
+//! The engine: a state, and a record for each event by which the event can be undone. Sessions and
+//! runs apply events through it; nothing else changes a state.
 ghost use Rattle.std.specs.Prelude.{◌≡◌, ◌<◌, List, [], ◌∷◌, ◌++◌, length, IfOk, OnOk, OnErr, Some, option_map, slice_get};
 ghost use Rattle.amr_state.specs.State.{start};
 ghost use Rattle.amr_state.specs.Records.{put_back};
@@ -18,7 +19,8 @@ use amr_state::Store;
 use std::alloc::{AllocError, Global};
 use std::marker::Model;
 
-/// A replayed instance, with a record for each event that it passed, by which the event can be undone.
+/// A replayed Alertmanager, with a record for each event that it has applied, by which the event
+/// can be undone.
 #[derive(Drop)]
 pub struct Engine {
     store: Store,
@@ -41,7 +43,7 @@ impl Model for Engine {
 }
 
 impl Engine {
-    /// The engine at the start, with nothing stored, at moment 0.
+    /// Returns an engine in which nothing is stored, with the clock at 1970.
     pub fn new(alloc: Global, config: Config) -> Engine
         ensures state { result.state ≡ start config }
         ensures past { result.past ≡ [] }
@@ -52,8 +54,9 @@ impl Engine {
         }
     }
 
-    /// Applies an event, and records what it displaces, in at most four entries for each unit of the event's weight.
-    /// A refused event changes nothing, and has an empty record.
+    /// Applies an event, and records what it displaces, in at most four entries for each unit of
+    /// the event's weight. A refused event changes nothing and gets an empty record. If memory runs
+    /// out, nothing changes and there is no new record.
     pub fn apply(&mut self, event: &Event) -> Result<Outcome, AllocError>
         ensures outcome { IfOk result (λ outcome. outcome_view outcome
             ≡ outcome_of self.old.state event.now) }
@@ -79,7 +82,7 @@ impl Engine {
         }
     }
 
-    /// Undoes the last event. It takes no memory.
+    /// Undoes the last event. It takes no memory, so it can't fail.
     pub fn undo_last(&mut self)
         requires { 0 < length self.old.past }
         ensures past { self.old.past ≡ self.new.past ++ self.new.state ∷ [] }
@@ -90,14 +93,14 @@ impl Engine {
         self.store.undo_open();
     }
 
-    /// Returns how many records there are.
+    /// Returns the number of records, which is that of the events that can be undone.
     pub fn records(&self) -> usize
         ensures { result ≡ length self.now.records }
     {
         self.store.records()
     }
 
-    /// Returns how many entries the record number `index` has, from 0.
+    /// Returns the number of entries in a record; `index` counts from 0.
     pub fn record_len(&self, index: usize) -> usize
         requires { index < length self.now.records }
         ensures { option_map length (slice_get self.now.records index) ≡ Some result }
@@ -105,7 +108,8 @@ impl Engine {
         self.store.record_len(index)
     }
 
-    /// Drops all records. The events passed so far can't be undone then.
+    /// Drops all records. The events applied so far can't be undone any more. A run does this after
+    /// each event, so that its memory doesn't grow with the script.
     pub fn forget(&mut self)
         ensures state { self.new.state ≡ self.old.state }
         ensures past { self.new.past ≡ [] }
@@ -114,15 +118,16 @@ impl Engine {
         self.store.forget();
     }
 
-    /// Returns the state. Its parts are listed by `amr_state::views`.
+    /// Returns the state. `amr_state::views` lists its parts.
     pub fn state(&self) -> &Store
         ensures { result.now.state ≡ self.now.state }
     {
         &self.store
     }
 
-    /// Explains why an alert with these labels was or wasn't in a notification. It gives one answer if no such alert is stored
-    /// or the stored one is resolved, and else one for each route that takes it and each integration of the route's receiver.
+    /// Explains why an alert with these labels was or wasn't in a notification. It returns one
+    /// verdict if no such alert is stored or the stored one is resolved. Otherwise it returns one
+    /// for each route that takes the alert and each integration of the route's receiver.
     pub fn explain(&self, labels: &Labels) -> Result<Vec<Verdict>, AllocError>
         ensures { IfOk result (λ found. found.items ≡ verdicts self.now.state labels.now) }
     {

@@ -1,4 +1,5 @@
-//! Why an alert was told of, or not.
+//! Explains why an alert was or wasn't in a notification: the verdicts that the command `explain`
+//! prints. It asks the same stages as a flush (`stages.rt`), at the clock, and changes nothing.
 ghost use Rattle.std.specs.Prelude.{◌≡◌, ◌++◌, IfOk, OnOk, option_map};
 ghost use Rattle.std.specs.Option.{option_copied};
 ghost use Rattle.std.specs.List.{flat_map};
@@ -15,47 +16,50 @@ use amr_stated::Integration;
 use amr_time::Moment;
 use std::alloc::AllocError;
 
-/// What is found of a stored alert at an integration: the first of these, in this order, that holds.
+/// What `explain` found for a stored alert and an integration: the first of these, in this order,
+/// that applies.
 #[derive(Drop)]
 pub enum Finding {
-    /// The alert's group waits for its first flush.
+    /// The alert's group hasn't been flushed yet. `due` is when it will be.
     Waiting { due: Moment },
-    /// A rule inhibits the alert: the least one, counted from 0, with the least label set of an alert by which it does.
+    /// An inhibition rule mutes the alert: the first that does, counted from 0, with the least
+    /// label set of an alert by which it does.
     Inhibited { rule: usize, source: Labels },
-    /// The route names active time intervals, and the moment is in none of them.
+    /// The route has active time intervals, and the moment is in none of them.
     OutsideActive,
     /// The moment is in a mute time interval of the route.
     TimeMuted,
-    /// A silence silences the alert: the one with the least id.
+    /// A silence mutes the alert: the one with the least id that does.
     Silenced { id: SilenceId },
-    /// The receiver has no integration.
+    /// The receiver has no integration, so nobody is notified.
     Nowhere,
-    /// The notification log has the alert among those that fire, by a note of this moment.
+    /// By the notification log, the integration was notified at `at` that the alert fires.
     Told { at: Moment },
-    /// The integration is asked at the next flush of the alert's group.
+    /// The next flush of the group, at `at`, runs the dedup check for the integration.
     Due { at: Moment },
 }
 
-/// One answer to the question why an alert was told of, or not.
+/// One answer of `explain`.
 #[derive(Drop)]
 pub enum Verdict {
     /// No alert with these labels is stored.
     Unknown,
     /// The stored alert is resolved.
     Ended,
-    /// What is found at a route that takes the alert.
+    /// What was found at a route that takes the alert.
     AtRoute {
         /// The route's number in preorder.
         route: usize,
         /// The name of the route's receiver.
         receiver: Text,
-        /// The integration's kind and its place among those of its kind; none where the receiver has no integration.
+        /// The integration's kind and its index among those of its kind; `None` if the receiver has
+        /// no integration.
         integration: Option<(Text, usize)>,
         finding: Finding,
     },
 }
 
-/// The group waits for its first flush.
+/// Returns the finding of a group that hasn't been flushed yet.
 fn waiting(clock: &Clock) -> Option<Finding>
     ensures { result ≡ waiting clock.now }
 {
@@ -68,7 +72,8 @@ fn waiting(clock: &Clock) -> Option<Finding>
     }
 }
 
-/// What the log's entry says: the integration was told that the alert fires, or it is asked at the next flush.
+/// Returns what the log entry says: the integration was notified that the alert fires, or the next
+/// flush decides.
 fn logged(labels: &Labels, clock: &Clock, entry: Option<&LogEntry>) -> Finding
     ensures { result ≡ logged labels.now clock.now (option_copied entry.entry) }
 {
@@ -80,7 +85,8 @@ fn logged(labels: &Labels, clock: &Clock, entry: Option<&LogEntry>) -> Finding
     }
 }
 
-/// What the log says at the integration, where there is one.
+/// Returns what the notification log says of the alert at an integration, or that the receiver has
+/// none.
 fn heard(
     store: &Store,
     group: &Spot,
@@ -100,7 +106,7 @@ fn heard(
     }
 }
 
-/// The first that holds.
+/// Returns the first finding that applies.
 fn first_finding(
     store: &Store,
     group: &Spot,
@@ -121,7 +127,7 @@ fn first_finding(
     heard(store, group, labels, clock, integration)
 }
 
-/// The kind and the place of an integration, where there is one.
+/// Returns the kind and the index of an integration, if there is one.
 fn kind_and_place(integration: Option<&Integration>) -> Result<Option<(Text, usize)>, AllocError>
     ensures { IfOk result (λ named. named
         ≡ option_map kind_and_place (option_copied integration.entry)) }
@@ -132,7 +138,7 @@ fn kind_and_place(integration: Option<&Integration>) -> Result<Option<(Text, usi
     }
 }
 
-/// The answer for an integration, or for a receiver without one.
+/// Returns the verdict for an integration, or for a receiver without one.
 fn verdict_at(
     store: &Store,
     group: &Spot,
@@ -152,7 +158,8 @@ fn verdict_at(
     })
 }
 
-/// The clock of a group.
+/// Returns the group timer. A group with a member always has one; the timer at 1970 only completes
+/// the match.
 fn clock_of(store: &Store, group: &Spot) -> Clock
     ensures { result ≡ clock_of store.now.state group.now }
 {
@@ -166,7 +173,7 @@ fn clock_of(store: &Store, group: &Spot) -> Clock
     }
 }
 
-/// The answers for a route.
+/// Appends the verdicts for a route: one for each integration, or one if the receiver has none.
 fn add_verdicts(
     store: &Store,
     labels: &Labels,
@@ -189,7 +196,7 @@ fn add_verdicts(
     Ok(())
 }
 
-/// The answers for each route that takes the alert.
+/// Returns the verdicts for each route that takes the alert.
 fn verdicts_of_routes(store: &Store, labels: &Labels) -> Result<Vec<Verdict>, AllocError>
     ensures { IfOk result (λ found. found.items
         ≡ flat_map (verdicts_at store.now.state labels.now)
@@ -203,7 +210,7 @@ fn verdicts_of_routes(store: &Store, labels: &Labels) -> Result<Vec<Verdict>, Al
     Ok(found)
 }
 
-/// The answers for a stored alert, or for none.
+/// Returns the verdicts for a stored alert, or the one for an alert that isn't stored.
 fn verdicts_of_stored(
     store: &Store,
     labels: &Labels,
@@ -221,7 +228,7 @@ fn verdicts_of_stored(
     }
 }
 
-/// The answers to the question why, asked at the state's moment.
+/// Returns the verdicts for the alert with these labels, as of the clock.
 #[tactic(auto, unfolding(crate::specs::Explain::verdicts))]
 pub(crate) fn verdicts(store: &Store, labels: &Labels) -> Result<Vec<Verdict>, AllocError>
     ensures { IfOk result (λ found. found.items ≡ verdicts store.now.state labels.now) }

@@ -1,4 +1,6 @@
-//! The flush of a group.
+//! The flush of a group, as in Alertmanager's dispatcher and its notification pipeline: set the
+//! group timer, mute members, run the dedup check for each integration, notify, and drop resolved
+//! members. `moves.rt` calls `flush` when a group timer fires.
 ghost use Rattle.std.specs.Prelude.{◌≡◌, ◌≤◌, ◌+◌, ◌*◌, ◌++◌, true, map, length, OnOk, IfOk};
 ghost use Rattle.std.specs.List.{fold, list_all};
 ghost use Rattle.std.specs.Option.{option_to_list};
@@ -19,7 +21,8 @@ use amr_stated::Integration;
 use amr_time::Moment;
 use std::alloc::{AllocError, Global};
 
-/// The members of a flush that nothing mutes: those that fire and those that are resolved, with their label sets.
+/// The members of a flush that nothing mutes, split into firing and resolved ones, with their label
+/// sets.
 #[derive(Drop)]
 struct Parted {
     firing: Vec<Member>,
@@ -30,7 +33,7 @@ struct Parted {
 
 ghost use Rattle.amr_engine.specs.Parting.{IsParted, entry_of, is_due, tell_parted, told_by};
 
-/// Moves the group's timer on, and serves its members.
+/// Flushes a group at a moment: sets its timer, notifies, and drops its resolved members.
 #[tactic(auto, unfolding(crate::specs::Flush::flush))]
 pub(crate) fn flush(store: &mut Store, at: Moment, group: &Spot) -> Result<(), AllocError>
     requires { at ≤ latest_read }
@@ -43,7 +46,7 @@ pub(crate) fn flush(store: &mut Store, at: Moment, group: &Spot) -> Result<(), A
     serve(store, at, group, members.as_slice())
 }
 
-/// Moves the group's timer on.
+/// Schedules the next flush, `group_interval` from now, and marks the group as flushed.
 fn wind(store: &mut Store, at: Moment, group: &Spot) -> Result<(), AllocError>
     requires { at ≤ latest_read }
     ensures ok { OnOk result (store.new.state
@@ -69,7 +72,8 @@ fn wind(store: &mut Store, at: Moment, group: &Spot) -> Result<(), AllocError>
     }
 }
 
-/// Notifies of the members that nothing mutes, and drops the resolved ones from the group.
+/// Notifies of the members that nothing mutes, then drops the resolved members from the group. Does
+/// nothing for a group without members.
 fn serve(store: &mut Store, at: Moment, group: &Spot, members: &[Member]) -> Result<(), AllocError>
     ensures ok { OnOk result (store.new.state ≡ serve at group.now members.now store.old.state) }
     ensures kept { undone store.new ≡ undone store.old }
@@ -84,7 +88,7 @@ fn serve(store: &mut Store, at: Moment, group: &Spot, members: &[Member]) -> Res
     drop_resolved(store, at, group, members)
 }
 
-/// Returns the members that no stage takes away.
+/// Returns the members that no stage mutes.
 fn let_through(
     store: &Store,
     at: Moment,
@@ -103,7 +107,8 @@ fn let_through(
     Ok(through)
 }
 
-/// Gives each integration of the group's receiver its turn, if some member is let through.
+/// Runs the dedup check for each integration of the group's receiver, and notifies those that are
+/// due. Does nothing if all members are muted.
 fn notify_all(
     store: &mut Store,
     at: Moment,
@@ -122,7 +127,7 @@ fn notify_all(
     notify_each(store, at, group, &parted)
 }
 
-/// Parts members into those that fire and those that are resolved.
+/// Splits members into firing and resolved ones.
 fn part(alloc: Global, at: Moment, members: &[Member]) -> Result<Parted, AllocError>
     ensures { IfOk result (λ parted. IsParted at members.now parted) }
 {
@@ -164,7 +169,8 @@ fn resolved_of(alloc: Global, at: Moment, members: &[Member]) -> Result<Vec<Memb
     Ok(resolved)
 }
 
-/// Gives each integration of the group's receiver its turn.
+/// Runs the dedup check for each integration of the group's receiver, in order, and notifies those
+/// that are due.
 fn notify_each(
     store: &mut Store,
     at: Moment,
@@ -184,7 +190,7 @@ fn notify_each(
     Ok(())
 }
 
-/// Notifies an integration, if the notification log's test says so.
+/// Runs the dedup check for one integration and notifies it if needed.
 fn notify(
     store: &mut Store,
     at: Moment,
@@ -204,7 +210,7 @@ fn notify(
     Ok(())
 }
 
-/// Returns the key of the notification log for a group and an integration of its receiver.
+/// Returns the notification log's key for a group and an integration of its receiver.
 pub(crate) fn log_key(
     alloc: Global,
     config: &Config,
@@ -222,7 +228,7 @@ pub(crate) fn log_key(
     })
 }
 
-/// Returns whether the log's test says that an integration is notified now.
+/// Returns whether the dedup check says that an integration is notified now.
 fn is_due(
     store: &Store,
     at: Moment,
@@ -243,7 +249,8 @@ fn is_due(
     )
 }
 
-/// Writes the log's entry, and appends the notification if the integration gets one.
+/// Writes the notification-log entry and appends the notification, if there is one. The entry is
+/// also written if only resolved alerts are left and the integration doesn't send them.
 fn tell(
     store: &mut Store,
     at: Moment,
@@ -265,7 +272,7 @@ fn tell(
     append(store, note)
 }
 
-/// Returns what the log keeps of the members that an integration is notified of.
+/// Returns the log entry for a notification about these members.
 fn log_entry(at: Moment, parted: &Parted) -> Result<LogEntry, AllocError>
     ensures { IfOk result (λ entry. entry ≡ entry_of at parted.now) }
 {
@@ -276,8 +283,8 @@ fn log_entry(at: Moment, parted: &Parted) -> Result<LogEntry, AllocError>
     })
 }
 
-/// Returns the notification that an integration gets. It gets one if something fires, or if it wants to hear of
-/// resolved alerts.
+/// Returns the notification for an integration. Returns `None` if nothing fires and the integration
+/// doesn't send resolved alerts.
 fn note_told(
     alloc: Global,
     at: Moment,
@@ -307,7 +314,7 @@ fn note_told(
     }))
 }
 
-/// Returns what a notification says of members that fire.
+/// Returns the firing alerts of a notification.
 fn told_firing(alloc: Global, members: &[Member]) -> Result<Listing<FiringAlert>, AllocError>
     ensures { IfOk result (λ told. told ≡ map told_firing members.now) }
 {
@@ -322,7 +329,7 @@ fn told_firing(alloc: Global, members: &[Member]) -> Result<Listing<FiringAlert>
     Ok(told)
 }
 
-/// Returns what a notification says of members that are resolved.
+/// Returns the resolved alerts of a notification.
 fn told_resolved(alloc: Global, members: &[Member]) -> Result<Listing<ResolvedAlert>, AllocError>
     ensures { IfOk result (λ told. told ≡ map told_resolved members.now) }
 {
@@ -338,7 +345,7 @@ fn told_resolved(alloc: Global, members: &[Member]) -> Result<Listing<ResolvedAl
     Ok(told)
 }
 
-/// Appends the notification, if there is one.
+/// Appends the notification to the transcript, if there is one.
 fn append(store: &mut Store, note: Option<Note>) -> Result<(), AllocError>
     ensures ok { OnOk result (store.new.state
         ≡ record store.old.state { notes = store.old.state.notes ++ option_to_list note }) }
@@ -351,8 +358,8 @@ fn append(store: &mut Store, note: Option<Note>) -> Result<(), AllocError>
     }
 }
 
-/// Drops the members that are resolved from the group, whatever the stages did with them, and marks a group that has
-/// none left as empty.
+/// Drops the resolved members from the group, even those that a stage muted, and marks a group
+/// without members as empty.
 #[tactic(auto, unfolding(crate::specs::Flush::drop_resolved))]
 fn drop_resolved(
     store: &mut Store,
@@ -372,7 +379,7 @@ fn drop_resolved(
     Ok(())
 }
 
-/// Removes the members that are resolved.
+/// Removes the resolved members from the group.
 fn forget_resolved(
     store: &mut Store,
     at: Moment,
@@ -408,7 +415,7 @@ fn are_resolved(at: Moment, members: &[Member]) -> bool
     true
 }
 
-/// Marks a group as empty since a moment.
+/// Marks a group as empty since a moment. Its timer is removed later, by the clean-up of groups.
 fn mark_empty(store: &mut Store, at: Moment, group: &Spot) -> Result<(), AllocError>
     ensures ok { OnOk result (store.new.state
         ≡ set_clock group.now (λ clock. record clock { empty_since = Some at }) store.old.state) }

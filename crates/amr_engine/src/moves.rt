@@ -1,4 +1,5 @@
-//! The moves up to a moment.
+//! The moves of an event: the timers that fire at or before a moment, the earliest first. A move is
+//! the removal of an alert, the removal of a group, or the flush of a group.
 ghost use Rattle.std.specs.Prelude.{◌≡◌, ◌≤◌, ◌*◌, OnOk, IfOk};
 ghost use Rattle.amr_time.specs.Time.{latest_read};
 ghost use Rattle.amr_state.specs.Kept.{GrownBy, undone};
@@ -11,10 +12,10 @@ use amr_state::{Due, Kind, Spot, Store, next_due};
 use amr_time::Moment;
 use std::alloc::AllocError;
 
-/// The most moves that an event may make.
+/// The most moves that one event may make. It bounds the work of an event far in the future.
 const MOST_MOVES: usize = 10_000;
 
-/// A move makes the change at its own moment.
+/// Makes a move, at its own moment and not at the event's.
 fn make(store: &mut Store, due: Due) -> Result<(), AllocError>
     requires { due.moment ≤ latest_read }
     ensures ok { OnOk result (store.new.state ≡ move due store.old.state) }
@@ -37,7 +38,8 @@ fn make(store: &mut Store, due: Due) -> Result<(), AllocError>
     }
 }
 
-/// Makes all moves due at or before a moment, and counts them; none where there are more than an event may make.
+/// Makes every move due at or before a moment, and returns how many there were. Returns `None` if
+/// there are more than `MOST_MOVES`; the caller then undoes those that were made.
 pub(crate) fn advance(store: &mut Store, at: Moment) -> Result<Option<usize>, AllocError>
     requires { at ≤ latest_read }
     ensures ok { IfOk result (λ made. moves_to store.new.state made

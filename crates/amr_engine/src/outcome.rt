@@ -1,22 +1,22 @@
-//! What an event comes to.
+//! The outcome of an event, as a session or a run prints it.
 ghost use Rattle.std.specs.Prelude.{◌≡◌};
 
 use amr_events::Reason;
 use amr_labels::{Listing, Shared};
 use amr_state::Note;
 
-/// What an event comes to.
+/// The outcome of an event.
 #[derive(Drop)]
 pub enum Outcome {
     Accepted {
         /// How many moves were made up to the event's moment.
         moves: usize,
-        /// The notes that were added, in order.
+        /// The notifications that were appended, in order.
         notes: Listing<Shared<Note>>,
-        /// The places of the posted alerts that are not valid, from 1.
+        /// The positions of the posted alerts that aren't valid, from 1.
         skipped: Listing<usize>,
     },
-    /// The event changes nothing.
+    /// The event is refused, and changes nothing.
     Refused(Reason),
 }
 

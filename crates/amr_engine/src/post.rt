@@ -1,4 +1,5 @@
-//! A post of alerts: which are valid, and storing them.
+//! A post of alerts: sorting out the valid ones before the moves of the event, and storing them
+//! after. Merging is decided by `amr_rules`, grouping by `amr_state`.
 ghost use Rattle.std.specs.Prelude.{◌≡◌, ◌+◌, ◌<◌, OnOk, IfOk};
 ghost use Rattle.std.specs.List.{fold, filter_map};
 ghost use Rattle.amr_labels.specs.Map as map;
@@ -15,14 +16,15 @@ use amr_state::{Store, place};
 use amr_time::{Moment, Span};
 use std::alloc::{AllocError, Global};
 
-/// The alerts of a post that are valid, and the places of the others, from 1.
+/// The valid alerts of a post, and the positions of the others, from 1.
 #[derive(Drop)]
 pub(crate) struct Sifted {
     pub(crate) valid: Vec<(Labels, Alert)>,
     pub(crate) skipped: Listing<usize>,
 }
 
-/// Parts the alerts of a post into those that are valid at a moment, and the places of the others.
+/// Splits the alerts of a post into those that are valid at a moment and the positions of the
+/// others.
 pub(crate) fn sift(
     alloc: Global,
     now: Moment,
@@ -46,7 +48,8 @@ pub(crate) fn sift(
     Ok(Sifted { valid, skipped })
 }
 
-/// What is stored of a new alert.
+/// Returns what is stored of a new alert: it is merged with the stored alert of the same labels, if
+/// there is one.
 #[tactic(auto, unfolding(amr_rules::specs::Alerts::joined))]
 fn joined(store: &Store, labels: &Labels, alert: Alert) -> Alert
     ensures { result
@@ -58,7 +61,7 @@ fn joined(store: &Store, labels: &Labels, alert: Alert) -> Alert
     }
 }
 
-/// A valid alert is joined with the stored one of its labels, stored and placed.
+/// Stores a valid alert, merged with the stored one of its labels, and inserts it into its groups.
 #[tactic(auto, unfolding(crate::specs::Events::put))]
 fn put(store: &mut Store, labels: &Labels, alert: Alert) -> Result<(), AllocError>
     ensures ok { OnOk result (store.new.state ≡ put store.old.state (labels.now, alert)) }
@@ -70,7 +73,7 @@ fn put(store: &mut Store, labels: &Labels, alert: Alert) -> Result<(), AllocErro
     place(store, labels, &stored)
 }
 
-/// The valid alerts are stored, in order.
+/// Stores the valid alerts, in order.
 pub(crate) fn put_all(store: &mut Store, valid: &[(Labels, Alert)]) -> Result<(), AllocError>
     ensures ok { OnOk result (store.new.state ≡ fold put store.old.state valid.now) }
     ensures kept { undone store.new ≡ undone store.old }

@@ -1,4 +1,5 @@
-//! An act before the moves of its event: its own reason against it, or what it is to do.
+//! Preparing an event's action, before the moves: the reason that refuses it, or what it will do.
+//! `apply.rt` calls `prepare` and performs the result after the moves. Nothing is stored here.
 ghost use Rattle.std.specs.Prelude.{◌≡◌, ◌≤◌, ℕ, IfOk};
 ghost use Rattle.amr_time.specs.Time.{latest_read};
 ghost use Rattle.amr_events.specs.Acts.{act_of, by_number};
@@ -12,12 +13,12 @@ use amr_state::Store;
 use amr_time::Moment;
 use std::alloc::AllocError;
 
-/// What an act does after the moves of its event, as far as it is decided before them.
+/// What an action will do after the moves of its event, as far as it is decided before them.
 #[derive(Drop)]
 pub(crate) enum Prepared {
-    /// Puts the alerts of a post that are valid.
+    /// Stores the valid alerts of a post.
     Put(Sifted),
-    /// Stores what a post of a silence was decided to store.
+    /// Stores what was decided of a post of a silence.
     Silence {
         id: Option<SilenceId>,
         new_id: SilenceId,
@@ -28,16 +29,16 @@ pub(crate) enum Prepared {
         id: SilenceId,
         ended: Silence,
     },
-    /// Puts another configuration in force.
+    /// Replaces the configuration.
     Reload(Config),
-    /// Lets time pass.
+    /// Only lets time pass.
     Tick,
 }
 
 ghost use Rattle.amr_state.specs.State.{State};
 ghost use Rattle.amr_engine.specs.Prepared.{IsPrepared};
 
-/// Prepares an act at a moment, or returns the act's own reason against it.
+/// Prepares an action at a moment, or returns the first reason against it.
 pub(crate) fn prepare(
     store: &Store,
     at: Moment,
@@ -55,7 +56,7 @@ pub(crate) fn prepare(
     }
 }
 
-/// Prepares a post of alerts.
+/// Prepares a post of alerts. It is refused if no alert is valid.
 fn prepare_post(
     store: &Store,
     at: Moment,
@@ -93,7 +94,7 @@ fn prepare_silence(
     }
 }
 
-/// Prepares an expiry.
+/// Prepares the expiry of a silence. It is refused if no silence has the id.
 fn prepare_expiry(
     store: &Store,
     at: Moment,
@@ -110,7 +111,7 @@ fn prepare_expiry(
     }
 }
 
-/// Prepares a reload.
+/// Prepares a reload. It is refused if the configuration was.
 fn prepare_reload(read: &Result<Config, Reason>) -> Result<Result<Prepared, Reason>, AllocError>
     ensures { IfOk result (λ prepared. (s : State) (at : ℕ)
         → IsPrepared s at (act.Reload (by_number read.now)) prepared) }

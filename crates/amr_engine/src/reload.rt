@@ -1,4 +1,5 @@
-//! A reload: another configuration, and groups by its tree.
+//! Reloading the configuration. As in Alertmanager, groups don't survive a reload; alerts, silences
+//! and the notification log do.
 ghost use Rattle.std.specs.Prelude.{◌≡◌, ◌*◌, OnOk};
 ghost use Rattle.std.specs.List.{fold};
 ghost use Rattle.amr_state.specs.State.{place};
@@ -12,7 +13,7 @@ use amr_rules::Alert;
 use amr_state::{Store, place, views};
 use std::alloc::AllocError;
 
-/// The alerts become members on their chosen routes, in order.
+/// Inserts alerts into the groups of their chosen routes, in order.
 fn place_all(store: &mut Store, alerts: &[(Labels, Alert)]) -> Result<(), AllocError>
     ensures ok { OnOk result (store.new.state ≡ fold place store.old.state alerts.now) }
     ensures kept { undone store.new ≡ undone store.old }
@@ -24,8 +25,8 @@ fn place_all(store: &mut Store, alerts: &[(Labels, Alert)]) -> Result<(), AllocE
     Ok(())
 }
 
-/// The configuration is in force from now on: all groups are dropped, and every stored alert is placed by the new
-/// tree, resolved ones too.
+/// Replaces the configuration, drops all groups, and inserts every stored alert, resolved ones too,
+/// into groups of the new routing tree.
 #[tactic(auto, unfolding(crate::specs::Events::with_config))]
 pub(crate) fn reload(store: &mut Store, config: Config) -> Result<(), AllocError>
     ensures ok { OnOk result (store.new.state ≡ with_config store.old.state config) }

@@ -1,4 +1,4 @@
-//! Storing what a post of a silence was decided to store.
+//! Storing a posted silence. `amr_rules::set_silence` has decided before what is stored.
 ghost use Rattle.std.specs.Prelude.{◌≡◌, OnOk};
 ghost use Rattle.amr_rules.specs.Silences.{stored_under};
 ghost use Rattle.amr_rules.specs.Silencing.{posting_stored};
@@ -10,8 +10,8 @@ use amr_rules::{Posting, Silence};
 use amr_state::Store;
 use std::alloc::AllocError;
 
-/// Stores what a post of a silence was decided to store: `id` is the silence that the post names, and `new_id` that of
-/// a new one.
+/// Stores what was decided of a post of a silence. `id` is that of the silence it names, and
+/// `new_id` that of a new one.
 pub(crate) fn store_posting(
     store: &mut Store,
     id: Option<SilenceId>,
@@ -33,7 +33,7 @@ pub(crate) fn store_posting(
     }
 }
 
-/// Stores the silence under the id, if there are both.
+/// Stores a silence under an id, if there are both.
 fn store_under(
     store: &mut Store,
     id: Option<SilenceId>,

@@ -1,4 +1,5 @@
-//! The stages of a flush that take alerts away, in their order.
+//! The stages of a flush that mute alerts, in the order of Alertmanager's notification pipeline. A
+//! flush drops the members that one of them mutes, and `explain` names the first that does.
 ghost use Rattle.std.specs.Prelude.{◌≡◌, IfOk};
 ghost use Rattle.amr_engine.specs.Stages.{taken_away};
 
@@ -9,7 +10,8 @@ use amr_state::Store;
 use amr_time::Moment;
 use std::alloc::AllocError;
 
-/// The first stage that takes an alert with these labels away from the route: inhibition, active time, mute time, silences.
+/// Returns the first stage that mutes an alert with these labels on a route: inhibition, active
+/// time intervals, mute time intervals, silences. Returns `None` if none does.
 #[tactic(auto, unfolding(crate::specs::Stages::taken_away))]
 pub(crate) fn taken_away(
     store: &Store,

@@ -1,4 +1,4 @@
--- The moments of an event that is read lie in the range of those that a text may stand for.
+-- The moments of an event that was read are among those that a text can spell.
 use Rattle.std.proofs.Common.{◌≡◌, ℕ, ◌≤◌, Bool, true, false, List, [], ◌∷◌, Option, Some, None, refl, sym, subst, cond, ℤ, pos, negsuc, leb, ltb, eqb, length, ◌+◌, ◌*◌}
 use Rattle.std.specs.Prelude.{◌+ℤ◌, ◌-ℤ◌, ◌*ℤ◌, All, IfSome, option_map, codes}
 use Rattle.std.proofs.lemmas.Bool.{leb-true}

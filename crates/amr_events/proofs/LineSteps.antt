@@ -1,4 +1,4 @@
--- One line after the other, as a loop goes.
+-- One line after another, as the loop reads them.
 use Rattle.std.proofs.Common.{◌≡◌, ℕ, ◌+◌, ◌<◌, ◌≤◌, true, false, List, [], ◌∷◌, ◌++◌, length, take, drop, get_or, refl, sym, ap, ◌∙◌, subst, arith, append-nil, length-append}
 use Rattle.std.specs.Prelude.{not}
 use Rattle.std.specs.List.{AllZip}

@@ -1,4 +1,4 @@
--- A script that has a fault has no other, and reads as no events.
+-- A script with a fault has no other, and can't be read as events.
 use Rattle.std.proofs.Common.{◌≡◌, ℕ, suc, ◌+◌, ◌<◌, ◌≤◌, Bool, true, false, List, [], ◌∷◌, ◌++◌, length, Option, Some, None, Ok, Err, refl, sym, ap, ◌∙◌, arith, append-nil, add-zero, subst}
 use Rattle.std.specs.Prelude.{All, codes, is_none, nat_lt, nat_le, if◌then◌else◌}
 use Rattle.std.specs.List.{AllZip}
@@ -48,7 +48,7 @@ is_event line event is = let stated = event_of_line-stated line event is in ap i
 
 -- ---- the first fault, by one walk
 
--- of the lines from line n on, after so many events
+-- of the lines from line n on, after this many events
 stops : ℕ → ℕ → List Line → Option Fault
 stops n k [] = None
 stops n k (line ∷ lines) =
@@ -89,7 +89,7 @@ GoesOn before after n k events = stops n k (before ++ after) ≡ stops (n + leng
 abbrev AllGoOn : List Line → List Line → Type 0
 AllGoOn before after = (n k : ℕ) (events : List Event) → All IsShort before → AllZip LineIs (event_lines before) events → k + length events ≤ most_events → GoesOn before after n k events
 
--- one line more in front
+-- one more line in front
 past : (b : Bool) (line : Line) (before after : List Line) → AllGoOn before after → (n k : ℕ) (events : List Event) → is_blank line ≡ b → All IsShort (line ∷ before) → AllZip LineIs (event_lines (line ∷ before)) events → k + length events ≤ most_events → GoesOn (line ∷ before) after n k events
 past true line before after go_on n k events blank short read few =
     let rest = subst (λ ls. AllZip LineIs ls events) (event_lines-blank line before blank) read in

@@ -1,4 +1,4 @@
--- A loop over the items of a list, or the members of an object, goes as reading goes.
+-- A loop over the items of a list or the members of an object reads what the definition does.
 use Rattle.std.proofs.Common.{◌≡◌, ℕ, ◌+◌, ◌<◌, ◌≤◌, List, [], ◌∷◌, ◌++◌, length, drop, get_or, Option, Some, None, refl, sym, ap, ◌∙◌, append_assoc, append-nil, String, string_bytes}
 use Rattle.std.specs.declared.alloc.Global.{Global}
 use Rattle.std.proofs.lemmas.List.{at_drop_more, at_drop_all}
@@ -10,7 +10,7 @@ use Rattle.amr_events.specs.Answers.{IsFaulty}
 use Rattle.amr_events.specs.declared.error.LineError.{LineError}
 use Rattle.amr_events.specs.declared.error.LineError.TheVariants.{Memory, Faulty}
 
--- what stood in front, with the rest
+-- what came in front, with the rest
 abbrev pub ahead : {A : Type 0} → List A → Option (List A) → Option (List A)
 ahead front None = None
 ahead front (Some rest) = Some (front ++ rest)
@@ -26,7 +26,7 @@ pub ahead_none : {A : Type 0} (rest : Option (List A)) → ahead [] rest ≡ res
 ahead_none None = refl
 ahead_none (Some xs) = refl
 
--- one more is read, and stands in front
+-- one more is read, and added to the front
 read_more : {A : Type 0} (front : List A) (x : A) (o : Option A) (rest all total : Option (List A)) → all ≡ with_first o rest → o ≡ Some x → ahead front all ≡ total → ahead (front ++ x ∷ []) rest ≡ total
 read_more front x o rest all total is step so_far =
     ahead_push front x rest ∙ sym (ap (λ p. ahead front (with_first p rest)) step) ∙ sym (ap (ahead front) is) ∙ so_far
@@ -54,7 +54,7 @@ module _ {A : Type 0} (reads : Data → Option A) (values : List Value) (i : ℕ
 pub item_all : {A : Type 0} (reads : Data → Option A) (values : List Value) (i : ℕ) (front : List A) (total : Option (List A)) → length values ≤ i → ahead front (each_item reads (items_view (drop i values))) ≡ total → total ≡ Some front
 item_all reads values i front total le so_far = read_all front _ total (at_drop_all (λ vs. each_item reads (items_view vs)) values i le) so_far
 
--- the entries of an object that are left, the first of them under k
+-- the entries of an object that are left; the first is under k
 module _ {A : Type 0} (reads : List ℕ → Data → Option A) (rest more : List (String Global × Value)) (k : String Global) (v : Value) (front : List A) (total : Option (List A)) where
   pub member_more : (x : A) → rest ≡ (k, v) ∷ more → reads (string_bytes k) (view v) ≡ Some x → ahead front (each_member reads (members_view rest)) ≡ total → ahead (front ++ x ∷ []) (each_member reads (members_view more)) ≡ total
   member_more x is step so_far =

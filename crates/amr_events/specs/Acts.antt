@@ -1,4 +1,4 @@
--- What the code's events say.
+-- The actions of the code's events, as actions of the definitions.
 use Rattle.std.specs.Prelude.{Result, Ok, Err}
 use Rattle.amr_time.specs.Time.{Moment}
 use Rattle.amr_config.specs.Config.{Config}

@@ -6,7 +6,7 @@ use Rattle.amr_events.specs.Events as events
 use Rattle.amr_events.specs.Refused.{LineIs}
 use Rattle.amr_events.specs.declared.event.PostedAlert.{PostedAlert}
 
--- the moment is one that a text may stand for
+-- the moment is one that a text can spell
 abbrev pub IsStatable : Moment → Type 0
 IsStatable moment = moment ≤ latest_read
 
@@ -21,7 +21,7 @@ ActIsStatable (events.Act.Expire id) = Unit {0}
 ActIsStatable (events.Act.Reload config) = Unit {0}
 ActIsStatable events.Act.Tick = Unit {0}
 
--- all the moments of the event
+-- all the moments of the event are
 pub record EventIsStatable (event : Event) : Type 0 where
   pub at : IsStatable event.at
   pub act : ActIsStatable event.act

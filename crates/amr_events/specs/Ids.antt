@@ -3,7 +3,7 @@ use Rattle.std.specs.Prelude.{ℕ, List, Option, option_map}
 use Rattle.std.specs.Int.{w128, from_be_bytes, to_be_bytes}
 use Rattle.uuid.specs.Text.{parsed, hyphenated_text, lower}
 
--- the id that a text in one of the four forms stands for
+-- the id that a text in one of the four forms spells
 unfoldable pub id_of : List ℕ → Option ℕ
 id_of text = option_map (from_be_bytes w128) (parsed text)
 

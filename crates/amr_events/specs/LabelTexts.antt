@@ -1,4 +1,4 @@
--- A label set as a text of JSON states it.
+-- A label set as JSON.
 use Rattle.std.specs.Prelude.{ℕ, List, Option}
 use Rattle.amr_labels.specs.Labels.{LabelSet, labels_of_pairs}
 use Rattle.amr_events.specs.Shapes.{◌>>=◌, texts_in}

@@ -1,4 +1,4 @@
--- A line of a script: an object with a moment and one act.
+-- A line of a script: an object with a moment and one action.
 use Rattle.std.specs.Prelude.{ℕ, ◌+◌, ◌==◌, List, Bool, true, false, codes, Option, Some, None, Result, Ok, Err, is_some, if◌then◌else◌}
 use Rattle.std.specs.Str.{is_utf8}
 use Rattle.serde_json.specs.Data.{Data}
@@ -15,31 +15,31 @@ use Rattle.amr_events.specs.Shapes.{◌>>=◌, moment_under}
 use Rattle.amr_events.specs.Posted.{alerts_of}
 use Rattle.amr_events.specs.PostedSilences.{id_at, silence_of}
 
--- the value that a text of JSON stands for
+-- the value that a text of JSON spells
 unfoldable pub json_of : List ℕ → Option Data
 json_of line = if is_utf8 line then read line else None
 
--- 1 where the key stands in the object, whatever its value
+-- 1 if the object has the key, whatever its value
 abbrev pub stands : Text → Data → ℕ
 stands key d = if is_some (get key d) then 1 else 0
 
--- how many acts the object states
+-- how many actions the object has
 unfoldable pub act_count : Data → ℕ
 act_count d = stands (codes "alerts") d + stands (codes "silence") d + stands (codes "expire") d + stands (codes "reload") d + stands (codes "tick") d
 
--- alerts are posted
+-- a post of alerts
 unfoldable pub post_of : Data → Option Act
 post_of d = do
   alerts ← alerts_of d
   Some (events.Act.Post alerts)
 
--- a silence is posted
+-- a post of a silence
 unfoldable pub silencing_of : Data → Data → Option Act
 silencing_of line d = do
   silence ← silence_of line d
   Some (events.Act.Silence silence)
 
--- a silence is expired
+-- an expiry of a silence
 unfoldable pub expiry_of : Data → Option Act
 expiry_of d = do
   id ← id_at d
@@ -50,7 +50,7 @@ abbrev pub numbered : Result Config Refusal → Result Config Reason
 numbered (Ok config) = Ok config
 numbered (Err refusal) = Err (number_of refusal)
 
--- the configuration is changed, or there is the number of what refuses it
+-- a reload, with the configuration or the number of what refuses it
 abbrev pub reload_of : Data → Act
 reload_of d = events.Act.Reload (numbered (config_of d))
 
@@ -58,11 +58,11 @@ abbrev pub tick_if : Bool → Option Act
 tick_if true = Some events.Act.Tick
 tick_if false = None
 
--- time passes
+-- a tick
 unfoldable pub tick_of : Data → Option Act
 tick_of d = as_bool d >>= tick_if
 
--- what stands in a line under `alerts`, `silence`, `expire`, `reload` and `tick`
+-- the action of a line with these members under `alerts`, `silence`, `expire`, `reload` and `tick`
 abbrev pub act_of_stated : Data → Option Data → Option Data → Option Data → Option Data → Option Data → Option Act
 act_of_stated line (Some alerts) silence id config tick = post_of alerts
 act_of_stated line None (Some silence) id config tick = silencing_of line silence
@@ -71,7 +71,7 @@ act_of_stated line None None None (Some config) tick = Some (reload_of config)
 act_of_stated line None None None None (Some tick) = tick_of tick
 act_of_stated line None None None None None = None
 
--- the act that the object states
+-- the action of the object
 unfoldable pub act_in : Data → Option Act
 act_in d =
     if act_count d == 1
@@ -84,6 +84,6 @@ event_in d = do
   act ← act_in d
   Some (record { at = at; act = act })
 
--- the event that a line stands for, all patterns taken as good
+-- the event of a line, if all patterns are good
 unfoldable pub event_of_line : List ℕ → Option Event
 event_of_line line = json_of line >>= event_in

@@ -1,4 +1,4 @@
--- Alerts as a line of a script posts them.
+-- The alerts that a line of a script posts.
 use Rattle.std.specs.Prelude.{ℕ, zero, suc, ◌||◌, ◌==◌, List, [], ◌∷◌, ◌++◌, map, length, reverse, Bool, codes, Option, Some, None, option_map, replicate, if◌then◌else◌}
 use Rattle.std.specs.List.{list_any}
 use Rattle.std.specs.Str.{bytes_eq}
@@ -13,12 +13,12 @@ use Rattle.amr_stated.specs.Members.{present}
 use Rattle.amr_events.specs.Shapes.{◌>>=◌, each_item, texts_in}
 use Rattle.amr_events.specs.declared.event.PostedAlert.{PostedAlert}
 
--- a fraction of so many zeros
+-- a fraction of this many zeros
 abbrev pub zero_fraction : ℕ → Text
 zero_fraction zero = []
 zero_fraction (suc n) = 46 ∷ replicate (suc n) 48
 
--- the first moment of the year 1, with a fraction of so many zeros
+-- the first moment of the year 1, with a fraction of this many zeros
 abbrev pub mark_with : ℕ → Text
 mark_with zeros = codes "0001-01-01T00:00:00" ++ zero_fraction zeros ++ codes "Z"
 
@@ -26,7 +26,7 @@ mark_with zeros = codes "0001-01-01T00:00:00" ++ zero_fraction zeros ++ codes "Z
 abbrev pub missing_marks : List Text
 missing_marks = map mark_with (0 ∷ 1 ∷ 2 ∷ 3 ∷ 4 ∷ 5 ∷ 6 ∷ 7 ∷ 8 ∷ 9 ∷ [])
 
--- the text stands for a time that is not given
+-- the text means a missing time
 unfoldable pub is_missing : Text → Bool
 is_missing text = length text == 0 || list_any (λ mark. bytes_eq mark text) missing_marks
 
@@ -46,7 +46,7 @@ abbrev pub annotations_at : Option Data → Option (List (Text × Text))
 annotations_at None = Some []
 annotations_at (Some d) = texts_in d
 
--- of annotations of one name the last counts
+-- if an annotation is repeated, the last counts
 unfoldable pub annotations_in : Data → Option Annotations
 annotations_in alert = option_map (λ texts. from_entries (reverse texts)) (annotations_at (present (get (codes "annotations") alert)))
 

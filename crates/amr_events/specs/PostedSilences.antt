@@ -1,4 +1,4 @@
--- Silences as a line of a script posts them, all patterns taken as good.
+-- The silence that a line of a script posts, if all patterns are good.
 use Rattle.std.specs.Prelude.{ℕ, List, codes, Bool, true, false, Option, Some, None, option_map, if◌then◌else◌}
 use Rattle.std.specs.List.{list_any}
 use Rattle.serde_json.specs.Data.{Data}
@@ -33,7 +33,7 @@ matchers_of d = do
   items ← as_array d
   each_item matcher_of items
 
--- there are none where a name is empty
+-- there are none if a name is empty
 abbrev pub if_named : List Matcher → Option (List Matcher)
 if_named matchers = if list_any (λ matcher. is_empty matcher.name) matchers then None else Some matchers
 
@@ -41,7 +41,7 @@ if_named matchers = if list_any (λ matcher. is_empty matcher.name) matchers the
 unfoldable pub id_at : Data → Option ℕ
 id_at d = as_str d >>= id_of
 
--- an id as a text; the empty one names none
+-- an id as a text; the empty text names none
 unfoldable pub named_id : Text → Option (Option ℕ)
 named_id text = if is_empty text then Some None else option_map Some (id_of text)
 
@@ -49,11 +49,11 @@ abbrev pub named_id_at : Option Data → Option (Option ℕ)
 named_id_at None = Some None
 named_id_at (Some d) = as_str d >>= named_id
 
--- the silence that the post is to change; none may be named
+-- the silence that the post updates, if it names one
 unfoldable pub named_id_in : Data → Option (Option ℕ)
 named_id_in silence = named_id_at (present (get (codes "id") silence))
 
--- the id of the silence where it is a new one
+-- the id for a new silence
 unfoldable pub new_id_in : Data → Option ℕ
 new_id_in line = get (codes "newId") line >>= id_at
 

@@ -1,4 +1,4 @@
--- What a line reads as where `regex` refuses a pattern in it.
+-- What a line may be read as if `regex` refuses a pattern in it.
 use Rattle.std.specs.Prelude.{◌≡◌, ◌⊎◌, ℕ, List, codes, Option, Some, None, Result, Any}
 use Rattle.serde_json.specs.Data.{Data}
 use Rattle.serde_json.specs.Find.{get}
@@ -19,11 +19,11 @@ pub record MayLack (stated : Option (List Matcher)) : Type 0 where
   pub stated_as : stated ≡ Some matchers
   pub refused : Any MayBeRefused matchers
 
--- the matchers that are read are the stated ones, or none where one is refused
+-- the matchers that are read are those of the line, or none if one is refused
 abbrev pub MatchersAre : Option (List Matcher) → Option (List Matcher) → Type 0
 MatchersAre stated read = (read ≡ stated) ⊎ ((read ≡ None) × MayLack stated)
 
--- a silence is the stated one but for its matchers
+-- the silence is that of the line, except for its matchers
 pub record SilenceIs (stated read : PostedSilence) : Type 0 where
   pub id : read.id ≡ stated.id
   pub new_id : read.new_id ≡ stated.new_id
@@ -31,11 +31,11 @@ pub record SilenceIs (stated read : PostedSilence) : Type 0 where
   pub starts_at : read.starts_at ≡ stated.starts_at
   pub ends_at : read.ends_at ≡ stated.ends_at
 
--- a reload holds what reading its value gives, a refusal as its number
+-- the reload has what reading its value gives, with a refusal as its number
 abbrev pub ReloadIs : Data → Result Config Reason → Type 0
 ReloadIs d reload = (read : Result Config Refusal) × ConfigIs d read × (reload ≡ numbered read)
 
--- the act that is read of an object is the one that it states, but for what `regex` refuses
+-- the action that is read is that of the object, except for what `regex` refuses
 abbrev pub ActIs : Data → Act → Type 0
 ActIs d (events.Act.Post alerts) = act_in d ≡ Some (events.Act.Post alerts)
 ActIs d (events.Act.Silence silence) = (stated : PostedSilence) × (act_in d ≡ Some (events.Act.Silence stated)) × SilenceIs stated silence
@@ -49,8 +49,9 @@ pub record EventIs (d : Data) (event : Event) : Type 0 where
   pub at : moment_under (codes "at") d ≡ Some event.at
   pub act : ActIs d event.act
 
--- The event that is read of a line. It is `event_of_line` of the line, but that a silence has no matchers where `regex`
--- may refuse one of its patterns, and a reload is refused where its configuration may be refused at a pattern.
+-- The event that is read of a line. It is `event_of_line` of the line, except that a silence has no
+-- matchers if `regex` refuses one of its patterns, and that a reload is refused if `regex` refuses
+-- a pattern of its configuration.
 pub record LineIs (line : List ℕ) (event : Event) : Type 0 where
   pub stated : Data
   pub json : json_of line ≡ Some stated

@@ -1,9 +1,9 @@
--- A script is refused exactly where it has no reading.
+-- A script is refused exactly if it can't be read.
 use Rattle.std.specs.Prelude.{◌≡◌, ℕ, List, Result, Err}
 use Rattle.amr_events.specs.Events.{Event}
 use Rattle.amr_events.specs.Scripts.{ScriptIs}
 use Rattle.amr_events.specs.declared.error.Fault.{Fault}
 
--- where a script has a first fault, there is no other, and it reads as no events
+-- a script with a first fault has no other first fault, and can't be read as events
 abbrev pub AFaultIsTheOnlyAnswer : Type 0
 AFaultIsTheOnlyAnswer = (bytes : List ℕ) (fault : Fault) (answer : Result (List Event) Fault) → ScriptIs bytes (Err fault) → ScriptIs bytes answer → answer ≡ Err fault

@@ -24,24 +24,25 @@ longest_line = 1_048_576
 abbrev pub most_events : ℕ
 most_events = 1_000_000
 
--- the lines that are to hold an event
+-- the lines that must hold an event
 abbrev pub event_lines : List (List ℕ) → List (List ℕ)
 event_lines lines = filter (λ line. not (is_blank line)) lines
 
--- The lines read as the events: each line that isn't blank as one of them, in order.
+-- The lines are read as these events: each line that isn't blank as one of them, in order.
 pub record ReadAs (lines : List (List ℕ)) (events : List Event) : Type 0 where
   pub short : All (λ line. length line ≤ longest_line) lines
   pub read : AllZip LineIs (event_lines lines) events
   pub few : length events ≤ most_events
 
--- Line n, after these events, has the fault. A long line is told first, then an event too many.
+-- Line n, after these events, has the fault. A line that is too long comes first, then one event
+-- too many.
 abbrev pub HasFault : ℕ → List ℕ → List Event → Fault → Type 0
 HasFault n line events (LineTooLong m) = (m ≡ n) × (longest_line < length line)
 HasFault n line events TooManyEvents = (length line ≤ longest_line) × (is_blank line ≡ false) × (most_events ≤ length events)
 HasFault n line events (BadLine m) =
     (m ≡ n) × (length line ≤ longest_line) × (is_blank line ≡ false) × (length events < most_events) × (event_of_line line ≡ None)
 
--- The fault is that of some line, and the lines before it read as events. Lines are counted from 1.
+-- The fault is that of some line, and the lines before it can be read. Lines are counted from 1.
 pub record HasFirstFault (lines : List (List ℕ)) (fault : Fault) : Type 0 where
   pub before : List (List ℕ)
   pub line : List ℕ
@@ -56,7 +57,7 @@ abbrev pub ScriptIs : List ℕ → Result (List Event) Fault → Type 0
 ScriptIs bytes (Ok events) = ReadAs (lines_of bytes) events
 ScriptIs bytes (Err fault) = HasFirstFault (lines_of bytes) fault
 
--- the event of a line that stands alone, or its fault
+-- the event of a line on its own, or its fault
 abbrev pub OnlyLineIs : List ℕ → Result Event Fault → Type 0
 OnlyLineIs line (Ok event) = LineIs line event
 OnlyLineIs line (Err fault) = (fault ≡ BadLine 1) × (event_of_line line ≡ None)

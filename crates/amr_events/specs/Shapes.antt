@@ -1,4 +1,4 @@
--- Shapes of JSON values. There is nothing where a value has another shape.
+-- Parts of JSON values. There is none if a value has another shape.
 use Rattle.std.specs.Prelude.{List, [], ◌∷◌, Bool, Option, Some, None}
 use Rattle.serde_json.specs.Data.{Data, null, boolean, number, string, array, object, Items, no_items, item, Members, no_members, member}
 use Rattle.serde_json.specs.Find.{get, as_bool, as_str, as_object}
@@ -47,7 +47,7 @@ abbrev pub flag_at : Bool → Option Data → Option Bool
 flag_at default None = Some default
 flag_at default (Some d) = as_bool d
 
--- the boolean under a key; where the key is absent there is a default
+-- the boolean under a key; if the key is absent, the default
 unfoldable pub flag_under : Text → Bool → Data → Option Bool
 flag_under key default d = flag_at default (get key d)
 

@@ -1,4 +1,4 @@
-//! Why a text is no script.
+//! The faults of a script, and the errors of reading one.
 ghost use Rattle.std.specs.Prelude.{◌≡◌};
 ghost use Rattle.amr_events.specs.Faults.{fault_number};
 
@@ -17,7 +17,7 @@ pub enum Fault {
 }
 
 impl Fault {
-    /// The number that is printed.
+    /// Returns the number that is printed.
     pub fn number(self) -> u64
         ensures { result ≡ fault_number self }
     {
@@ -29,10 +29,10 @@ impl Fault {
     }
 }
 
-/// Why no script is read.
+/// Why a script isn't read.
 #[derive(Debug, Drop)]
 pub enum ScriptError {
-    /// There is no memory.
+    /// An allocation failed.
     Memory,
     Refused(Fault),
 }
@@ -59,12 +59,12 @@ impl<T: Drop> From<AllocFailed<T>> for ScriptError {
     }
 }
 
-/// Why a line, or a text within one, is not read.
+/// Why a line, or a value in it, isn't read.
 #[derive(Debug, Drop)]
 pub enum LineError {
-    /// There is no memory.
+    /// An allocation failed.
     Memory,
-    /// The text has another shape.
+    /// The text doesn't have the shape that is wanted.
     Faulty,
 }
 

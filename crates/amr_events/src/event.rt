@@ -1,4 +1,5 @@
-//! An event: a moment and what happens then.
+//! An event: a moment, and an action at that moment. The engine applies events; they don't know the
+//! state.
 ghost use Rattle.std.specs.Prelude.{◌≡◌, ◌≤◌};
 ghost use Rattle.amr_time.specs.Time.{latest_read};
 
@@ -13,45 +14,48 @@ use std::marker::Model;
 /// An alert as it is posted (a postable alert of Alertmanager's API v2). Its times may be missing.
 #[derive(Debug, Drop)]
 pub struct PostedAlert {
-    /// Names with values as they are posted, in the byte order of the names. Empty ones are kept.
+    /// The names with their values, in the byte order of the names. Empty values are kept here;
+    /// they are dropped when the post is made.
     pub labels: Listing<(Text, Text)>,
     pub annotations: TextMap,
-    /// None where it is missing.
+    /// The start, if the post gives one.
     pub starts_at: Option<Moment>,
-    /// None where it is missing.
+    /// The end, if the post gives one.
     pub ends_at: Option<Moment>,
 }
 
 /// A silence as it is posted (a postable silence of Alertmanager's API v2).
 #[derive(Debug, Drop)]
 pub struct PostedSilence {
-    /// The stored silence that the post is to change.
+    /// The stored silence that the post updates, if it names one.
     pub id: Option<SilenceId>,
-    /// The id of the silence where it is a new one.
+    /// The id for a new silence. A script gives it, because nothing here is random.
     pub new_id: SilenceId,
-    /// None where a name is empty, or `regex` refused a pattern.
+    /// The matchers; `None` if a name is empty or `regex` refused a pattern, which makes the
+    /// silence invalid.
     pub matchers: Option<Matchers>,
     pub starts_at: Moment,
-    /// The silence is over at this moment and from then on.
+    /// The end of the silence. It is expired from this moment on.
     pub ends_at: Moment,
 }
 
-/// What happens at an event.
+/// The action of an event.
 #[derive(Debug, Drop)]
 pub enum Act {
-    /// Alerts are posted.
+    /// Posts alerts.
     Post(Listing<PostedAlert>),
-    /// A silence is posted.
+    /// Posts a silence.
     Silence(PostedSilence),
-    /// The silence with the id is expired.
+    /// Expires the silence with this id.
     Expire(SilenceId),
-    /// The configuration is changed for this one. There is the reason where it can't be loaded.
+    /// Replaces the configuration, unless it can't be loaded for this reason.
     Reload(Result<Config, Reason>),
-    /// Time passes.
+    /// Lets time pass.
     Tick,
 }
 
-/// Something that happens at a moment. The moment is one that a script can state.
+/// An action at a moment. The moment is one that a script can have, from 1970 to the end of the
+/// year 8999.
 #[derive(Debug, Drop)]
 pub struct Event {
     at: Moment,
@@ -79,7 +83,7 @@ impl Model for Event {
 impl Event {
     ghost use Rattle.amr_events.specs.Acts.{act_of, event_at};
 
-    /// The event of an act at a moment.
+    /// Returns the event of an action at a moment.
     pub fn new(at: Moment, act: Act) -> Event
         requires { at ≤ latest_read }
         ensures { result ≡ event_at at (act_of act) }
@@ -87,7 +91,7 @@ impl Event {
         Event { at, act }
     }
 
-    /// When it happens.
+    /// Returns the moment of the event.
     pub fn at(&self) -> Moment
         ensures value { result ≡ self.now.at }
         ensures bound { result ≤ latest_read }
@@ -95,7 +99,7 @@ impl Event {
         self.at
     }
 
-    /// What happens.
+    /// Returns the action.
     pub fn act(&self) -> &Act
         ensures { act_of result.now ≡ self.now.act }
     {

@@ -1,4 +1,4 @@
-//! A label set as an object of texts.
+//! Reading a label set from JSON, for the command `explain`.
 ghost use Rattle.amr_events.specs.Answers.{Reads};
 ghost use Rattle.amr_events.specs.LabelTexts.{labels_in};
 
@@ -8,8 +8,9 @@ use crate::shapes::texts;
 use amr_labels::Labels;
 use std::alloc::Global;
 
-/// The label set of a text of JSON, which is an object of texts (`LabelSet` of Alertmanager's API v2). Of members of one name the last
-/// counts, and a label whose value is empty is dropped. Any other text is faulty, and so is an empty name that is left.
+/// Reads a label set from a JSON object of texts (`LabelSet` of Alertmanager's API v2). If a name
+/// is repeated, the last value counts, and a label with an empty value is dropped. It fails with
+/// any other JSON, and if the name of a label that is left is empty.
 #[tactic(auto, unfolding(crate::specs::LabelTexts::labels_in))]
 pub fn read_labels(alloc: Global, text: &[u8]) -> Result<Labels, LineError>
     ensures { Reads (λ labels. labels) result (labels_in text.now) }

@@ -1,4 +1,5 @@
-//! A line of a script: an object with a moment and one act.
+//! Reading a line of a script: an object with a moment and exactly one action. `Event::read` in
+//! `script.rt` says which keys it has.
 ghost use Rattle.std.specs.Prelude.{◌≡◌, codes, option_map, IfOk};
 ghost use Rattle.serde_json.specs.View.{view};
 ghost use Rattle.amr_events.specs.Answers.{Reads, ReadsSuch};
@@ -18,7 +19,7 @@ use amr_stated::ConfigError;
 use serde_json::Value;
 use std::alloc::{AllocError, Global};
 
-/// The value that a text of JSON stands for.
+/// Returns the JSON value that a text spells.
 #[tactic(auto, unfolding(crate::specs::Lines::json_of))]
 pub(crate) fn json(alloc: Global, line: &[u8]) -> Result<Value, LineError>
     ensures { Reads view result (json_of line.now) }
@@ -35,14 +36,14 @@ pub(crate) fn json(alloc: Global, line: &[u8]) -> Result<Value, LineError>
     }
 }
 
-/// 1 where the key stands in the object, whatever its value.
+/// Returns 1 if the object has the key, whatever its value, and else 0.
 fn stands(value: &Value, key: &str) -> u64
     ensures { result ≡ stands_in key.now (view value.now) }
 {
     u64::from(value.get(key).is_some())
 }
 
-/// How many acts the object states.
+/// Returns how many actions the object has.
 #[tactic(auto, unfolding(crate::specs::Lines::act_count))]
 fn act_count(value: &Value) -> u64
     ensures { result ≡ count_of_acts (view value.now) }
@@ -54,7 +55,7 @@ fn act_count(value: &Value) -> u64
         + stands(value, "tick")
 }
 
-/// Time passes.
+/// Reads a tick, which must be `true`.
 #[tactic(auto, unfolding(crate::specs::Lines::tick_of))]
 fn tick(value: &Value) -> Result<(), LineError>
     ensures { Reads (λ _. events.Act.Tick) result (tick_of (view value.now)) }
@@ -65,7 +66,7 @@ fn tick(value: &Value) -> Result<(), LineError>
     }
 }
 
-/// The configuration that a reload states, or why it can't be loaded.
+/// Reads the configuration of a reload, or returns why it can't be loaded.
 fn reload(alloc: Global, value: &Value) -> Result<Result<Config, Reason>, AllocError>
     ensures { IfOk result (λ read. ReloadIs (view value.now) (by_number read)) }
 {
@@ -76,7 +77,7 @@ fn reload(alloc: Global, value: &Value) -> Result<Result<Config, Reason>, AllocE
     }
 }
 
-/// The act that the object states.
+/// Reads the action of the object. It fails unless there is exactly one.
 #[tactic(auto, unfolding(crate::specs::Lines::act_in, crate::specs::Lines::post_of, crate::specs::Lines::silencing_of, crate::specs::Lines::expiry_of))]
 fn act(alloc: Global, line: &Value) -> Result<Act, LineError>
     ensures { ReadsSuch (λ act. ActIs (view line.now) (act_of act)) result
@@ -111,7 +112,7 @@ fn event(alloc: Global, line: &Value) -> Result<Event, LineError>
     Ok(Event::new(at, act))
 }
 
-/// The event that a line stands for.
+/// Reads the event of a line.
 #[tactic(auto, unfolding(crate::specs::Lines::event_of_line))]
 pub(crate) fn read_line(alloc: Global, line: &[u8]) -> Result<Event, LineError>
     ensures { ReadsSuch (λ event. LineIs line.now event) result (event_of_line line.now) }

@@ -1,4 +1,4 @@
-//! Posted alerts, as a line of a script has them.
+//! Reading posted alerts from a line of a script.
 ghost use Rattle.std.specs.Prelude.{◌≡◌, option_map};
 ghost use Rattle.std.specs.Result.{result_ok};
 ghost use Rattle.serde_json.specs.View.{view};
@@ -13,7 +13,7 @@ use amr_time::{BadTime, Moment, read_moment};
 use serde_json::Value;
 use std::alloc::Global;
 
-/// The first moment of the year 1, as Alertmanager writes a time that is not given.
+/// The first moment of the year 1, which Alertmanager writes for a missing time (Go's zero time).
 const MISSING_MARKS: [&str; 10] = [
     "0001-01-01T00:00:00Z",
     "0001-01-01T00:00:00.0Z",
@@ -27,7 +27,7 @@ const MISSING_MARKS: [&str; 10] = [
     "0001-01-01T00:00:00.000000000Z",
 ];
 
-/// Whether the text stands for a time that is not given.
+/// Returns whether the text means a missing time.
 #[tactic(auto, unfolding(crate::specs::Posted::is_missing))]
 fn is_missing(text: &str) -> bool
     ensures { result ≡ is_missing_text text.now }
@@ -46,7 +46,7 @@ fn time_of(text: &str) -> Result<Option<Moment>, BadTime>
     Ok(Some(moment))
 }
 
-/// The time under a key. It may be missing.
+/// Reads the time under a key, if the alert has one.
 #[tactic(auto, unfolding(crate::specs::Posted::time_in))]
 fn time(alert: &Value, key: &str) -> Result<Option<Moment>, BadTime>
     ensures { result_ok result ≡ time_in key.now (view alert.now) }
@@ -85,7 +85,7 @@ fn alert(alloc: Global, alert: &Value) -> Result<PostedAlert, LineError>
     })
 }
 
-/// The alerts of a list, in order.
+/// Reads a list of posted alerts, in order.
 #[tactic(auto, unfolding(crate::specs::Posted::alerts_of))]
 pub(crate) fn alerts(alloc: Global, value: &Value) -> Result<Listing<PostedAlert>, LineError>
     ensures { Reads (λ alerts. alerts) result (alerts_of (view value.now)) }

@@ -1,4 +1,5 @@
-//! Posted silences, as a line of a script has them.
+//! Reading posted silences from a line of a script. The shape is checked first, and patterns are
+//! built last, each once.
 ghost use Rattle.std.specs.Prelude.{◌≡◌, codes, option_map, IfOk, IsErrOf, Any};
 ghost use Rattle.std.specs.List.{list_any};
 ghost use Rattle.serde_json.specs.View.{view};
@@ -21,7 +22,7 @@ use serde_json::Value;
 use std::alloc::{AllocError, Global};
 use std::marker::Model;
 
-/// A matcher as it is stated; its pattern is not read yet.
+/// A matcher as the line has it. Its pattern isn't built yet.
 #[derive(Drop)]
 struct StatedMatcher {
     name: Text,
@@ -37,7 +38,7 @@ impl Model for StatedMatcher {
     ghost view = { λ stated. record { name = stated.name; operator = stated.operator; value = stated.value } };
 }
 
-/// The operator by `isRegex` and `isEqual`.
+/// Returns the operator for `isRegex` and `isEqual` of the API.
 fn operator(is_regex: bool, is_equal: bool) -> Operator
     ensures { result ≡ operator_by is_regex is_equal }
 {
@@ -64,7 +65,7 @@ fn matcher(alloc: Global, value: &Value) -> Result<StatedMatcher, LineError>
     })
 }
 
-/// The matchers of a list, in order.
+/// Reads a list of matchers, in order.
 #[tactic(auto, unfolding(crate::specs::PostedSilences::matchers_of))]
 fn matchers(alloc: Global, value: &Value) -> Result<Vec<StatedMatcher>, LineError>
     ensures { Reads (λ matchers. matchers.items) result (matchers_of (view value.now)) }
@@ -78,7 +79,7 @@ fn matchers(alloc: Global, value: &Value) -> Result<Vec<StatedMatcher>, LineErro
 }
 
 impl StatedMatcher {
-    /// Reads the pattern.
+    /// Builds the pattern.
     fn build(&self, alloc: Global) -> Result<Matcher, MatcherError>
         ensures made { IfOk result (λ matcher. matcher ≡ self.now) }
         ensures refused { IsErrOf result BadPattern → MayBeRefused self.now }
@@ -92,7 +93,7 @@ impl StatedMatcher {
     }
 }
 
-/// Reads the patterns, each once.
+/// Builds the patterns, each once.
 fn build(alloc: Global, stated: &[StatedMatcher]) -> Result<Matchers, MatcherError>
     ensures made { IfOk result (λ matchers. matchers ≡ stated.now) }
     ensures refused { IsErrOf result BadPattern → Any MayBeRefused stated.now }
@@ -104,14 +105,14 @@ fn build(alloc: Global, stated: &[StatedMatcher]) -> Result<Matchers, MatcherErr
     Ok(Matchers::from_vec(alloc, matchers)?)
 }
 
-/// Whether a matcher has no name.
+/// Returns whether some matcher has an empty name.
 fn some_nameless(stated: &[StatedMatcher]) -> bool
     ensures { result ≡ list_any (λ matcher. is_empty matcher.name) stated.now }
 {
     stated.iter().any(|matcher| matcher.name.is_empty())
 }
 
-/// The matchers; none where a name is empty, or `regex` refuses a pattern.
+/// Returns the matchers, or `None` if a name is empty or `regex` refuses a pattern.
 fn built_matchers(alloc: Global, stated: &[StatedMatcher]) -> Result<Option<Matchers>, AllocError>
     ensures { IfOk result (λ matchers. MatchersAre (if_named stated.now) matchers) }
 {
@@ -125,7 +126,7 @@ fn built_matchers(alloc: Global, stated: &[StatedMatcher]) -> Result<Option<Matc
     }
 }
 
-/// An id.
+/// Reads the id of a silence.
 #[tactic(auto, unfolding(crate::specs::PostedSilences::id_at))]
 pub(crate) fn id(value: &Value) -> Result<SilenceId, LineError>
     ensures { Reads (λ id. id) result (id_at (view value.now)) }
@@ -134,7 +135,7 @@ pub(crate) fn id(value: &Value) -> Result<SilenceId, LineError>
     SilenceId::read(text).ok_or(LineError::Faulty)
 }
 
-/// An id as a text; the empty one names none.
+/// Reads an id from a text. The empty text names none, as in the API.
 #[tactic(auto, unfolding(crate::specs::PostedSilences::named_id))]
 fn named_id(text: &str) -> Result<Option<SilenceId>, LineError>
     ensures { Reads (λ id. id) result (named_id_of text.now) }
@@ -146,7 +147,7 @@ fn named_id(text: &str) -> Result<Option<SilenceId>, LineError>
     Ok(Some(id))
 }
 
-/// The silence that the post is to change. None may be named.
+/// Reads the id of the silence that the post updates, if it names one.
 #[tactic(auto, unfolding(crate::specs::PostedSilences::named_id_in))]
 fn changed_id(silence: &Value) -> Result<Option<SilenceId>, LineError>
     ensures { Reads (λ id. id) result (named_id_in (view silence.now)) }
@@ -157,7 +158,7 @@ fn changed_id(silence: &Value) -> Result<Option<SilenceId>, LineError>
     }
 }
 
-/// The id of the silence where it is a new one.
+/// Reads the id for a new silence.
 #[tactic(auto, unfolding(crate::specs::PostedSilences::new_id_in))]
 fn new_id(line: &Value) -> Result<SilenceId, LineError>
     ensures { Reads (λ id. id) result (new_id_in (view line.now)) }
@@ -165,7 +166,7 @@ fn new_id(line: &Value) -> Result<SilenceId, LineError>
     id(line.get("newId").ok_or(LineError::Faulty)?)
 }
 
-/// The silence that a line posts. The line has the new id beside it.
+/// Reads the silence that a line posts. The line has `newId` beside it.
 #[tactic(auto, unfolding(crate::specs::PostedSilences::silence_of))]
 pub(crate) fn silence(
     alloc: Global,

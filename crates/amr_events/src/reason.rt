@@ -1,4 +1,4 @@
-//! Why an event is refused.
+//! The reasons that refuse an event. `docs/FORMATS.md` lists their numbers.
 ghost use Rattle.std.specs.Prelude.{◌≡◌};
 ghost use Rattle.amr_stated.specs.Numbers.{number_of};
 ghost use Rattle.amr_events.specs.Reasons.{reason_number};
@@ -8,36 +8,36 @@ use amr_stated::Refusal;
 /// Why an event is refused. A refused event changes nothing.
 #[derive(Clone, Copy, Debug, PartialEq, Eq)]
 pub enum Reason {
-    /// A configuration has a faulty place.
+    /// The configuration has a faulty place.
     BadConfig,
-    /// A configuration names a receiver that it does not have.
+    /// The configuration names a receiver that it doesn't have.
     UnknownReceiver,
-    /// A configuration has two receivers of one name.
+    /// The configuration has two receivers of the same name.
     DuplicateReceiver,
-    /// A configuration's root route states what a root may not, or no receiver.
+    /// The configuration's root route has matchers, `continue` or time intervals, or no receiver.
     RootRoute,
-    /// A configuration states an interval of no length.
+    /// The configuration has `group_interval` or `repeat_interval` zero.
     ZeroInterval,
-    /// A configuration groups by an empty or a repeated name, or by `...` beside others.
+    /// The configuration groups by an empty or a repeated name, or by `...` beside other names.
     BadGroupBy,
-    /// A configuration's tree has more than 32 levels.
+    /// The configuration's routing tree has more than 32 levels.
     TooDeep,
     /// No alert of a post is valid.
     BadAlert,
-    /// A silence may not be posted as it is.
+    /// The posted silence isn't valid now.
     BadSilence,
     /// No silence has the id.
     UnknownSilence,
-    /// A silence has the id already.
+    /// A silence with the id of the new one is stored already.
     SilenceIdTaken,
-    /// The event lies before the clock.
+    /// The event is before the clock.
     Backwards,
     /// More moves are due than one event may make.
     TooManyMoves,
 }
 
 impl Reason {
-    /// The reason that refuses the reload of a configuration.
+    /// Returns the reason that refuses the reload of a faulty configuration.
     pub(crate) fn of_refusal(refusal: &Refusal) -> Reason
         ensures { reason_number result ≡ number_of refusal.now }
     {
@@ -52,7 +52,7 @@ impl Reason {
         }
     }
 
-    /// The number that is printed.
+    /// Returns the number that is printed.
     pub fn number(self) -> u64
         ensures { result ≡ reason_number self }
     {

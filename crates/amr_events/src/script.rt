@@ -1,4 +1,5 @@
-//! Scripts: events, a line each.
+//! Scripts: JSON lines, each an event. The program reads a whole script before it applies its first
+//! event, so that a faulty one does nothing.
 ghost use Rattle.std.specs.Prelude.{◌≡◌, ◌<◌, ◌==◌, length, Some, OnOk, Err};
 ghost use Rattle.std.specs.List.{slice_get};
 ghost use Rattle.std.specs.Global.{Vec};
@@ -32,13 +33,13 @@ impl Model for Script {
     ghost view = { λ script. script.events };
 }
 
-/// The longest line, in bytes before its end.
+/// The longest line, in bytes before its line feed.
 const LONGEST_LINE: usize = 1_048_576;
 
 /// The most events of a script.
 const MOST_EVENTS: usize = 1_000_000;
 
-/// Whether there is nothing but JSON's white space.
+/// Returns whether a line has nothing but JSON's white space.
 fn is_blank(line: &[u8]) -> bool
     ensures { result ≡ is_blank_line line.now }
 {
@@ -46,7 +47,7 @@ fn is_blank(line: &[u8]) -> bool
         .all(|byte| matches!(*byte, b' ' | b'\t' | b'\n' | b'\r'))
 }
 
-/// Takes one line more.
+/// Reads one more line, and appends its event unless it is blank.
 fn add_line(
     alloc: Global,
     number: u64,
@@ -76,22 +77,24 @@ fn add_line(
 }
 
 impl Event {
-    /// Reads one line of a script; the line's number in a fault is 1.
+    /// Reads one line of a script; its number in a fault is 1.
     ///
-    /// A line is an object with a moment (RFC 3339) under `at` and exactly one act:
+    /// A line is an object with a moment (RFC 3339) under `at` and exactly one action:
     ///
-    /// - `alerts`, a list of postable alerts (Alertmanager's API v2). An alert has `labels`, an object of texts, and may
-    ///   have `annotations`, an object of texts, `startsAt` and `endsAt`. A time is missing where it is absent, `null`,
-    ///   empty, or `0001-01-01T00:00:00Z`, also with a fraction of 1 to 9 zeros.
-    /// - `silence`, a postable silence, with `newId`, a UUID, beside it in the line. A silence has `startsAt`, `endsAt`,
-    ///   a list of `matchers`, each with the texts `name` and `value` and the booleans `isRegex` (false where it is
-    ///   absent) and `isEqual` (true where it is absent), and may have an `id`, a UUID. Its patterns are read here, once:
-    ///   there are no matchers where a name is empty or a pattern can't be read.
+    /// - `alerts`, a list of postable alerts (Alertmanager's API v2). An alert has `labels`, an
+    ///   object of texts, and may have `annotations`, an object of texts, `startsAt` and `endsAt`.
+    ///   A time is missing if it is absent, `null`, empty, or `0001-01-01T00:00:00Z`, also with a
+    ///   fraction of 1 to 9 zeros.
+    /// - `silence`, a postable silence, with `newId`, a UUID, beside it in the line. A silence has
+    ///   `startsAt`, `endsAt`, a list of `matchers`, each with the texts `name` and `value` and the
+    ///   booleans `isRegex` (false by default) and `isEqual` (true by default), and may have an
+    ///   `id`, a UUID. Its patterns are built here, once: there are no matchers if a name is empty
+    ///   or a pattern is refused.
     /// - `expire`, a UUID.
-    /// - `reload`, a configuration of any shape. It is judged here, once.
+    /// - `reload`, a configuration of any shape. It is validated here, once.
     /// - `tick`, which is `true`.
     ///
-    /// Other keys are ignored. Of members of one name the last counts.
+    /// Other keys are ignored. If a name is repeated in an object, the last member counts.
     pub fn read(alloc: Global, line: &[u8]) -> Result<Event, ScriptError>
         ensures { Answers (OnlyLineIs line.now) result }
     {
@@ -106,9 +109,10 @@ impl Event {
 impl Script {
     /// Reads a script: JSON lines (jsonlines.org), each an event as `Event::read` reads it.
     ///
-    /// A line feed ends a line; the last may lack it. Lines of JSON's white space alone are passed over, and
-    /// counted in line numbers. A line has at most 1,048,576 bytes, and a script at most 1,000,000 events. The first
-    /// faulty line decides: one that is too long, then an event too many, then a line that is no event.
+    /// A line feed ends a line; the last line may lack it. Lines of nothing but JSON's white space
+    /// are skipped, but counted. A line has at most 1,048,576 bytes, and a script at most 1,000,000
+    /// events. It fails with the first faulty line: one that is too long, then one event too many,
+    /// then a line that isn't an event.
     pub fn read(alloc: Global, bytes: &[u8]) -> Result<Script, ScriptError>
         ensures { Answers (ScriptIs bytes.now) result }
     {
@@ -123,21 +127,21 @@ impl Script {
         })
     }
 
-    /// How many events there are.
+    /// Returns the number of events.
     pub fn len(&self) -> usize
         ensures { result ≡ length self.now }
     {
         self.events.len()
     }
 
-    /// Whether there is no event.
+    /// Returns whether there is no event.
     pub fn is_empty(&self) -> bool
         ensures { result ≡ (length self.now == 0) }
     {
         self.events.is_empty()
     }
 
-    /// The event of this number, from 0.
+    /// Returns an event by its number, from 0.
     pub fn event(&self, number: usize) -> &Event
         requires { number < length self.now }
         ensures { slice_get self.now number ≡ Some result.now }

@@ -1,4 +1,4 @@
-//! Shapes of JSON values.
+//! Reading parts of JSON values. Each function fails if the value has another shape.
 ghost use Rattle.std.specs.Prelude.{◌≡◌, ◌≤◌, option_map, IfOk};
 ghost use Rattle.serde_json.specs.View.{view};
 ghost use Rattle.serde_json.specs.Find.{get};
@@ -13,7 +13,7 @@ use amr_time::{Moment, read_moment};
 use serde_json::Value;
 use std::alloc::Global;
 
-/// The member of an object that isn't `null`.
+/// Returns the member of an object under a key, unless it is `null`.
 pub(crate) fn member<'v>(value: &'v Value, key: &str) -> Option<&'v Value>
     ensures { option_map (λ v. view v.now) result ≡ present (get key.now (view value.now)) }
 {
@@ -23,7 +23,7 @@ pub(crate) fn member<'v>(value: &'v Value, key: &str) -> Option<&'v Value>
     }
 }
 
-/// A name with the text under it.
+/// Reads a text, and returns it with its name.
 #[tactic(auto, unfolding(crate::specs::Shapes::named_text))]
 fn named_text(alloc: Global, name: &str, value: &Value) -> Result<(Text, Text), LineError>
     ensures { Reads (λ pair. pair) result (named_text name.now (view value.now)) }
@@ -32,7 +32,7 @@ fn named_text(alloc: Global, name: &str, value: &Value) -> Result<(Text, Text), 
     Ok((Text::from_str(alloc, name)?, Text::from_str(alloc, text)?))
 }
 
-/// The names and texts of an object of texts, in the order of the names.
+/// Reads an object of texts, and returns its names and texts in the order of the names.
 #[tactic(auto, unfolding(crate::specs::Shapes::texts_in))]
 pub(crate) fn texts(alloc: Global, value: &Value) -> Result<Vec<(Text, Text)>, LineError>
     ensures { Reads (λ v. v.items) result (texts_in (view value.now)) }
@@ -45,7 +45,7 @@ pub(crate) fn texts(alloc: Global, value: &Value) -> Result<Vec<(Text, Text)>, L
     Ok(texts)
 }
 
-/// The text under a key.
+/// Reads the text under a key.
 #[tactic(auto, unfolding(crate::specs::Shapes::text_under))]
 pub(crate) fn text(alloc: Global, value: &Value, key: &str) -> Result<Text, LineError>
     ensures { Reads (λ text. text) result (text_under key.now (view value.now)) }
@@ -55,7 +55,7 @@ pub(crate) fn text(alloc: Global, value: &Value, key: &str) -> Result<Text, Line
     Ok(Text::from_str(alloc, text)?)
 }
 
-/// The boolean under a key, or the default where the key is absent.
+/// Reads the boolean under a key, or returns the default if the key is absent.
 #[tactic(auto, unfolding(crate::specs::Shapes::flag_under))]
 pub(crate) fn flag(value: &Value, key: &str, default: bool) -> Result<bool, LineError>
     ensures { Reads (λ flag. flag) result (flag_under key.now default (view value.now)) }
@@ -66,7 +66,7 @@ pub(crate) fn flag(value: &Value, key: &str, default: bool) -> Result<bool, Line
     }
 }
 
-/// The moment under a key.
+/// Reads the moment under a key, in RFC 3339.
 #[tactic(auto, unfolding(crate::specs::Shapes::moment_under))]
 pub(crate) fn moment(value: &Value, key: &str) -> Result<Moment, LineError>
     ensures value { Reads (λ m. m) result (moment_under key.now (view value.now)) }

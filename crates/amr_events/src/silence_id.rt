@@ -1,4 +1,4 @@
-//! Ids of silences.
+//! The ids of silences, which are UUIDs.
 ghost use Rattle.std.specs.Prelude.{◌≡◌, IfOk, option_map, string_bytes};
 ghost use Rattle.std.proofs.Common.{rules};
 ghost use Rattle.std.specs.Cmp.{partial_order_from_own_ties};
@@ -13,7 +13,7 @@ use std::cmp::Ordering;
 use std::marker::Model;
 use uuid::Uuid;
 
-/// The id of a silence, as a number: the 128 bits of its UUID.
+/// The id of a silence: the 128 bits of its UUID.
 #[derive(Clone, Copy, Debug)]
 pub struct SilenceId {
     bits: u128,
@@ -30,8 +30,9 @@ impl Model for SilenceId {
 }
 
 impl SilenceId {
-    /// Reads a UUID (RFC 9562) in one of four forms: 32 hexadecimal digits, these hyphenated as 8-4-4-4-12, and the
-    /// hyphenated form in braces or after `urn:uuid:`. Digits and the prefix are read in either case.
+    /// Reads a UUID (RFC 9562) in one of four forms: 32 hexadecimal digits, these hyphenated as
+    /// 8-4-4-4-12, and the hyphenated form in braces or after `urn:uuid:`. Digits and the prefix
+    /// may be in either case. Returns `None` for any other text.
     pub fn read(text: &str) -> Option<SilenceId>
         ensures { result ≡ id_of text.now }
     {
@@ -41,7 +42,7 @@ impl SilenceId {
         }
     }
 
-    /// The UUID hyphenated, in lower case.
+    /// Returns the UUID hyphenated, in lower case, as Alertmanager prints it.
     pub fn text(self, alloc: Global) -> Result<String, AllocError>
         ensures { IfOk result (λ text. string_bytes text ≡ id_text self) }
     {

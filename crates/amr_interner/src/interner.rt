@@ -1,4 +1,4 @@
-//! Label sets, numbered in order of first sight.
+//! Numbers for label sets, in order of first sight. No crate uses this yet.
 ghost use Rattle.std.specs.Prelude.{◌≡◌, ◌<◌, [], length, Some, IfOk, OnOk, OnErr, IfSome, IfNone, slice_get, false};
 ghost use Rattle.std.specs.List.{IsDistinct, list_any};
 ghost use Rattle.std.specs.Ordering.{eq_by_cmp};
@@ -10,7 +10,8 @@ use indexmap::IndexSet;
 use std::alloc::{AllocError, Global};
 use std::marker::Model;
 
-/// Label sets, each under the number of label sets that were seen before it. Contracts see the list of the label sets, none of which stands in it twice.
+/// Label sets, each with the number of label sets that were seen before it. Contracts see the list
+/// of the label sets, in which none is repeated.
 #[derive(Drop)]
 pub struct Interner {
     seen: IndexSet<Labels>,
@@ -34,7 +35,7 @@ impl Model for Interner {
 }
 
 impl Interner {
-    /// No label set was seen.
+    /// Returns an interner that has seen no label set.
     pub fn new(alloc: Global) -> Interner
         ensures { result ≡ [] }
     {
@@ -43,7 +44,7 @@ impl Interner {
         }
     }
 
-    /// The number of the label set, new or known.
+    /// Returns the number of a label set, and gives it the next one if it is new.
     pub fn id_of(&mut self, labels: &Labels) -> Result<usize, AllocError>
         ensures number { IfOk result (λ id. slice_get self.new id ≡ Some labels.now) }
         ensures grows { OnOk result (self.new ≡ with_seen self.old labels.now) }
@@ -54,7 +55,7 @@ impl Interner {
         Ok(id)
     }
 
-    /// The number of the label set, where it was seen.
+    /// Returns the number of a label set, if it has been seen.
     pub fn find(&self, labels: &Labels) -> Option<usize>
         ensures known { IfSome result (λ id. slice_get self.now id ≡ Some labels.now) }
         ensures unknown { IfNone result (list_any (eq_by_cmp label_set_cmp labels.now) self.now
@@ -63,7 +64,7 @@ impl Interner {
         self.seen.get_index_of(labels)
     }
 
-    /// The label set of the number.
+    /// Returns the label set with a number.
     pub fn labels_of(&self, id: usize) -> &Labels
         requires { id < length self.now }
         ensures { slice_get self.now id ≡ Some result.now }
@@ -71,7 +72,7 @@ impl Interner {
         &self.seen[id]
     }
 
-    /// How many label sets were seen.
+    /// Returns how many label sets have been seen.
     pub fn len(&self) -> usize
         ensures { result ≡ length self.now }
     {

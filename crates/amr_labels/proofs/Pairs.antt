@@ -1,4 +1,4 @@
--- Maps made of pairs, where of equal keys the last counts.
+-- Maps made of pairs; if a key is repeated, the last value counts.
 use Rattle.std.proofs.Common.{◌≡◌, ℕ, ◌+◌, ◌<◌, Bool, cond, T, List, [], ◌∷◌, ◌++◌, Option, Some, length, take, reverse, get_or, refl, sym, ap, subst, ◌∙◌}
 use Rattle.std.specs.Cmp.{IsTotalOrder, tied_itself}
 use Rattle.std.specs.FinMap.{find, is_sorted}
@@ -24,7 +24,7 @@ filter_alike p q [] h = refl
 filter_alike p q (x ∷ xs) h = λ i. cond (h.0 i) (x ∷ filter_alike p q xs h.1 i) (filter_alike p q xs h.1 i)
 
 module _ {K X : Type 0} {R : K → K → Ordering} (o : IsTotalOrder R) where
-  -- what is found at lesser entries stays so where a lesser one is put in front
+  -- what is found among greater entries doesn't change if a lesser one is put in front
   later : (e : K × X) (es fs : List (K × X)) → T (below_all R e.0 fs) → AllByRecursion (λ f. find R f.0 es ≡ Some f.1) fs → AllByRecursion (λ f. find R f.0 (e ∷ es) ≡ Some f.1) fs
   later e es [] h found = tt
   later e es (f ∷ fs) h found = (

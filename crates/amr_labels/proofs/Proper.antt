@@ -22,7 +22,7 @@ all_both p q [] h g = refl
 all_both p q (x ∷ xs) h g =
     λ i. (first_so (p x) (list_all p xs) h i && first_so (q x) (list_all q xs) g i) && all_both p q xs (second_so (p x) (list_all p xs) h) (second_so (q x) (list_all q xs) g) i
 
--- none of the entries that lack the empty name has it
+-- if no entry has the empty name, all have names
 all_named : (es : List (Text × Text)) → is_some (find text_cmp [] es) ≡ false → list_all (λ e. not (is_empty e.0)) es ≡ true
 all_named [] h = refl
 all_named (([], text) ∷ es) h = cc

@@ -1,4 +1,4 @@
--- What a binary search by key finds among entries whose keys rise.
+-- What a binary search by key finds among entries in strictly ascending order.
 use Rattle.std.proofs.Common.{◌≡◌, ◌≢◌, ℕ, zero, suc, ◌<◌, ◌≤◌, cond, T, List, [], ◌∷◌, Some, None, Result, Ok, Err, MatchResult, length, get_or, refl, sym, ap, ◌∙◌, inl, inr, arith}
 use Rattle.std.specs.declared.cmp.Ordering.{Ordering}
 use Rattle.std.specs.declared.cmp.Ordering.TheVariants.{Less, Equal, Greater}
@@ -66,7 +66,7 @@ module _ {K X : Type 0} {R : K → K → Ordering} (o : IsTotalOrder R) where
         | Greater ↦ λ t. rest
       ] refl
 
-  -- the answer of the search
+  -- the result of the search
   pub searched : (q : K) (es : List (K × X)) (r : Result ℕ ℕ) → T (is_sorted R es) → IsSearchInRange r (length es) → IsBinarySearchResult (λ e. R e.0 q) es r
       → MatchResult r (λ i. (d : K × X) → find R q es ≡ Some (get_or es i d).1) (λ i. find R q es ≡ None)
   searched q es (Ok i) h within result = λ d. found_at q es i d h within (result d)

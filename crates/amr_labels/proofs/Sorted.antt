@@ -1,4 +1,4 @@
--- The parts of the test that keys rise.
+-- The parts of the test that keys ascend.
 use Rattle.std.proofs.Common.{◌≡◌, Bool, true, false, T, refl}
 use Rattle.std.specs.Prelude.{◌&&◌}
 use Rattle.std.specs.declared.cmp.Ordering.{Ordering}

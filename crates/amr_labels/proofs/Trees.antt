@@ -1,4 +1,4 @@
--- What an ordered tree of std says of the finite map of its entries.
+-- An ordered tree of std, as the finite map of its entries.
 use Rattle.std.proofs.Common.{◌≡◌, not, cond, List, [], ◌∷◌, Some, map, refl, sym, ap, subst, ◌∙◌, T}
 use Rattle.std.specs.declared.cmp.Ordering.{Ordering}
 use Rattle.std.specs.declared.cmp.Ordering.TheVariants.{Less, Equal, Greater}
@@ -53,7 +53,7 @@ module _ {K X : Type 0} (R : K → K → Ordering) where
   empty_of_tree m e = empty_of_entries m.entries e
 
 module _ {K X : Type 0} {R : K → K → Ordering} (o : IsTotalOrder R) where
-  -- keys above one that ties with k do not tie with k
+  -- keys above one that compares as equal to k don't compare as equal to k
   apart : (k x : K) (es : List (K × X)) → R k x ≡ Equal → T (below_all R x es) → where_key R (λ y. not (eq_by_cmp R k y)) es ≡ es
   apart k x [] e h = refl
   apart k x (f ∷ es) e h =

@@ -1,4 +1,4 @@
-//! Types whose clones are the same value.
+//! Types whose clones are the same value, so that a contract may take a clone for the original.
 ghost use Rattle.std.specs.Prelude.{◌≡◌, Some, None, refl};
 ghost use Rattle.std.proofs.Common.{ap};
 

@@ -1,4 +1,4 @@
-//! Values under label sets.
+//! A map from label sets to values.
 ghost use Rattle.std.specs.Prelude.{◌≡◌, ◌==◌, List, ℕ, OnOk, OnErr};
 ghost use Rattle.std.specs.Option.{option_copied};
 ghost use Rattle.amr_labels.specs.Map as map;
@@ -33,7 +33,7 @@ impl<V> Model for LabelMap<V> {
 }
 
 impl<V: Drop> LabelMap<V> {
-    /// No value.
+    /// Returns an empty map.
     pub fn new(alloc: Global) -> LabelMap<V>
         ensures { result ≡ map.empty }
     {
@@ -42,14 +42,14 @@ impl<V: Drop> LabelMap<V> {
         }
     }
 
-    /// The value under the label set.
+    /// Returns the value under a label set.
     pub fn get(&self, labels: &Labels) -> Option<&V>
         ensures { option_copied result ≡ map.get self.now labels.now }
     {
         self.tree.get(labels)
     }
 
-    /// Puts a value under the label set, in place of the one that is there.
+    /// Puts a value under a label set, and drops the value that was there.
     pub fn insert(&mut self, labels: Labels, value: V) -> Result<(), AllocError>
         ensures ok { OnOk result (self.new ≡ map.insert self.old labels value) }
         ensures err { OnErr result (self.new ≡ self.old) }
@@ -58,7 +58,7 @@ impl<V: Drop> LabelMap<V> {
         Ok(())
     }
 
-    /// Takes the value under the label set out.
+    /// Removes the value under a label set, and returns it.
     pub fn remove(&mut self, labels: &Labels) -> Option<V>
         ensures value { result ≡ map.get self.old labels.now }
         ensures left { self.new ≡ map.remove self.old labels.now }
@@ -66,21 +66,21 @@ impl<V: Drop> LabelMap<V> {
         self.tree.remove(labels)
     }
 
-    /// The values with their label sets, in the order of the label sets.
+    /// Returns an iterator over the label sets and their values, in the order of the label sets.
     pub fn iter(&self) -> Iter<'_, Labels, V>
         ensures { result ≡ map.entries self.now }
     {
         self.tree.iter()
     }
 
-    /// How many values there are.
+    /// Returns the number of values.
     pub fn len(&self) -> usize
         ensures { result ≡ map.len self.now }
     {
         self.tree.len()
     }
 
-    /// Whether there is no value.
+    /// Returns whether there is no value.
     pub fn is_empty(&self) -> bool
         ensures { result ≡ (map.len self.now == 0) }
     {

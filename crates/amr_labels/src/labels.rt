@@ -1,4 +1,4 @@
-//! Label sets.
+//! Label sets, by which alerts, groups and sources of inhibition are identified.
 ghost use Rattle.std.specs.Prelude.{◌≡◌, ◌==◌, List, ℕ, IfOk, IfSome};
 ghost use Rattle.std.proofs.Common.{rules};
 ghost use Rattle.std.specs.Cmp.{partial_order_from_own_ties};
@@ -16,8 +16,8 @@ use std::cmp::Ordering;
 use std::hash::{Hash, Hasher};
 use std::marker::Model;
 
-/// A label set: values under the names of labels, as Alertmanager's API takes them in `labels`. A label that is absent has the empty value.
-/// Clones share the texts.
+/// A label set: values under the names of labels (`LabelSet` of Alertmanager's API v2). An absent
+/// label counts as empty. Clones share the texts.
 #[derive(Debug, Drop)]
 pub struct Labels {
     texts: TextMap,
@@ -37,7 +37,7 @@ impl Model for Labels {
 }
 
 impl Labels {
-    /// The label set without a label.
+    /// Returns the label set without labels.
     pub fn empty(alloc: Global) -> Result<Labels, AllocError>
         ensures { IfOk result (λ labels. labels ≡ map.empty) }
     {
@@ -46,8 +46,8 @@ impl Labels {
         })
     }
 
-    /// The label set of pairs of a name and a value. Of equal names the last counts, and then a label whose value is empty is dropped.
-    /// There is none where a name that is left is empty.
+    /// Returns the label set of names and values. If a name is repeated, the last value counts;
+    /// then labels with an empty value are dropped. Returns `None` if a name that is left is empty.
     pub fn of_pairs(alloc: Global, pairs: &[(Text, Text)]) -> Result<Option<Labels>, AllocError>
         ensures made { IfOk result (λ found. found ≡ labels_of_pairs pairs.now) }
         ensures proper { IfOk result (λ found. IfSome found IsLabelSet) }
@@ -60,49 +60,49 @@ impl Labels {
         Ok(Some(Labels { texts }))
     }
 
-    /// The value under the name.
+    /// Returns the value of a label, if the set has it.
     pub fn get(&self, name: &str) -> Option<&Text>
         ensures { option_copied result ≡ map.get self.now name.now }
     {
         self.texts.get(name)
     }
 
-    /// The value under the name, which is empty where the label is absent.
+    /// Returns the value of a label; an absent label has the empty value.
     pub fn value_of(&self, name: &str) -> &str
         ensures { result.now ≡ value_of self.now name.now }
     {
         self.texts.text_of(name)
     }
 
-    /// The pairs of a name and a value, in the order of the names.
+    /// Returns the names and values, in the order of the names.
     pub fn entries(&self) -> &[(Text, Text)]
         ensures { result.now ≡ map.entries self.now }
     {
         self.texts.entries()
     }
 
-    /// How many labels there are.
+    /// Returns the number of labels.
     pub fn len(&self) -> usize
         ensures { result ≡ map.len self.now }
     {
         self.texts.len()
     }
 
-    /// Whether there is no label.
+    /// Returns whether there is no label.
     pub fn is_empty(&self) -> bool
         ensures { result ≡ (map.len self.now == 0) }
     {
         self.texts.is_empty()
     }
 
-    /// An equal label set.
+    /// Returns an equal label set. It shares the texts.
     pub fn copy(&self) -> Result<Labels, AllocError>
         ensures { IfOk result (λ copy. copy ≡ self.now) }
     {
         self.clone()
     }
 
-    /// The labels under some names.
+    /// Returns the labels with these names.
     pub fn kept_by_names(&self, alloc: Global, names: &[Text]) -> Result<Labels, AllocError>
         ensures { IfOk result (λ kept. kept
             ≡ map.retain_keys self.now (λ name. list_any (eq_by_cmp text_cmp name) names.now)) }

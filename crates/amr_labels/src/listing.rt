@@ -1,11 +1,11 @@
-//! A list of values that contracts see as a list.
+//! A `Vec` that contracts see as a list.
 ghost use Rattle.std.specs.Prelude.{◌≡◌, ◌==◌, List, [], ◌∷◌, ◌++◌, length, OnOk, OnErr};
 
 use crate::exact::Exact;
 use std::alloc::{AllocError, Global};
 use std::marker::Model;
 
-/// A list of values. Contracts see the list.
+/// A list of values.
 #[derive(Debug, Drop)]
 pub struct Listing<T> {
     items: Vec<T>,
@@ -20,7 +20,7 @@ impl<T> Model for Listing<T> {
 }
 
 impl<T> Listing<T> {
-    /// The list of no value.
+    /// Returns an empty list.
     pub fn new(alloc: Global) -> Listing<T>
         ensures { result ≡ [] }
     {
@@ -29,28 +29,28 @@ impl<T> Listing<T> {
         }
     }
 
-    /// The list of the values of `items`.
+    /// Returns the list of the values of a `Vec`.
     pub fn from_vec(items: Vec<T>) -> Listing<T>
         ensures { result ≡ items.items }
     {
         Listing { items }
     }
 
-    /// The values of the list.
+    /// Returns the values as a slice.
     pub fn as_slice(&self) -> &[T]
         ensures { result.now ≡ self.now }
     {
         self.items.as_slice()
     }
 
-    /// How many values there are.
+    /// Returns the number of values.
     pub fn len(&self) -> usize
         ensures { result ≡ length self.now }
     {
         self.items.len()
     }
 
-    /// Whether there is no value.
+    /// Returns whether there is no value.
     pub fn is_empty(&self) -> bool
         ensures { result ≡ (length self.now == 0) }
     {

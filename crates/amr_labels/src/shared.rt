@@ -1,4 +1,4 @@
-//! A value that its clones share.
+//! A value that its clones share, by reference counting.
 ghost use Rattle.std.specs.Prelude.{◌≡◌, IfOk};
 
 use std::alloc::{AllocError, Global};
@@ -27,7 +27,7 @@ impl<T: Drop> Shared<T> {
         })
     }
 
-    /// The value.
+    /// Returns the value.
     pub fn get(&self) -> &T
         ensures { result.now ≡ self.now }
     {

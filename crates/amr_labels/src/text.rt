@@ -1,4 +1,4 @@
-//! A text that is copied without its bytes.
+//! A text whose clones share its bytes.
 ghost use Rattle.std.specs.Prelude.{◌≡◌, IfOk};
 ghost use Rattle.std.proofs.Common.{rules};
 ghost use Rattle.std.specs.Cmp.{partial_order_from_own_ties};
@@ -30,7 +30,7 @@ impl Model for Text {
 }
 
 impl Text {
-    /// A copy of the text.
+    /// Copies a text.
     pub fn from_str(alloc: Global, text: &str) -> Result<Text, AllocError>
         ensures { IfOk result (λ copy. copy ≡ text.now) }
     {
@@ -39,14 +39,14 @@ impl Text {
         })
     }
 
-    /// The text itself.
+    /// Returns the text as a `&str`.
     pub fn as_str(&self) -> &str
         ensures { result.now ≡ self.now }
     {
         self.shared.as_str()
     }
 
-    /// Whether the text has no byte.
+    /// Returns whether the text is empty.
     pub fn is_empty(&self) -> bool
         ensures { result ≡ is_empty self.now }
     {

@@ -1,4 +1,4 @@
-//! Texts under names.
+//! A map from names to texts. Annotations are one, and label sets are made of one.
 ghost use Rattle.std.specs.Prelude.{◌≡◌, ◌==◌, ℕ, List, T, not, length, reverse, IfOk};
 ghost use Rattle.std.specs.List.{filter, list_any};
 ghost use Rattle.std.specs.Ordering.{eq_by_cmp};
@@ -37,7 +37,7 @@ impl Model for TextMap {
     ghost invariant = { λ texts. T (is_sorted text_cmp texts.pairs.value.items) };
 }
 
-/// The tree of the pairs. Of equal names the last counts.
+/// Returns the tree of the pairs. If a name is repeated, the last text counts.
 fn tree_of(alloc: Global, pairs: &[(Text, Text)]) -> Result<BTreeMap<Text, Text>, AllocError>
     ensures ordered { IfOk result (λ tree. IsOrdered text_cmp tree) }
     ensures made { IfOk result (λ tree. map.from_sorted {R = text_cmp} tree.entries
@@ -50,21 +50,21 @@ fn tree_of(alloc: Global, pairs: &[(Text, Text)]) -> Result<BTreeMap<Text, Text>
     Ok(tree)
 }
 
-/// The pairs of the tree, in order.
+/// Returns the pairs of a tree, in order.
 fn pairs_of(alloc: Global, tree: BTreeMap<Text, Text>) -> Result<Vec<(Text, Text)>, AllocError>
     ensures { IfOk result (λ pairs. pairs.items ≡ tree.entries) }
 {
     tree.into_iter().collect(alloc)
 }
 
-/// The pair again.
+/// Clones a pair.
 fn copied(pair: &(Text, Text)) -> Result<(Text, Text), AllocError>
     ensures { IfOk result (λ copy. copy ≡ pair.now) }
 {
     Ok((pair.0.clone()?, pair.1.clone()?))
 }
 
-/// The pairs whose texts are not empty.
+/// Returns the pairs whose texts aren't empty.
 fn filled(alloc: Global, pairs: &[(Text, Text)]) -> Result<Vec<(Text, Text)>, AllocError>
     ensures { IfOk result (λ kept. kept.items ≡ filter (λ pair. not (is_empty pair.1)) pairs.now) }
 {
@@ -77,14 +77,14 @@ fn filled(alloc: Global, pairs: &[(Text, Text)]) -> Result<Vec<(Text, Text)>, Al
     Ok(kept)
 }
 
-/// Whether the name is one of the names.
+/// Returns whether a name is one of the names.
 fn is_among(name: &Text, names: &[Text]) -> bool
     ensures { result ≡ list_any (eq_by_cmp text_cmp name.now) names.now }
 {
     names.iter().any(|other| name == other)
 }
 
-/// The pairs whose names are among the names.
+/// Returns the pairs whose names are among the names.
 fn named(
     alloc: Global,
     pairs: &[(Text, Text)],
@@ -102,7 +102,7 @@ fn named(
     Ok(kept)
 }
 
-/// The text under the name, among pairs whose names rise.
+/// Returns the text under a name, given pairs in strictly ascending order of names.
 fn text_under<'a>(pairs: &'a [(Text, Text)], name: &str) -> Option<&'a Text>
     requires { T (is_sorted text_cmp pairs.now) }
     ensures { option_copied result ≡ find text_cmp name.now pairs.now }
@@ -117,14 +117,14 @@ fn text_under<'a>(pairs: &'a [(Text, Text)], name: &str) -> Option<&'a Text>
 }
 
 impl TextMap {
-    /// No text.
+    /// Returns an empty map.
     pub fn empty(alloc: Global) -> Result<TextMap, AllocError>
         ensures { IfOk result (λ texts. texts ≡ map.empty) }
     {
         TextMap::of_sorted(alloc, Vec::new(alloc))
     }
 
-    /// The texts of pairs whose names rise.
+    /// Returns the map of pairs in strictly ascending order of names.
     fn of_sorted(alloc: Global, pairs: Vec<(Text, Text)>) -> Result<TextMap, AllocError>
         requires { T (is_sorted text_cmp pairs.items) }
         ensures { IfOk result (λ texts. texts ≡ map.from_sorted pairs.items) }
@@ -134,7 +134,7 @@ impl TextMap {
         })
     }
 
-    /// The texts of pairs of a name and a text. Of equal names the last counts.
+    /// Returns the map of names and texts. If a name is repeated, the last text counts.
     pub fn from_pairs(alloc: Global, pairs: &[(Text, Text)]) -> Result<TextMap, AllocError>
         ensures { IfOk result (λ texts. texts ≡ map.from_entries (reverse pairs.now)) }
     {
@@ -143,21 +143,21 @@ impl TextMap {
         TextMap::of_sorted(alloc, sorted)
     }
 
-    /// The pairs of a name and a text, in the order of the names.
+    /// Returns the names and texts, in the order of the names.
     pub fn entries(&self) -> &[(Text, Text)]
         ensures { result.now ≡ map.entries self.now }
     {
         self.pairs.as_slice()
     }
 
-    /// The text under the name.
+    /// Returns the text under a name.
     pub fn get(&self, name: &str) -> Option<&Text>
         ensures { option_copied result ≡ map.get self.now name.now }
     {
         text_under(self.entries(), name)
     }
 
-    /// The text under the name, or else the empty text.
+    /// Returns the text under a name, or the empty text.
     pub fn text_of(&self, name: &str) -> &str
         ensures { result.now ≡ value_of self.now name.now }
     {
@@ -167,7 +167,7 @@ impl TextMap {
         }
     }
 
-    /// The texts that are not empty.
+    /// Returns the map without its empty texts.
     pub fn without_empty_texts(&self, alloc: Global) -> Result<TextMap, AllocError>
         ensures { IfOk result (λ kept. kept
             ≡ map.retain_keys self.now (λ name. not (is_empty (value_of self.now name)))) }
@@ -176,7 +176,7 @@ impl TextMap {
         TextMap::of_sorted(alloc, kept)
     }
 
-    /// The texts under some names.
+    /// Returns the texts under these names.
     pub fn kept_by_names(&self, alloc: Global, names: &[Text]) -> Result<TextMap, AllocError>
         ensures { IfOk result (λ kept. kept
             ≡ map.retain_keys self.now (λ name. list_any (eq_by_cmp text_cmp name) names.now)) }
@@ -185,14 +185,14 @@ impl TextMap {
         TextMap::of_sorted(alloc, kept)
     }
 
-    /// How many names there are.
+    /// Returns the number of names.
     pub fn len(&self) -> usize
         ensures { result ≡ map.len self.now }
     {
         self.entries().len()
     }
 
-    /// Whether there is no name.
+    /// Returns whether there is no name.
     pub fn is_empty(&self) -> bool
         ensures { result ≡ (map.len self.now == 0) }
     {

@@ -1,4 +1,4 @@
--- What is printed has no float.
+-- Nothing that is printed has a float.
 use Rattle.std.proofs.Common.{◌≡◌, ℕ, List, [], ◌∷◌, ◌++◌, Bool, true, false, ◌||◌, refl, map, fold, Option, None, Some}
 use Rattle.std.specs.Ordering.{nat_cmp, match_ordering}
 use Rattle.std.specs.Cmp.Lexicographic.{slice_cmp}
@@ -63,7 +63,7 @@ has_float-list : {X : Type 0} (data_of : X → Data) → ((x : X) → has_float 
 has_float-list data_of none [] = refl
 has_float-list data_of none (x ∷ xs) = no_float-or (has_float (data_of x)) _ (none x) (has_float-list data_of none xs)
 
--- no member has one
+-- no member has a float
 abbrev NoFloats : List (Text × Data) → Type 0
 NoFloats [] = Unit {0}
 NoFloats (m ∷ ms) = (has_float m.1 ≡ false) × NoFloats ms

@@ -1,4 +1,4 @@
--- Members of an object that are put one after the other.
+-- Members put into an object one after another.
 use Rattle.std.proofs.Common.{◌≡◌, List, [], ◌∷◌, ◌++◌, refl, ap}
 use Rattle.serde_json.specs.Data.{Data, Members, put}
 use Rattle.amr_labels.specs.Labels.{Text}

@@ -1,11 +1,11 @@
--- Texts written one after the other.
+-- Texts written one after another.
 use Rattle.std.proofs.Common.{◌≡◌, ◌∷◌, ◌++◌, List, ℕ, ◌<◌, ◌+◌, length, take, drop, get_or, flat_map, sym, ap, ◌∙◌, Option, arith, add-one, drop-cons, take-append-drop}
 use Rattle.std.proofs.lemmas.Grind.{common_steps, flat_map-append}
 use Rattle.std.specs.Io.KnownBytes.{Appends}
 use Rattle.std.proofs.KnownBytes.{Appends-trans}
 use Rattle.amr_lines.specs.Outlet.{AppendsBeginning}
 
--- a text was written, and then a beginning of the next
+-- a text was written, and then a prefix of the next
 pub AppendsBeginning-after : (a b c : Option (List ℕ)) (first second rest all : List ℕ)
     → Appends a b first → AppendsBeginning b c second → all ≡ first ++ (second ++ rest) → AppendsBeginning a c all
 AppendsBeginning-after a b c first second rest all p q e =
@@ -16,7 +16,7 @@ AppendsBeginning-after a b c first second rest all p q e =
       appended = Appends-trans a b c first q.written p q.appended;
     }
 
--- the list as what stands before an index, at it, and after it
+-- the list as what is before an index, at it, and after it
 pub flat_map-around : {X : Type 0} (f : X → List ℕ) (xs : List X) (i : ℕ) (d : X) → i < length xs
     → flat_map f xs ≡ flat_map f (take i xs) ++ (f (get_or xs i d) ++ flat_map f (drop (i + 1) xs))
 flat_map-around f xs i d h =

@@ -1,7 +1,8 @@
 -- When reading ends before the end of the bytes.
 use Rattle.std.specs.Prelude.{◌≡◌, ◌⊎◌, ℕ, ◌+◌, ◌≤◌, Bool, true, Result, MatchResult}
 
--- so often a reader is called at most: reading ends at the call numbered 1,099,511,627,776, which is not made
+-- a reader is called less often than this: reading ends at the call numbered 1,099,511,627,776,
+-- which isn't made
 abbrev pub most_calls : ℕ
 most_calls = 1_099_511_627_775
 
@@ -9,7 +10,7 @@ most_calls = 1_099_511_627_775
 abbrev pub HasEnded : Bool → ℕ → Type 0
 HasEnded failed calls = (failed ≡ true) ⊎ (calls ≡ most_calls)
 
--- one call is counted, and the reader did not fail in it; or reading has ended
+-- one call is counted, and the reader didn't fail in it; or reading has ended
 abbrev pub CountsCall : {E : Type 0} → Result ℕ E → Bool → Bool → ℕ → ℕ → Type 0
 CountsCall r failed failed' calls calls' = MatchResult r
     (λ _. (calls' ≡ calls + 1) × (calls' ≤ most_calls) × (failed' ≡ failed))

@@ -1,4 +1,4 @@
--- The objects that are printed, as JSON.
+-- What is printed, as JSON.
 use Rattle.std.specs.Prelude.{ℕ, Bool, true, false, List, [], ◌∷◌, ◌++◌, Option, None, Some, map, fold, codes}
 use Rattle.std.specs.List.{flat_map}
 use Rattle.serde_json.specs.Data.{Data, Members, unsigned, null, boolean, number, string, array, object, no_members, put}
@@ -27,12 +27,12 @@ use Rattle.amr_state.specs.Seen.{group_seen}
 use Rattle.amr_engine.specs.Events.{Outcome, Accepted, Refused}
 use Rattle.amr_time.specs.MomentText.{moment_text}
 
--- more members of an object, each at its key's place
+-- members added to an object, each at its key
 abbrev pub with_members : List (Text × Data) → Members → Members
 with_members [] members = members
 with_members (m ∷ ms) members = put m.0 m.1 (with_members ms members)
 
--- an object of these members, by key
+-- an object with these members, by key
 abbrev pub object_of : List (Text × Data) → Members
 object_of ms = with_members ms no_members
 
@@ -50,7 +50,7 @@ moment_data m = string (moment_text m)
 abbrev pub with_text : Members → Text × Text → Members
 with_text members entry = put entry.0 (string entry.1) members
 
--- texts under their names
+-- an object with these texts under their names
 abbrev pub texts_data : List (Text × Text) → Data
 texts_data texts = object (fold with_text no_members texts)
 
@@ -99,23 +99,24 @@ skipped_members event places = (codes "event", number_data event) ∷ (codes "sk
 abbrev pub skipped_data : ℕ → List ℕ → Data
 skipped_data event places = object (object_of (skipped_members event places))
 
--- the alerts of an event that were skipped, by their places in the post
+-- the alerts that an event skipped, by their positions in the post
 abbrev pub skipped_line : ℕ → List ℕ → Text
 skipped_line event places = data_line (skipped_data event places)
 
 abbrev pub refused_event_data : ℕ → ℕ → Data
 refused_event_data event reason = object (object_of ((codes "event", number_data event) ∷ (codes "reason", number_data reason) ∷ []))
 
--- an event that was refused, with the number of the reason
+-- a refused event, with the number of the reason
 abbrev pub refused_event_line : ℕ → ℕ → Text
 refused_event_line event reason = data_line (refused_event_data event reason)
 
--- a line where some alert was skipped
+-- a line if some alert was skipped
 abbrev pub skipped_lines : ℕ → List ℕ → Text
 skipped_lines event [] = []
 skipped_lines event (place ∷ places) = skipped_line event (place ∷ places)
 
--- the lines of an event's outcome: its notes in order, then the skipped alerts; or its refusal
+-- the lines of an event's outcome: its notifications in order, then the skipped alerts; or its
+-- refusal
 abbrev pub event_lines : ℕ → Outcome → Text
 event_lines event (Accepted moves notes skipped) = flat_map note_line notes ++ skipped_lines event skipped
 event_lines event (Refused reason) = refused_event_line event reason
@@ -192,11 +193,11 @@ group_members group =
 unfoldable pub group_data : Group → Data
 group_data group = object (object_of (group_members group))
 
--- a group as it is seen
+-- a group as the views show it
 abbrev pub group_seen_line : Group → Text
 group_seen_line group = data_line (group_data group)
 
--- a group of the state, with its clock
+-- a group of the state, with its timer
 abbrev pub group_line : State → Spot × Clock → Text
 group_line s group = group_seen_line (group_seen s group)
 
@@ -218,7 +219,7 @@ log_data entry = object (object_of (log_members entry))
 abbrev pub log_line : LogKey × LogEntry → Text
 log_line entry = data_line (log_data entry)
 
--- with this on its `unfolding` line a proof computes what is printed
+-- a proof with this on its `unfolding` line computes what is printed
 unfoldable pub printing : Unit {0}
 unfolding moment_data firing_data resolved_data note_data alert_data matcher_data id_text silence_data group_data log_data
 printing = tt

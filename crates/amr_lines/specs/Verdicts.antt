@@ -1,4 +1,4 @@
--- The lines of the answers to the question why an alert was told of, or not.
+-- The lines of `explain`.
 use Rattle.std.specs.Prelude.{ℕ, List, [], ◌∷◌, ◌++◌, Option, None, Some, codes}
 use Rattle.serde_json.specs.Data.{Data, string, object}
 use Rattle.amr_labels.specs.Labels.{Text}
@@ -19,7 +19,7 @@ finding_name Nowhere = codes "Nowhere"
 finding_name (Told at) = codes "Told"
 finding_name (Due at) = codes "Due"
 
--- what a finding has beside its name
+-- what a finding has besides its name
 abbrev pub finding_members : Finding → List (Text × Data)
 finding_members (Waiting due) = (codes "due", moment_data due) ∷ []
 finding_members (Inhibited rule source) = (codes "rule", number_data rule) ∷ (codes "source", labels_data source) ∷ []
@@ -30,7 +30,7 @@ finding_members Nowhere = []
 finding_members (Told at) = (codes "at", moment_data at) ∷ []
 finding_members (Due at) = (codes "at", moment_data at) ∷ []
 
--- an integration by its kind and place, where the receiver has integrations
+-- an integration by its kind and its index, if the receiver has any
 abbrev pub integration_members : Option (Text × ℕ) → List (Text × Data)
 integration_members None = []
 integration_members (Some integration) = (codes "integration", string integration.0) ∷ (codes "place", number_data integration.1) ∷ []
@@ -45,6 +45,6 @@ verdict_members (AtRoute route receiver integration finding) =
 unfoldable pub verdict_data : Verdict → Data
 verdict_data verdict = object (object_of (verdict_members verdict))
 
--- an answer
+-- a verdict
 abbrev pub verdict_line : Verdict → Text
 verdict_line verdict = data_line (verdict_data verdict)

@@ -1,4 +1,5 @@
-//! Bytes from any reader, with the number of reads that were made.
+//! A reader that counts its calls and knows whether it failed, so that a session can say why
+//! reading ended. `amr_commands` reads commands through it.
 ghost use Rattle.std.specs.Prelude.{◌≡◌, ◌<◌, false};
 ghost use Rattle.std.specs.Io.{ReadsAtMost};
 ghost use Rattle.std.specs.Io.KnownBytes.{ReadConsumes};
@@ -6,14 +7,16 @@ ghost use Rattle.amr_lines.specs.Inlet.{CountsCall};
 
 use std::io::Read;
 
-/// Reading ends at the call of this number, which isn't made.
+/// The number of the read that isn't made any more, 2^40. It bounds the reads, so that reading
+/// always ends.
 const LAST_CALL: u64 = 1_099_511_627_776;
 
-/// Reading ended before the end of the bytes: the reader failed, or it was called as often as it may be.
+/// Reading ended before the end of the bytes: the reader failed, or it was called as often as it
+/// may be.
 #[derive(Clone, Copy, Debug, PartialEq, Eq)]
 pub struct ReadFailed;
 
-/// A reader, how often it was called, and whether it failed.
+/// A reader, the number of calls, and whether one failed.
 #[derive(Drop)]
 pub struct Inlet<R> {
     reader: R,
@@ -23,7 +26,7 @@ pub struct Inlet<R> {
 }
 
 impl<R: Read> Inlet<R> {
-    /// Wraps a reader that wasn't called yet.
+    /// Wraps a reader that hasn't been called yet.
     pub fn new(reader: R) -> Inlet<R>
         ensures reader { result.reader ≡ reader }
         ensures uncalled { result.calls ≡ 0 }
@@ -36,7 +39,8 @@ impl<R: Read> Inlet<R> {
         }
     }
 
-    /// Reads once. Every error of the reader ends reading, an interrupted call too, and so does the number of the call.
+    /// Reads once. Reading ends at any error of the reader, even an interrupted call, and at the
+    /// call numbered `LAST_CALL`.
     pub fn read(&mut self, chunk: &mut [u8]) -> Result<usize, ReadFailed>
         ensures bound { ReadsAtMost result chunk.new }
         ensures bytes { ReadConsumes (R.remaining self.old.reader) (R.remaining self.new.reader)

@@ -1,4 +1,5 @@
-//! The last lines of commands.
+//! The status lines that end the commands of a session. Those of refusals and of steps back are
+//! written part by part, because they must not take memory.
 ghost use Rattle.std.specs.Prelude.{◌≡◌, IfOk, string_bytes};
 ghost use Rattle.serde_json.specs.View.{view};
 ghost use Rattle.amr_lines.specs.LastLines.{moves_data, moves_line, cursor_data, cursor_line, place_data, place_line, refused_line};
@@ -21,7 +22,7 @@ fn moves_value(alloc: Global, word: Word, cursor: usize, moves: usize) -> Result
     json!(in alloc; {"command": word_text(word), "cursor": cursor, "moves": moves})
 }
 
-/// The last line of a command that passes events, with the number of moves that they made.
+/// Returns the last line of a command that passes events, with the number of moves that they made.
 pub fn moves_text(
     alloc: Global,
     word: Word,
@@ -40,7 +41,7 @@ fn cursor_value(alloc: Global, word: Word, cursor: usize) -> Result<Value, Alloc
     json!(in alloc; {"command": word_text(word), "cursor": cursor})
 }
 
-/// The last line of a command that has nothing more to say.
+/// Returns the last line of a command with its word and the cursor only.
 pub fn cursor_text(alloc: Global, word: Word, cursor: usize) -> Result<String, AllocError>
     ensures { IfOk result (λ text. string_bytes text ≡ cursor_line word cursor) }
 {
@@ -65,7 +66,7 @@ fn place_value(
     Ok(Value::Object(members))
 }
 
-/// The last line of the command that asks where the session stands.
+/// Returns the line of the command `cursor`: the cursor, the number of events, and the clock.
 pub fn place_text(
     alloc: Global,
     cursor: usize,
@@ -122,7 +123,8 @@ pub fn write_back<W: Write>(out: &mut Outlet<W>, cursor: usize) -> Result<(), Wr
     )
 }
 
-/// Writes the line of a seek that passes no event, which is one to the cursor or below it. It takes no memory.
+/// Writes the line of a seek that passes no event, because it goes to the cursor or below. It takes
+/// no memory.
 pub fn write_backward_seek<W: Write>(
     out: &mut Outlet<W>,
     word: Word,

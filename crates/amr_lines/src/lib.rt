@@ -1,4 +1,5 @@
-//! What is printed, and writing it.
+//! The printed lines, and writing them. `docs/FORMATS.md` has their shapes. Runs and sessions call
+//! it; it decides nothing about alerts.
 #![tactic(auto)]
 
 mod inlet;

@@ -1,4 +1,5 @@
-//! The lines of an event: a note, skipped alerts, a refusal.
+//! The lines of an event: its notifications, then the alerts that it skipped; or its refusal. The
+//! values are made in `values.rt`; here they become text.
 ghost use Rattle.std.specs.Prelude.{◌≡◌, ◌∷◌, [], ◌++◌, false, length, ◌<◌, IfOk, string_bytes};
 ghost use Rattle.std.specs.List.{flat_map};
 ghost use Rattle.serde_json.specs.Written.{has_float, compact_text};
@@ -13,7 +14,7 @@ use amr_state::Note;
 use serde_json::Value;
 use std::alloc::{AllocError, Global};
 
-/// A value on a line of its own.
+/// Returns a value as compact JSON on a line of its own.
 pub fn line_text(alloc: Global, value: &Value) -> Result<String, AllocError>
     requires { has_float (view value.now) ≡ false }
     ensures { IfOk result (λ text. string_bytes text ≡ compact_text (view value.now) ++ 10 ∷ []) }
@@ -23,7 +24,7 @@ pub fn line_text(alloc: Global, value: &Value) -> Result<String, AllocError>
     Ok(text)
 }
 
-/// A note's line.
+/// Returns the line of a notification.
 fn note_text(alloc: Global, note: &Note) -> Result<String, AllocError>
     ensures { IfOk result (λ text. string_bytes text ≡ note_line note.now) }
 {
@@ -31,7 +32,7 @@ fn note_text(alloc: Global, note: &Note) -> Result<String, AllocError>
     line_text(alloc, &value)
 }
 
-/// The line of an event's skipped alerts, which are told by their places in the post, from 1.
+/// Returns the line with the alerts that an event skipped, by their positions in the post, from 1.
 fn skipped_text(alloc: Global, event: u64, places: &[usize]) -> Result<String, AllocError>
     ensures { IfOk result (λ text. string_bytes text ≡ skipped_line event places.now) }
 {
@@ -39,7 +40,7 @@ fn skipped_text(alloc: Global, event: u64, places: &[usize]) -> Result<String, A
     line_text(alloc, &value)
 }
 
-/// The line of a refused event.
+/// Returns the line of a refused event.
 fn refused_event_text(alloc: Global, event: u64, reason: u64) -> Result<String, AllocError>
     ensures { IfOk result (λ text. string_bytes text ≡ refused_event_line event reason) }
 {
@@ -47,7 +48,8 @@ fn refused_event_text(alloc: Global, event: u64, reason: u64) -> Result<String, 
     line_text(alloc, &value)
 }
 
-/// The lines of an accepted event: its notes, and its skipped alerts where there are any.
+/// Returns the lines of an accepted event: its notifications, and the line of its skipped alerts if
+/// there are any.
 fn accepted_text(
     alloc: Global,
     event: u64,
@@ -64,7 +66,7 @@ fn accepted_text(
     Ok(text)
 }
 
-/// The lines of notes.
+/// Returns the lines of notifications.
 pub fn notes_text(alloc: Global, notes: &[Shared<Note>]) -> Result<String, AllocError>
     ensures { IfOk result (λ text. string_bytes text ≡ flat_map note_line notes.now) }
 {
@@ -75,7 +77,8 @@ pub fn notes_text(alloc: Global, notes: &[Shared<Note>]) -> Result<String, Alloc
     Ok(text)
 }
 
-/// The lines of an event's outcome. Events are counted from 1; an event that is only tried is event 0.
+/// Returns the lines of an event's outcome. Events are numbered from 1; an event that is only tried
+/// has number 0.
 pub fn event_text(alloc: Global, event: u64, outcome: &Outcome) -> Result<String, AllocError>
     ensures { IfOk result (λ text. string_bytes text
         ≡ event_lines event (outcome_view outcome.now)) }

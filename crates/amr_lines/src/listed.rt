@@ -1,4 +1,5 @@
-//! The objects that listings print, as JSON values.
+//! The JSON values of what listings print: alerts, silences, groups, and entries of the
+//! notification log. The names of keys are those of Alertmanager's API v2, if it has the thing.
 ghost use Rattle.std.specs.Prelude.{◌≡◌, map, IfOk, OnOk};
 ghost use Rattle.serde_json.specs.Data.{array, put as with_member};
 ghost use Rattle.serde_json.specs.View.{view, items_of, members_view};
@@ -15,7 +16,7 @@ use amr_time::Moment;
 use serde_json::{Map, Value, put};
 use std::alloc::{AllocError, Global};
 
-/// A stored alert.
+/// Returns a stored alert as JSON.
 #[tactic(auto, unfolding(crate::specs::Printed::alert_data))]
 pub(crate) fn alert_value(alloc: Global, alert: &(Labels, Alert)) -> Result<Value, AllocError>
     ensures { IfOk result (λ v. view v ≡ alert_data alert.now) }
@@ -40,7 +41,7 @@ pub(crate) fn alert_value(alloc: Global, alert: &(Labels, Alert)) -> Result<Valu
     Ok(Value::Object(members))
 }
 
-/// Whether the operator asks for a value that is equal, or that the pattern matches.
+/// Returns whether the operator is `=` or `=~` (`isEqual` of the API).
 fn is_equal(operator: Operator) -> bool
     ensures { result ≡ means_equal operator }
 {
@@ -52,7 +53,7 @@ fn is_equal(operator: Operator) -> bool
     }
 }
 
-/// Whether the operator takes a pattern.
+/// Returns whether the operator takes a pattern (`isRegex` of the API).
 fn is_regex(operator: Operator) -> bool
     ensures { result ≡ takes_regex operator }
 {
@@ -64,7 +65,7 @@ fn is_regex(operator: Operator) -> bool
     }
 }
 
-/// A matcher.
+/// Returns a matcher as JSON.
 #[tactic(auto, unfolding(crate::specs::Printed::matcher_data))]
 fn matcher_value(alloc: Global, matcher: &Matcher) -> Result<Value, AllocError>
     ensures { IfOk result (λ v. view v ≡ matcher_data matcher.now) }
@@ -88,7 +89,7 @@ fn matcher_value(alloc: Global, matcher: &Matcher) -> Result<Value, AllocError>
     Ok(Value::Object(members))
 }
 
-/// Matchers in a list.
+/// Returns matchers as a JSON array.
 fn matchers_value(alloc: Global, matchers: &[Matcher]) -> Result<Value, AllocError>
     ensures { IfOk result (λ v. view v ≡ matchers_data matchers.now) }
 {
@@ -99,7 +100,7 @@ fn matchers_value(alloc: Global, matchers: &[Matcher]) -> Result<Value, AllocErr
     Ok(Value::Array(values))
 }
 
-/// A stored silence.
+/// Returns a stored silence as JSON.
 #[tactic(auto, unfolding(crate::specs::Printed::silence_data))]
 pub(crate) fn silence_value(
     alloc: Global,
@@ -121,7 +122,7 @@ pub(crate) fn silence_value(
     Ok(Value::Object(members))
 }
 
-/// Label sets in a list.
+/// Returns label sets as a JSON array.
 fn label_sets_value(alloc: Global, sets: &[Labels]) -> Result<Value, AllocError>
     ensures { IfOk result (λ v. view v ≡ label_sets_data sets.now) }
 {
@@ -132,7 +133,7 @@ fn label_sets_value(alloc: Global, sets: &[Labels]) -> Result<Value, AllocError>
     Ok(Value::Array(values))
 }
 
-/// A moment, or null where there is none.
+/// Returns a moment as JSON, or null for `None`.
 fn since_value(alloc: Global, since: Option<Moment>) -> Result<Value, AllocError>
     ensures { IfOk result (λ v. view v ≡ since_data since) }
 {
@@ -142,7 +143,7 @@ fn since_value(alloc: Global, since: Option<Moment>) -> Result<Value, AllocError
     }
 }
 
-/// A group.
+/// Returns a group as JSON.
 #[tactic(auto, unfolding(crate::specs::Printed::group_data))]
 pub(crate) fn group_value(alloc: Global, group: &Group) -> Result<Value, AllocError>
     ensures { IfOk result (λ v. view v ≡ group_data group.now) }
@@ -163,7 +164,7 @@ pub(crate) fn group_value(alloc: Global, group: &Group) -> Result<Value, AllocEr
     Ok(Value::Object(members))
 }
 
-/// The label sets of a set of them, in a list.
+/// Returns a set of label sets as a JSON array.
 fn set_value(alloc: Global, labels: &LabelMap<()>) -> Result<Value, AllocError>
     ensures { IfOk result (λ v. view v ≡ label_sets_data (set.items labels.now)) }
 {
@@ -174,7 +175,7 @@ fn set_value(alloc: Global, labels: &LabelMap<()>) -> Result<Value, AllocError>
     Ok(Value::Array(values))
 }
 
-/// Puts the label sets of a set of them, in a list, into an object.
+/// Puts a set of label sets into an object, as an array.
 fn put_set(
     members: &mut Map<String, Value>,
     alloc: Global,
@@ -188,7 +189,7 @@ fn put_set(
     put(members, alloc, key, set_value(alloc, labels)?)
 }
 
-/// The matchers of the routes on a way from the root down.
+/// Returns as JSON the matchers of the routes from the root down to a group's.
 fn path_value(alloc: Global, path: &[Matchers]) -> Result<Value, AllocError>
     ensures { IfOk result (λ v. view v ≡ array (items_of (map matchers_data path.now))) }
 {
@@ -199,7 +200,7 @@ fn path_value(alloc: Global, path: &[Matchers]) -> Result<Value, AllocError>
     Ok(Value::Array(values))
 }
 
-/// An entry of the notification log.
+/// Returns an entry of the notification log as JSON.
 #[tactic(auto, unfolding(crate::specs::Printed::log_data))]
 pub(crate) fn log_value(alloc: Global, entry: &(LogKey, LogEntry)) -> Result<Value, AllocError>
     ensures { IfOk result (λ v. view v ≡ log_data entry.now) }

@@ -1,4 +1,5 @@
-//! The lines of listings.
+//! The lines of listings, one for each thing listed. The values are made in `listed.rt`; here they
+//! become text.
 ghost use Rattle.std.specs.Prelude.{◌≡◌, IfOk, string_bytes};
 ghost use Rattle.std.specs.List.{flat_map};
 ghost use Rattle.amr_lines.specs.Printed.{alert_line, silence_line, group_seen_line, log_line};
@@ -11,7 +12,7 @@ use amr_rules::{Alert, LogEntry, Silence};
 use amr_state::{Group, LogKey};
 use std::alloc::{AllocError, Global};
 
-/// A stored alert's line.
+/// Returns the line of a stored alert.
 fn alert_text(alloc: Global, alert: &(Labels, Alert)) -> Result<String, AllocError>
     ensures { IfOk result (λ text. string_bytes text ≡ alert_line alert.now) }
 {
@@ -19,7 +20,7 @@ fn alert_text(alloc: Global, alert: &(Labels, Alert)) -> Result<String, AllocErr
     line_text(alloc, &value)
 }
 
-/// The lines of stored alerts.
+/// Returns the lines of stored alerts.
 pub fn alerts_text(alloc: Global, alerts: &[(Labels, Alert)]) -> Result<String, AllocError>
     ensures { IfOk result (λ text. string_bytes text ≡ flat_map alert_line alerts.now) }
 {
@@ -30,7 +31,7 @@ pub fn alerts_text(alloc: Global, alerts: &[(Labels, Alert)]) -> Result<String, 
     Ok(text)
 }
 
-/// A stored silence's line.
+/// Returns the line of a stored silence.
 fn silence_text(alloc: Global, silence: &(SilenceId, Silence)) -> Result<String, AllocError>
     ensures { IfOk result (λ text. string_bytes text ≡ silence_line silence.now) }
 {
@@ -38,7 +39,7 @@ fn silence_text(alloc: Global, silence: &(SilenceId, Silence)) -> Result<String,
     line_text(alloc, &value)
 }
 
-/// The lines of stored silences.
+/// Returns the lines of stored silences.
 pub fn silences_text(alloc: Global, silences: &[(SilenceId, Silence)]) -> Result<String, AllocError>
     ensures { IfOk result (λ text. string_bytes text ≡ flat_map silence_line silences.now) }
 {
@@ -49,7 +50,7 @@ pub fn silences_text(alloc: Global, silences: &[(SilenceId, Silence)]) -> Result
     Ok(text)
 }
 
-/// A group's line.
+/// Returns the line of a group.
 fn group_text(alloc: Global, group: &Group) -> Result<String, AllocError>
     ensures { IfOk result (λ text. string_bytes text ≡ group_seen_line group.now) }
 {
@@ -57,7 +58,7 @@ fn group_text(alloc: Global, group: &Group) -> Result<String, AllocError>
     line_text(alloc, &value)
 }
 
-/// The lines of groups.
+/// Returns the lines of groups.
 pub fn groups_text(alloc: Global, groups: &[Group]) -> Result<String, AllocError>
     ensures { IfOk result (λ text. string_bytes text ≡ flat_map group_seen_line groups.now) }
 {
@@ -68,7 +69,7 @@ pub fn groups_text(alloc: Global, groups: &[Group]) -> Result<String, AllocError
     Ok(text)
 }
 
-/// The line of an entry of the notification log.
+/// Returns the line of an entry of the notification log.
 fn entry_text(alloc: Global, entry: &(LogKey, LogEntry)) -> Result<String, AllocError>
     ensures { IfOk result (λ text. string_bytes text ≡ log_line entry.now) }
 {
@@ -76,7 +77,7 @@ fn entry_text(alloc: Global, entry: &(LogKey, LogEntry)) -> Result<String, Alloc
     line_text(alloc, &value)
 }
 
-/// The lines of entries of the notification log.
+/// Returns the lines of entries of the notification log.
 pub fn log_text(alloc: Global, entries: &[(LogKey, LogEntry)]) -> Result<String, AllocError>
     ensures { IfOk result (λ text. string_bytes text ≡ flat_map log_line entries.now) }
 {

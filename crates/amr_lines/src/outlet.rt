@@ -1,4 +1,6 @@
-//! Bytes to any writer, so that what stands there after a fault is known.
+//! A writer that knows whether it failed. A failed write is then never taken for memory that ran
+//! out, and what was written is always a prefix of what was to be. Everything that is printed goes
+//! through it.
 ghost use Rattle.std.specs.Prelude.{◌≡◌, ◌≢◌, IfOk, flat_map, false};
 ghost use Rattle.std.specs.Io.KnownBytes.{WriteAppends, Keeps};
 ghost use Rattle.std.specs.Io.{WritesAtMost};
@@ -6,7 +8,7 @@ ghost use Rattle.amr_lines.specs.Outlet.{WritesText, FailsAt};
 
 use std::io::Write;
 
-/// The writer failed. What it holds then is a beginning of what was to be written.
+/// The writer failed. It has got a prefix of what was to be written.
 #[derive(Clone, Copy, Debug, PartialEq, Eq)]
 pub struct WriteFailed;
 
@@ -28,7 +30,7 @@ impl<W: Write> Outlet<W> {
         }
     }
 
-    /// Writes once. A write that takes no byte has failed.
+    /// Writes once. A write that takes no byte counts as failed.
     fn write_once(&mut self, bytes: &[u8]) -> Result<usize, WriteFailed>
         ensures bound { WritesAtMost result bytes.now }
         ensures some { IfOk result (λ taken. taken ≢ 0) }
@@ -46,8 +48,8 @@ impl<W: Write> Outlet<W> {
     }
 }
 
-/// Writes all the bytes, a part at a time if the writer takes only a part. Every error of the writer ends it, an
-/// interrupted write too, and so does a write that takes no byte.
+/// Writes all the bytes, in several writes if the writer takes only a part. It fails at any error
+/// of the writer, even an interrupted write, and at a write that takes no byte.
 pub fn write_whole<W: Write>(out: &mut Outlet<W>, bytes: &[u8]) -> Result<(), WriteFailed>
     ensures written { WritesText (W.contents out.old.writer) (W.contents out.new.writer)
         result bytes.now }
@@ -61,7 +63,7 @@ pub fn write_whole<W: Write>(out: &mut Outlet<W>, bytes: &[u8]) -> Result<(), Wr
     Ok(())
 }
 
-/// Hands on what the writer holds back.
+/// Flushes the writer.
 pub fn flush<W: Write>(out: &mut Outlet<W>) -> Result<(), WriteFailed>
     ensures kept { Keeps (W.contents out.old.writer) (W.contents out.new.writer) }
     ensures failed { FailsAt result out.old.failed out.new.failed }
@@ -75,7 +77,7 @@ pub fn flush<W: Write>(out: &mut Outlet<W>) -> Result<(), WriteFailed>
     }
 }
 
-/// Writes the parts, one after the other.
+/// Writes the parts, one after another.
 pub fn write_parts<W: Write>(out: &mut Outlet<W>, parts: &[&[u8]]) -> Result<(), WriteFailed>
     ensures written { WritesText (W.contents out.old.writer) (W.contents out.new.writer)
         result (flat_map (λ part. part.now) parts.now) }

@@ -1,4 +1,5 @@
-//! The objects that are printed, as JSON values.
+//! The JSON values of what an event prints: notifications, skipped alerts, refusals. Listings use
+//! the small ones too. Nothing here makes text.
 ghost use Rattle.std.specs.Prelude.{◌≡◌, ℕ, codes, map, IfOk, OnOk};
 ghost use Rattle.serde_json.specs.Data.{array, object, string, put as with_member};
 ghost use Rattle.serde_json.specs.View.{view, items_of, members_view};
@@ -10,7 +11,7 @@ use amr_time::{Moment, write_moment};
 use serde_json::{Map, Value, json, put};
 use std::alloc::{AllocError, Global};
 
-/// Texts under their names.
+/// Returns an object with these texts under their names.
 pub(crate) fn texts_value(alloc: Global, texts: &[(Text, Text)]) -> Result<Value, AllocError>
     ensures { IfOk result (λ v. view v ≡ texts_data texts.now) }
 {
@@ -22,7 +23,7 @@ pub(crate) fn texts_value(alloc: Global, texts: &[(Text, Text)]) -> Result<Value
     Ok(Value::Object(members))
 }
 
-/// A moment.
+/// Returns a moment as a JSON string, in RFC 3339.
 #[tactic(auto, unfolding(crate::specs::Printed::moment_data))]
 pub(crate) fn moment_value(alloc: Global, moment: Moment) -> Result<Value, AllocError>
     ensures { IfOk result (λ v. view v ≡ moment_data moment) }
@@ -43,7 +44,7 @@ pub(crate) fn put_text(
     put(members, alloc, key, Value::try_from_str(alloc, text)?)
 }
 
-/// Puts texts under their names into an object.
+/// Puts an object with these texts into an object.
 pub(crate) fn put_texts(
     members: &mut Map<String, Value>,
     alloc: Global,
@@ -69,7 +70,7 @@ pub(crate) fn put_moment(
     put(members, alloc, key, moment_value(alloc, moment)?)
 }
 
-/// An alert of a note that fires.
+/// Returns a firing alert of a notification as JSON.
 #[tactic(auto, unfolding(crate::specs::Printed::firing_data))]
 fn firing_value(alloc: Global, alert: &FiringAlert) -> Result<Value, AllocError>
     ensures { IfOk result (λ v. view v ≡ firing_data alert.now) }
@@ -86,7 +87,7 @@ fn firing_value(alloc: Global, alert: &FiringAlert) -> Result<Value, AllocError>
     Ok(Value::Object(members))
 }
 
-/// An alert of a note that is resolved.
+/// Returns a resolved alert of a notification as JSON.
 #[tactic(auto, unfolding(crate::specs::Printed::resolved_data))]
 fn resolved_value(alloc: Global, alert: &ResolvedAlert) -> Result<Value, AllocError>
     ensures { IfOk result (λ v. view v ≡ resolved_data alert.now) }
@@ -104,7 +105,7 @@ fn resolved_value(alloc: Global, alert: &ResolvedAlert) -> Result<Value, AllocEr
     Ok(Value::Object(members))
 }
 
-/// The alerts of a note that fire.
+/// Returns the firing alerts of a notification as a JSON array.
 fn firing_values(alloc: Global, alerts: &[FiringAlert]) -> Result<Value, AllocError>
     ensures { IfOk result (λ v. view v ≡ array (items_of (map firing_data alerts.now))) }
 {
@@ -115,7 +116,7 @@ fn firing_values(alloc: Global, alerts: &[FiringAlert]) -> Result<Value, AllocEr
     Ok(Value::Array(values))
 }
 
-/// The alerts of a note that are resolved.
+/// Returns the resolved alerts of a notification as a JSON array.
 fn resolved_values(alloc: Global, alerts: &[ResolvedAlert]) -> Result<Value, AllocError>
     ensures { IfOk result (λ v. view v ≡ array (items_of (map resolved_data alerts.now))) }
 {
@@ -126,7 +127,7 @@ fn resolved_values(alloc: Global, alerts: &[ResolvedAlert]) -> Result<Value, All
     Ok(Value::Array(values))
 }
 
-/// Puts the alerts of a note that fire into its object.
+/// Puts the firing alerts of a notification into its object.
 fn put_firing(
     members: &mut Map<String, Value>,
     alloc: Global,
@@ -139,7 +140,7 @@ fn put_firing(
     put(members, alloc, "firing", firing_values(alloc, alerts)?)
 }
 
-/// Puts the alerts of a note that are resolved into its object.
+/// Puts the resolved alerts of a notification into its object.
 fn put_resolved(
     members: &mut Map<String, Value>,
     alloc: Global,
@@ -152,7 +153,7 @@ fn put_resolved(
     put(members, alloc, "resolved", resolved_values(alloc, alerts)?)
 }
 
-/// A note.
+/// Returns a notification as JSON.
 #[tactic(auto, unfolding(crate::specs::Printed::note_data))]
 pub(crate) fn note_value(alloc: Global, note: &Note) -> Result<Value, AllocError>
     ensures { IfOk result (λ v. view v ≡ note_data note.now) }
@@ -170,7 +171,7 @@ pub(crate) fn note_value(alloc: Global, note: &Note) -> Result<Value, AllocError
     Ok(Value::Object(members))
 }
 
-/// Places in a post of alerts.
+/// Returns positions in a post of alerts as a JSON array.
 fn places_value(alloc: Global, places: &[usize]) -> Result<Value, AllocError>
     ensures { IfOk result (λ v. view v ≡ array (items_of (map number_data places.now))) }
 {
@@ -181,7 +182,7 @@ fn places_value(alloc: Global, places: &[usize]) -> Result<Value, AllocError>
     Ok(Value::Array(values))
 }
 
-/// The skipped alerts of an event.
+/// Returns as JSON the alerts that an event skipped.
 pub(crate) fn skipped_value(
     alloc: Global,
     event: u64,
@@ -195,7 +196,7 @@ pub(crate) fn skipped_value(
     Ok(Value::Object(members))
 }
 
-/// An event that was refused.
+/// Returns as JSON that an event was refused.
 pub(crate) fn refused_event_value(
     alloc: Global,
     event: u64,

@@ -1,4 +1,5 @@
-//! The lines of the answers to the question why an alert was told of, or not.
+//! The lines of `explain`: why an alert was or wasn't in a notification. The verdicts are found in
+//! `amr_engine`.
 ghost use Rattle.std.specs.Prelude.{◌≡◌, IfOk, OnOk, string_bytes};
 ghost use Rattle.std.specs.List.{flat_map};
 ghost use Rattle.serde_json.specs.View.{view, members_view};
@@ -13,7 +14,7 @@ use amr_labels::Text;
 use serde_json::{Map, Value, json, put};
 use std::alloc::{AllocError, Global};
 
-/// The name of what is found.
+/// Returns the printed name of a finding.
 fn finding_name(finding: &Finding) -> &'static str
     ensures { result.now ≡ name_of_finding finding.now }
 {
@@ -29,7 +30,7 @@ fn finding_name(finding: &Finding) -> &'static str
     }
 }
 
-/// Puts what is found into an object, but for its name.
+/// Puts what a finding has besides its name into an object.
 fn put_finding(
     alloc: Global,
     members: &mut Map<String, Value>,
@@ -53,7 +54,7 @@ fn put_finding(
     }
 }
 
-/// Puts an integration, where there is one, into an object, by its kind and place.
+/// Puts an integration, if there is one, into an object, by its kind and its index.
 fn put_integration(
     alloc: Global,
     members: &mut Map<String, Value>,
@@ -71,7 +72,7 @@ fn put_integration(
     }
 }
 
-/// What is found at a route.
+/// Returns a finding at a route as JSON.
 fn at_route_value(
     alloc: Global,
     route: usize,
@@ -91,7 +92,7 @@ fn at_route_value(
     Ok(Value::Object(members))
 }
 
-/// An answer.
+/// Returns a verdict as JSON.
 #[tactic(auto, unfolding(crate::specs::Verdicts::verdict_data))]
 fn verdict_value(alloc: Global, verdict: &Verdict) -> Result<Value, AllocError>
     ensures { IfOk result (λ v. view v ≡ verdict_data verdict.now) }
@@ -108,7 +109,7 @@ fn verdict_value(alloc: Global, verdict: &Verdict) -> Result<Value, AllocError>
     }
 }
 
-/// An answer's line.
+/// Returns the line of a verdict.
 fn verdict_text(alloc: Global, verdict: &Verdict) -> Result<String, AllocError>
     ensures { IfOk result (λ text. string_bytes text ≡ verdict_line verdict.now) }
 {
@@ -116,7 +117,7 @@ fn verdict_text(alloc: Global, verdict: &Verdict) -> Result<String, AllocError>
     line_text(alloc, &value)
 }
 
-/// The lines of answers.
+/// Returns the lines of verdicts.
 pub fn verdicts_text(alloc: Global, verdicts: &[Verdict]) -> Result<String, AllocError>
     ensures { IfOk result (λ text. string_bytes text ≡ flat_map verdict_line verdicts.now) }
 {

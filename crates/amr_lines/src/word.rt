@@ -1,8 +1,8 @@
-//! The words of commands.
+//! The words of a session's commands, as they are printed.
 ghost use Rattle.std.specs.Prelude.{◌≡◌};
 ghost use Rattle.amr_lines.specs.LastLines.{word_text as text_of_word};
 
-/// A command's word, as its last line gives it.
+/// The word of a command, as its last line prints it.
 #[derive(Clone, Copy, Debug, PartialEq, Eq)]
 pub enum Word {
     Step,
@@ -21,7 +21,7 @@ pub enum Word {
     Unknown,
 }
 
-/// The word as it is printed.
+/// Returns the word as it is printed.
 pub fn word_text(word: Word) -> &'static str
     ensures { result.now ≡ text_of_word word }
 {

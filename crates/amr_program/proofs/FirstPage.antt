@@ -1,4 +1,5 @@
--- A page of a full disk, down to its printed bytes: an alert is posted, and the tick at the end of its group's wait sends it.
+-- The first example down to its printed bytes: an alert is posted, and a tick when `group_wait` is
+-- over notifies of it.
 use Rattle.std.specs.Prelude.{◌≡◌, true, false, List, [], ◌∷◌, ◌++◌, Some, None, codes, ◌+◌, ◌*◌}
 use Rattle.std.proofs.Common.{refl}
 use Rattle.amr_labels.specs.Map.{empty}

@@ -37,13 +37,13 @@ length-take-slice_get k events event e =
     let within : k < length events = slice_get_within events k event e in
     omega (arith, length-take k events)
 
--- the state after one event more
+-- the state after one more event
 pub run_more : (config : Config) (events : List Event) (k : ℕ) (event : Event) → slice_get events k ≡ Some event
     → after_event (run_of config (take k events)) event ≡ run_of config (take (k + 1) events)
 run_more config events k event e =
     sym (ap (run_of config) (take-slice_get k events event e) ∙ fold-append after_event (start config) (take k events) (event ∷ []))
 
--- one event more
+-- one more event
 pub run_lines-next : (config : Config) (events : List Event) (k : ℕ) (event : Event) → slice_get events k ≡ Some event
     → run_lines config (take (k + 1) events) ≡ run_lines config (take k events) ++ event_lines (k + 1) (outcome_of (run_of config (take k events)) event)
 unfolding run_lines
@@ -65,7 +65,7 @@ module _ (a b c : Option Text) (config : Config) (events : List Event) (k : ℕ)
   next_lines : run_lines config (take (k + 1) events) ≡ run_lines config (take k events) ++ event_lines (k + 1) outcome
   next_lines = run_lines-next config events k event found ∙ ap (λ o. run_lines config (take k events) ++ event_lines (k + 1) o) (sym is)
 
-  -- the lines of one event more are written
+  -- the lines of one more event are written
   pub Appends-next : Appends b c (event_lines (k + 1) outcome) → Appends a c (run_lines config (take (k + 1) events))
   Appends-next written = subst (Appends a c) (sym next_lines) (Appends-trans a b c _ _ before written)
 
@@ -85,7 +85,7 @@ module _ (a b c : Option Text) (config : Config) (events : List Event) (k : ℕ)
   RunLeavesAt-event OutOfMemory left = (k, subst (Appends a c) (append-nil (run_lines config (take k events))) (Appends-trans a b c _ _ before left))
   RunLeavesAt-event CannotWrite left = AppendsBeginning-after a b c _ _ rest_lines.0 _ before left rest_lines.1
 
--- the lines of the first events are a beginning of all
+-- the lines of the first events are a prefix of all
 run_lines-split : (config : Config) (events : List Event) (k : ℕ) → (rest : Text) × (run_lines config events ≡ run_lines config (take k events) ++ rest)
 unfolding run_lines
 run_lines-split config events k = (
@@ -93,7 +93,7 @@ run_lines-split config events k = (
   ap (lines_from 1 (start config)) (sym (take-append-drop k events)) ∙ lines_from-append 1 (start config) (take k events) (drop k events),
 )
 
--- what the writer holds back can't be handed on
+-- the writer can't be flushed
 pub RunLeaves-unflushed : (a b c : Option Text) (config : Config) (events : List Event) (ended : Result (Unit {0}) Stopped)
     → RunLeaves a b config events ended → Keeps b c → AppendsBeginning a c (run_lines config events)
 RunLeaves-unflushed a b c config events (Ok u) left kept =
@@ -104,7 +104,7 @@ RunLeaves-unflushed a b c config events (Err OutOfMemory) left kept =
 RunLeaves-unflushed a b c config events (Err CannotWrite) left kept =
     record { written = left.written; unwritten = left.unwritten; parts = left.parts; appended = Appends-kept a b c _ left.appended kept }
 
--- it is handed on
+-- the writer is flushed
 pub RunLeaves-flushed : (a b c : Option Text) (config : Config) (events : List Event) (ended : Result (Unit {0}) Stopped)
     → RunLeaves a b config events ended → Keeps b c → RunLeaves a c config events ended
 RunLeaves-flushed a b c config events (Ok u) left kept = Appends-kept a b c _ left kept

@@ -1,4 +1,4 @@
--- What is left, and which end failed, where a run or a session stops at a fault.
+-- What is left, and which end failed, if a run or a session stops at a fault.
 use Rattle.std.proofs.Common.{◌≡◌, ℕ, Bool, List, Option, Err, inr, refl, subst}
 use Rattle.amr_labels.specs.Labels.{Text}
 use Rattle.amr_config.specs.Config.{Config}
@@ -29,7 +29,7 @@ pub FaultBy-stopped : (failed failed' : Bool) (stopped : Stopped) → StoppedAt 
 FaultBy-stopped failed failed' OutOfMemory h = h
 FaultBy-stopped failed failed' CannotWrite h = h
 
--- a session over two files breaks
+-- an end of a session over two files fails
 pub SessionLeaves-broken : (source left old new : Option Text) (bytes script : List ℕ) (config : Config) (events : List Event) (broken : Broken)
     → Hold bytes script config events → Converses (incident_with config events) source left old new (Err broken) → SessionLeaves source left old new bytes script (Err (broken_fault broken))
 SessionLeaves-broken source left old new bytes script config events broken hold conversed = inr (config, events, hold, broken, refl, conversed)

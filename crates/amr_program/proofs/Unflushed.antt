@@ -1,4 +1,4 @@
--- What a check leaves where the writer doesn't hand on what it holds back.
+-- What a check leaves if the writer can't be flushed.
 use Rattle.std.proofs.Common.{◌≡◌, ℕ, List, [], Option, Ok, Err, refl, sym, subst, append-nil, inr}
 use Rattle.std.proofs.KnownBytes.{Appends-kept}
 use Rattle.std.specs.Io.KnownBytes.{Appends, Keeps}

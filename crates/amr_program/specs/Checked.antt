@@ -20,7 +20,7 @@ counts_data config = object (object_of (
 abbrev pub counts_line : config.Config → Text
 counts_line config = data_line (counts_data config)
 
--- the configuration is refused; want of memory says nothing
+-- the configuration is refused; running out of memory says nothing about it
 abbrev pub IsRefused : List ℕ → Fault → Type 0
 IsRefused bytes (Config refusal) = ConfigFileIs bytes (Err refusal)
 IsRefused bytes (Script fault) = ⊥
@@ -31,7 +31,8 @@ IsRefused bytes CannotWrite = ⊥
 IsRefused bytes OutOfMemory = Unit {0}
 IsRefused bytes Usage = ⊥
 
--- A check of a configuration. Where it is refused or memory is wanting nothing is written; else the line with its numbers is, and a beginning of it where the writer fails.
+-- A check of a configuration. If it is refused or memory runs out, nothing is written. Otherwise
+-- the line with its numbers is written, or a prefix of it if the writer fails.
 abbrev pub CheckLeaves : Option Text → Option Text → List ℕ → Result (Unit {0}) Fault → Type 0
 CheckLeaves old new bytes (Ok u) = (held : config.Config) × ConfigFileIs bytes (Ok held) × Appends old new (counts_line held)
 CheckLeaves old new bytes (Err fault) =

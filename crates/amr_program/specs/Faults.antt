@@ -1,4 +1,4 @@
--- The lines of the faults on standard error, and the statuses.
+-- The lines of faults on standard error, and the exit statuses.
 use Rattle.std.specs.Prelude.{ℕ, List, [], ◌∷◌, ◌++◌, codes, decimal}
 use Rattle.amr_stated.specs.declared.error.Refusal.{Refusal}
 use Rattle.amr_stated.specs.declared.error.Refusal.TheVariants.{BadConfig, UnknownReceiver, DuplicateReceiver, RootRoute, ZeroInterval, BadGroupBy, TooDeep}
@@ -58,7 +58,7 @@ fault_name CannotWrite = codes "amreplay: cannot write"
 fault_name OutOfMemory = codes "amreplay: out of memory"
 fault_name Usage = codes "amreplay: usage"
 
--- where the fault is: nowhere that is printed, at a path of the configuration, at a line of the script
+-- the place of a fault: none that is printed, a path in the configuration, or a line of the script
 pub data FaultPlace : Type 0 where
   Nowhere : FaultPlace
   AtPath : List ℕ → FaultPlace

@@ -1,4 +1,4 @@
--- What the bytes of the two files say, and what a run over them leaves in a writer.
+-- What the bytes of the two files spell, and what a run over them leaves in a writer.
 use Rattle.std.specs.Prelude.{◌≡◌, ◌⊎◌, ℕ, Bool, true, false, List, [], take, length, Option, Some, None, Result, Ok, Err, nat_lt, if◌then◌else◌}
 use Rattle.std.specs.Str.{is_utf8}
 use Rattle.std.specs.Io.KnownBytes.{Appends, Keeps}
@@ -19,14 +19,14 @@ use Rattle.amr_program.specs.declared.fault.Fault.TheVariants.{Config, Script, C
 use Rattle.amr_lines.specs.Outlet.{AppendsBeginning}
 use Rattle.amr_program.specs.Runs.{run_lines}
 
--- the value that bytes stand for, which are a text of JSON in UTF-8
+-- the value that bytes spell, if they are JSON in UTF-8
 unfoldable pub json_of : List ℕ → Option Data
 json_of bytes = if is_utf8 bytes then read bytes else None
 
 abbrev pub longest_config : ℕ
 longest_config = 1_048_576
 
--- the configuration of a value, or its refusal; the empty path is that of the whole file
+-- the configuration of a value, or its refusal; the path of a whole file is empty
 abbrev pub ValueIs : Option Data → Result config.Config Refusal → Type 0
 ValueIs None judged = judged ≡ Err (BadConfig [])
 ValueIs (Some value) judged = ConfigIs value judged
@@ -39,7 +39,7 @@ ConfigIsUnless false bytes judged = ValueIs (json_of bytes) judged
 unfoldable pub ConfigFileIs : List ℕ → Result config.Config Refusal → Type 0
 ConfigFileIs bytes judged = ConfigIsUnless (nat_lt longest_config (length bytes)) bytes judged
 
--- what is answered for the bytes of a configuration; want of memory says nothing
+-- what is returned for the bytes of a configuration; running out of memory says nothing about them
 abbrev pub ReadsAs : List ℕ → Result config.Config ConfigError → Type 0
 ReadsAs bytes (Ok config) = ConfigFileIs bytes (Ok config)
 ReadsAs bytes (Err Memory) = Unit {0}
@@ -50,7 +50,8 @@ pub record Hold (config_bytes script_bytes : List ℕ) (held : config.Config) (e
   pub config_read : ConfigFileIs config_bytes (Ok held)
   pub script_read : ScriptIs script_bytes (Ok events)
 
--- a file is refused, the configuration before the script; want of memory says nothing
+-- a file is refused, the configuration before the script; running out of memory says nothing about
+-- them
 abbrev pub AreRefused : List ℕ → List ℕ → Fault → Type 0
 AreRefused bytes script (Config refusal) = ConfigFileIs bytes (Err refusal)
 AreRefused bytes script (Script fault) = (held : config.Config) × ConfigFileIs bytes (Ok held) × ScriptIs script (Err fault)
@@ -71,7 +72,8 @@ abbrev pub Opens : List ℕ → List ℕ → Result View Fault → Type 0
 Opens bytes script (Ok session) = Hold bytes script session.config session.events × (session ≡ at_cursor session.config session.events 0)
 Opens bytes script (Err fault) = AreRefused bytes script fault
 
--- what a run that stops leaves: at want of memory the lines of the first events, where the writer fails a beginning of the lines
+-- what a run that stops leaves: the lines of the first events if memory runs out, and a prefix of
+-- the lines if the writer fails
 abbrev pub StopLeaves : Option Text → Option Text → config.Config → List Event → Fault → Type 0
 StopLeaves old new config events (Config refusal) = ⊥
 StopLeaves old new config events (Script fault) = ⊥
@@ -82,7 +84,8 @@ StopLeaves old new config events CannotWrite = AppendsBeginning old new (run_lin
 StopLeaves old new config events OutOfMemory = (k : ℕ) × Appends old new (run_lines config (take k events))
 StopLeaves old new config events Usage = ⊥
 
--- A run over two files. Where one is refused, its fault is answered and nothing is written; else the lines of the run are.
+-- A run over two files. If one is refused, its fault is returned and nothing is written; otherwise
+-- the lines of the run are written.
 abbrev pub FilesLeave : Option Text → Option Text → List ℕ → List ℕ → Result (Unit {0}) Fault → Type 0
 FilesLeave old new bytes script (Ok u) = (held : config.Config) × (events : List Event) × Hold bytes script held events × Appends old new (run_lines held events)
 FilesLeave old new bytes script (Err fault) =

@@ -11,16 +11,17 @@ use Rattle.amr_program.specs.declared.run.Stopped.TheVariants.{OutOfMemory, Cann
 use Rattle.amr_lines.specs.Outlet.{AppendsBeginning}
 use Rattle.amr_lines.specs.Printed.{event_lines}
 
--- the lines of events one after another from a state, the first of them being event n
+-- the lines of events, one after another from a state; the first has the number n
 abbrev pub lines_from : ℕ → State → List Event → Text
 lines_from n s [] = []
 lines_from n s (event ∷ events) = event_lines n (outcome_of s event) ++ lines_from (n + 1) (after_event s event) events
 
--- the lines of a run of events; they are counted from 1
+-- the lines of the events of a run; the first has the number 1
 unfoldable pub run_lines : Config → List Event → Text
 run_lines config events = lines_from 1 (start config) events
 
--- What a text leaves in a writer: the text; at want of memory nothing of it; where the writer fails a beginning of it.
+-- What is left of a text in a writer: the text; nothing of it if memory runs out; a prefix of it if
+-- the writer fails.
 abbrev pub LeavesAt : Option Text → Option Text → Text → Stopped → Type 0
 LeavesAt old new text OutOfMemory = Appends old new []
 LeavesAt old new text CannotWrite = AppendsBeginning old new text
@@ -29,7 +30,8 @@ abbrev pub Leaves : Option Text → Option Text → Text → Result (Unit {0}) S
 Leaves old new text (Ok u) = Appends old new text
 Leaves old new text (Err stopped) = LeavesAt old new text stopped
 
--- What a run leaves in a writer: its lines; at want of memory the lines of the first events; where the writer fails a beginning of the lines.
+-- What a run leaves in a writer: its lines; the lines of the first events if memory runs out; a
+-- prefix of the lines if the writer fails.
 abbrev pub RunLeavesAt : Option Text → Option Text → Config → List Event → Stopped → Type 0
 RunLeavesAt old new config events OutOfMemory = (k : ℕ) × Appends old new (run_lines config (take k events))
 RunLeavesAt old new config events CannotWrite = AppendsBeginning old new (run_lines config events)

@@ -1,4 +1,4 @@
--- What a session over two files takes from the reader of its commands, and leaves in a writer.
+-- What a session over two files reads of its commands, and leaves in a writer.
 use Rattle.std.specs.Prelude.{◌≡◌, ◌⊎◌, ℕ, List, Option, Result, Ok, Err}
 use Rattle.std.specs.Io.KnownBytes.{Keeps}
 use Rattle.amr_labels.specs.Labels.{Text}
@@ -14,8 +14,8 @@ use Rattle.amr_program.specs.Files.{Hold, AreRefused}
 abbrev pub incident_with : config.Config → List Event → Incident
 incident_with held events = record { config = held; events = events }
 
--- A session over two files. Where one is refused, its fault is answered, and nothing is read or written. Else the commands are answered over what they hold, to the end of the
--- commands or to the end that broke.
+-- A session over two files. If one is refused, its fault is returned, and nothing is read or
+-- written. Otherwise the commands are answered until they end or an end fails.
 abbrev pub SessionLeaves : Option Text → Option Text → Option Text → Option Text → List ℕ → List ℕ → Result (Unit {0}) Fault → Type 0
 SessionLeaves source left old new bytes script (Ok u) =
     (held : config.Config) × (events : List Event) × Hold bytes script held events × Converses (incident_with held events) source left old new (Ok u)

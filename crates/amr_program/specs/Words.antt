@@ -1,4 +1,4 @@
--- What the words after the program's name ask for.
+-- What the arguments after the program's name ask for.
 use Rattle.std.specs.Prelude.{ℕ, List, [], ◌∷◌, Option, Some, None, codes, bytes_eq, if◌then◌else◌}
 use Rattle.amr_program.specs.declared.words.Command.{Command}
 use Rattle.amr_program.specs.declared.words.Command.TheVariants.{Check, Run, Session}
@@ -20,7 +20,7 @@ with_files word config script =
     if bytes_eq word (codes "run") then Some (RunOf config script)
     else (if bytes_eq word (codes "session") then Some (SessionOf config script) else None)
 
--- these two, and `check CONFIG`
+-- these two forms, and `check CONFIG`
 abbrev pub asked : List (List ℕ) → Option Task
 asked [] = None
 asked (word ∷ []) = None

@@ -1,4 +1,5 @@
-//! A check of a configuration: its numbers of receivers, routes and inhibition rules.
+//! The command `check`: validates a configuration and prints how many receivers, routes and
+//! inhibition rules it has.
 ghost use Rattle.std.specs.Prelude.{◌≡◌, IfOk, string_bytes};
 ghost use Rattle.serde_json.specs.View.{view};
 ghost use Rattle.amr_program.specs.Ends.{EndsBy};
@@ -12,7 +13,7 @@ use serde_json::{Value, json};
 use std::alloc::{AllocError, Global};
 use std::io::Write;
 
-/// The numbers of receivers, of routes with the root, and of inhibition rules.
+/// Returns as JSON how many receivers, routes (with the root) and inhibition rules there are.
 fn counts_value(alloc: Global, config: &Config) -> Result<Value, AllocError>
     ensures { IfOk result (λ v. view v ≡ counts_data config.now) }
 {
@@ -22,7 +23,7 @@ fn counts_value(alloc: Global, config: &Config) -> Result<Value, AllocError>
     json!(in alloc; {"receivers": receivers, "routes": routes, "rules": rules})
 }
 
-/// The same, as a line.
+/// Returns the same as a line.
 fn counts_text(alloc: Global, config: &Config) -> Result<String, AllocError>
     ensures { IfOk result (λ text. string_bytes text ≡ counts_line config.now) }
 {
@@ -30,8 +31,8 @@ fn counts_text(alloc: Global, config: &Config) -> Result<String, AllocError>
     line_text(alloc, &value)
 }
 
-/// Judges a configuration, and writes the numbers of its receivers, routes and inhibition rules as a line. Nothing is written
-/// where it is refused.
+/// Validates a configuration, and writes a line with the numbers of its receivers, routes and
+/// inhibition rules. Writes nothing if the configuration is refused.
 pub fn check_config<W: Write>(
     alloc: Global,
     config: &[u8],

@@ -1,4 +1,5 @@
-//! What stops the program, and its line on standard error.
+//! What stops the program: the line for standard error, and the exit status. `main` writes it last.
+//! The line takes no memory, so it can also report that memory ran out.
 ghost use Rattle.std.specs.Prelude.{◌≡◌};
 ghost use Rattle.amr_lines.specs.Outlet.{WritesText, FailsAt};
 
@@ -11,7 +12,7 @@ use itoa::Buffer;
 use std::alloc::AllocError;
 use std::io::Write;
 
-/// What stops the program.
+/// A reason to stop the program.
 #[derive(Debug, Drop)]
 pub enum Fault {
     /// The configuration is refused.
@@ -23,7 +24,7 @@ pub enum Fault {
     CannotReadCommands,
     CannotWrite,
     OutOfMemory,
-    /// The words are no form of the program.
+    /// The arguments aren't a command line of the program.
     Usage,
 }
 
@@ -105,7 +106,7 @@ impl From<Broken> for Fault {
     }
 }
 
-/// What a fault's line has after its name.
+/// What the line of a fault has after its name.
 #[derive(Clone, Copy, Debug)]
 enum Place<'a> {
     Nowhere,
@@ -115,7 +116,7 @@ enum Place<'a> {
 
 ghost use Rattle.amr_program.specs.Faults.{fault_line, fault_name, config_name as config_name_of, script_name as script_name_of, fault_place, config_place as config_place_of, script_place as script_place_of, path_place as place_of_path, line_with_place, place_of as place_seen, status_of as fault_status};
 
-/// Writes the fault's line.
+/// Writes the line of a fault. It takes no memory.
 pub fn write_fault<W: Write>(fault: &Fault, out: &mut Outlet<W>) -> Result<(), WriteFailed>
     ensures written { WritesText (W.contents out.old.writer) (W.contents out.new.writer)
         result (fault_line fault.now) }
@@ -224,7 +225,7 @@ fn script_place(fault: ScriptFault) -> Place<'static>
     }
 }
 
-/// The exit status of a fault: 2 where the words are no form of the program, else 1.
+/// Returns the exit status of a fault: 2 for a usage error, and 1 for any other.
 pub fn status_of(fault: &Fault) -> u8
     ensures { result ≡ fault_status fault.now }
 {

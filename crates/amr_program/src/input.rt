@@ -1,4 +1,4 @@
-//! The bytes that a reader gives.
+//! Reading all the bytes of a file. `main` opens the files.
 ghost use Rattle.std.specs.Prelude.{◌≡◌, IfOk, MatchResult};
 ghost use Rattle.std.specs.Io.KnownBytes.{Consumes, IsAtEnd};
 ghost use Rattle.amr_program.specs.Input.{UnreadBy};
@@ -10,7 +10,7 @@ use std::io::Read;
 /// How many bytes are asked for at once.
 const CHUNK: usize = 8192;
 
-/// Why bytes aren't read.
+/// Why a file couldn't be read.
 #[derive(Clone, Copy, Debug, PartialEq, Eq)]
 pub enum Unread {
     OutOfMemory,
@@ -41,7 +41,8 @@ impl From<ReadFailed> for Unread {
 
 /// Reads all the bytes that are left.
 ///
-/// Reading ends at the call of read numbered 1,099,511,627,776, as at an error of the reader.
+/// Reading also ends at an error of the reader, and at the read numbered 1,099,511,627,776. Both
+/// are errors, so that a file that is cut short is never taken for a whole one.
 pub fn read_whole<R: Read>(alloc: Global, inlet: &mut Inlet<R>) -> Result<Vec<u8>, Unread>
     ensures consumed { IfOk result (λ bytes. Consumes (R.remaining inlet.old.reader)
         (R.remaining inlet.new.reader) bytes.items) }

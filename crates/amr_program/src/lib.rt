@@ -1,4 +1,5 @@
-//! What the program does with its words and the bytes of its files: faults, checks, runs and sessions.
+//! The program, given its arguments and the bytes of its files: checks, runs, sessions, and the
+//! faults that stop them. `main` calls it; nothing here opens a file.
 #![tactic(auto)]
 
 mod check;

@@ -1,4 +1,4 @@
-//! What the bytes of a file say.
+//! The configuration and the script, from the bytes of their files.
 ghost use Rattle.std.specs.Prelude.{◌≡◌, [], option_map, IfOk};
 ghost use Rattle.serde_json.specs.View.{view};
 ghost use Rattle.amr_program.specs.Files.{json_of, ReadsAs, FilesAre, Opens};
@@ -13,10 +13,10 @@ use amr_stated::{ConfigError, Refusal};
 use serde_json::Value;
 use std::alloc::{AllocError, Global};
 
-/// The most bytes of a configuration.
+/// The most bytes of a configuration, 1 MiB.
 pub const LONGEST_CONFIG: usize = 1_048_576;
 
-/// The value that bytes stand for, which are a text of JSON in UTF-8.
+/// Returns the JSON value that the bytes spell, or `None` if they aren't JSON in UTF-8.
 #[tactic(auto, unfolding(crate::specs::Files::json_of))]
 fn json(alloc: Global, bytes: &[u8]) -> Result<Option<Value>, AllocError>
     ensures { IfOk result (λ found. option_map view found ≡ json_of bytes.now) }
@@ -33,7 +33,7 @@ fn json(alloc: Global, bytes: &[u8]) -> Result<Option<Value>, AllocError>
     }
 }
 
-/// The refusal of a whole file.
+/// Returns the refusal of a whole file, whose path is empty.
 fn whole_file(alloc: Global) -> Result<Refusal, AllocError>
     ensures { IfOk result (λ refusal. refusal ≡ BadConfig []) }
 {
@@ -42,7 +42,7 @@ fn whole_file(alloc: Global) -> Result<Refusal, AllocError>
     })
 }
 
-/// The configuration of a file: a text of JSON of at most 1 MiB.
+/// Reads a configuration from the bytes of its file, which must be JSON of at most 1 MiB.
 #[tactic(auto, unfolding(crate::specs::Files::ConfigFileIs))]
 pub fn read_config(alloc: Global, bytes: &[u8]) -> Result<Config, ConfigError>
     ensures { ReadsAs bytes.now result }
@@ -56,7 +56,8 @@ pub fn read_config(alloc: Global, bytes: &[u8]) -> Result<Config, ConfigError>
     }
 }
 
-/// Reads the configuration and the script. The configuration is judged before the script.
+/// Reads the configuration and then the script. If both are faulty, the fault is that of the
+/// configuration.
 pub(crate) fn read_files(
     alloc: Global,
     config: &[u8],
@@ -69,7 +70,8 @@ pub(crate) fn read_files(
     Ok((config, script))
 }
 
-/// The session of a script under a configuration, at its start. The configuration is judged before the script.
+/// Opens a session of a script under a configuration, with the cursor at the start. If both files
+/// are faulty, the fault is that of the configuration.
 pub fn open_session(alloc: Global, config: &[u8], script: &[u8]) -> Result<Session, Fault>
     ensures { Opens config.now script.now result }
 {

@@ -1,4 +1,5 @@
-//! A run: all events of a script are passed, and their lines written.
+//! The command `run`: applies all events of a script and writes their lines. It never goes back, so
+//! it keeps no record and calls the engine itself instead of a session.
 ghost use Rattle.std.specs.Prelude.{◌≡◌, ◌+◌, [], IfOk, OnOk, length, ℕ, string_bytes};
 ghost use Rattle.amr_lines.specs.Printed.{event_lines};
 ghost use Rattle.amr_program.specs.Files.{FilesLeave};
@@ -16,7 +17,7 @@ use amr_lines::{Outlet, WriteFailed, event_text, flush, write_whole};
 use std::alloc::{AllocError, Global};
 use std::io::Write;
 
-/// Why a run ends before its last line.
+/// Why a run ended before its last line.
 #[derive(Debug, Drop)]
 pub enum Stopped {
     OutOfMemory,
@@ -45,7 +46,8 @@ impl From<WriteFailed> for Stopped {
     }
 }
 
-/// Writes the lines of an event's outcome, whose text is built whole first.
+/// Writes the lines of an event's outcome. Their text is built first, so that running out of memory
+/// never leaves half a line.
 fn write_event<W: Write>(
     alloc: Global,
     event: u64,
@@ -61,7 +63,7 @@ fn write_event<W: Write>(
     Ok(())
 }
 
-/// Applies an event, writes its lines, and drops its record, so that a run keeps none.
+/// Applies an event, writes its lines, and drops its record, which a run doesn't need.
 fn pass_event<W: Write>(
     alloc: Global,
     engine: &mut Engine,
@@ -80,7 +82,7 @@ fn pass_event<W: Write>(
     write_event(alloc, number, &outcome, out)
 }
 
-/// Passes all events of a script, and writes each event's lines.
+/// Applies all events of a script, and writes the lines of each.
 fn write_events<W: Write>(
     alloc: Global,
     engine: &mut Engine,
@@ -98,7 +100,7 @@ fn write_events<W: Write>(
     Ok(())
 }
 
-/// The same, and hands on what the writer holds back, also where memory stops the run.
+/// Like `write_events`, then flushes the writer, even if memory ran out.
 fn write_run<W: Write>(
     alloc: Global,
     engine: &mut Engine,
@@ -115,10 +117,11 @@ fn write_run<W: Write>(
     ended
 }
 
-/// Runs a script over a configuration, and writes the lines of its events.
+/// Runs a script under a configuration, and writes the lines of its events.
 ///
-/// The configuration is judged before the script, and nothing is written where one of them is refused. The text of an event is built whole
-/// before its first byte is written, so want of memory leaves the lines of the events before.
+/// The configuration is read before the script, and nothing is written if one of them is refused.
+/// The text of an event is built before its first byte is written, so if memory runs out the lines
+/// of the events before it are written, and none of its own.
 pub fn run_script<W: Write>(
     alloc: Global,
     config: &[u8],

@@ -1,4 +1,4 @@
-//! A session: commands are read, and answered over a script and a configuration.
+//! The command `session`: opens a session over two files and answers commands.
 ghost use Rattle.amr_program.specs.Ends.{EndsBy, ReadsBy};
 ghost use Rattle.amr_program.specs.Sessions.{SessionLeaves};
 
@@ -9,10 +9,10 @@ use amr_lines::{Inlet, Outlet};
 use std::alloc::Global;
 use std::io::{Read, Write};
 
-/// Reads commands to their end, and answers each over a script and a configuration.
+/// Reads commands until they end, and answers each over a script and a configuration.
 ///
-/// The configuration is judged before the script, and nothing is read or written where one of them is refused. What is written is handed
-/// on after each command.
+/// The configuration is read before the script, and if one of them is refused, no command is read
+/// and nothing is written. The writer is flushed after each command.
 pub fn run_session<R: Read, W: Write>(
     alloc: Global,
     config: &[u8],

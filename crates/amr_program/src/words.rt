@@ -1,20 +1,20 @@
-//! The words after the program's name.
+//! The arguments after the program's name.
 ghost use Rattle.std.specs.Prelude.{◌≡◌, map, option_map, string_bytes};
 
-/// What the words ask for, with the paths.
+/// What the arguments ask for, with the paths of the files.
 #[derive(Clone, Copy, Debug, PartialEq, Eq)]
 pub enum Command<'a> {
-    /// A configuration is judged and counted.
+    /// Validate a configuration, and count its parts.
     Check { config: &'a str },
-    /// All events of a script are passed over a configuration.
+    /// Apply all events of a script under a configuration.
     Run { config: &'a str, script: &'a str },
-    /// Commands are read from standard input, and answered over a script and a configuration.
+    /// Read commands from standard input, and answer them over a script and a configuration.
     Session { config: &'a str, script: &'a str },
 }
 
 ghost use Rattle.amr_program.specs.Words.{asked, task_of, with_files};
 
-/// The forms with two files.
+/// Returns the command with two files that the word names.
 fn command_with_files<'a>(word: &str, config: &'a str, script: &'a str) -> Option<Command<'a>>
     ensures { option_map task_of result ≡ with_files word.now config.now script.now }
 {
@@ -25,7 +25,7 @@ fn command_with_files<'a>(word: &str, config: &'a str, script: &'a str) -> Optio
     }
 }
 
-/// What the words ask for; there are no options.
+/// Returns what the arguments ask for, or `None` if that is a usage error. There are no options.
 pub fn command_of<'a>(words: &'a [String]) -> Option<Command<'a>>
     ensures { option_map task_of result ≡ asked (map string_bytes words.now) }
 {

@@ -1,4 +1,4 @@
--- What the events come to that are passed forward.
+-- The outcomes of the events that are passed forward.
 use Rattle.std.proofs.Common.{◌≡◌, ℕ, ◌+◌, ◌<◌, ◌≤◌, Bool, true, false, List, [], ◌∷◌, ◌++◌, length, take, drop, map, Some, cond, nat_le, refl, sym, ap, ◌∙◌, arith, slice_get, get_or, append_assoc, rules, tests}
 use Rattle.std.specs.List.{take_while}
 use Rattle.std.proofs.lemmas.List.{drop_more, get_or-take, length-take, map-append, at_drop_more}
@@ -26,7 +26,7 @@ passed_one c es n m e at before =
     ap (outcomes_of (state_at c es n)) (first_of_rest es n m e at before)
     ∙ ap (λ s. outcome_of (state_at c es n) e ∷ outcomes_of s (drop (n + 1) (take m es))) (sym (run_more c es n e at))
 
--- one more outcome is told
+-- one more outcome is returned
 pub told_more : (c : Config) (es : List Event) (n m : ℕ) (e : Event) (told : List code.Outcome) (o : code.Outcome) → slice_get es n ≡ Some e → n < m → outcome_view o ≡ outcome_of (state_at c es n) e → map outcome_view (told ++ o ∷ []) ++ outcomes_passed c es (n + 1) m ≡ map outcome_view told ++ outcomes_passed c es n m
 told_more c es n m e told o at before is =
     let rest = outcomes_passed c es (n + 1) m in

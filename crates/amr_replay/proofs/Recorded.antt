@@ -55,7 +55,7 @@ record_at (suc n) s (d ∷ es) (r ∷ rs) zero e m h before at is =
     subst (λ x. HasEntries s x m) same (r, h.0, long)
 record_at (suc n) s (d ∷ es) (r ∷ rs) (suc k) e m h before at is = record_at n (after_event s d) es rs k e m h.1 (omega (arith, before)) at is
 
--- what the engine says of an event's record
+-- what the engine's contract gives of an event's record
 is_record : (before after : Steps) (e : Event) (o : code.Outcome) (r : List Displaced) → outcome_view o ≡ outcome_of before.state e → after.state ≡ after_event before.state e → RecordOf before e after o r → IsRecord before.state e r
 is_record before after e o r told is kept = record {
   back = ap (put_back r) (sym is) ∙ kept.back;
@@ -69,7 +69,7 @@ is_record before after e o r told is kept = record {
 
 -- ---- at a cursor
 
--- there are as many as the cursor says
+-- there are as many records as events before the cursor
 pub records_count : (c : Config) (es : List Event) (n : ℕ) (rs : Records) → AreRecords (start c) (take n es) rs → n ≤ length es → length rs ≡ n
 records_count c es n rs h within = omega (arith, length-records (start c) (take n es) rs h, length-take n es)
 

@@ -1,4 +1,4 @@
--- The outcome of an event, and the state after it, are what the relations say.
+-- The outcome of an event and the state after it are what the relations say.
 use Rattle.std.specs.Prelude.{◌≡◌, ◌<◌, ◌≤◌, Bool, true, false, List, [], Option, Some, None, Result, Ok, Err, length, drop, nat_le, if◌then◌else◌}
 use Rattle.std.proofs.Common.{refl, sym, ap, ◌∙◌, subst}
 use Rattle.std.specs.declared.cmp.Ordering.{Ordering}
@@ -69,7 +69,7 @@ accepted_is_done s event count notes skipped = (
         }
     by (Err other) is e = absurd (cc)
 
--- two that go before each other are the same
+-- two that don't go before each other are the same
 alike : (o p : Ordering) → o ≡ ordering_reverse p → is_gt o ≡ false → is_gt p ≡ false → o ≡ Equal
 alike o Less e h k = absurd (cc (ap is_gt e, h))
 alike o Equal e h k = e

@@ -14,7 +14,7 @@ view_of session = record {
   past = session.engine.past;
 }
 
--- it shows the run of the events before its cursor, and has one record for each of them
+-- The session shows the run of the events before its cursor, and has one record for each of them.
 pub record IsAtCursor (session : Inside) : Type 0 where
   pub view : view_of session ≡ at_cursor session.config session.script session.cursor
   pub within : session.cursor ≤ length session.script

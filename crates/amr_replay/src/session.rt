@@ -1,4 +1,6 @@
-//! A cursor over a script: what a session shows is the run of the events before it.
+//! A cursor over a script. Whatever steps, backs, seeks and trials came before, the session shows
+//! the run of the events before the cursor, from the start. Each event passed has a record, so that
+//! going back takes no memory.
 ghost use Rattle.std.specs.Prelude.{◌≡◌, ◌+◌, ◌-◌, ◌<◌, ◌≤◌, [], Some, Err, IsOk, IsErr, IsOkAnd, IfOk, IfErr, OnOk, OnErr, length, map, slice_get};
 ghost use Rattle.amr_engine.specs.Events.{Refused, outcome_of};
 ghost use Rattle.amr_engine.specs.Outcomes.{outcome_view};
@@ -15,18 +17,18 @@ use amr_time::Moment;
 use std::alloc::{AllocError, Global};
 use std::marker::Model;
 
-/// Why a call did nothing.
+/// Why a call changed nothing.
 #[derive(Clone, Copy, Debug, PartialEq, Eq)]
 pub enum SessionError {
     /// An allocation failed.
     Memory,
-    /// No event is left.
+    /// The cursor is at the end of the script.
     AtEnd,
-    /// The script has fewer events.
+    /// The script has fewer events than that.
     OutOfRange,
 }
 
-/// No event was passed, so none can be taken back.
+/// The cursor is at the start of the script, so there is no event to undo.
 #[derive(Clone, Copy, Debug, PartialEq, Eq)]
 pub struct AtStart;
 
@@ -41,7 +43,7 @@ impl From<AllocError> for SessionError {
     }
 }
 
-/// A session: a script with a cursor, which counts the events passed.
+/// A session: a configuration and a script, with a cursor, which is the number of events passed.
 #[derive(Drop)]
 pub struct Session {
     alloc: Global,
@@ -68,7 +70,7 @@ impl Model for Session {
 }
 
 impl Session {
-    /// The session of a script under a configuration, with no event passed.
+    /// Returns a session with the cursor at the start of the script.
     pub fn new(alloc: Global, config: Config, script: Script) -> Result<Session, SessionError>
         ensures ok { IfOk result (λ session. session ≡ at_cursor config script 0) }
         ensures memory { IfErr result (λ error. error ≡ SessionError.Memory) }
@@ -83,7 +85,8 @@ impl Session {
         })
     }
 
-    /// How many events are passed. What the session shows is the run of the events before its cursor.
+    /// Returns the number of events passed. The session shows the run of the events before its
+    /// cursor.
     pub fn cursor(&self) -> usize
         ensures cursor { result ≡ self.now.cursor }
         ensures within { self.now.cursor ≤ length self.now.events }
@@ -92,21 +95,22 @@ impl Session {
         self.cursor
     }
 
-    /// How many events the script has.
+    /// Returns the number of events in the script.
     pub fn events(&self) -> usize
         ensures { result ≡ length self.now.events }
     {
         self.script.len()
     }
 
-    /// Returns how many records there are: one for each event that is passed. It takes no memory.
+    /// Returns the number of records, one for each event passed. It takes no memory.
     pub fn records(&self) -> usize
         ensures { result ≡ self.now.cursor }
     {
         self.engine.records()
     }
 
-    /// Returns how many entries the record of the event number `index` has, from 0: none if the event was refused. It takes no memory.
+    /// Returns the number of entries in the record of an event passed; `index` counts from 0. The
+    /// record of a refused event has none. It takes no memory.
     pub fn record_len(&self, index: usize) -> usize
         requires { index < self.now.cursor }
         ensures entries { (event : _) → slice_get self.now.events index ≡ Some event →
@@ -117,7 +121,7 @@ impl Session {
         self.engine.record_len(index)
     }
 
-    /// Passes the next event, also one that is refused, and answers what it comes to.
+    /// Passes the next event, even if it is refused, and returns its outcome.
     pub fn step(&mut self) -> Result<Outcome, SessionError>
         ensures outcome { IfOk result (λ outcome. (event : _)
             → slice_get self.old.events self.old.cursor ≡ Some event → outcome_view outcome
@@ -139,7 +143,7 @@ impl Session {
         Ok(outcome)
     }
 
-    /// Undoes the last event. It takes no memory.
+    /// Undoes the last event. It takes no memory, so it only fails at the start.
     pub fn back(&mut self) -> Result<(), AtStart>
         ensures at_start { self.old.cursor ≡ 0 → IsErr result × (self.new ≡ self.old) }
         ensures back { 0 < self.old.cursor → IsOk result
@@ -161,8 +165,8 @@ impl Session {
         self.cursor -= 1;
     }
 
-    /// Moves the cursor to a place, whole or not at all, and answers what the events come to that are passed forward.
-    /// To the cursor or below it takes no memory.
+    /// Moves the cursor to `to` events from the start, or not at all, and returns the outcomes of
+    /// the events that it passed forward. To the cursor or below it takes no memory.
     pub fn seek(&mut self, to: usize) -> Result<Vec<Outcome>, SessionError>
         ensures outcomes { IfOk result (λ outcomes. map outcome_view outcomes.items
             ≡ outcomes_passed self.old.config self.old.events self.old.cursor to) }
@@ -180,8 +184,8 @@ impl Session {
         Ok(self.move_to(to)?)
     }
 
-    /// Moves the cursor behind the last of the events at the front that are all at or before a moment, as `seek` does.
-    /// The clock isn't moved to the moment.
+    /// Moves the cursor after the first events that are all at or before a moment, as `seek` does.
+    /// The clock only advances to the last event passed, not to the moment.
     pub fn seek_time(&mut self, at: Moment) -> Result<Vec<Outcome>, AllocError>
         ensures outcomes { IfOk result (λ outcomes. map outcome_view outcomes.items
             ≡ outcomes_passed self.old.config self.old.events self.old.cursor
@@ -196,7 +200,7 @@ impl Session {
         self.move_to(to)
     }
 
-    /// Moves the cursor to a place that there is.
+    /// Moves the cursor to a place in the script.
     fn move_to(&mut self, to: usize) -> Result<Vec<Outcome>, AllocError>
         requires { to ≤ length self.old.events }
         ensures outcomes { IfOk result (λ outcomes. map outcome_view outcomes.items
@@ -219,7 +223,7 @@ impl Session {
         }
     }
 
-    /// Goes back to an earlier place.
+    /// Moves the cursor back to an earlier place.
     fn rewind(&mut self, to: usize)
         requires { to ≤ self.old.cursor }
         ensures { self.new ≡ at_cursor self.old.config self.old.events to }
@@ -229,7 +233,7 @@ impl Session {
         }
     }
 
-    /// Passes the events up to a place, as far as memory lasts.
+    /// Passes the events up to a place, until memory runs out.
     fn forward(&mut self, to: usize) -> Result<Vec<Outcome>, AllocError>
         requires from { self.old.cursor ≤ to }
         requires inside { to ≤ length self.old.events }
@@ -244,14 +248,14 @@ impl Session {
         while self.cursor() < to {
             match self.step() {
                 Ok(outcome) => outcomes.push(outcome)?,
-                // There is an event, so it was memory.
+                // An event is left, so the error was memory.
                 Err(_) => return Err(AllocError),
             }
         }
         Ok(outcomes)
     }
 
-    /// What an event comes to in the present state, in which all stays as it is.
+    /// Returns the outcome that an event would have at the cursor, and changes nothing.
     pub fn trial(&mut self, event: &Event) -> Result<Outcome, AllocError>
         ensures outcome { IfOk result (λ outcome. outcome_view outcome
             ≡ outcome_of self.old.state event.now) }
@@ -269,7 +273,7 @@ impl Session {
         self.engine.explain(labels)
     }
 
-    /// Returns the state at the cursor. Its parts are listed by `amr_state::views`.
+    /// Returns the state at the cursor. `amr_state::views` lists its parts.
     pub fn state(&self) -> &Store
         ensures { result.now.state ≡ self.now.state }
     {
@@ -277,7 +281,7 @@ impl Session {
     }
 }
 
-/// How many events at the front of a script are all at or before a moment.
+/// Returns how many events at the front of a script are all at or before a moment.
 fn events_until(script: &Script, at: Moment) -> usize
     ensures count { result ≡ events_until at script.now }
     ensures within { result ≤ length script.now }

@@ -1,4 +1,4 @@
--- What was decided of a post of a silence, from what was found of it.
+-- What is decided of a post of a silence, case by case.
 use Rattle.std.proofs.Common.{◌≡◌, Bool, true, false, not, ◌&&◌, List, Option, Some, None, Err, is_some, is_none, if◌then◌else◌, refl, sym, ap, ◌∙◌, Bor}
 use Rattle.std.specs.Prelude.{ok_or}
 use Rattle.std.specs.Option.{option_copied}
@@ -9,7 +9,7 @@ use Rattle.amr_rules.specs.declared.silence.Silence.{Silence}
 use Rattle.amr_rules.specs.declared.posting.Posting.{Posting}
 use Rattle.amr_rules.specs.Silences.{Silences, decided_post, named_silence, names_unknown, with_posting, with_decided, after_post}
 
--- what a post comes to beside the stored silence that it names
+-- what a post stores, given the stored silence that it names
 abbrev pub IsDecision : Moment → PostedSilence → Silences → Option Posting → Type 0
 IsDecision now posted silences posting = ok_or posting 17 ≡ decided_post now posted (named_silence posted silences)
 
@@ -22,19 +22,19 @@ not_not : (b : Bool) → not (not b) ≡ b
 not_not true = refl
 not_not false = refl
 
--- it is named, and missing
+-- the post names a silence, which isn't stored
 pub unknown_named : (posted : PostedSilence) (silences : Silences) (old : Option (Bor Silence)) (given missing : Bool) → option_copied old ≡ named_silence posted silences
     → given ≡ is_some posted.id → is_some old ≡ not missing → given ≡ true → missing ≡ true → names_unknown posted silences ≡ true
 unknown_named posted silences old given missing named id found is_given is_absent =
     ap (λ b. b && is_none (named_silence posted silences)) (sym id ∙ is_given) ∙ is_missing old (named_silence posted silences) named ∙ ap not found ∙ not_not missing ∙ is_absent
 
--- it is named, and stored
+-- the post names a silence, which is stored
 pub known_named : (posted : PostedSilence) (silences : Silences) (old : Option (Bor Silence)) (given missing : Bool) → option_copied old ≡ named_silence posted silences
     → given ≡ is_some posted.id → is_some old ≡ not missing → given ≡ true → missing ≡ false → names_unknown posted silences ≡ false
 known_named posted silences old given missing named id found is_given stored =
     ap (λ b. b && is_none (named_silence posted silences)) (sym id ∙ is_given) ∙ is_missing old (named_silence posted silences) named ∙ ap not found ∙ not_not missing ∙ stored
 
--- none is named
+-- the post names no silence
 pub none_named : (posted : PostedSilence) (silences : Silences) (given : Bool) → given ≡ is_some posted.id → given ≡ false → names_unknown posted silences ≡ false
 none_named posted silences given id absent = ap (λ b. b && is_none (named_silence posted silences)) (sym id ∙ absent)
 
@@ -43,7 +43,7 @@ after_decided : (now : Moment) (posted : PostedSilence) (silences : Silences) (p
 unfolding after_post
 after_decided now posted silences posting is = ap (with_decided posted silences) (sym is)
 
--- it may not be posted
+-- the silence may not be posted
 pub bad_post : (now : Moment) (posted : PostedSilence) (silences : Silences) (posting : Option Posting) → IsDecision now posted silences posting → posting ≡ None
     → Err 17 ≡ after_post now posted silences
 bad_post now posted silences posting is none =
@@ -55,12 +55,12 @@ some_post now posted silences posting x b is some unknown =
     after_decided now posted silences posting is ∙ ap (λ (p : Option Posting). with_decided posted silences (ok_or p 17)) some
     ∙ ap (λ (test : Bool). if test then Err 18 else with_posting posted silences x) unknown
 
--- it names a silence that is not stored
+-- the post names a silence that isn't stored
 pub unknown_post : (now : Moment) (posted : PostedSilence) (silences : Silences) (posting : Option Posting) (x : Posting) → IsDecision now posted silences posting → posting ≡ Some x
     → names_unknown posted silences ≡ true → Err 18 ≡ after_post now posted silences
 unknown_post now posted silences posting x is some unknown = sym (some_post now posted silences posting x true is some unknown)
 
--- it names a silence that is stored, or none
+-- the post names a stored silence, or none
 pub known_post : (now : Moment) (posted : PostedSilence) (silences : Silences) (posting : Option Posting) (x : Posting) → IsDecision now posted silences posting → posting ≡ Some x
     → names_unknown posted silences ≡ false → with_posting posted silences x ≡ after_post now posted silences
 known_post now posted silences posting x is some known = sym (some_post now posted silences posting x false is some known)

@@ -1,4 +1,4 @@
--- What was decided of a post of a silence.
+-- What the code decided of a post of a silence, as the silences that it leaves.
 use Rattle.std.specs.Prelude.{ℕ, Option, Some, Result, Ok, Err}
 use Rattle.amr_labels.specs.Map.{insert}
 use Rattle.amr_rules.specs.declared.posting.Posting.{Posting}
@@ -9,16 +9,17 @@ use Rattle.amr_events.specs.declared.event.PostedSilence.{PostedSilence}
 use Rattle.amr_events.specs.Reasons.{reason_number}
 use Rattle.amr_events.specs.declared.reason.Reason as code
 
--- the silences with what is stored of a post that names the one id, and whose new silence has the other
+-- the silences after storing what a post stores; the post names the first id, and its new silence
+-- has the second
 abbrev pub posting_stored : Option ℕ → ℕ → Posting → Silences → Silences
 posting_stored id new_id (InPlace silence) silences = stored_under id (Some silence) silences
 posting_stored id new_id (New silence old) silences = insert (stored_under id old silences) new_id silence
 
--- the silences with what a post stores
+-- the silences after storing what a post stores
 abbrev pub with_decision : PostedSilence → Posting → Silences → Silences
 with_decision posted posting silences = posting_stored posted.id posted.new_id posting silences
 
--- the silences after what was decided of a post, or the reason against it
+-- the silences after what was decided of a post, or the reason that refuses it
 abbrev pub after_decision : PostedSilence → Silences → Result Posting code.Reason → Result Silences Reason
 after_decision posted silences (Ok posting) = Ok (with_decision posted posting silences)
 after_decision posted silences (Err reason) = Err (reason_number reason)

@@ -1,4 +1,6 @@
-//! Alerts: completing what is posted, and merging it with what is stored.
+//! Alerts: filling in the times that a post leaves out, and merging a posted alert with the stored
+//! one of the same labels. The engine calls these when it makes a post. Nothing here reads or
+//! changes the state.
 ghost use Rattle.std.specs.Prelude.{◌≡◌, ◌+◌, ◌<◌, IfOk, Some, min, max, unwrap_or};
 ghost use Rattle.std.specs.Option.{option_or};
 ghost use Rattle.amr_time.specs.Time.{before_year_10000};
@@ -12,12 +14,12 @@ use std::alloc::{AllocError, Global};
 #[derive(Drop)]
 pub struct Alert {
     pub starts_at: Moment,
-    /// The alert is resolved at this moment and from then on.
+    /// The end of the alert. It is resolved from this moment on.
     pub ends_at: Moment,
-    /// Whether the post stated no end, so that it is the end of `resolve_timeout` after the post.
+    /// Whether the post gave no end, so that the end is the post plus `resolve_timeout`.
     pub timed_out: bool,
     pub annotations: TextMap,
-    /// When an alert of these labels was posted last.
+    /// The moment of the last post with these labels. The removal of the alert counts from it.
     pub last_post: Moment,
 }
 
@@ -42,7 +44,7 @@ impl Exact for Alert {
 ghost use Rattle.amr_rules.specs.Alerts.{completed, joined, is_resolved_at, with_times, overlaps, old_end_counts, merged};
 
 impl Alert {
-    /// Whether the alert is resolved at a moment: at its end and from then on.
+    /// Returns whether the alert is resolved at a moment: at its end and from then on.
     pub fn is_resolved_at(&self, moment: Moment) -> bool
         ensures { result ≡ is_resolved_at moment self.now }
     {
@@ -50,8 +52,9 @@ impl Alert {
     }
 }
 
-/// The alert of a post: a missing start is the end where that is given, and else now; a missing end is now and the
-/// timeout (`resolve_timeout` of Alertmanager's configuration).
+/// Returns the alert of a post with its times filled in, as Alertmanager's API v2 does: a missing
+/// start is the end if the post gives one, and else now; a missing end is now plus `timeout`
+/// (`resolve_timeout` of the configuration).
 fn with_times(now: Moment, timeout: Span, posted: &PostedAlert) -> Result<Alert, AllocError>
     requires { now + timeout < before_year_10000 }
     ensures { IfOk result (λ alert. alert ≡ with_times now timeout posted.now) }
@@ -65,8 +68,9 @@ fn with_times(now: Moment, timeout: Span, posted: &PostedAlert) -> Result<Alert,
     })
 }
 
-/// The labels and the alert that a post stands for at a moment; none where the post isn't valid, for it has no label,
-/// or an empty label name, or it ends before it starts (postable alerts of Alertmanager's API v2).
+/// Returns the labels and the alert of a post. Returns `None` if the post isn't valid: it has no
+/// label, or an empty label name, or it ends before it starts (postable alerts of Alertmanager's
+/// API v2).
 #[tactic(auto, unfolding(crate::specs::Alerts::completed))]
 pub fn complete_alert(
     alloc: Global,
@@ -90,7 +94,8 @@ pub fn complete_alert(
     }
 }
 
-/// Whether an end of the new alert lies within the old one.
+/// Returns whether the two alerts overlap, which is when a start or an end of the new alert lies
+/// strictly inside the old one.
 fn overlaps(old: &Alert, new: &Alert) -> bool
     ensures { result ≡ overlaps old.now new.now }
 {
@@ -98,8 +103,9 @@ fn overlaps(old: &Alert, new: &Alert) -> bool
         || old.starts_at < new.starts_at && new.starts_at < old.ends_at
 }
 
-/// Whether the old end counts beside the new alert: beside a resolved one where the old one is resolved too, and
-/// beside one that fires where the old end was stated.
+/// Returns whether the old end counts in the merge. If the new alert is resolved, it counts if the
+/// old alert is resolved too. Otherwise it counts unless it was only a timeout, which a new post
+/// supersedes.
 fn old_end_counts(now: Moment, old: &Alert, new: &Alert) -> bool
     ensures { result ≡ old_end_counts now old.now new.now }
 {
@@ -110,22 +116,23 @@ fn old_end_counts(now: Moment, old: &Alert, new: &Alert) -> bool
     }
 }
 
-/// The earlier of two moments.
+/// Returns the earlier of two moments.
 fn earlier(a: Moment, b: Moment) -> Moment
     ensures { result ≡ min a b }
 {
     if b < a { b } else { a }
 }
 
-/// The later of two moments.
+/// Returns the later of two moments.
 fn later(a: Moment, b: Moment) -> Moment
     ensures { result ≡ max a b }
 {
     if a < b { b } else { a }
 }
 
-/// What is stored of a new alert where one of the same labels is stored: where an end of the new one lies within the
-/// stored one, the new one with the earlier start, and with the later end where the stored end counts.
+/// Merges a new alert with the stored one of the same labels. If they overlap, the result has the
+/// earlier start, and the later end if the stored end counts; otherwise the new alert replaces the
+/// old. Annotations are always those of the new alert.
 #[tactic(auto, unfolding(crate::specs::Alerts::joined))]
 pub fn merge(now: Moment, stored: &Alert, new: Alert) -> Alert
     ensures { result ≡ joined now (Some stored.now) new }

@@ -1,4 +1,5 @@
-//! What mutes an alert: inhibition rules with their sources, and silences.
+//! Muting: inhibition rules and silences. The stages of a flush and `explain` call `inhibited_by`
+//! and `silenced_by`; both return what mutes, so that an explanation can name it.
 ghost use Rattle.std.specs.Prelude.{◌≡◌, true, IfOk, is_some};
 ghost use Rattle.std.specs.Option.{option_copied};
 ghost use Rattle.std.specs.Ordering.{eq_by_cmp, nat_cmp};
@@ -18,7 +19,7 @@ use amr_time::Moment;
 use std::alloc::{AllocError, Global};
 use std::cmp::Ordering;
 
-/// Whether the label has one value in both sets, an absent label being empty.
+/// Returns whether a label has the same value in both sets. An absent label counts as empty.
 fn agree_at(name: &Text, a: &Labels, b: &Labels) -> bool
     ensures { result ≡ eq_by_cmp text_cmp (value_of a.now name.now) (value_of b.now name.now) }
 {
@@ -27,16 +28,17 @@ fn agree_at(name: &Text, a: &Labels, b: &Labels) -> bool
     ours.cmp(theirs) == Ordering::Equal
 }
 
-/// Whether each of these labels has one value in both sets.
+/// Returns whether each of these labels (`equal` of an inhibition rule) has the same value in both
+/// sets.
 fn agree_on(names: &[Text], a: &Labels, b: &Labels) -> bool
     ensures { result ≡ agree_on names.now a.now b.now }
 {
     names.iter().all(|name| agree_at(name, a, b))
 }
 
-/// Returns whether a rule lets a source mute a target on which its target matchers hold. Labels that match both sides are
-/// not muted by a source that matches both sides, itself included. The labels that have to be equal are compared first, since a
-/// pattern costs far more.
+/// Returns whether a rule lets a source mute a target that its target matchers match. An alert that
+/// matches both sides of a rule isn't muted by another such alert, nor by itself, as in
+/// Alertmanager. The labels in `equal` are compared first, because a pattern costs far more.
 fn mutes_target(
     alloc: Global,
     rule: &InhibitRule,
@@ -60,7 +62,8 @@ fn mutes_target(
     Ok(!is_target)
 }
 
-/// Returns whether a stored alert mutes, by a rule, a target on which the rule's target matchers hold.
+/// Returns whether a stored alert, unless it is resolved, mutes by a rule a target that the rule's
+/// target matchers match.
 fn inhibits(
     alloc: Global,
     now: Moment,
@@ -81,7 +84,8 @@ fn inhibits(
     mutes_target(alloc, rule, source, target, is_source)
 }
 
-/// Returns the least label set of a stored alert that mutes a target by a rule.
+/// Returns the least label set of a stored alert that mutes a target by a rule. It matches the
+/// target once, and not again for each stored alert.
 fn inhibitor_by<'a>(
     alloc: Global,
     now: Moment,
@@ -99,7 +103,8 @@ fn inhibitor_by<'a>(
     first_source(alloc, now, target, is_source, alerts, rule)
 }
 
-/// Returns the least label set of a stored alert that mutes a target on which the rule's target matchers hold.
+/// Returns the least label set of a stored alert that mutes a target that the rule's target
+/// matchers match.
 fn first_source<'a>(
     alloc: Global,
     now: Moment,
@@ -121,8 +126,9 @@ fn first_source<'a>(
     Ok(None)
 }
 
-/// What inhibits labels at a moment: the place of the least rule by which a stored alert mutes them, and the least
-/// label set of such an alert. None where nothing does (inhibition rules of Alertmanager's configuration).
+/// Returns what inhibits labels at a moment: the index of the first rule that does, from 0, and the
+/// least label set of a stored alert by which it does. Returns `None` if nothing inhibits them
+/// (`inhibit_rules` of Alertmanager's configuration).
 pub fn inhibited_by(
     alloc: Global,
     rules: &[InhibitRule],
@@ -144,7 +150,7 @@ pub fn inhibited_by(
     Ok(None)
 }
 
-/// Whether a silence mutes labels at a moment.
+/// Returns whether a silence is active and matches the labels.
 fn silences_labels(
     alloc: Global,
     now: Moment,
@@ -159,7 +165,7 @@ fn silences_labels(
     silence.matchers.matches_all(alloc, labels)
 }
 
-/// The least id of a silence that mutes labels at a moment. None where no silence does.
+/// Returns the least id of a silence that mutes labels at a moment, or `None` if no silence does.
 pub fn silenced_by(
     alloc: Global,
     silences: &Keyed<SilenceId, Silence>,

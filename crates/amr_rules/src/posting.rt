@@ -1,4 +1,5 @@
-//! Posting silences.
+//! Deciding a post of a silence: whether it is valid, and whether it updates the stored silence it
+//! names or creates a new one. `silencing.rt` calls `decided_post`. Nothing is stored here.
 ghost use Rattle.std.specs.Prelude.{◌≡◌, ◌==◌, ◌&&◌, ◌||◌, IfOk, ok_or, option_map, nat_lt, nat_le};
 ghost use Rattle.std.specs.List.{list_any};
 ghost use Rattle.std.specs.Option.{option_copied, option_map_or};
@@ -11,18 +12,19 @@ use amr_matchers::{Matcher, Operator};
 use amr_time::Moment;
 use std::alloc::{AllocError, Global};
 
-/// What a post of a silence comes to.
+/// What a post of a silence stores.
 #[derive(Drop)]
 pub enum Posting {
-    /// The stored silence that the post names becomes this one.
+    /// The stored silence that the post names is updated to this one, and keeps its id.
     InPlace(Silence),
-    /// The silence is a new one. The stored one that the post names, where it names one, is kept in the expired form.
+    /// The silence is stored under a new id. The second is the stored silence that the post names,
+    /// if it names one, in its expired form.
     New(Silence, Option<Silence>),
 }
 
 ghost use Rattle.amr_rules.specs.Silences.{is_negative, narrows, posted_silence, changes_in_place, from_now, posting_over, decided_post};
 
-/// Whether the operator is `!=` or `!~`.
+/// Returns whether the operator is `!=` or `!~`.
 fn is_negative(operator: Operator) -> bool
     ensures { result ≡ is_negative operator }
 {
@@ -32,7 +34,9 @@ fn is_negative(operator: Operator) -> bool
     }
 }
 
-/// Whether a matcher doesn't let every alert without its label through; `none` is the set of no label.
+/// Returns whether a matcher is negative or doesn't match the empty value. Alertmanager refuses a
+/// silence without such a matcher, since it could mute every alert. `none` is the label set without
+/// labels.
 fn narrows(alloc: Global, matcher: &Matcher, none: &Labels) -> Result<bool, AllocError>
     requires { none.now ≡ map.empty }
     ensures { IfOk result (λ found. found ≡ narrows matcher.now) }
@@ -44,7 +48,7 @@ fn narrows(alloc: Global, matcher: &Matcher, none: &Labels) -> Result<bool, Allo
     Ok(!holds)
 }
 
-/// Whether some matcher narrows what the silence mutes.
+/// Returns whether some matcher narrows what the silence mutes.
 fn some_narrows(alloc: Global, matchers: &[Matcher]) -> Result<bool, AllocError>
     ensures { IfOk result (λ found. found ≡ list_any narrows matchers.now) }
 {
@@ -57,7 +61,8 @@ fn some_narrows(alloc: Global, matchers: &[Matcher]) -> Result<bool, AllocError>
     Ok(false)
 }
 
-/// Whether a silence may be posted now: some matcher narrows it, it starts before it ends, and its end isn't past.
+/// Returns whether a silence may be posted now: some matcher narrows it, it starts before it ends,
+/// and it doesn't end in the past.
 fn may_be_posted(alloc: Global, now: Moment, silence: &Silence) -> Result<bool, AllocError>
     ensures { IfOk result (λ may. may ≡ (list_any narrows silence.now.matchers
         && nat_lt silence.now.starts_at silence.now.ends_at && nat_le now silence.now.ends_at)) }
@@ -68,8 +73,9 @@ fn may_be_posted(alloc: Global, now: Moment, silence: &Silence) -> Result<bool, 
     Ok(silence.starts_at < silence.ends_at && now <= silence.ends_at)
 }
 
-/// Whether a stored silence may become the new one: it keeps its matchers, and the second of its start where it has
-/// begun; a pending one may start at any moment that isn't past.
+/// Returns whether a stored silence may be updated in place: its matchers don't change, and, if it
+/// is active, the second of its start doesn't either; a pending one may start at any moment from
+/// now on.
 fn changes_in_place(now: Moment, old: &Silence, new: &Silence) -> bool
     ensures { result ≡ changes_in_place now old.now new.now }
 {
@@ -80,7 +86,7 @@ fn changes_in_place(now: Moment, old: &Silence, new: &Silence) -> bool
             || old.is_pending_at(now) && now <= new.starts_at)
 }
 
-/// The silence, not before now.
+/// Returns the silence with its start moved to now if it is in the past.
 fn from_now(now: Moment, silence: Silence) -> Silence
     ensures { result ≡ from_now now silence }
 {
@@ -91,7 +97,8 @@ fn from_now(now: Moment, silence: Silence) -> Silence
     silence
 }
 
-/// What a post of a silence comes to beside the stored one that it names.
+/// Returns what a valid post stores: an update of the stored silence it names if that is possible,
+/// and else a new silence, with the stored one expired.
 fn posting_over(now: Moment, old: Option<&Silence>, silence: Silence) -> Result<Posting, AllocError>
     ensures { IfOk result (λ posting. posting
         ≡ posting_over now (option_copied old.entry) silence) }
@@ -109,8 +116,8 @@ fn posting_over(now: Moment, old: Option<&Silence>, silence: Silence) -> Result<
     }
 }
 
-/// Decides what a post of a silence makes beside the stored one that it names (postable silences of Alertmanager's
-/// API v2). Returns none if the silence may not be posted now.
+/// Decides what a post of a silence stores, given the stored silence that it names (postable
+/// silences of Alertmanager's API v2). Returns `None` if the silence isn't valid now.
 #[tactic(auto, unfolding(crate::specs::Silences::decided_post))]
 pub(crate) fn decided_post(
     alloc: Global,

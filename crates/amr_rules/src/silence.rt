@@ -1,4 +1,5 @@
-//! Silences: when they act, and how they are expired.
+//! Silences: when a silence is pending, active or expired, and expiring it. A silence mutes only
+//! while it is active.
 ghost use Rattle.std.specs.Prelude.{◌≡◌};
 
 use amr_labels::Exact;
@@ -11,7 +12,7 @@ use std::alloc::AllocError;
 pub struct Silence {
     pub matchers: Matchers,
     pub starts_at: Moment,
-    /// The silence is expired at this moment and from then on.
+    /// The end of the silence. It is expired from this moment on.
     pub ends_at: Moment,
 }
 
@@ -34,21 +35,21 @@ impl Exact for Silence {
 ghost use Rattle.amr_rules.specs.Silences.{is_pending_at, is_active_at, is_expired_at, expired};
 
 impl Silence {
-    /// Whether the silence is still to come.
+    /// Returns whether the silence hasn't started yet.
     pub fn is_pending_at(&self, moment: Moment) -> bool
         ensures { result ≡ is_pending_at moment self.now }
     {
         moment < self.starts_at
     }
 
-    /// Whether the silence acts: from its start to just before its end.
+    /// Returns whether the silence mutes: from its start to just before its end.
     pub fn is_active_at(&self, moment: Moment) -> bool
         ensures { result ≡ is_active_at moment self.now }
     {
         self.starts_at <= moment && moment < self.ends_at
     }
 
-    /// Whether the silence is over.
+    /// Returns whether the silence has ended.
     pub fn is_expired_at(&self, moment: Moment) -> bool
         ensures { result ≡ is_expired_at moment self.now }
     {
@@ -56,8 +57,8 @@ impl Silence {
     }
 }
 
-/// The silence as it stands after it is expired: an active one ends now, a pending one starts and ends now, and an
-/// expired one stays.
+/// Expires a silence: an active one ends now, a pending one starts and ends now, and an expired one
+/// doesn't change.
 pub fn silence_expire(now: Moment, silence: Silence) -> Silence
     ensures { result ≡ expired now silence }
 {

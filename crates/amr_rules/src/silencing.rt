@@ -1,4 +1,6 @@
-//! Posts of silences among the stored ones: what a post stores, or the reason against it.
+//! Posting a silence among the stored ones: `set_silence` decides what to store, or returns the
+//! reason that refuses the post. The engine calls it before the moves of the event, and stores the
+//! result after them.
 ghost use Rattle.std.specs.Prelude.{◌≡◌, IfOk};
 ghost use Rattle.std.specs.Option.{option_copied};
 ghost use Rattle.std.specs.Ordering.{nat_cmp};
@@ -13,8 +15,8 @@ use amr_tables::Keyed;
 use amr_time::Moment;
 use std::alloc::{AllocError, Global};
 
-/// Decides what a post of a silence stores among the stored silences, or returns the first reason against it: it may
-/// not be posted now, it names a silence that isn't stored, or the id of its new silence is taken.
+/// Decides what a post of a silence stores. Returns the first reason against it: the silence isn't
+/// valid now, the post names a silence that isn't stored, or the id for a new silence is taken.
 #[tactic(auto, unfolding(crate::specs::Silences::after_post))]
 pub fn set_silence(
     alloc: Global,
@@ -39,14 +41,14 @@ pub fn set_silence(
     }
 }
 
-/// Returns the stored silence that a post names.
+/// Returns the stored silence that a post names, if it names one.
 fn named<'a>(silences: &'a Keyed<SilenceId, Silence>, posted: &PostedSilence) -> Option<&'a Silence>
     ensures { option_copied result ≡ named_silence posted.now (shown nat_cmp silences.now) }
 {
     silences.get(&posted.id?)
 }
 
-/// Returns what a post stores, unless its new silence has the id of a stored one.
+/// Returns what a post stores. Fails if that is a new silence and its id is taken.
 fn with_free_id(
     silences: &Keyed<SilenceId, Silence>,
     posted: &PostedSilence,

@@ -1,4 +1,6 @@
-//! The notification log's test: whether an integration is told of a group.
+//! The notification log's dedup check, after `needsUpdate` in Alertmanager's notify package:
+//! whether an integration is notified of a group. A flush calls `needs_update` for each
+//! integration.
 ghost use Rattle.std.specs.Prelude.{◌≡◌, ◌+◌, nat_lt, IfOk, map};
 ghost use Rattle.std.specs.Option.{option_map};
 ghost use Rattle.amr_labels.specs.Set as set;
@@ -8,7 +10,8 @@ use amr_labels::{Exact, LabelMap, Labels};
 use amr_time::{Moment, Span};
 use std::alloc::{AllocError, Global};
 
-/// What the notification log keeps of the last note.
+/// An entry of the notification log: what the last notification of a group to an integration was
+/// about.
 #[derive(Drop)]
 pub struct LogEntry {
     pub time: Moment,
@@ -36,7 +39,7 @@ impl Exact for LogEntry {
 
 ghost use Rattle.amr_rules.specs.Updates.{differs, needs_update};
 
-/// Returns the label sets of alerts.
+/// Returns the label sets of alerts as a set.
 pub fn labels_of(alloc: Global, alerts: &[(Labels, Alert)]) -> Result<LabelMap<()>, AllocError>
     ensures { IfOk result (λ made. made ≡ set.from_list (map (λ alert. alert.0) alerts.now)) }
 {
@@ -47,7 +50,7 @@ pub fn labels_of(alloc: Global, alerts: &[(Labels, Alert)]) -> Result<LabelMap<(
     Ok(made)
 }
 
-/// Whether each label set of the one is in the other.
+/// Returns whether each label set of `a` is in `b`.
 pub fn is_subset(a: &LabelMap<()>, b: &LabelMap<()>) -> bool
     ensures { result ≡ set.is_subset a.now b.now }
 {
@@ -59,14 +62,14 @@ pub fn is_subset(a: &LabelMap<()>, b: &LabelMap<()>) -> bool
     true
 }
 
-/// Whether a moment lies strictly before now less a span.
+/// Returns whether a moment plus a span is strictly before now.
 fn is_before(moment: Moment, span: Span, now: Moment) -> bool
     ensures { result ≡ nat_lt (moment + span) now }
 {
     moment.nanoseconds() + u128::from(span.nanoseconds()) < now.nanoseconds()
 }
 
-/// Whether a note is due beside the entry of the last one.
+/// Returns whether a notification is due, given the entry of the last one.
 fn differs(
     entry: &LogEntry,
     firing: &LabelMap<()>,
@@ -87,9 +90,11 @@ fn differs(
         || is_before(entry.time, repeat_interval, now)
 }
 
-/// Whether a note is due, where the log may have an entry of the last one. Without an entry something has to fire.
-/// Beside an entry something new has to fire, or nothing fires any more, or something new is resolved and the
-/// integration tells of resolved alerts (`send_resolved`), or the entry is older than `repeat_interval`.
+/// Returns whether a notification is due. Without an entry, something has to fire. With one,
+/// something new has to fire, or nothing fires any more, or something new is resolved and the
+/// integration sends resolved alerts (`send_resolved`), or the last notification is older than
+/// `repeat_interval`. If nothing fires any more the answer doesn't depend on `send_resolved`, so
+/// that the entry is cleared.
 #[tactic(auto, unfolding(crate::specs::Updates::needs_update))]
 pub fn needs_update(
     entry: Option<&LogEntry>,

@@ -91,7 +91,7 @@ pub date_is : (day : ℕ) → day ≤ 2_932_896 → IsDayNumber day (date_of day
 unfolding date_of
 date_is day last = in_era ((day + 719468) / 146097) ((day + 719468) % 146097) day (omega arith) (omega arith) last
 
--- a date with the number is that date, since no two dates have one number
+-- a date with the number is that date, since no two dates have the same number
 pub same_date : (day : ℕ) → day ≤ 2_932_896 → (d : JiffDate) → epoch_day d ≡ pos day → (d.year ≡ pos (date_of day).year) × (d.month ≡ (date_of day).month) × (d.day ≡ (date_of day).day)
 same_date day last d e =
     let here = date_is day last in

@@ -1,4 +1,4 @@
--- A total that is cut off above the longest duration tells as much as the total.
+-- A total that is cut off above the longest duration says as much as the total.
 use Rattle.std.proofs.Common.{◌≡◌, ℕ, ◌<◌, ◌≤◌, min, Option, Some, None, refl, arith}
 use Rattle.std.proofs.lemmas.Bool.{le-leb, lt-leb}
 use Rattle.amr_time.specs.SpanRead.{SameOrTooLong, limited}

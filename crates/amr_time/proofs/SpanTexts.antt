@@ -1,4 +1,4 @@
--- A duration's text is read as what it spells, and nothing else is read.
+-- The text of a duration is read as what it spells, and nothing else is read.
 use Rattle.std.proofs.Common.{◌≡◌, ℕ, ◌+◌, ◌*◌, ◌≤◌, ◌⊎◌, inl, inr, Bool, true, false, cond, not, leb, eqb, List, [], ◌∷◌, ◌++◌, length, Option, Some, None, option_map, refl, sym, ap, subst, ◌∙◌, arith, append_assoc}
 use Rattle.std.proofs.lemmas.Bool.{cases_Bool, and_parts, and_right, le-leb, leb-true, ne_eqb}
 use Rattle.std.proofs.lemmas.Option.{cond_some, same_Some}
@@ -97,7 +97,7 @@ read_span_is_spelled text n h = span_takes text n (bytes_eq text (48 ∷ [])) re
 abbrev NoDigits : List ℕ → Type 0
 NoDigits letters = AllByRecursion (λ c. is_digit c ≡ false) letters
 
--- the units have letters that are no digits, and no two have the same
+-- the units have letters that aren't digits, and no two have the same
 abbrev AreApart : List UnitOfTime → Type 0
 AreApart [] = Unit {0}
 AreApart (u ∷ us) = (1 ≤ length u.0) × NoDigits u.0 × AllByRecursion (λ v. bytes_eq v.0 u.0 ≡ false) us × AreApart us
@@ -172,7 +172,7 @@ amount_at digits letters tail all some none first =
     let P : List ℕ → Type 0 = λ text. AmountRead digits letters tail text in
     subst P (sym (append_assoc digits letters tail)) (amount_read digits letters tail all some none first)
 
--- a unit isn't there where the text is of others
+-- a unit isn't there if the text begins with another
 other_unit : (u : UnitOfTime) (us : List UnitOfTime) (amounts : List (List ℕ)) → AllByRecursion (λ v. bytes_eq v.0 u.0 ≡ false) us → AreApart us → AllByRecursion AreDigits amounts → has_unit u (amounts_text us amounts) ≡ false
 other_unit u [] amounts apart each all = refl
 other_unit u (v ∷ vs) [] apart each all = refl

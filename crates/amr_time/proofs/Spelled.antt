@@ -1,4 +1,4 @@
--- A moment's text, spelled by its parts, is read.
+-- A moment's text that is spelled by its parts is read.
 use Rattle.std.proofs.Common.{◌≡◌, ℕ, ◌+◌, ◌-◌, ◌*◌, ◌/◌, ◌%◌, ◌<◌, ◌≤◌, ◌⊎◌, inl, inr, true, false, leb, eqb, List, [], ◌∷◌, ◌++◌, length, Some, pos, refl, arith}
 use Rattle.std.proofs.lemmas.Bool.{and_from, le-leb, lt-ltb}
 use Rattle.std.proofs.Math.Seq.{drop-append_seam}
@@ -60,7 +60,7 @@ time_mark_again : (mark : ℕ) (rest : List ℕ) → (mark ≡ 84) ⊎ (mark ≡
 time_mark_again mark rest (inl e) = rw e refl
 time_mark_again mark rest (inr e) = rw e refl
 
--- digits before another byte are all that are taken
+-- digits before another byte are all that is taken
 pub digits_again : (digits : List ℕ) (c : ℕ) (cs : List ℕ) → AllByRecursion IsDigit digits → is_digit c ≡ false → digits_of (digits ++ c ∷ cs) ≡ digits
 digits_again [] c cs all stops = rw (take_while-cons is_digit c cs, stops) refl
 digits_again (d ∷ ds) c cs all stops =
@@ -83,7 +83,7 @@ offset_again mark Utc are (inr e) = rw e refl
 offset_again mark (Ahead h m) are e = rw (minutes_again h m [] are.0 are.1) refl
 offset_again mark (Behind h m) are e = rw (minutes_again h m [] are.0 are.1) refl
 
--- a zone begins with a byte that is no digit and no point
+-- a zone begins with a byte that isn't a digit or a point
 pub record Front (text : List ℕ) : Type 0 where
   pub first : ℕ
   pub rest : List ℕ

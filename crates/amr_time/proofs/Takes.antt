@@ -1,4 +1,4 @@
--- What a part of a moment's text reads is what the text spells there.
+-- What is read of a part of a moment's text is what the text spells there.
 use Rattle.std.proofs.Common.{◌≡◌, ℕ, ◌+◌, ◌-◌, ◌*◌, ◌/◌, ◌%◌, ◌<◌, ◌≤◌, ◌⊎◌, inl, inr, Bool, true, false, cond, leb, ltb, eqb, ◌&&◌, ◌||◌, List, [], ◌∷◌, ◌++◌, length, drop, Option, Some, None, ℤ, pos, negsuc, ◌+ℤ◌, ◌-ℤ◌, ◌*ℤ◌, refl, sym, ap, ◌∙◌, arith, append-nil}
 use Rattle.std.proofs.lemmas.Bool.{and_parts, or_cases, leb-true, ltb-true, lt-ltb, eqb-true}
 use Rattle.std.proofs.lemmas.Option.{cond_some, same_Some}
@@ -12,7 +12,7 @@ use Rattle.amr_time.specs.MomentRead.{◌>>=◌, is_digit, mark_at, two_at, four
 use Rattle.amr_time.specs.Laws.{ReadIsSpelled}
 use Rattle.amr_time.proofs.Decimals.{digit_in, digits_of_are}
 
--- a step that gives a value, and what the next makes of it
+-- a step that gives a value, and what the next step makes of it
 given : {A B P : Type 0} (m : Option A) (f : A → Option B) (y : B) → (m >>= f) ≡ Some y → ((x : A) → m ≡ Some x → f x ≡ Some y → P) → P
 given None f y h then = absurd cc
 given (Some x) f y h then = then x refl h

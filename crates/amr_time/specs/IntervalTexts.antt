@@ -28,7 +28,7 @@ weekday_names = codes "sunday" ∷ codes "monday" ∷ codes "tuesday" ∷ codes 
 abbrev pub month_names : List (List ℕ)
 month_names = codes "january" ∷ codes "february" ∷ codes "march" ∷ codes "april" ∷ codes "may" ∷ codes "june" ∷ codes "july" ∷ codes "august" ∷ codes "september" ∷ codes "october" ∷ codes "november" ∷ codes "december" ∷ []
 
--- the place of the name that the text is, in either case, from 0
+-- the index of the name that the text is, ignoring case, from 0
 abbrev pub place_of : List (List ℕ) → List ℕ → Option ℕ
 place_of names text = position (str_eq_ignore_ascii_case text) names
 
@@ -36,7 +36,7 @@ place_of names text = position (str_eq_ignore_ascii_case text) names
 abbrev pub is_number : List ℕ → Bool
 is_number text = nat_le 1 (length text) && list_all is_digit text
 
--- the number that digits spell, from the least to the greatest that is allowed
+-- the number that digits spell, from the least to the greatest allowed
 unfoldable pub number_within : ℕ → ℕ → List ℕ → Option ℕ
 number_within least greatest text = if is_number text && nat_le least (decimal text) && nat_le (decimal text) greatest then Some (decimal text) else None
 
@@ -60,7 +60,7 @@ month_day_at (c ∷ digits) = if c == 45 then option_map (λ day. FromEnd day) (
 abbrev pub before_colon : List ℕ → List ℕ
 before_colon text = take_while (λ c. not (c == 58)) text
 
--- what stands before the first colon and after it, or the whole text for both
+-- what is before the first colon and after it, or the whole text twice
 unfoldable pub ends_of : List ℕ → List ℕ × List ℕ
 ends_of text = if nat_lt (length (before_colon text)) (length text) then (before_colon text, drop (length (before_colon text) + 1) text) else (text, text)
 
@@ -86,7 +86,8 @@ years_at text = do
   last ← year_at (ends_of text).1
   range_from first last
 
--- A range may go from a day counted from the start to one counted from the end, and not the other way round.
+-- A range may go from a day counted from the start to one counted from the end, but not the other
+-- way round.
 abbrev pub may_go_to : MonthDay → MonthDay → Bool
 may_go_to (FromStart first) (FromStart last) = nat_le first last
 may_go_to (FromStart first) (FromEnd last) = true

@@ -1,4 +1,4 @@
--- When a moment is in a time interval, as Alertmanager has it for `time_intervals`, in UTC.
+-- When a moment is in a time interval (`time_intervals` of Alertmanager's configuration), in UTC.
 use Rattle.std.specs.Prelude.{ℕ, ◌+◌, ◌-◌, ◌*◌, ◌/◌, ◌%◌, Bool, true, ◌&&◌, nat_le, nat_lt, List, Option}
 use Rattle.std.specs.List.{list_any}
 use Rattle.std.specs.Option.{option_map_or}
@@ -50,7 +50,8 @@ holds_day length day range = nat_le (day_in length range.first) day && nat_le da
 
 -- ---- intervals
 
--- A field that is absent holds; one that is present holds if one of its ranges does, so an empty list never holds.
+-- A field that is absent holds. One that is present holds if one of its ranges does, so an empty
+-- list never holds.
 abbrev pub holds_field : {A : Type 0} → (A → Bool) → Option (List A) → Bool
 holds_field holds field = option_map_or (list_any holds) field true
 

@@ -69,7 +69,7 @@ digits_of bytes = take_while is_digit bytes
 abbrev pub fraction_digits_at : List ℕ → Option (ℕ × List ℕ)
 fraction_digits_at bytes = if nat_le 1 (length (digits_of bytes)) && nat_le (length (digits_of bytes)) 9 then Some (fraction_nanoseconds (digits_of bytes), drop (length (digits_of bytes)) bytes) else None
 
--- nanoseconds of the fraction, where there is one
+-- nanoseconds of the fraction, if there is one
 abbrev pub fraction_at : List ℕ → Option (ℕ × List ℕ)
 fraction_at [] = Some (0, [])
 fraction_at (c ∷ rest) = if c == 46 then fraction_digits_at rest else Some (0, c ∷ rest)

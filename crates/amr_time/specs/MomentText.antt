@@ -1,5 +1,5 @@
--- The texts of moments, by their parts, the moment that each stands for, and the one that is written.
--- The form is that of RFC 3339, from years 0000 to 9999, with at most nine digits of a fraction.
+-- The texts of moments: their parts, the moment that each spells, and the one that is written. The
+-- form is that of RFC 3339, in the years 0000 to 9999, with at most nine digits of a fraction.
 use Rattle.std.specs.Prelude.{◌≡◌, ◌⊎◌, ℕ, ◌+◌, ◌-◌, ◌*◌, ◌/◌, ◌%◌, ◌^◌, ◌<◌, ◌≤◌, ◌==◌, if◌then◌else◌, ℤ, pos, ◌+ℤ◌, ◌-ℤ◌, ◌*ℤ◌, List, [], ◌∷◌, ◌++◌, length, fold}
 use Rattle.std.specs.List.{AllByRecursion}
 use Rattle.jiff_core.specs.Calendar.{days_in_month, days_from_civil}
@@ -23,13 +23,13 @@ nine_digits n = digit (n / 100_000_000) ∷ four_digits (n / 10_000 % 10_000) ++
 abbrev pub IsDigit : ℕ → Type 0
 IsDigit c = (48 ≤ c) × (c ≤ 57)
 
--- the number that decimal digits stand for
+-- the number that decimal digits spell
 abbrev pub decimal : List ℕ → ℕ
 decimal digits = fold (λ n c. n * 10 + (c - 48)) 0 digits
 
 -- ---- the parts of a text
 
--- A mark of the time zone: UTC, or how far the clock is ahead of it or behind.
+-- A time zone: UTC, or how far local time is ahead of it or behind.
 pub data Zone : Type 0 where
   Utc : Zone
   Ahead : ℕ → ℕ → Zone
@@ -72,7 +72,7 @@ IsOffset Utc = Unit {0}
 IsOffset (Ahead h m) = (h < 24) × (m < 60)
 IsOffset (Behind h m) = (h < 24) × (m < 60)
 
--- the calendar has the day, and the clock the time
+-- the date and the time of day exist
 pub record AreParts (p : Parts) : Type 0 where
   pub year : p.year < 10000
   pub month : (1 ≤ p.month) × (p.month ≤ 12)
@@ -97,17 +97,17 @@ fraction_nanoseconds digits = decimal digits * 10 ^ (9 - length digits)
 abbrev pub nanoseconds_of : Parts → ℤ
 nanoseconds_of p = days_from_civil (pos p.year) p.month p.day *ℤ pos 86_400_000_000_000 +ℤ pos (((p.hours * 60 + p.minutes) * 60 + p.seconds) * second + fraction_nanoseconds p.fraction) -ℤ offset_minutes p.zone *ℤ pos 60_000_000_000
 
--- the text stands for the moment
+-- the text spells the moment
 abbrev pub IsMomentText : List ℕ → Moment → Type 0
 IsMomentText text moment = (p : Parts) × AreParts p × (text ≡ spelling p) × (pos moment ≡ nanoseconds_of p) × (moment ≤ latest_read)
 
 -- ---- the text that is written
 
--- a fraction is written where there is one
+-- a fraction is written unless it is zero
 abbrev pub fraction_digits : ℕ → List ℕ
 fraction_digits n = if n == 0 then [] else nine_digits n
 
--- a moment's parts in UTC
+-- the parts of a moment in UTC
 abbrev pub parts_of : Moment → Parts
 parts_of moment =
     let date : Date = date_of (moment / (24 * hour)) in

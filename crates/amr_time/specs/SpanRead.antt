@@ -1,4 +1,5 @@
--- Durations as texts: whole numbers with their units, from the largest unit to the smallest, each at most once.
+-- Durations as texts: whole numbers with their units, from the largest unit to the smallest, each
+-- at most once.
 use Rattle.std.specs.Prelude.{◌≡◌, ℕ, ◌+◌, min, ◌*◌, ◌&&◌, ◌==◌, List, [], ◌∷◌, length, drop, Bool, not, nat_le, if◌then◌else◌, Option, Some, None, option_map}
 use Rattle.std.specs.List.{take_while}
 use Rattle.std.specs.Str.{bytes_eq}
@@ -14,7 +15,7 @@ UnitOfTime = List ℕ × Span
 abbrev pub units : List UnitOfTime
 units = (121 ∷ [], 365 * 24 * hour) ∷ (119 ∷ [], 7 * 24 * hour) ∷ (100 ∷ [], 24 * hour) ∷ (104 ∷ [], hour) ∷ (109 ∷ [], minute) ∷ (115 ∷ [], second) ∷ (109 ∷ 115 ∷ [], 1_000_000) ∷ []
 
--- the letters that stand before the next digit
+-- the letters before the next digit
 abbrev pub word_of : List ℕ → List ℕ
 word_of text = take_while (λ c. not (is_digit c)) text
 
@@ -24,7 +25,7 @@ after_digits text = drop (length (digits_of text)) text
 abbrev pub after_word : List ℕ → List ℕ
 after_word text = drop (length (word_of text)) text
 
--- a number and the letters of the unit stand at the front
+-- the text begins with a number and the letters of the unit
 abbrev pub has_unit : UnitOfTime → List ℕ → Bool
 has_unit unit text = nat_le 1 (length (digits_of text)) && bytes_eq (word_of (after_digits text)) unit.0
 
@@ -34,12 +35,12 @@ parts_at [] [] = Some 0
 parts_at [] (c ∷ cs) = None
 parts_at (unit ∷ smaller) text = if has_unit unit text then option_map (λ n. decimal (digits_of text) * unit.1 + n) (parts_at smaller (after_word (after_digits text))) else parts_at smaller text
 
--- where there is one, and it is no longer than the longest
+-- the duration, if there is one and it isn't longer than the longest
 abbrev pub limited : Option ℕ → Option Span
 limited None = None
 limited (Some n) = if nat_le n longest_span then Some n else None
 
--- `0`, or a text of units that isn't empty, to ten years
+-- `0`, or a text of units that isn't empty, up to ten years
 unfoldable pub span_of : List ℕ → Option Span
 span_of text = if bytes_eq text (48 ∷ []) then Some 0 else (if length text == 0 then None else limited (parts_at units text))
 

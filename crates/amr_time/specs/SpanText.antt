@@ -1,4 +1,4 @@
--- The texts of durations, by how many there are of each unit.
+-- The texts of durations, by the amount of each unit.
 use Rattle.std.specs.Prelude.{◌≡◌, ◌⊎◌, ℕ, ◌+◌, ◌*◌, ◌≤◌, List, [], ◌∷◌, ◌++◌, Some, codes}
 use Rattle.std.specs.List.{AllByRecursion}
 use Rattle.amr_time.specs.Time.{Span, longest_span}
@@ -8,7 +8,7 @@ use Rattle.amr_time.specs.SpanRead.{UnitOfTime, units, span_of}
 abbrev pub AreDigits : List ℕ → Type 0
 AreDigits digits = AllByRecursion IsDigit digits
 
--- the digits of an amount and its unit's letters, where it is there
+-- the digits of an amount and the letters of its unit, if the amount is there
 abbrev pub amount_text : UnitOfTime → List ℕ → List ℕ
 amount_text unit [] = []
 amount_text unit (d ∷ ds) = d ∷ ds ++ unit.0
@@ -34,14 +34,14 @@ pub record AreAmounts (text : List ℕ) (span : Span) : Type 0 where
   pub sum : span ≡ amounts_total units amounts
   pub bound : span ≤ longest_span
 
--- the text stands for the length of time
+-- the text spells the duration
 abbrev pub IsSpanText : List ℕ → Span → Type 0
 IsSpanText text span = ((text ≡ codes "0") × (span ≡ 0)) ⊎ AreAmounts text span
 
--- a duration that is read is spelled so
+-- a duration that is read is spelled like this
 abbrev pub ReadSpanIsSpelled : Type 0
 ReadSpanIsSpelled = (text : List ℕ) (span : Span) → span_of text ≡ Some span → IsSpanText text span
 
--- and one that is spelled so is read
+-- and one that is spelled like this is read
 abbrev pub SpelledSpanIsRead : Type 0
 SpelledSpanIsRead = (text : List ℕ) (span : Span) → IsSpanText text span → span_of text ≡ Some span

@@ -1,10 +1,11 @@
-//! Dates of the calendar.
+//! Dates of the Gregorian calendar, for time intervals and for writing moments. `jiff_core` does
+//! the computing.
 ghost use Rattle.std.specs.Prelude.{◌≡◌, ◌≤◌};
 ghost use Rattle.amr_time.specs.Calendar.{date_of, month_length};
 
 use jiff_core::civil::{Date, days_in_month};
 
-/// The year, month and day of the date with that number since 1970-01-01.
+/// Returns the year, month and day of a day, numbered from 1970-01-01, which is 0.
 pub(crate) fn date_with_number(day: u32) -> (u32, u32, u32)
     requires { day ≤ 2_932_896 }
     ensures { let date = date_of day in result ≡ (date.year, date.month, date.day) }
@@ -15,7 +16,7 @@ pub(crate) fn date_with_number(day: u32) -> (u32, u32, u32)
     }
 }
 
-/// How many days the month has of the date with that number since 1970-01-01.
+/// Returns how many days the month of a day has. Days are numbered from 1970-01-01.
 pub(crate) fn month_length(day: u32) -> u32
     requires { day ≤ 2_932_896 }
     ensures value { result ≡ month_length (date_of day) }

@@ -9,14 +9,15 @@ pub(crate) fn is_digit(byte: u8) -> bool
     48 <= byte && byte <= 57
 }
 
-/// How many digits stand at the front.
+/// Returns how many digits the text begins with.
 pub(crate) fn digit_count(bytes: &[u8]) -> usize
     ensures { result ≡ length (digits_of bytes.now) }
 {
     bytes.iter().take_while(|byte| is_digit(**byte)).count()
 }
 
-/// The number that the bytes stand for as decimal digits, or the limit where it is less.
+/// Returns the number that the bytes spell as decimal digits, or `limit` if that is less. It never
+/// overflows.
 pub(crate) fn capped(bytes: &[u8], limit: u64) -> u64
     requires { limit < 2 ^ 59 }
     ensures { result ≡ min limit (decimal bytes.now) }
@@ -28,7 +29,7 @@ pub(crate) fn capped(bytes: &[u8], limit: u64) -> u64
     number
 }
 
-/// The number that the bytes stand for as decimal digits, or 2^64 where it is less.
+/// Returns the number that the bytes spell as decimal digits, or 2^64 if that is less.
 pub(crate) fn wide_number(bytes: &[u8]) -> u128
     ensures { result ≡ min 18_446_744_073_709_551_616 (decimal bytes.now) }
 {

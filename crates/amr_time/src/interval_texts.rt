@@ -1,4 +1,5 @@
-//! The fields of time intervals, from their texts and numbers.
+//! Reading the fields of time intervals (`times`, `weekdays`, `days_of_month`, `months` and `years`
+//! of Alertmanager's configuration), from texts and numbers. `amr_stated` calls these.
 ghost use Rattle.std.specs.Prelude.{◌≡◌, ◌+◌, ◌≤◌, IfSome, length};
 ghost use Rattle.std.specs.List.{list_all, position};
 ghost use Rattle.std.specs.Str.{str_eq_ignore_ascii_case};
@@ -9,7 +10,7 @@ use crate::digits::{is_digit, wide_number};
 use crate::intervals::{DayRange, MonthDay, Range};
 use crate::reading::minutes;
 
-/// The time of day of a text `HH:MM`, in minutes since midnight.
+/// Reads a time of day `HH:MM`, in minutes since midnight.
 #[tactic(auto, unfolding(crate::specs::IntervalTexts::time_at))]
 pub fn time_of_day(text: &str) -> Option<u32>
     ensures { result ≡ time_at text.now }
@@ -18,7 +19,7 @@ pub fn time_of_day(text: &str) -> Option<u32>
     if rest.is_empty() { Some(minutes) } else { None }
 }
 
-/// The same for the end of a range of times, which may be `24:00`.
+/// Reads the end of a range of times, which may also be `24:00`.
 #[tactic(auto, unfolding(crate::specs::IntervalTexts::end_time_at))]
 pub fn end_time_of_day(text: &str) -> Option<u32>
     ensures { result ≡ end_time_at text.now }
@@ -30,7 +31,7 @@ pub fn end_time_of_day(text: &str) -> Option<u32>
 }
 
 impl Range {
-    /// The weekdays of a text: a name, or `first:last`. The week runs from Sunday to Saturday.
+    /// Reads weekdays: a name, or `first:last`. The week runs from Sunday to Saturday.
     #[tactic(auto, unfolding(crate::specs::IntervalTexts::weekdays_at))]
     pub fn read_weekdays(text: &str) -> Option<Range>
         ensures { result ≡ weekdays_at text.now }
@@ -39,7 +40,7 @@ impl Range {
         range(weekday(first)?, weekday(last)?)
     }
 
-    /// The months of a text: a name or a number, or `first:last` of these.
+    /// Reads months: a name or a number, or `first:last` of these.
     #[tactic(auto, unfolding(crate::specs::IntervalTexts::months_at))]
     pub fn read_months(text: &str) -> Option<Range>
         ensures { result ≡ months_at text.now }
@@ -48,7 +49,7 @@ impl Range {
         range(month(first)?, month(last)?)
     }
 
-    /// The years of a text: a number, or `first:last`.
+    /// Reads years: a number, or `first:last`.
     #[tactic(auto, unfolding(crate::specs::IntervalTexts::years_at))]
     pub fn read_years(text: &str) -> Option<Range>
         ensures { result ≡ years_at text.now }
@@ -57,7 +58,7 @@ impl Range {
         range(year(first)?, year(last)?)
     }
 
-    /// The one number.
+    /// Returns the range of one number.
     pub fn single(number: u64) -> Range
         ensures { result ≡ single number }
     {
@@ -67,7 +68,7 @@ impl Range {
         }
     }
 
-    /// The month with this number, if there is one.
+    /// Returns the range of one month, if there is a month with this number.
     pub fn month(number: u64) -> Option<Range>
         ensures { result ≡ month_numbered number }
     {
@@ -80,7 +81,7 @@ impl Range {
 }
 
 impl DayRange {
-    /// The days of a month of a text: 1 to 31 or -1 to -31, or `first:last` of these.
+    /// Reads days of the month: 1 to 31 or -1 to -31, or `first:last` of these.
     #[tactic(auto, unfolding(crate::specs::IntervalTexts::days_at))]
     pub fn read(text: &str) -> Option<DayRange>
         ensures { result ≡ days_at text.now }
@@ -89,7 +90,7 @@ impl DayRange {
         day_range(month_day(first)?, month_day(last)?)
     }
 
-    /// The day with this number, if a month may have it; -1 is a month's last day.
+    /// Returns the range of one day, if a month can have it; -1 is the last day of the month.
     pub fn day(number: i64) -> Option<DayRange>
         ensures { result ≡ day_numbered number }
     {
@@ -107,7 +108,7 @@ impl DayRange {
     }
 }
 
-/// What stands before the first colon and after it, or the whole for both.
+/// Splits the text at its first colon. Returns the whole text twice if it has none.
 #[tactic(auto, unfolding(crate::specs::IntervalTexts::ends_of))]
 fn ends(bytes: &[u8]) -> (&[u8], &[u8])
     ensures { (result.0.now, result.1.now) ≡ ends_of bytes.now }
@@ -120,7 +121,7 @@ fn ends(bytes: &[u8]) -> (&[u8], &[u8])
     }
 }
 
-/// How many bytes stand before the first colon.
+/// Returns how many bytes are before the first colon.
 fn colon_place(bytes: &[u8]) -> usize
     ensures { result ≡ length (before_colon bytes.now) }
 {
@@ -148,7 +149,7 @@ fn day_range(first: MonthDay, last: MonthDay) -> Option<DayRange>
 }
 
 impl MonthDay {
-    /// Whether a range may go from this day to that one.
+    /// Returns whether a range may go from this day to that one.
     fn may_go_to(self, last: MonthDay) -> bool
         ensures { result ≡ may_go_to self last }
     {
@@ -186,7 +187,7 @@ const MONTHS: [&str; 12] = [
     "december",
 ];
 
-/// The place of the name that the text is, in either case.
+/// Returns the index of the name that the text is, ignoring ASCII case.
 fn place_of(names: &[&str], bytes: &[u8]) -> Option<usize>
     ensures { result ≡ position (λ name. str_eq_ignore_ascii_case bytes.now name.now) names.now }
 {
@@ -232,7 +233,7 @@ fn month_day(bytes: &[u8]) -> Option<MonthDay>
     }
 }
 
-/// The number that digits spell, from the least to the greatest that is allowed.
+/// Reads a decimal number between two bounds, which are allowed.
 #[tactic(auto, unfolding(crate::specs::IntervalTexts::number_within))]
 fn number(least: u64, greatest: u64, bytes: &[u8]) -> Option<u64>
     ensures value { result ≡ number_within least greatest bytes.now }
@@ -249,7 +250,7 @@ fn number(least: u64, greatest: u64, bytes: &[u8]) -> Option<u64>
     }
 }
 
-/// Whether there are digits, and nothing else.
+/// Returns whether there are digits, and nothing else.
 fn is_number(bytes: &[u8]) -> bool
     ensures { result ≡ number_of bytes.now }
 {

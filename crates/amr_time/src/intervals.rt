@@ -1,4 +1,5 @@
-//! Time intervals (`time_intervals` of Alertmanager's configuration), in UTC.
+//! Time intervals (`time_intervals` of Alertmanager's configuration), in UTC: whether a moment is
+//! in one. Flushes ask this by way of `amr_config`.
 ghost use Rattle.std.specs.Prelude.{◌≡◌, ◌≤◌};
 ghost use Rattle.std.specs.List.{list_any};
 ghost use Rattle.amr_time.specs.Intervals.{holds_time, holds_number, holds_day, day_in, holds_field, holds_member, is_in_interval};
@@ -7,13 +8,14 @@ use crate::calendar::{date_with_number, month_length};
 use crate::moments::Moment;
 use amr_labels::Listing;
 
-/// A time interval: a moment is in it if one of its members holds.
+/// A time interval. A moment is in it if one of its members holds at the moment.
 #[derive(Debug, Drop)]
 pub struct TimeInterval {
     pub members: Listing<IntervalMember>,
 }
 
-/// A member of a time interval. It holds if each field holds that is present: one of the field's ranges does. An empty list never holds.
+/// A member of a time interval. It holds if each field that is present holds, which is if one of
+/// the field's ranges does. An empty list never holds.
 #[derive(Debug, Drop)]
 pub struct IntervalMember {
     pub times: Option<Listing<TimeRange>>,
@@ -25,7 +27,7 @@ pub struct IntervalMember {
     pub years: Option<Listing<Range>>,
 }
 
-/// A part of each day, in minutes since midnight. The start is inside, and the end isn't.
+/// A part of each day, in minutes since midnight, from the start to just before the end.
 #[derive(Clone, Copy, Debug, PartialEq, Eq)]
 pub struct TimeRange {
     pub start: u32,
@@ -56,7 +58,7 @@ pub struct DayRange {
 }
 
 impl TimeInterval {
-    /// Whether the moment is in the interval.
+    /// Returns whether a moment is in the interval.
     #[tactic(auto, unfolding(crate::specs::Intervals::is_in_interval))]
     pub fn contains(&self, moment: Moment) -> bool
         ensures { result ≡ is_in_interval self.now moment }
@@ -73,7 +75,7 @@ const MINUTE: u128 = 60_000_000_000;
 const DAY: u128 = 1440 * MINUTE;
 
 impl IntervalMember {
-    /// Whether every field holds at the moment.
+    /// Returns whether every field holds at a moment.
     #[tactic(auto, unfolding(crate::specs::Intervals::holds_member))]
     fn holds(&self, moment: Moment) -> bool
         ensures { result ≡ holds_member moment self.now }
@@ -153,7 +155,7 @@ impl Range {
 }
 
 impl DayRange {
-    /// Whether a day of a month of this length is inside.
+    /// Returns whether a day is in the range, in a month of this length.
     fn contains(&self, length: u32, day: u32) -> bool
         requires { length ≤ 31 }
         ensures { result ≡ holds_day length day self.now }
@@ -163,7 +165,7 @@ impl DayRange {
 }
 
 impl MonthDay {
-    /// The day in a month of this length, and 0 if it would lie before the first.
+    /// Returns the day in a month of this length, or 0 if it would be before the first.
     fn in_month(self, length: u32) -> u32
         requires { length ≤ 31 }
         ensures { result ≡ day_in length self }

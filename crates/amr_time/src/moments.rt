@@ -1,4 +1,4 @@
-//! A point in time.
+//! Moments, in nanoseconds since 1970.
 ghost use Rattle.std.specs.Prelude.{◌≡◌, ◌+◌, ◌<◌};
 ghost use Rattle.amr_time.specs.Time.{before_year_10000, in_same_second, next_multiple_of, IsNextMultiple};
 
@@ -7,7 +7,7 @@ use std::marker::Model;
 
 const SECOND: u128 = 1_000_000_000;
 
-/// Whole nanoseconds since 1970-01-01T00:00:00Z, before the year 10000.
+/// A point in time: whole nanoseconds since 1970-01-01T00:00:00Z, before the year 10000.
 #[derive(Clone, Copy, Debug, PartialEq, Eq, PartialOrd, Ord, Hash)]
 pub struct Moment {
     nanoseconds: u128,
@@ -26,10 +26,10 @@ impl Model for Moment {
 }
 
 impl Moment {
-    /// 1970-01-01T00:00:00Z.
+    /// 1970-01-01T00:00:00Z, where the clock is before the first event.
     pub const START: Moment = Moment { nanoseconds: 0 };
 
-    /// The moment so many nanoseconds after 1970-01-01T00:00:00Z.
+    /// Returns the moment this many nanoseconds after 1970-01-01T00:00:00Z.
     pub fn from_nanoseconds(nanoseconds: u128) -> Moment
         requires { nanoseconds < before_year_10000 }
         ensures { result ≡ nanoseconds }
@@ -37,7 +37,7 @@ impl Moment {
         Moment { nanoseconds }
     }
 
-    /// How many nanoseconds it is after 1970-01-01T00:00:00Z.
+    /// Returns the nanoseconds since 1970-01-01T00:00:00Z.
     pub fn nanoseconds(self) -> u128
         ensures value { result ≡ self }
         ensures bound { self < before_year_10000 }
@@ -45,7 +45,7 @@ impl Moment {
         self.nanoseconds
     }
 
-    /// The moment later by a span.
+    /// Returns the moment later by a duration.
     pub fn plus(self, span: Span) -> Moment
         requires { self + span < before_year_10000 }
         ensures { result ≡ self + span }
@@ -55,7 +55,7 @@ impl Moment {
         }
     }
 
-    /// Whether no whole second since 1970 begins between the two.
+    /// Returns whether both moments are in the same whole second since 1970.
     pub fn in_same_second(self, other: Moment) -> bool
         ensures { result ≡ in_same_second self other }
     {
@@ -64,8 +64,9 @@ impl Moment {
     }
 }
 
-/// The least multiple of the unit that is greater than the moment, in nanoseconds since 1970: it may lie past the last
-/// moment.
+/// Returns the least multiple of the unit that is greater than the moment, in nanoseconds since
+/// 1970. It may be after the last moment, so it isn't a `Moment`. Alertmanager's clean-ups run at
+/// such multiples.
 pub fn next_multiple(moment: Moment, unit: Span) -> u128
     requires { 0 < unit }
     ensures value { result ≡ next_multiple_of moment unit }

@@ -1,4 +1,5 @@
-//! Moments from their texts, read from left to right.
+//! Reading moments from RFC 3339, from left to right. Each part is read from the front of the
+//! bytes, and returned with the bytes after it.
 ghost use Rattle.std.specs.Prelude.{◌≡◌, ◌<◌, ◌≤◌, ◌^◌, pos, ◌+◌, ◌*◌, ◌+ℤ◌, ◌-ℤ◌, ◌*ℤ◌, option_map, IfSome, IfOk};
 ghost use Rattle.std.specs.Result.{result_ok};
 ghost use Rattle.jiff_core.specs.Calendar.{IsEpochDay, IsWithin};
@@ -23,7 +24,7 @@ fn mark(bytes: &[u8], wanted: u8) -> Option<&[u8]>
     }
 }
 
-/// Two digits at the front, and what stands after them.
+/// Reads two digits.
 fn two(bytes: &[u8]) -> Option<(u8, &[u8])>
     ensures value { option_map (λ x. (x.0, x.1.now)) result ≡ two_at bytes.now }
     ensures bound { IfSome result (λ x. x.0 < 100) }
@@ -50,7 +51,7 @@ fn four(bytes: &[u8]) -> Option<(u16, &[u8])>
     Some((high as u16 * 100 + low as u16, rest))
 }
 
-/// The day number of a date, where it exists.
+/// Returns the number of a day, from 1970-01-01, if the date exists.
 fn day_number(year: u16, month: u8, day: u8) -> Option<i32>
     requires year_in { year < 10000 }
     requires month_in { month < 100 }
@@ -64,7 +65,7 @@ fn day_number(year: u16, month: u8, day: u8) -> Option<i32>
     }
 }
 
-/// The day number of the date at the front.
+/// Reads a date, as its day number.
 #[tactic(auto, unfolding(crate::specs::MomentRead::day_at))]
 fn day(bytes: &[u8]) -> Option<(i32, &[u8])>
     ensures value { option_map (λ x. (x.0, x.1.now)) result ≡ day_at bytes.now }
@@ -77,7 +78,7 @@ fn day(bytes: &[u8]) -> Option<(i32, &[u8])>
     Some((number, rest))
 }
 
-/// Hours and minutes at the front, in minutes.
+/// Reads hours and minutes, in minutes.
 #[tactic(auto, unfolding(crate::specs::MomentRead::minutes_at))]
 pub(crate) fn minutes(bytes: &[u8]) -> Option<(u32, &[u8])>
     ensures value { option_map (λ x. (x.0, x.1.now)) result ≡ minutes_at bytes.now }
@@ -106,7 +107,7 @@ fn seconds(bytes: &[u8]) -> Option<(u32, &[u8])>
     }
 }
 
-/// The nanoseconds of one to nine digits at the front.
+/// Reads a fraction of one to nine digits, in nanoseconds.
 fn fraction_digits(bytes: &[u8]) -> Option<(u64, &[u8])>
     ensures value { option_map (λ x. (x.0, x.1.now)) result ≡ fraction_digits_at bytes.now }
     ensures bound { IfSome result (λ x. x.0 < 2 ^ 60) }
@@ -129,7 +130,7 @@ fn fraction(bytes: &[u8]) -> Option<(u64, &[u8])>
     }
 }
 
-/// Minutes from UTC, and what stands after the mark of the zone.
+/// Reads the offset from UTC, in minutes.
 #[tactic(auto, unfolding(crate::specs::MomentRead::offset_at))]
 fn offset(bytes: &[u8]) -> Option<(i32, &[u8])>
     ensures value { option_map (λ x. (x.0, x.1.now)) result ≡ offset_at bytes.now }
@@ -158,7 +159,7 @@ fn time_mark(bytes: &[u8]) -> Option<&[u8]>
     }
 }
 
-/// The parts in nanoseconds since 1970.
+/// Returns the nanoseconds since 1970 of the parts; `offset` is in minutes.
 fn nanoseconds_of(day: i32, seconds: u32, fraction: u64, offset: i32) -> i128
     requires day_in { IsEpochDay day }
     requires seconds_in { seconds < 86400 }
@@ -172,7 +173,7 @@ fn nanoseconds_of(day: i32, seconds: u32, fraction: u64, offset: i32) -> i128
     day as i128 * 86_400_000_000_000 + clock as i128 - offset as i128 * 60_000_000_000
 }
 
-/// The moment, where a text may stand for it.
+/// Returns the moment, if it is from 1970 to the end of the year 8999.
 fn within(nanoseconds: i128) -> Option<Moment>
     ensures value { result ≡ in_range nanoseconds }
     ensures bound { IfSome result (λ m. m ≤ latest_read) }
@@ -199,10 +200,10 @@ fn moment(bytes: &[u8]) -> Option<Moment>
     within(nanoseconds_of(day, seconds, fraction, offset))
 }
 
-/// The moment that a text stands for: a date and a time of day as RFC 3339 has them, in the years 1970 to 8999,
-/// with at most nine digits of a fraction.
+/// Reads a moment: a date and a time of day as in RFC 3339, in the years 1970 to 8999, with at most
+/// nine digits of a fraction.
 ///
-/// `T` and `Z` may be in either case, and the second 60 is refused.
+/// `T` and `Z` may be in either case. The leap second 60 is refused.
 pub fn read_moment(text: &str) -> Result<Moment, BadTime>
     ensures value { result_ok result ≡ moment_at text.now }
     ensures spelled { IfOk result (λ moment. IsMomentText text.now moment) }

@@ -1,4 +1,4 @@
-//! A length of time.
+//! Durations, in nanoseconds, and reading them.
 ghost use Rattle.std.specs.Prelude.{◌≡◌, ◌+◌, ◌*◌, ◌≤◌, All, IfOk, min, map, length};
 ghost use Rattle.std.specs.Result.{result_ok};
 ghost use Rattle.amr_time.specs.Time.{longest_span, second, minute, hour};
@@ -9,7 +9,7 @@ ghost use Rattle.amr_time.specs.SpanRead.{word_of, parts_at, span_of, SameOrTooL
 use crate::digits::{capped, digit_count, is_digit};
 use std::marker::Model;
 
-/// A length of time in whole nanoseconds, at most ten years of 365 days.
+/// A duration in whole nanoseconds, at most ten years of 365 days.
 #[derive(Clone, Copy, Debug, PartialEq, Eq, PartialOrd, Ord, Hash)]
 pub struct Span {
     nanoseconds: u64,
@@ -28,10 +28,10 @@ impl Model for Span {
 }
 
 impl Span {
-    /// No time at all.
+    /// The duration zero.
     pub const ZERO: Span = Span { nanoseconds: 0 };
 
-    /// So many nanoseconds.
+    /// Returns the duration of this many nanoseconds.
     pub fn from_nanoseconds(nanoseconds: u64) -> Span
         requires { nanoseconds ≤ longest_span }
         ensures { result ≡ nanoseconds }
@@ -39,7 +39,7 @@ impl Span {
         Span { nanoseconds }
     }
 
-    /// So many seconds.
+    /// Returns the duration of this many seconds.
     pub fn from_seconds(count: u32) -> Span
         requires { count * second ≤ longest_span }
         ensures { result ≡ count * second }
@@ -49,7 +49,7 @@ impl Span {
         }
     }
 
-    /// So many minutes.
+    /// Returns the duration of this many minutes.
     pub fn from_minutes(count: u32) -> Span
         requires { count * minute ≤ longest_span }
         ensures { result ≡ count * minute }
@@ -59,7 +59,7 @@ impl Span {
         }
     }
 
-    /// So many hours.
+    /// Returns the duration of this many hours.
     pub fn from_hours(count: u32) -> Span
         requires { count * hour ≤ longest_span }
         ensures { result ≡ count * hour }
@@ -69,7 +69,7 @@ impl Span {
         }
     }
 
-    /// How many nanoseconds long it is.
+    /// Returns the duration in nanoseconds.
     pub fn nanoseconds(self) -> u64
         ensures value { result ≡ self }
         ensures bound { self ≤ longest_span }
@@ -77,8 +77,9 @@ impl Span {
         self.nanoseconds
     }
 
-    /// The length of time that a text stands for: `0`, or whole numbers with the units `y` (365 days), `w`, `d`, `h`,
-    /// `m`, `s` and `ms`, each at most once and in this order, as in `1h30m`.
+    /// Reads a duration as in Alertmanager's configuration: `0`, or whole numbers with the units
+    /// `y` (365 days), `w`, `d`, `h`, `m`, `s` and `ms`, each at most once and in this order, as in
+    /// `1h30m`. Fails if it is longer than ten years.
     #[tactic(auto, using(crate::proofs::Durations::same_some, crate::proofs::Durations::too_long, crate::proofs::Durations::same_none), unfolding(crate::specs::SpanRead::span_of))]
     pub fn read(text: &str) -> Result<Span, BadDuration>
         ensures value { result_ok result ≡ span_of text.now }
@@ -151,14 +152,14 @@ const UNITS: [Unit; 7] = [
     },
 ];
 
-/// How many bytes stand before the next digit.
+/// Returns how many bytes are before the next digit.
 fn word_len(bytes: &[u8]) -> usize
     ensures { result ≡ length (word_of bytes.now) }
 {
     bytes.iter().take_while(|byte| !is_digit(**byte)).count()
 }
 
-/// A number of units in nanoseconds, and what follows, or one more than the longest duration where it is longer.
+/// Returns an amount of a unit plus the rest, in nanoseconds, or `TOO_LONG` if that is less.
 fn scaled(digits: &[u8], unit: u64, rest: u64) -> u64
     requires unit_in { 1 ≤ unit }
     ensures { min 315_360_000_000_000_001 result

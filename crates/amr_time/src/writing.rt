@@ -1,4 +1,4 @@
-//! The texts of moments.
+//! Writing moments in RFC 3339.
 ghost use Rattle.std.specs.Prelude.{◌≡◌, ◌≤◌, ◌++◌, ◌∷◌, [], OnOk, IfOk, string_bytes};
 ghost use Rattle.amr_time.specs.Calendar.{date_of};
 ghost use Rattle.amr_time.specs.MomentText.{digit, two_digits, four_digits, nine_digits, fraction_digits, fraction_text, date_text, time_text, moment_text};
@@ -15,7 +15,7 @@ const HOUR: u128 = 60 * MINUTE;
 
 const DAY: u128 = 24 * HOUR;
 
-/// Adds the last digit of a number.
+/// Appends the last digit of a number.
 fn push_digit(out: &mut String, number: u32) -> Result<(), AllocError>
     ensures { OnOk result (string_bytes out.new ≡ string_bytes out.old ++ digit number ∷ []) }
 {
@@ -48,7 +48,7 @@ fn push_nine(out: &mut String, number: u32) -> Result<(), AllocError>
     Ok(())
 }
 
-/// Adds a fraction of a second where there is one.
+/// Appends the fraction of a second, unless it is zero.
 fn push_fraction(out: &mut String, nanoseconds: u32) -> Result<(), AllocError>
     ensures { OnOk result
         (string_bytes out.new ≡ string_bytes out.old
@@ -89,7 +89,8 @@ fn push_time(out: &mut String, hours: u32, minutes: u32, seconds: u32) -> Result
     Ok(())
 }
 
-/// The text of a moment in UTC, with nine digits of a fraction where it has one, as RFC 3339 has it.
+/// Returns a moment in RFC 3339, in UTC, with nine digits of a fraction unless the fraction is
+/// zero.
 pub fn write_moment(alloc: Global, moment: Moment) -> Result<String, AllocError>
     ensures { IfOk result (λ text. string_bytes text ≡ moment_text moment) }
 {

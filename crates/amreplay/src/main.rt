@@ -1,4 +1,5 @@
-//! A replayer of Prometheus Alertmanager incidents.
+//! The program `amreplay`: it replays incidents of Prometheus Alertmanager. Here are only its
+//! arguments and its files; all else is in `amr_program`.
 #![tactic(auto)]
 
 ghost use Rattle.std.specs.Prelude.{◌≡◌};
@@ -18,14 +19,14 @@ fn main(rt: HostRuntime) -> ExitCode {
     match start(&rt) {
         Ok(()) => ExitCode::SUCCESS,
         Err(fault) => {
-            // There is nowhere to tell of a fault in telling of a fault.
+            // A failure to report a fault can't be reported.
             let _ = write_fault(&fault, &mut Outlet::new(rt.stderr()));
             ExitCode::from(status_of(&fault))
         }
     }
 }
 
-/// Does what the words ask for.
+/// Does what the arguments ask for.
 fn start(rt: &HostRuntime) -> Result<(), Fault> {
     let words = words_of(rt)?;
     match command_of(words.as_slice()) {
@@ -36,25 +37,26 @@ fn start(rt: &HostRuntime) -> Result<(), Fault> {
     }
 }
 
-/// The bytes of a configuration's file, and of a longer one so many that it is known to be too long.
+/// Reads a configuration file, stopping one byte past the limit, so that a longer file is known to
+/// be too long.
 fn config_bytes(rt: &HostRuntime, path: &str) -> Result<Vec<u8>, Fault> {
     let bytes = read_file(rt, path, LONGEST_CONFIG as u64 + 1);
     bytes.map_err(|unread| fault_of(unread, Fault::CannotReadConfig))
 }
 
-/// The bytes of a script's file.
+/// Reads a script file.
 fn script_bytes(rt: &HostRuntime, path: &str) -> Result<Vec<u8>, Fault> {
     let bytes = read_file(rt, path, u64::MAX);
     bytes.map_err(|unread| fault_of(unread, Fault::CannotReadScript))
 }
 
-/// Checks the configuration of a file.
+/// Checks the configuration in a file.
 fn check_file(rt: &HostRuntime, config: &str) -> Result<(), Fault> {
     let config = config_bytes(rt, config)?;
     check_config(rt.alloc(), config.as_slice(), &mut Outlet::new(rt.stdout()))
 }
 
-/// Runs the script of one file over the configuration of another.
+/// Runs the script in one file under the configuration in another.
 fn run_files(rt: &HostRuntime, config: &str, script: &str) -> Result<(), Fault> {
     let config = config_bytes(rt, config)?;
     let script = script_bytes(rt, script)?;
@@ -69,7 +71,7 @@ fn run_files(rt: &HostRuntime, config: &str, script: &str) -> Result<(), Fault> 
     )
 }
 
-/// Answers the commands of standard input over two files.
+/// Answers the commands on standard input, over a script and a configuration.
 fn session_over(rt: &HostRuntime, config: &str, script: &str) -> Result<(), Fault> {
     let config = config_bytes(rt, config)?;
     let script = script_bytes(rt, script)?;
@@ -85,7 +87,7 @@ fn session_over(rt: &HostRuntime, config: &str, script: &str) -> Result<(), Faul
     )
 }
 
-/// The words after the program's name. A word that isn't UTF-8 is no word of a form.
+/// Returns the arguments after the program's name. An argument that isn't UTF-8 is a usage error.
 fn words_of(rt: &(impl Env + AllocGlobal)) -> Result<Vec<String>, Fault> {
     match env::args(rt) {
         Ok(args) => args
@@ -97,13 +99,13 @@ fn words_of(rt: &(impl Env + AllocGlobal)) -> Result<Vec<String>, Fault> {
     }
 }
 
-/// The bytes of a file, and of a longer one so many.
+/// Reads a file, up to `most` bytes.
 fn read_file(rt: &(impl Files + AllocGlobal), path: &str, most: u64) -> Result<Vec<u8>, Unread> {
     let file = fs::open(rt, path).map_err(|e| unopened(&e))?;
     read_whole(rt.alloc(), &mut Inlet::new(file.take(most)))
 }
 
-/// Why a file that couldn't be opened isn't read.
+/// Returns why a file that couldn't be opened isn't read.
 fn unopened(error: &Error) -> Unread {
     if error.kind() == ErrorKind::OutOfMemory {
         Unread::OutOfMemory
@@ -112,7 +114,7 @@ fn unopened(error: &Error) -> Unread {
     }
 }
 
-/// The fault of a file that isn't read: want of memory, or the one that is given.
+/// Returns the fault for a file that isn't read: `OutOfMemory`, or else the given fault.
 fn fault_of(unread: Unread, otherwise: Fault) -> Fault
     ensures memory { unread ≡ Unread.OutOfMemory → result ≡ Fault.OutOfMemory }
     ensures reading { unread ≡ Unread.CannotRead → result ≡ otherwise }

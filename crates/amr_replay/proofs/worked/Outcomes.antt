@@ -1,4 +1,5 @@
--- What events come to, a receiver without integrations, and a configuration that is one.
+-- Outcomes of events, a receiver without integrations, and a configuration that satisfies the
+-- rules.
 use Rattle.std.specs.Prelude.{◌≡◌, ℕ, zero, suc, ◌<◌, true, List, [], ◌∷◌, Option, Some, None, codes, ◌+◌, ◌*◌, map}
 use Rattle.std.proofs.Common.{refl, subst, arith}
 use Rattle.amr_labels.specs.Map.{from_entries}

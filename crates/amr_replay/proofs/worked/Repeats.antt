@@ -1,4 +1,4 @@
--- A page that fires for a day, and when it is told again.
+-- An alert that fires for a day, and when it is notified again.
 use Rattle.std.specs.Prelude.{◌≡◌, List, [], ◌∷◌, Some, codes, ◌+◌, ◌*◌, map}
 use Rattle.std.proofs.Common.{refl}
 use Rattle.amr_labels.specs.Labels.{Text}

@@ -1,4 +1,4 @@
--- A configuration of one route, and the words of the worked incidents.
+-- A configuration of one route, and short names for the worked incidents.
 use Rattle.std.specs.Prelude.{true, false, List, [], ◌∷◌, Option, Some, None, codes, ◌*◌, map}
 use Rattle.amr_labels.specs.Map.{entries, empty}
 use Rattle.amr_labels.specs.Labels.{Text}
@@ -45,6 +45,6 @@ posts at alerts = record { at = at; act = Act.Post alerts }
 abbrev pub ticks : Moment → Event
 ticks at = record { at = at; act = Act.Tick }
 
--- a note by its moment, its route, and the labels of what fires and what is resolved
+-- a notification as its moment, its route, and the labels of what fires and what is resolved
 abbrev pub told : Note → Moment × (List (List (Text × Text)) × List (List (Text × Text)))
 told note = (note.at, (map (λ member. entries member.labels) note.firing, map (λ member. entries member.labels) note.resolved))

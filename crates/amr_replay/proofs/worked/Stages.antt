@@ -113,7 +113,7 @@ pub a_webhook_is_told_of_the_end : map told (run_of config_ops short_page).notes
 unfolding replaying
 a_webhook_is_told_of_the_end = refl
 
--- no note, no group, and the alert goes at half past
+-- no notification, no group, and the alert is removed at half past
 abbrev short_alert : List Event
 short_alert = posts ten (alert x (Some ten) (Some (ten + 20 * second)) ∷ []) ∷ ticks (ten + minute) ∷ []
 

@@ -1,4 +1,4 @@
--- Times of alerts: old ones, timeouts, stated ends, and the interval of repeats.
+-- Times of alerts: old starts, timeouts, given ends, and the repeat interval.
 use Rattle.std.specs.Prelude.{◌≡◌, Bool, true, false, List, [], ◌∷◌, Option, Some, None, codes, ◌+◌, ◌-◌, ◌*◌, map}
 use Rattle.std.proofs.Common.{refl}
 use Rattle.amr_labels.specs.Map.{entries}
@@ -46,7 +46,7 @@ pub a_stated_end_that_is_later_is_kept : map times_of (entries (run_of config_op
 unfolding replaying
 a_stated_end_that_is_later_is_kept = refl
 
--- the notes after 49 moves
+-- the notifications after 49 moves
 pub a_page_is_repeated_after_more_than_the_interval : map told (run_of config_ops (posts ten (x (Some ten) (Some (ten + 10 * hour)) ∷ []) ∷ ticks (ten + 4 * hour + 5 * minute + 30 * second + second) ∷ [])).notes
     ≡ (ten + 30 * second, (named (codes "X") ∷ [], [])) ∷ (ten + 4 * hour + 5 * minute + 30 * second, (named (codes "X") ∷ [], [])) ∷ []
 unfolding replaying

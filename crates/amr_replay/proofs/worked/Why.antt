@@ -1,4 +1,4 @@
--- The question why, and a reload.
+-- The verdicts of `explain`, and a reload.
 use Rattle.std.specs.Prelude.{◌≡◌, Bool, true, false, List, [], ◌∷◌, Some, None, Ok, codes, ◌+◌, ◌-◌, ◌*◌, map, take}
 use Rattle.std.proofs.Common.{refl}
 use Rattle.amr_labels.specs.Map.{entries, from_entries}
