@@ -29,12 +29,14 @@ fn word_len(text: &[u8]) -> usize
     text.iter().take_while(|byte| !is_space(**byte)).count()
 }
 
+/// Returns the text without the white space that it begins with.
 fn without_front(text: &[u8]) -> &[u8]
     ensures { result.now ≡ trimmed_front text.now }
 {
     &text[space_len(text)..]
 }
 
+/// Returns the text without the white space that it ends with.
 fn without_back(text: &[u8]) -> &[u8]
     ensures { result.now ≡ trimmed_back text.now }
 {

@@ -5,7 +5,7 @@ use Rattle.amr_matchers.specs.Matchers.{Matcher}
 use Rattle.amr_matchers.specs.MatcherText.{Spells}
 use Rattle.amr_matchers.specs.MatcherReading.{matchers_of}
 
--- the text spells what is read of it
+-- the text spells what was read of it
 abbrev pub ReadIsSpelled : Type 0
 ReadIsSpelled = (text : Text) (matchers : List Matcher) → matchers_of text ≡ Some matchers → Spells (chars text) matchers
 

@@ -62,12 +62,14 @@ pub(crate) struct Step {
     pub part: Part,
 }
 
+/// Returns a step that leads to a state and adds a part.
 fn go(place: Place, part: Part) -> Option<Step>
     ensures { result ≡ reading.go place part }
 {
     Some(Step { place, part })
 }
 
+/// Returns what a character means outside quotes.
 #[tactic(auto, unfolding(crate::specs::MatcherReading::kind_of))]
 fn kind_of(c: char) -> Kind
     ensures { result ≡ reading.kind_of c }
