@@ -1,4 +1,5 @@
-//! Decimal digits.
+//! Decimal digits, for the argument of `seek`. Nothing here fails: a number that is too large
+//! becomes the greatest one.
 ghost use Rattle.std.specs.Prelude.{◌≡◌};
 ghost use Rattle.std.specs.List.{list_all};
 ghost use Rattle.amr_command_lines.specs.Parts.{is_digit as is_digit_byte, number_within};

@@ -1,4 +1,5 @@
-//! Cutting a command line into its word and its argument, at white space.
+//! Cutting a command line into its word and its argument, at white space. The parts are slices of
+//! the line, so this takes no memory.
 ghost use Rattle.std.specs.Prelude.{◌≡◌, ◌≤◌, length};
 ghost use Rattle.std.specs.List.{prefix_len, position_or_len};
 ghost use Rattle.amr_events.specs.Scripts.{is_space as is_space_byte};
