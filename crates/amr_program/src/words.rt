@@ -1,4 +1,5 @@
-//! The arguments after the program's name.
+//! The arguments after the program's name, which name a command and its files. `main` calls
+//! `command_of`.
 ghost use Rattle.std.specs.Prelude.{◌≡◌, map, option_map, string_bytes};
 
 /// What the arguments ask for, with the paths of the files.
