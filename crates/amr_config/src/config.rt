@@ -154,8 +154,8 @@ impl Config {
     }
 
     /// Returns the matchers of each route from the root down to this one, each list sorted by name,
-    /// value and operator. It is part of the notification log's key, so that routes with the same
-    /// receiver and group have entries of their own.
+    /// value and operator. It is part of the notification log's key, so that two routes with the
+    /// same receiver share entries only if their paths are equal.
     pub fn path(&self, alloc: Global, route: usize) -> Result<Listing<Matchers>, AllocError>
         ensures { IfOk result (λ path. path ≡ path_of self.now route) }
     {
