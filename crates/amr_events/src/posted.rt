@@ -1,4 +1,5 @@
-//! Reading posted alerts from a line of a script.
+//! Reading posted alerts from a line of a script. Only the shape is checked; whether an alert is
+//! valid is decided when it is posted.
 ghost use Rattle.std.specs.Prelude.{◌≡◌, option_map};
 ghost use Rattle.std.specs.Result.{result_ok};
 ghost use Rattle.serde_json.specs.View.{view};
