@@ -1,4 +1,5 @@
-//! Moments, in nanoseconds since 1970.
+//! Moments, in nanoseconds since 1970. Only scripts and commands give moments; nothing here reads a
+//! clock.
 ghost use Rattle.std.specs.Prelude.{◌≡◌, ◌+◌, ◌<◌};
 ghost use Rattle.amr_time.specs.Time.{before_year_10000, in_same_second, next_multiple_of, IsNextMultiple};
 

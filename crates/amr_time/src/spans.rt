@@ -1,4 +1,4 @@
-//! Durations, in nanoseconds, and reading them.
+//! Durations, in nanoseconds, and reading them as Alertmanager's configuration writes them.
 ghost use Rattle.std.specs.Prelude.{◌≡◌, ◌+◌, ◌*◌, ◌≤◌, All, IfOk, min, map, length};
 ghost use Rattle.std.specs.Result.{result_ok};
 ghost use Rattle.amr_time.specs.Time.{longest_span, second, minute, hour};

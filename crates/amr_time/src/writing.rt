@@ -1,4 +1,4 @@
-//! Writing moments in RFC 3339.
+//! Writing moments in RFC 3339, for everything that is printed.
 ghost use Rattle.std.specs.Prelude.{◌≡◌, ◌≤◌, ◌++◌, ◌∷◌, [], OnOk, IfOk, string_bytes};
 ghost use Rattle.amr_time.specs.Calendar.{date_of};
 ghost use Rattle.amr_time.specs.MomentText.{digit, two_digits, four_digits, nine_digits, fraction_digits, fraction_text, date_text, time_text, moment_text};
