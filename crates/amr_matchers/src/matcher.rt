@@ -1,4 +1,5 @@
-//! Matchers: whether one matches a label set, and their order.
+//! Matchers: whether one matches a label set, and their order, which is by name, value and
+//! operator.
 ghost use Rattle.std.specs.Prelude.{◌≡◌, IfOk, IsErrOf, IsOk, false, true};
 ghost use Rattle.std.proofs.Common.{rules};
 ghost use Rattle.std.specs.Cmp.{partial_order_from_own_ties};

@@ -1,4 +1,4 @@
-//! Lists of matchers, shared by their clones.
+//! Lists of matchers, shared by their clones, since routes and silences are cloned often.
 ghost use Rattle.std.specs.Prelude.{◌≡◌, ◌==◌, [], length, IfOk};
 ghost use Rattle.std.proofs.Common.{rules};
 ghost use Rattle.std.specs.Cmp.{partial_order_from_own_ties};

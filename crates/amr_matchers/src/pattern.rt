@@ -1,4 +1,5 @@
-//! Patterns that have to match a whole value, built by `regex`.
+//! Patterns that have to match a whole value. `regex` builds and runs them; a pattern that it
+//! refuses makes no matcher.
 ghost use Rattle.std.specs.Prelude.{◌≡◌, IfOk, IsErrOf};
 ghost use Rattle.amr_matchers.specs.Patterns.{pattern_matches, MayRefuse};
 ghost use Rattle.amr_matchers.specs.declared.pattern.MatcherError.TheVariants.{BadPattern};
