@@ -1,4 +1,5 @@
-//! Tests of how many entries the records of events have.
+//! Tests of how many entries the records of events have. No command prints them, but the memory of
+//! a session grows with them.
 use amr_config::Config;
 use amr_events::Script;
 use amr_replay::Session;

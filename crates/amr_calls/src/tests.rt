@@ -1,4 +1,5 @@
-//! Tests of what no command of the program shows.
+//! Tests of what no command of the program shows: places of faulty matcher texts, the last moment,
+//! numbers of label sets, and copies.
 use amr_interner::Interner;
 use amr_labels::{Labels, Text};
 use amr_matchers::{Matchers, ParseError};

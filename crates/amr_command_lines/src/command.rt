@@ -53,6 +53,7 @@ pub struct Unread {
     pub word: Word,
 }
 
+/// The words that are commands.
 const KNOWN_WORDS: [Word; 12] = [
     Word::Step,
     Word::Back,

@@ -1,14 +1,17 @@
-//! Decimal digits.
+//! Decimal digits, for the argument of `seek`. Nothing here fails: a number that is too large
+//! becomes the greatest one.
 ghost use Rattle.std.specs.Prelude.{◌≡◌};
 ghost use Rattle.std.specs.List.{list_all};
 ghost use Rattle.amr_command_lines.specs.Parts.{is_digit as is_digit_byte, number_within};
 
+/// Returns whether the byte is an ASCII digit.
 fn is_digit(byte: u8) -> bool
     ensures { result ≡ is_digit_byte byte }
 {
     48 <= byte && byte <= 57
 }
 
+/// Returns whether all bytes are ASCII digits.
 pub(crate) fn all_digits(text: &[u8]) -> bool
     ensures { result ≡ list_all is_digit_byte text.now }
 {

@@ -1,4 +1,5 @@
-//! Cutting a command line into its word and its argument, at white space.
+//! Cutting a command line into its word and its argument, at white space. The parts are slices of
+//! the line, so this takes no memory.
 ghost use Rattle.std.specs.Prelude.{◌≡◌, ◌≤◌, length};
 ghost use Rattle.std.specs.List.{prefix_len, position_or_len};
 ghost use Rattle.amr_events.specs.Scripts.{is_space as is_space_byte};
@@ -29,12 +30,14 @@ fn word_len(text: &[u8]) -> usize
     text.iter().take_while(|byte| !is_space(**byte)).count()
 }
 
+/// Returns the text without the white space that it begins with.
 fn without_front(text: &[u8]) -> &[u8]
     ensures { result.now ≡ trimmed_front text.now }
 {
     &text[space_len(text)..]
 }
 
+/// Returns the text without the white space that it ends with.
 fn without_back(text: &[u8]) -> &[u8]
     ensures { result.now ≡ trimmed_back text.now }
 {

@@ -1,4 +1,5 @@
 //! Taking in the bytes of commands as they come, and answering each line at its line feed.
+//! `converse` calls `hear` after each read.
 ghost use Rattle.std.specs.Prelude.{◌≡◌, [], ◌∷◌};
 ghost use Rattle.amr_lines.specs.Outlet.{FailsAt};
 ghost use Rattle.amr_commands.specs.Replies.{incident_of};

@@ -47,6 +47,7 @@ fn listed(alloc: Global, word: Word, cursor: usize, lines: Result<String, AllocE
     }
 }
 
+/// Returns the lines of `explain`, without its last line.
 fn verdict_lines(alloc: Global, session: &Session, labels: &Labels) -> Result<String, AllocError>
     ensures { IfOk result (λ text. string_bytes text
         ≡ flat_map verdict_line (verdicts session.now.state labels.now)) }
@@ -63,6 +64,7 @@ pub(crate) fn explain(alloc: Global, session: &Session, labels: &Labels) -> Answ
     listed(alloc, Word::Explain, session.cursor(), lines)
 }
 
+/// Returns the lines of stored alerts, without the last line.
 fn alert_lines(alloc: Global, session: &Session) -> Result<String, AllocError>
     ensures { IfOk result (λ text. string_bytes text
         ≡ flat_map alert_line (entries session.now.state.alerts)) }
@@ -71,6 +73,7 @@ fn alert_lines(alloc: Global, session: &Session) -> Result<String, AllocError>
     alerts_text(alloc, found.as_slice())
 }
 
+/// Executes `alerts`, which lists the stored alerts.
 pub(crate) fn alerts(alloc: Global, session: &Session) -> Answer
     ensures { AnsweredBy session.now session.now (Asks command.Alerts) result }
 {
@@ -78,6 +81,7 @@ pub(crate) fn alerts(alloc: Global, session: &Session) -> Answer
     listed(alloc, Word::Alerts, session.cursor(), lines)
 }
 
+/// Returns the lines of stored silences, without the last line.
 fn silence_lines(alloc: Global, session: &Session) -> Result<String, AllocError>
     ensures { IfOk result (λ text. string_bytes text
         ≡ flat_map silence_line (entries session.now.state.silences)) }
@@ -86,6 +90,7 @@ fn silence_lines(alloc: Global, session: &Session) -> Result<String, AllocError>
     silences_text(alloc, found.as_slice())
 }
 
+/// Executes `silences`, which lists the stored silences.
 pub(crate) fn silences(alloc: Global, session: &Session) -> Answer
     ensures { AnsweredBy session.now session.now (Asks command.Silences) result }
 {
@@ -93,6 +98,7 @@ pub(crate) fn silences(alloc: Global, session: &Session) -> Answer
     listed(alloc, Word::Silences, session.cursor(), lines)
 }
 
+/// Returns the lines of groups, without the last line.
 fn group_lines(alloc: Global, session: &Session) -> Result<String, AllocError>
     ensures { IfOk result (λ text. string_bytes text
         ≡ flat_map group_seen_line (groups_of session.now.state)) }
@@ -101,6 +107,7 @@ fn group_lines(alloc: Global, session: &Session) -> Result<String, AllocError>
     groups_text(alloc, found.as_slice())
 }
 
+/// Executes `groups`, which lists the groups with their members and timers.
 pub(crate) fn groups(alloc: Global, session: &Session) -> Answer
     ensures { AnsweredBy session.now session.now (Asks command.Groups) result }
 {
@@ -108,6 +115,7 @@ pub(crate) fn groups(alloc: Global, session: &Session) -> Answer
     listed(alloc, Word::Groups, session.cursor(), lines)
 }
 
+/// Returns the lines of the notification log, without the last line.
 fn log_lines(alloc: Global, session: &Session) -> Result<String, AllocError>
     ensures { IfOk result (λ text. string_bytes text
         ≡ flat_map log_line (entries session.now.state.log)) }
@@ -116,6 +124,7 @@ fn log_lines(alloc: Global, session: &Session) -> Result<String, AllocError>
     log_text(alloc, found.as_slice())
 }
 
+/// Executes `log`, which lists the notification log.
 pub(crate) fn log(alloc: Global, session: &Session) -> Answer
     ensures { AnsweredBy session.now session.now (Asks command.Log) result }
 {
@@ -123,6 +132,7 @@ pub(crate) fn log(alloc: Global, session: &Session) -> Answer
     listed(alloc, Word::Log, session.cursor(), lines)
 }
 
+/// Executes `transcript`, which lists all notifications up to the cursor.
 pub(crate) fn transcript(alloc: Global, session: &Session) -> Answer
     ensures { AnsweredBy session.now session.now (Asks command.Transcript) result }
 {

@@ -1,4 +1,5 @@
-//! Answering one command line: parsing it, executing the command, and writing the answer.
+//! Answering one command line: parsing it, executing the command, and writing the answer. The
+//! commands themselves are in `look.rt` and `passing.rt`.
 ghost use Rattle.std.specs.Prelude.{◌≡◌, ◌≤◌, List, ℕ, length};
 ghost use Rattle.amr_lines.specs.Outlet.{FailsAt};
 ghost use Rattle.amr_command_lines.specs.declared.command.Said.TheVariants.{Asks};

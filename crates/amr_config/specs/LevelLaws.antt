@@ -11,6 +11,6 @@ use Rattle.amr_stated.specs.Levels.{HasDeepRoute}
 abbrev pub DeepIsRefused : Type 0
 DeepIsRefused = (d : Data) → (config_of d ≡ Err TooDeep) ↔ HasDeepRoute d
 
--- the same holds of each answer that reading may give, whichever patterns are refused
+-- the same is true of each answer that reading may give, whichever patterns are refused
 abbrev pub DeepIsAnswered : Type 0
 DeepIsAnswered = (d : Data) (answer : Result Config Refusal) → ConfigIs d answer → (answer ≡ Err TooDeep) ↔ HasDeepRoute d

@@ -154,8 +154,8 @@ impl Config {
     }
 
     /// Returns the matchers of each route from the root down to this one, each list sorted by name,
-    /// value and operator. The notification log tells routes with the same receiver and group apart
-    /// by it.
+    /// value and operator. It is part of the notification log's key, so that two routes with the
+    /// same receiver share entries only if their paths are equal.
     pub fn path(&self, alloc: Global, route: usize) -> Result<Listing<Matchers>, AllocError>
         ensures { IfOk result (λ path. path ≡ path_of self.now route) }
     {
@@ -231,6 +231,7 @@ impl Config {
         }
     }
 
+    /// Returns whether a moment is in one of the intervals with these names.
     fn is_in_one(&self, names: &[Text], moment: Moment) -> bool
         ensures { result ≡ list_any (is_within self.now moment) names.now }
     {

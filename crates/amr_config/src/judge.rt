@@ -11,6 +11,7 @@ use amr_labels::Text;
 use amr_stated::{Grouping, Receiver, Refusal, Route, Stated, same};
 use amr_time::Span;
 
+/// Returns whether a receiver has the name.
 #[tactic(auto, unfolding(crate::specs::Judging::is_known))]
 fn is_known(receivers: &[Receiver], name: &str) -> bool
     ensures { result ≡ known_of receivers.now name.now }
@@ -31,12 +32,14 @@ fn is_lost(receivers: &[Receiver], route: &Route) -> bool
     }
 }
 
+/// Returns whether some route names a receiver that doesn't exist.
 fn any_lost(receivers: &[Receiver], routes: &[Route]) -> bool
     ensures { result ≡ list_any (lost_of receivers.now) routes.now }
 {
     routes.iter().any(|route| is_lost(receivers, route))
 }
 
+/// Returns whether an interval is set to zero.
 fn is_zero(span: Option<Span>) -> bool
     ensures { result ≡ zero_of span }
 {
@@ -46,6 +49,8 @@ fn is_zero(span: Option<Span>) -> bool
     }
 }
 
+/// Returns whether the route sets `group_interval` or `repeat_interval` to zero. `group_wait` may
+/// be zero.
 #[tactic(auto, unfolding(crate::specs::Judging::has_zero))]
 fn has_zero(route: &Route) -> bool
     ensures { result ≡ zeros_of route.now }
@@ -53,12 +58,14 @@ fn has_zero(route: &Route) -> bool
     is_zero(route.group_interval) || is_zero(route.repeat_interval)
 }
 
+/// Returns whether some route sets such an interval to zero.
 fn any_zero(routes: &[Route]) -> bool
     ensures { result ≡ list_any zeros_of routes.now }
 {
     routes.iter().any(|route| has_zero(route))
 }
 
+/// Returns whether a text is one of the texts.
 fn is_among(text: &Text, texts: &[Text]) -> bool
     ensures { result ≡ list_any (eq_by_cmp text_cmp text.now) texts.now }
 {
@@ -79,18 +86,21 @@ fn are_apart(texts: &[Text]) -> bool
     true
 }
 
+/// Returns whether a name in `group_by` is empty, or is `...`, which must be alone in its list.
 fn is_bad_name(name: &Text) -> bool
     ensures { result ≡ bad_of name.now }
 {
     name.is_empty() || same(name.as_str(), "...")
 }
 
+/// Returns whether some name is bad.
 fn any_bad_name(names: &[Text]) -> bool
     ensures { result ≡ list_any bad_of names.now }
 {
     names.iter().any(|name| is_bad_name(name))
 }
 
+/// Returns whether some name is bad or repeated.
 #[tactic(auto, unfolding(crate::specs::Judging::has_bad_names))]
 fn has_bad_names(names: &[Text]) -> bool
     ensures { result ≡ bad_names_of names.now }
@@ -98,6 +108,7 @@ fn has_bad_names(names: &[Text]) -> bool
     any_bad_name(names) || !are_apart(names)
 }
 
+/// Returns whether the route's `group_by` has a bad or repeated name.
 #[tactic(auto, unfolding(crate::specs::Judging::is_badly_grouped))]
 fn is_badly_grouped(route: &Route) -> bool
     ensures { result ≡ badly_of route.now }
@@ -109,12 +120,14 @@ fn is_badly_grouped(route: &Route) -> bool
     }
 }
 
+/// Returns whether the `group_by` of some route has a bad or repeated name.
 fn any_badly_grouped(routes: &[Route]) -> bool
     ensures { result ≡ list_any badly_of routes.now }
 {
     routes.iter().any(|route| is_badly_grouped(route))
 }
 
+/// Returns whether the root has matchers, `continue` or time intervals, or no receiver.
 #[tactic(auto, unfolding(crate::specs::Judging::is_bad_root))]
 fn is_bad_root(route: &Route) -> bool
     ensures { result ≡ bad_root_of route.now }
@@ -125,6 +138,7 @@ fn is_bad_root(route: &Route) -> bool
         || has_intervals(route)
 }
 
+/// Returns whether the route has time intervals.
 fn has_intervals(route: &Route) -> bool
     ensures { result ≡ intervals_of route.now }
 {
@@ -142,6 +156,7 @@ fn is_root_bad(routes: &[Route]) -> bool
     }
 }
 
+/// Returns whether one of the receivers has the name.
 fn is_name_of(name: &Text, receivers: &[Receiver]) -> bool
     ensures { result ≡ name_of name.now receivers.now }
 {

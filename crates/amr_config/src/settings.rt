@@ -1,4 +1,5 @@
-//! The settings of a route, its own and inherited ones.
+//! The settings of a route, its own and inherited ones. `settle.rt` makes them, once for each
+//! configuration.
 
 use amr_labels::{Listing, Text};
 use amr_matchers::Matchers;

@@ -13,6 +13,7 @@ use amr_stated::{Grouping, Route, Stated};
 use amr_time::Span;
 use std::alloc::{AllocError, Global};
 
+/// Returns the name of a route's receiver: its own, or else its parent's.
 fn receiver_under(
     alloc: Global,
     route: &Route,
@@ -28,6 +29,7 @@ fn receiver_under(
     }
 }
 
+/// Returns how a route groups alerts: its own `group_by`, or else its parent's.
 fn grouping_under(route: &Route, above: Option<&Settings>) -> Result<Option<Grouping>, AllocError>
     ensures { IfOk result (λ grouping. grouping
         ≡ grouping_under route.now (option_copied above.entry)) }
@@ -39,6 +41,7 @@ fn grouping_under(route: &Route, above: Option<&Settings>) -> Result<Option<Grou
     }
 }
 
+/// Returns the parent's path with the route's own matchers, sorted, at its end.
 fn path_under(
     alloc: Global,
     route: &Route,

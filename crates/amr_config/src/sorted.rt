@@ -1,4 +1,5 @@
-//! Sorting the matchers of a route, for its path in the notification log's key.
+//! Sorting the matchers of a route, for its path in the notification log's key. A reload that only
+//! reorders matchers then keeps the log's entries.
 ghost use Rattle.std.specs.Prelude.{◌≡◌, ◌≤◌, length, IfOk, OnOk};
 ghost use Rattle.amr_config.specs.Routing.{with_matcher, sorted_matchers};
 ghost use Rattle.amr_config.specs.Places.{place_in};

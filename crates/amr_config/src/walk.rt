@@ -32,6 +32,7 @@ impl Mark {
         }
     }
 
+    /// Returns whether the route takes the alert, once all routes have been seen.
     fn is_chosen(self) -> bool
         ensures { result ≡ is_chosen_mark self }
     {

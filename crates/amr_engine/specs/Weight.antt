@@ -55,7 +55,7 @@ alert_weight config labels = 1 + 2 * length (chosen config labels)
 abbrev pub alerts_weight : Config → List (LabelSet × Alert) → ℕ
 alerts_weight config = sum_by (λ alert. alert_weight config alert.0)
 
--- what an act may displace, from the state before it to the state after it
+-- what an action may displace, given the states before and after it
 abbrev pub act_weight : State → State → Act → ℕ
 act_weight before after (Act.Post posted) = alerts_weight before.config (valid_alerts before posted)
 act_weight before after (Act.Silence posted) = 2
@@ -67,8 +67,7 @@ act_weight before after Act.Tick = 0
 abbrev pub weight : State → List Due → State → State → Event → ℕ
 weight s moves moved after event = 2 + moves_weight s moves + act_weight (at_moment event.at moved) after event.act
 
--- the weight of an event, from the state before it to the state after it; none where too many moves
--- are due
+-- the weight of an event, given the states before and after it; 0 if too many moves are due
 abbrev pub event_weight : State → Event → State → ℕ
 event_weight s event after = option_map_or (λ run. weight s run.0 run.1 after event) (advance move_limit event.at s) 0
 

@@ -49,8 +49,8 @@ struct Done {
 }
 
 /// Prepares the event's action, makes the moves that are due up to the event, and performs the
-/// action. The action is judged before the first move, so that a refusal for it never depends on
-/// how many timers fire.
+/// action. The action's own reason is decided before the first move, so it counts before too many
+/// moves.
 fn happen(store: &mut Store, event: &Event) -> Result<Result<Done, Reason>, AllocError>
     ensures done { IfOk result (λ done. IsDone store.old.state event.now store.new.state done) }
     ensures kept { undone store.new ≡ undone store.old }

@@ -1,4 +1,5 @@
-//! The outcome of an event, as a session or a run prints it.
+//! The outcome of an event. Sessions and runs print it; what the event did to the state is in the
+//! store.
 ghost use Rattle.std.specs.Prelude.{◌≡◌};
 
 use amr_events::Reason;

@@ -1,4 +1,5 @@
-//! Storing a posted silence. `amr_rules::set_silence` has decided before what is stored.
+//! Storing a posted silence. What is stored was decided by `amr_rules::set_silence`, before the
+//! moves of the event.
 ghost use Rattle.std.specs.Prelude.{◌≡◌, OnOk};
 ghost use Rattle.amr_rules.specs.Silences.{stored_under};
 ghost use Rattle.amr_rules.specs.Silencing.{posting_stored};

@@ -21,7 +21,7 @@ abbrev pub ReadsSuch : {X Y : Type 0} → (X → Type 0) → Result X LineError 
 ReadsSuch IsSuch (Ok x) read = IsSuch x
 ReadsSuch IsSuch (Err e) read = IsFaulty e read
 
--- what is read relates so to what the definition gives
+-- what is read is related in this way to what the definition gives
 abbrev pub ReadsBut : {X Y : Type 0} → (Y → X → Type 0) → Result X LineError → Option Y → Type 0
 ReadsBut Is (Ok x) read = (y : _) × (read ≡ Some y) × Is y x
 ReadsBut Is (Err e) read = IsFaulty e read

@@ -1,4 +1,5 @@
-//! The faults of a script, and the errors of reading one.
+//! The faults of a script, and the errors of reading one. A fault is the script's; running out of
+//! memory says nothing about it.
 ghost use Rattle.std.specs.Prelude.{◌≡◌};
 ghost use Rattle.amr_events.specs.Faults.{fault_number};
 

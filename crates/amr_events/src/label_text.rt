@@ -1,4 +1,5 @@
-//! Reading a label set from JSON, for the command `explain`.
+//! Reading a label set from JSON. Only the command `explain` needs it; posted alerts keep their
+//! labels as they are until they are filled in.
 ghost use Rattle.amr_events.specs.Answers.{Reads};
 ghost use Rattle.amr_events.specs.LabelTexts.{labels_in};
 

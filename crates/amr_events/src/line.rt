@@ -103,6 +103,7 @@ fn act(alloc: Global, line: &Value) -> Result<Act, LineError>
     Ok(Act::Tick)
 }
 
+/// Reads an event from its JSON value.
 #[tactic(auto, unfolding(crate::specs::Lines::event_in))]
 fn event(alloc: Global, line: &Value) -> Result<Event, LineError>
     ensures { ReadsSuch (λ event. EventIs (view line.now) event) result (event_in (view line.now)) }

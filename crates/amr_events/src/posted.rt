@@ -1,4 +1,5 @@
-//! Reading posted alerts from a line of a script.
+//! Reading posted alerts from a line of a script. Only the shape is checked; whether an alert is
+//! valid is decided when it is posted.
 ghost use Rattle.std.specs.Prelude.{◌≡◌, option_map};
 ghost use Rattle.std.specs.Result.{result_ok};
 ghost use Rattle.serde_json.specs.View.{view};
@@ -35,6 +36,7 @@ fn is_missing(text: &str) -> bool
     text.is_empty() || MISSING_MARKS.contains(&text)
 }
 
+/// Reads a time, which may be missing.
 #[tactic(auto, unfolding(crate::specs::Posted::time_of))]
 fn time_of(text: &str) -> Result<Option<Moment>, BadTime>
     ensures { result_ok result ≡ time_of text.now }
@@ -57,6 +59,7 @@ fn time(alert: &Value, key: &str) -> Result<Option<Moment>, BadTime>
     }
 }
 
+/// Reads the annotations of an alert; there may be none.
 #[tactic(auto, unfolding(crate::specs::Posted::annotations_in))]
 fn annotations(alloc: Global, alert: &Value) -> Result<TextMap, LineError>
     ensures { Reads (λ a. a) result (annotations_in (view alert.now)) }
@@ -68,6 +71,7 @@ fn annotations(alloc: Global, alert: &Value) -> Result<TextMap, LineError>
     Ok(TextMap::from_pairs(alloc, &texts)?)
 }
 
+/// Reads a posted alert.
 #[tactic(auto, unfolding(crate::specs::Posted::alert_of))]
 fn alert(alloc: Global, alert: &Value) -> Result<PostedAlert, LineError>
     ensures { Reads (λ a. a) result (alert_of (view alert.now)) }

@@ -50,6 +50,7 @@ fn operator(is_regex: bool, is_equal: bool) -> Operator
     }
 }
 
+/// Reads a matcher, without building its pattern.
 #[tactic(auto, unfolding(crate::specs::PostedSilences::matcher_of))]
 fn matcher(alloc: Global, value: &Value) -> Result<StatedMatcher, LineError>
     ensures { Reads (λ matcher. matcher) result (matcher_of (view value.now)) }

@@ -1,4 +1,5 @@
-//! The reasons that refuse an event. `docs/FORMATS.md` lists their numbers.
+//! The reasons that refuse an event, with the numbers that `docs/FORMATS.md` lists. Those of a
+//! reload are the refusals of its configuration.
 ghost use Rattle.std.specs.Prelude.{◌≡◌};
 ghost use Rattle.amr_stated.specs.Numbers.{number_of};
 ghost use Rattle.amr_events.specs.Reasons.{reason_number};

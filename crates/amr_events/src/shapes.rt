@@ -1,4 +1,5 @@
-//! Reading parts of JSON values. Each function fails if the value has another shape.
+//! Reading parts of JSON values: members, texts, booleans and moments. Each function fails if the
+//! value has another shape.
 ghost use Rattle.std.specs.Prelude.{◌≡◌, ◌≤◌, option_map, IfOk};
 ghost use Rattle.serde_json.specs.View.{view};
 ghost use Rattle.serde_json.specs.Find.{get};

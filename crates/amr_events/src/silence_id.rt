@@ -1,4 +1,5 @@
-//! The ids of silences, which are UUIDs.
+//! The ids of silences, which are UUIDs. Scripts give them; none is made here, because nothing here
+//! is random.
 ghost use Rattle.std.specs.Prelude.{◌≡◌, IfOk, option_map, string_bytes};
 ghost use Rattle.std.proofs.Common.{rules};
 ghost use Rattle.std.specs.Cmp.{partial_order_from_own_ties};

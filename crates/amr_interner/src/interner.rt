@@ -1,4 +1,4 @@
-//! Numbers for label sets, in order of first sight. No crate uses this yet.
+//! Numbers for label sets, in order of first sight. Only tests use this so far.
 ghost use Rattle.std.specs.Prelude.{◌≡◌, ◌<◌, [], length, Some, IfOk, OnOk, OnErr, IfSome, IfNone, slice_get, false};
 ghost use Rattle.std.specs.List.{IsDistinct, list_any};
 ghost use Rattle.std.specs.Ordering.{eq_by_cmp};

@@ -1,4 +1,5 @@
-//! A map from label sets to values.
+//! A map from label sets to values. As a set of label sets it is the content of a log entry; the
+//! state itself is in `amr_tables`.
 ghost use Rattle.std.specs.Prelude.{◌≡◌, ◌==◌, List, ℕ, OnOk, OnErr};
 ghost use Rattle.std.specs.Option.{option_copied};
 ghost use Rattle.amr_labels.specs.Map as map;

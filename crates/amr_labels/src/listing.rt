@@ -1,4 +1,5 @@
-//! A `Vec` that contracts see as a list.
+//! A `Vec` that contracts see as a list, for lists that are parts of other values: matchers,
+//! routes, alerts of a notification.
 ghost use Rattle.std.specs.Prelude.{◌≡◌, ◌==◌, List, [], ◌∷◌, ◌++◌, length, OnOk, OnErr};
 
 use crate::exact::Exact;

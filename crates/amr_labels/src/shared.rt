@@ -1,4 +1,5 @@
-//! A value that its clones share, by reference counting.
+//! A value that its clones share, by reference counting. Notifications and patterns are shared like
+//! this; nobody can change the value.
 ghost use Rattle.std.specs.Prelude.{◌≡◌, IfOk};
 
 use std::alloc::{AllocError, Global};

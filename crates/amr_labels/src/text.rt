@@ -1,4 +1,5 @@
-//! A text whose clones share its bytes.
+//! A text whose clones share its bytes. Labels are cloned often, into groups, the log and
+//! notifications.
 ghost use Rattle.std.specs.Prelude.{◌≡◌, IfOk};
 ghost use Rattle.std.proofs.Common.{rules};
 ghost use Rattle.std.specs.Cmp.{partial_order_from_own_ties};

@@ -1,4 +1,5 @@
-//! A map from names to texts. Annotations are one, and label sets are made of one.
+//! A map from names to texts, sorted by name. Annotations are one; `Labels` is one with the rules
+//! of label sets.
 ghost use Rattle.std.specs.Prelude.{◌≡◌, ◌==◌, ℕ, List, T, not, length, reverse, IfOk};
 ghost use Rattle.std.specs.List.{filter, list_any};
 ghost use Rattle.std.specs.Ordering.{eq_by_cmp};

@@ -16,6 +16,7 @@ use serde_json::{Map, Value, json, put};
 use std::alloc::{AllocError, Global};
 use std::io::Write;
 
+/// Returns the last line of a command that passes events, as JSON.
 fn moves_value(alloc: Global, word: Word, cursor: usize, moves: usize) -> Result<Value, AllocError>
     ensures { IfOk result (λ v. view v ≡ moves_data word cursor moves) }
 {
@@ -35,6 +36,7 @@ pub fn moves_text(
     line_text(alloc, &value)
 }
 
+/// Returns the last line with the word and the cursor, as JSON.
 fn cursor_value(alloc: Global, word: Word, cursor: usize) -> Result<Value, AllocError>
     ensures { IfOk result (λ v. view v ≡ cursor_data word cursor) }
 {
@@ -49,6 +51,7 @@ pub fn cursor_text(alloc: Global, word: Word, cursor: usize) -> Result<String, A
     line_text(alloc, &value)
 }
 
+/// Returns the line of the command `cursor`, as JSON.
 #[tactic(auto, unfolding(crate::specs::LastLines::place_data))]
 fn place_value(
     alloc: Global,

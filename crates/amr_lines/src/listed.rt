@@ -1,5 +1,5 @@
 //! The JSON values of what listings print: alerts, silences, groups, and entries of the
-//! notification log. The names of keys are those of Alertmanager's API v2, if it has the thing.
+//! notification log. Keys have the names of Alertmanager's API v2, if it has them.
 ghost use Rattle.std.specs.Prelude.{◌≡◌, map, IfOk, OnOk};
 ghost use Rattle.serde_json.specs.Data.{array, put as with_member};
 ghost use Rattle.serde_json.specs.View.{view, items_of, members_view};

@@ -1,4 +1,5 @@
-//! The words of a session's commands, as they are printed.
+//! The words of a session's commands, as its lines print them. `amr_command_lines` recognizes the
+//! same words.
 ghost use Rattle.std.specs.Prelude.{◌≡◌};
 ghost use Rattle.amr_lines.specs.LastLines.{word_text as text_of_word};
 

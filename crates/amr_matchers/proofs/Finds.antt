@@ -1,4 +1,4 @@
--- A built pattern finds what the grammar reads in its text.
+-- A built pattern finds what the grammar reads of its text.
 use Rattle.std.proofs.Common.{◌≡◌, ℕ, ◌<◌, Bool, false, Option, Some, None, is_some, get_or}
 use Rattle.std.specs.Prelude.{IsSomeAnd, chars}
 use Rattle.std.specs.Option.{option_map_or}

@@ -1,4 +1,5 @@
--- From each place some text goes on to an end, so what the machine has read is the beginning of a matcher text; where it stops, no text goes on.
+-- From each state some text leads to an end, so what the machine has read is the beginning of a
+-- matcher text; if it stops, no text goes on from there.
 use Rattle.std.proofs.Common.{◌≡◌, ℕ, ◌+◌, ◌<◌, List, [], ◌∷◌, ◌++◌, length, take, drop, get_or, Bool, true, false, Option, Some, None, refl, sym, ap, subst, ◌∙◌}
 use Rattle.std.specs.Prelude.{IsSome, encode_utf8_all, option_and_then}
 use Rattle.std.proofs.lemmas.Bool.{false≢true}
@@ -85,7 +86,7 @@ begun front r h =
     let found = some_of (matchers_of_chars (front ++ rest)) some in
     (rest, found.0, chars_are_spelled (front ++ rest) found.0 found.1)
 
--- where the machine stops, no text goes on
+-- if the machine stops, no text goes on
 gone : (cs rest : List ℕ) → run (Some start) cs ≡ None → matchers_of_chars (cs ++ rest) ≡ None
 gone cs rest h = ap (option_and_then ended) (run-append (Some start) cs rest ∙ ap (λ o. run o rest) h ∙ run-none rest)
 
@@ -111,7 +112,7 @@ stops cs n c at r lt is h halts len =
       ),
     )
 
--- the text ends where it can't
+-- the text ends in a state in which it can't
 pub cut_short : (cs : List ℕ) (r : Reading) (at : ℕ) → run (Some start) cs ≡ Some r → ended r ≡ None → at ≡ length (encode_utf8_all cs) → (matchers_of_chars cs ≡ None) × IsLongest cs at
 cut_short cs r at h open_end len = (
   ap (option_and_then ended) h ∙ open_end,

@@ -1,4 +1,4 @@
--- What the kinds of characters tell.
+-- What the kinds of characters mean.
 use Rattle.std.proofs.Common.{◌≡◌, ℕ, Bool, true, false, not, ◌||◌, ◌&&◌, ◌==◌, if◌then◌else◌, refl, sym, ap, ◌∙◌}
 use Rattle.std.specs.Char.{is_whitespace}
 use Rattle.std.proofs.lemmas.Bool.{eqb-true, false≢true, and_parts}
@@ -28,7 +28,7 @@ or_false : (x y : Bool) → (x || y) ≡ false → (x ≡ false) × (y ≡ false
 or_false true y h = absurd (false≢true (sym h))
 or_false false y h = (refl, h)
 
--- no mark and no white space
+-- not a mark and not white space
 unmarked : (w a b c d e f g h i j : Bool) → w ≡ false → a ≡ false → b ≡ false → c ≡ false → d ≡ false → e ≡ false → f ≡ false → h ≡ false → (g || i || j) ≡ false →
     (not w && not (a || b || c || d || e || f || g || h || i || j)) ≡ true
 unmarked w a b c d e f g h i j pw pa pb pc pd pe pf ph pr =

@@ -1,4 +1,5 @@
--- What is read is spelled: what may follow in each place of the machine, in the words of the grammar.
+-- What is read is spelled: what may follow in each state of the machine, in the terms of the
+-- grammar.
 use Rattle.std.proofs.Common.{◌≡◌, ℕ, List, [], ◌∷◌, ◌++◌, Bool, true, false, not, Option, Some, None, if◌then◌else◌, refl, sym, ap, subst, ◌∙◌, append_assoc, ◌==◌, ◌⊎◌, inl, inr}
 use Rattle.std.specs.Prelude.{encode_utf8, encode_utf8_all, option_and_then, chars}
 use Rattle.std.specs.List.{list_all}
@@ -103,7 +104,7 @@ abbrev FollowsBraces : List Matcher → List ℕ → List Matcher → Type 0
 FollowsBraces ms cs out =
     (before : List ℕ) × (l : Listed) × (after : List ℕ) × (is_blank before ≡ true) × IsListed l × (is_blank after ≡ true) × (cs ≡ before ++ (123 ∷ (listed_text l ++ (125 ∷ after)))) × (out ≡ ms ++ listed_matchers l)
 
--- what follows in a place
+-- what follows in a state
 abbrev Follows : Bool → Place → Text → Operator → Text → List Matcher → List ℕ → List Matcher → Type 0
 Follows b Start n o v ms cs out = b ≡ false → n ≡ [] → v ≡ [] → FollowsListed false ms cs out ⊎ FollowsBraces ms cs out
 Follows b Opened n o v ms cs out = b ≡ true → n ≡ [] → v ≡ [] → FollowsListed true ms cs out
@@ -122,11 +123,11 @@ Follows b AfterValue n o v ms cs out = FollowsValue b (with_matcher ms n o v) cs
 Follows b AfterComma n o v ms cs out = n ≡ [] → v ≡ [] → FollowsListed b ms cs out
 Follows b Closed n o v ms cs out = (is_blank cs ≡ true) × (out ≡ ms)
 
--- it holds of these characters in each place
+-- this is true of these characters in each state
 abbrev Known : List ℕ → Type 0
 Known cs = (b : Bool) (p : Place) (n : Text) (o : Operator) (v : Text) (ms out : List Matcher) → Accepts (reading b p n o v ms) cs out → Follows b p n o v ms cs out
 
--- white space more
+-- more white space
 spaced : (c : ℕ) (space : List ℕ) → is_whitespace c ≡ true → is_blank space ≡ true → is_blank (c ∷ space) ≡ true
 spaced c space h w = and_from (is_whitespace c) (list_all is_whitespace space) h w
 

@@ -25,7 +25,7 @@ pub encodes-append : (xs ys : List ℕ) → encode_utf8_all (xs ++ ys) ≡ encod
 encodes-append [] ys = refl
 encodes-append (x ∷ xs) ys = ap (λ t. encode_utf8 x ++ t) (encodes-append xs ys) ∙ sym (append_assoc (encode_utf8 x) (encode_utf8_all xs) (encode_utf8_all ys))
 
--- the beginnings of a text are no longer than it
+-- the prefixes of a text are no longer than it
 pub encoded_front : (cs : List ℕ) (n : ℕ) → length (encode_utf8_all (take n cs)) ≤ length (encode_utf8_all cs)
 encoded_front cs n =
     let e : encode_utf8_all cs ≡ encode_utf8_all (take n cs) ++ encode_utf8_all (drop n cs) = ap encode_utf8_all (sym (take-append-drop n cs)) ∙ encodes-append (take n cs) (drop n cs) in

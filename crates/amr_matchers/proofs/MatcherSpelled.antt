@@ -40,7 +40,7 @@ quote_kind : kind_of 34 ≡ Quote
 unfolding kind_of
 quote_kind = refl
 
--- where white space changes nothing
+-- the states in which white space changes nothing
 abbrev rests : Place → Bool
 rests Start = true
 rests Opened = true
@@ -107,7 +107,7 @@ quoted_plain c ended escape plain h =
     ap (λ b. if b then ended else (if c == 92 then go escape Nothing else plain)) (not-true (c == 34) parts.0)
     ∙ ap (λ b. if b then go escape Nothing else plain) (not-true (c == 92) parts.1)
 
--- where a name in quotes goes on, and where a value does
+-- the states in which a quoted name goes on, and those in which a quoted value does
 abbrev in_name_quotes : Place → Bool
 in_name_quotes NameOpened = true
 in_name_quotes NameQuoted = true
@@ -161,20 +161,20 @@ run_value_pieces (piece ∷ ps) b n o v ms rest h =
     ∙ run_value_pieces ps b n o (v ++ encode_utf8_all (piece_value piece)) ms rest parts.1
     ∙ ap (λ t. run (Some (reading b ValueQuoted n o t ms)) rest) (pieces_encoded v piece ps)
 
--- where a matcher may begin: outside braces, in them, and after a comma
+-- the states in which a matcher may begin: outside braces, in them, and after a comma
 abbrev begins : Bool → Place → Bool
 begins b AfterComma = true
 begins false Start = true
 begins true Opened = true
 begins b _ = false
 
--- where a name ends
+-- the states in which a name ends
 abbrev is_named : Place → Bool
 is_named NameLiteral = true
 is_named AfterName = true
 is_named _ = false
 
--- where a value may begin, and where it may end
+-- the states in which a value may begin, and those in which it may end
 abbrev starts_value : Place → Bool
 starts_value AfterEquals = true
 starts_value ValueStart = true
@@ -187,7 +187,7 @@ ends_a_value ValueLiteral = true
 ends_a_value AfterValue = true
 ends_a_value _ = false
 
--- from a place over some characters to a place and a reading there
+-- from one state over some characters to another, and what is read there
 abbrev Leads : Reading → List ℕ → (Place → Bool) → (Place → Reading) → Type 0
 Leads r cs at target = (q : Place) × (at q ≡ true) × ((rest : List ℕ) → run (Some r) (cs ++ rest) ≡ run (Some (target q)) rest)
 

@@ -1,11 +1,11 @@
--- What holds of matcher texts: reading is the inverse of spelling.
+-- Matcher texts: reading is the inverse of spelling.
 use Rattle.std.specs.Prelude.{◌≡◌, List, Some, chars}
 use Rattle.amr_labels.specs.Labels.{Text}
 use Rattle.amr_matchers.specs.Matchers.{Matcher}
 use Rattle.amr_matchers.specs.MatcherText.{Spells}
 use Rattle.amr_matchers.specs.MatcherReading.{matchers_of}
 
--- what is read is spelled by the text
+-- the text spells what was read of it
 abbrev pub ReadIsSpelled : Type 0
 ReadIsSpelled = (text : Text) (matchers : List Matcher) → matchers_of text ≡ Some matchers → Spells (chars text) matchers
 

@@ -1,5 +1,5 @@
--- Matcher texts read from left to right: what each character leads to and what it adds. What texts spell a list of matchers is in
--- MatcherText.antt.
+-- Reading matcher texts from left to right: where each character leads, and what it adds.
+-- MatcherText.antt says which texts spell a list of matchers.
 use Rattle.std.specs.Prelude.{ℕ, ◌||◌, ◌==◌, List, [], ◌∷◌, ◌++◌, Bool, true, false, Option, Some, None, if◌then◌else◌, option_and_then, encode_utf8, encode_utf8_all, chars}
 use Rattle.std.specs.Option.{option_map}
 use Rattle.std.specs.Char.{is_whitespace}
@@ -28,7 +28,7 @@ kind_of c = if is_whitespace c then Blank else mark_kind c
 abbrev pub go : Place → Part → Option Step
 go place part = Some (record { place = place; part = part })
 
--- a matcher may begin here, or the braces end, or white space goes on
+-- a matcher may begin here, or the braces end, after white space or not
 unfoldable pub begins_matcher : Bool → Place → ℕ → Kind → Option Step
 begins_matcher braced here c Blank = go here Nothing
 begins_matcher braced here c Quote = go NameOpened Nothing
@@ -36,7 +36,7 @@ begins_matcher braced here c Closing = if braced then go Closed Nothing else Non
 begins_matcher braced here c Plain = go NameLiteral (Name c)
 begins_matcher braced here c _ = None
 
--- after a name, an operator
+-- after a name comes an operator
 unfoldable pub after_name : Kind → Option Step
 after_name Blank = go AfterName Nothing
 after_name Equals = go AfterEquals (Compare Equal)
@@ -50,7 +50,7 @@ ends_value braced spaced Comma = go AfterComma End
 ends_value braced spaced Closing = if braced then go Closed End else None
 ends_value braced spaced _ = None
 
--- a value may begin here, or is absent
+-- a value may begin here, or be left out
 unfoldable pub begins_value : Bool → ℕ → Kind → Option Step
 unfolding ends_value
 begins_value braced c Quote = go ValueQuoted Nothing
@@ -98,7 +98,7 @@ in_quotes ended escape plain c = if c == 34 then ended else (if c == 92 then go 
 abbrev pub after_backslash : Place → Part → ℕ → Option Step
 after_backslash quoted part c = if is_refused c then None else go quoted part
 
--- from a place, by the character and its kind
+-- from a state, by the character and its kind
 abbrev pub step_at : Bool → Place → ℕ → Kind → Option Step
 step_at braced Start c kind = at_start c kind
 step_at braced Opened c kind = begins_matcher true Opened c kind
@@ -136,7 +136,7 @@ start = record { braced = false; place = Start; name = []; operator = Equal; val
 abbrev pub with_last : Reading → List Matcher
 with_last r = r.matchers ++ (record { name = r.name; operator = r.operator; value = r.value }) ∷ []
 
--- what was read, and a part more
+-- what was read, and one more part
 unfoldable pub with_part : Part → Reading → Reading
 with_part Nothing r = r
 with_part Brace r = record r { braced = true }
@@ -151,12 +151,12 @@ with_part End r = record r { name = []; value = []; matchers = with_last r }
 abbrev pub next : Reading → ℕ → Option Reading
 next r c = option_map (λ (s : Step). record (with_part s.part r) { place = s.place }) (step_from r.braced r.place c)
 
--- the characters one after the other
+-- the characters, one after another
 abbrev pub run : Option Reading → List ℕ → Option Reading
 run r [] = r
 run r (c ∷ cs) = run (option_and_then (λ now. next now c) r) cs
 
--- where a text may end: what its end adds
+-- the states in which a text may end, and what its end adds
 unfoldable pub ending : Bool → Place → Option Part
 ending braced Closed = Some Nothing
 ending braced Start = Some Nothing
@@ -167,7 +167,7 @@ ending braced ValueLiteral = if braced then None else Some End
 ending braced AfterValue = if braced then None else Some End
 ending braced _ = None
 
--- the matchers, where a text may end here
+-- the matchers, if a text may end here
 abbrev pub ended : Reading → Option (List Matcher)
 ended r = option_map (λ part. (with_part part r).matchers) (ending r.braced r.place)
 

@@ -17,7 +17,8 @@ MayBeRefused matcher = (takes_pattern matcher.operator ≡ true) × MayRefuse ma
 abbrev pub OneMayBeRefused : List Matcher → Type 0
 OneMayBeRefused matchers = (before after : List Matcher) × (refused : Matcher) × (matchers ≡ before ++ refused ∷ after) × MayBeRefused refused
 
--- a text that is no matcher text is refused at its longest beginning that some matcher text begins with; a pattern, only in a matcher text
+-- a text that isn't a matcher text is refused at the longest prefix with which some matcher text
+-- begins; a pattern is refused only in a matcher text
 abbrev pub Explains : Text → ParseError → Type 0
 Explains text Memory = Unit {0}
 Explains text (BadMatcher at) = (matchers_of text ≡ None) × IsLongest (chars text) at

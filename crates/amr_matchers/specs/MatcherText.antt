@@ -1,4 +1,4 @@
--- What texts spell a list of matchers.
+-- The grammar of matcher texts: which texts spell a list of matchers.
 use Rattle.std.specs.Prelude.{◌≡◌, ℕ, ◌&&◌, ◌||◌, ◌==◌, List, [], ◌∷◌, ◌++◌, length, Bool, true, false, not, if◌then◌else◌, nat_le, encode_utf8_all}
 use Rattle.std.specs.List.{list_all}
 use Rattle.std.specs.Char.{is_whitespace}
@@ -18,12 +18,13 @@ is_literal c = not (is_whitespace c) && not (is_mark c)
 abbrev pub is_refused : ℕ → Bool
 is_refused c = (c == 97) || (c == 98) || (c == 102) || (c == 114) || (c == 118) || (c == 120) || (c == 117) || (c == 85) || (c == 39) || (nat_le 48 c && nat_le c 55)
 
--- what a backslash and a character stand for: a quote, a backslash, a line feed, a tab, and otherwise both
+-- what a backslash and a character mean: a quote, a backslash, a line feed, a tab, and otherwise
+-- both
 abbrev pub escaped : ℕ → List ℕ
 escaped c =
     if c == 34 then 34 ∷ [] else (if c == 92 then 92 ∷ [] else (if c == 110 then 10 ∷ [] else (if c == 116 then 9 ∷ [] else 92 ∷ c ∷ [])))
 
--- what stands in quotes: a character, or a backslash and a character
+-- what may be in quotes: a character, or a backslash and a character
 pub data Piece : Type 0 where
   Character : ℕ → Piece
   Escape : ℕ → Piece
@@ -81,8 +82,9 @@ operator_text NotMatches = 33 ∷ 126 ∷ []
 abbrev pub is_blank : List ℕ → Bool
 is_blank = list_all is_whitespace
 
--- a matcher as it stands in a text, with the white space before and after its name, operator and value. As no value begins with `~`, the
--- operator is the longest that stands there. A value that is absent is the empty literal.
+-- A matcher as it is written, with the white space before and after its name, operator and value.
+-- No value begins with `~`, so the operator is the longest possible. A value that is left out is
+-- the empty literal.
 pub record Written : Type 0 where
   pub before : List ℕ
   pub name : Term
@@ -103,8 +105,8 @@ abbrev pub IsWritten : Written → Type 0
 IsWritten w =
     (is_blank w.before ≡ true) × (is_name w.name ≡ true) × (is_blank w.after_name ≡ true) × (is_blank w.before_value ≡ true) × (is_term w.value ≡ true) × (is_blank w.after ≡ true)
 
--- matchers separated by commas: white space alone, one matcher, or a matcher, a comma and the rest. So a comma may stand after the last
--- matcher, and none where no matcher stands before it.
+-- Matchers separated by commas: white space only, one matcher, or a matcher, a comma and the rest.
+-- So a comma may follow the last matcher, but a comma never comes first.
 pub data Listed : Type 0 where
   Alone : List ℕ → Listed
   Last : Written → Listed
@@ -150,7 +152,7 @@ Spells cs matchers = (whole : Whole) × IsWhole whole × (cs ≡ whole_text whol
 abbrev pub Begins : List ℕ → Type 0
 Begins cs = (rest : List ℕ) × (matchers : List Matcher) × Spells (cs ++ rest) matchers
 
--- n is the length in bytes of the longest beginning of cs that some matcher text begins with
+-- n is the length in bytes of the longest prefix of cs with which some matcher text begins
 abbrev pub IsLongest : List ℕ → ℕ → Type 0
 IsLongest cs n =
     (front back : List ℕ) × (cs ≡ front ++ back) × (n ≡ length (encode_utf8_all front)) × Begins front × ((c : ℕ) (more : List ℕ) → back ≡ c ∷ more → ¬ (Begins (front ++ c ∷ [])))

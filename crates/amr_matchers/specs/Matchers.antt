@@ -1,4 +1,4 @@
--- Matchers of labels.
+-- Matchers, and when one matches a label set.
 use Rattle.std.specs.Prelude.{◌≡◌, ℕ, zero, suc, Bool, true, false, not, List}
 use Rattle.std.specs.List.{list_all}
 use Rattle.std.specs.Ordering.{eq_by_cmp, nat_cmp, ordering_then}
@@ -34,15 +34,15 @@ takes_pattern NotEqual = false
 takes_pattern Matches = true
 takes_pattern NotMatches = true
 
--- the matcher holds on the labels; a label that is absent has the empty value
+-- the matcher matches the labels; an absent label counts as empty
 abbrev pub holds : Matcher → LabelSet → Bool
 holds matcher labels = compares matcher.operator matcher.value (value_of labels matcher.name)
 
--- all the matchers of a list hold
+-- all the matchers match
 abbrev pub all_hold : List Matcher → LabelSet → Bool
 all_hold matchers labels = list_all (λ matcher. holds matcher labels) matchers
 
--- the place of an operator in the order of matchers
+-- the rank of an operator in the order of matchers
 abbrev pub operator_place : Operator → ℕ
 operator_place Equal = 0
 operator_place NotEqual = 1
@@ -72,7 +72,7 @@ operator_at_its_place NotEqual = refl
 operator_at_its_place Matches = refl
 operator_at_its_place NotMatches = refl
 
--- matchers that compare alike are the same
+-- matchers that compare as equal are the same
 pub matcher_cmp-IsAntisymmetric : IsAntisymmetric matcher_cmp
 matcher_cmp-IsAntisymmetric a b tie =
     let parts : ◌≡◌ {A = Text × (Text × ℕ)} (a.name, (a.value, operator_place a.operator)) (b.name, (b.value, operator_place b.operator)) =

@@ -1,4 +1,5 @@
-//! How a label's value is compared with a matcher's own.
+//! How a matcher compares the value of a label with its own value. `matcher.rt` uses it; a pattern
+//! is built here, once.
 ghost use Rattle.std.specs.Prelude.{◌≡◌, IfOk, IsErrOf, IsOk, false, true};
 ghost use Rattle.amr_matchers.specs.Matchers.{compares, takes_pattern};
 ghost use Rattle.amr_matchers.specs.Comparisons.{operator_of, own_value};
@@ -11,7 +12,7 @@ use amr_labels::{Shared, Text};
 use std::alloc::{AllocError, Global};
 use std::cmp::Ordering;
 
-/// A comparison with a value of one's own. Clones share the pattern.
+/// How a matcher compares a label's value with its own. Clones share the pattern.
 #[derive(Debug, Drop)]
 pub(crate) enum Comparison {
     Is(Text),
@@ -20,7 +21,7 @@ pub(crate) enum Comparison {
     MatchesNot(Shared<Pattern>),
 }
 
-/// Reads the pattern, and shares it.
+/// Builds a pattern, so that clones can share it.
 fn shared_pattern(alloc: Global, text: Text) -> Result<Shared<Pattern>, MatcherError>
     ensures read { IfOk result (λ shared. shared ≡ text) }
     ensures refused { IsErrOf result BadPattern → MayRefuse text }
@@ -30,7 +31,7 @@ fn shared_pattern(alloc: Global, text: Text) -> Result<Shared<Pattern>, MatcherE
 }
 
 impl Comparison {
-    /// The comparison by an operator with a value.
+    /// Makes the comparison for an operator and the matcher's own value.
     pub(crate) fn new(
         alloc: Global,
         operator: Operator,
@@ -49,7 +50,7 @@ impl Comparison {
         }
     }
 
-    /// The operator.
+    /// Returns the operator.
     pub(crate) fn operator(&self) -> Operator
         ensures { result ≡ operator_of self.now }
     {
@@ -61,7 +62,7 @@ impl Comparison {
         }
     }
 
-    /// The value of one's own.
+    /// Returns the matcher's own value.
     pub(crate) fn own(&self) -> &Text
         ensures { result.now ≡ own_value self.now }
     {
@@ -73,7 +74,7 @@ impl Comparison {
         }
     }
 
-    /// What the comparison with the value says.
+    /// Returns whether a label's value passes the comparison.
     pub(crate) fn compares(&self, alloc: Global, value: &str) -> Result<bool, AllocError>
         ensures answer { IfOk result (λ found. found
             ≡ compares (operator_of self.now) (own_value self.now) value.now) }

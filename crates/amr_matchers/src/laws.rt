@@ -1,12 +1,14 @@
-//! Laws of matcher texts: each function says one, and does nothing.
+//! Laws of matcher texts, as functions that do nothing: their contracts are the laws. Nothing calls
+//! them.
 ghost use Rattle.amr_matchers.specs.MatcherLaws.{ReadIsSpelled, SpelledIsRead};
 
-/// A text that is read as a list of matchers spells it: matchers separated by commas, in braces or not.
+/// Says that a text that is read as a list of matchers spells that list: matchers separated by
+/// commas, in braces or not.
 pub fn what_is_read_is_spelled()
     ensures { ReadIsSpelled }
 {}
 
-/// A text that spells a list of matchers is read as it.
+/// Says that a text that spells a list of matchers is read as that list.
 pub fn what_is_spelled_is_read()
     ensures { SpelledIsRead }
 {}

@@ -1,4 +1,5 @@
-//! Matchers of labels: what they hold on, and how they are read from texts.
+//! Label matchers, lists of them, and reading them from texts. Routes, inhibition rules and
+//! silences have matchers. A pattern is built once, when its matcher is read.
 #![tactic(auto)]
 
 mod comparison;

@@ -1,4 +1,5 @@
-//! Matchers of labels.
+//! Matchers: whether one matches a label set, and their order, which is by name, value and
+//! operator.
 ghost use Rattle.std.specs.Prelude.{◌≡◌, IfOk, IsErrOf, IsOk, false, true};
 ghost use Rattle.std.proofs.Common.{rules};
 ghost use Rattle.std.specs.Cmp.{partial_order_from_own_ties};
@@ -16,8 +17,9 @@ use std::alloc::{AllocError, Global};
 use std::cmp::Ordering;
 use std::marker::Model;
 
-/// A matcher: the name of a label, an operator, and a value, as in Alertmanager's `alertname="X"`, `team!="a"`, `zone=~"a|b"`, `zone!~"a|b"`.
-/// A label that is absent has the empty value, and a pattern has to match the whole value. Clones share the pattern, which is built once.
+/// A matcher: a label's name, an operator, and a value, like Alertmanager's `alertname="X"`,
+/// `team!="a"`, `zone=~"a|b"` and `zone!~"a|b"`. An absent label counts as empty, and a pattern has
+/// to match the whole value. Clones share the pattern, which is built once.
 #[derive(Debug, Drop)]
 pub struct Matcher {
     name: Text,
@@ -34,8 +36,8 @@ impl Model for Matcher {
 }
 
 impl Matcher {
-    /// Makes the matcher of a name, an operator and a value. `BadPattern` says that `regex` refused the value of `=~` or `!~` as a pattern; which
-    /// patterns it refuses, no contract says.
+    /// Makes a matcher. Fails with `BadPattern` if `regex` refuses the value of `=~` or `!~` as a
+    /// pattern; no contract says which patterns it refuses.
     pub fn new(
         alloc: Global,
         name: Text,
@@ -51,28 +53,28 @@ impl Matcher {
         Ok(Matcher { name, comparison })
     }
 
-    /// The name of the label.
+    /// Returns the name of the label.
     pub fn name(&self) -> &Text
         ensures { result.now ≡ self.now.name }
     {
         &self.name
     }
 
-    /// How the label's value is compared.
+    /// Returns the operator.
     pub fn operator(&self) -> Operator
         ensures { result ≡ self.now.operator }
     {
         self.comparison.operator()
     }
 
-    /// The matcher's own value, for `=~` and `!~` the text of the pattern.
+    /// Returns the matcher's own value, which is the text of the pattern for `=~` and `!~`.
     pub fn value(&self) -> &Text
         ensures { result.now ≡ self.now.value }
     {
         self.comparison.own()
     }
 
-    /// Whether the matcher holds on the labels.
+    /// Returns whether the matcher matches the labels.
     pub fn matches(&self, alloc: Global, labels: &Labels) -> Result<bool, AllocError>
         ensures answer { IfOk result (λ found. found ≡ holds self.now labels.now) }
         ensures plain { takes_pattern self.now.operator ≡ false → IsOk result }
@@ -82,7 +84,7 @@ impl Matcher {
     }
 }
 
-/// Whether all the matchers of a list hold on the labels.
+/// Returns whether all matchers match the labels. An empty list always does.
 pub fn all_match(alloc: Global, matchers: &[Matcher], labels: &Labels) -> Result<bool, AllocError>
     ensures { IfOk result (λ all. all ≡ all_hold matchers.now labels.now) }
 {
@@ -94,7 +96,7 @@ pub fn all_match(alloc: Global, matchers: &[Matcher], labels: &Labels) -> Result
     Ok(true)
 }
 
-/// The place of an operator in the order of matchers.
+/// Returns the rank of an operator in the order of matchers.
 fn place(operator: Operator) -> u8
     ensures { result ≡ operator_place operator }
 {

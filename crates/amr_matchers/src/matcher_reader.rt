@@ -1,4 +1,5 @@
-//! Matcher texts read character by character.
+//! Reading a matcher text character by character. `matcher_steps.rt` says where each character
+//! leads; here the parts are collected.
 ghost use Rattle.std.specs.Prelude.{◌≡◌, ◌++◌, Some, None, IfOk, OnOk, option_map, if◌then◌else◌, encode_utf8_all, string_bytes};
 ghost use Rattle.amr_matchers.specs.MatcherText.{escaped as escaped_of};
 ghost use Rattle.amr_matchers.specs.MatcherReading as reading;
@@ -9,7 +10,7 @@ use amr_labels::Text;
 use std::alloc::{AllocError, Global};
 use std::marker::Model;
 
-/// A matcher that was read, whose pattern is not built yet.
+/// A matcher that was read. Its pattern isn't built yet.
 #[derive(Drop)]
 pub(crate) struct Draft {
     pub name: Text,
@@ -25,7 +26,8 @@ impl Model for Draft {
     ghost view = { λ draft. record { name = draft.name; operator = draft.operator; value = draft.value } };
 }
 
-/// What was read of a matcher text: where the reading stands, the name, operator and value that stand there, and the matchers before.
+/// What was read of a matcher text: the state of the reading, the name, operator and value that are
+/// being read, and the matchers before them.
 #[derive(Drop)]
 pub(crate) struct Reader {
     braced: bool,
@@ -45,7 +47,7 @@ impl Model for Reader {
     ghost view = { λ reader. record { braced = reader.braced; place = reader.place; name = string_bytes reader.name; operator = reader.operator; value = string_bytes reader.value; matchers = reader.drafts.items } };
 }
 
-/// Appends what a backslash and the character stand for.
+/// Appends the characters that a backslash and a character mean.
 fn push_escaped(text: &mut String, c: char) -> Result<(), AllocError>
     ensures { OnOk result (string_bytes text.new ≡ string_bytes text.old
         ++ encode_utf8_all (escaped_of c)) }
@@ -65,7 +67,7 @@ fn push_escaped(text: &mut String, c: char) -> Result<(), AllocError>
 }
 
 impl Reader {
-    /// Nothing was read yet.
+    /// Returns a reader that has read nothing yet.
     pub fn new(alloc: Global) -> Reader
         ensures { result ≡ reading.start }
     {
@@ -79,7 +81,7 @@ impl Reader {
         }
     }
 
-    /// Ends the matcher that stands there.
+    /// Ends the matcher that is being read.
     #[tactic(auto, unfolding(crate::specs::MatcherReading::with_part))]
     fn end_matcher(&mut self, alloc: Global) -> Result<(), AllocError>
         ensures { OnOk result (self.new ≡ reading.with_part Part.End self.old) }
@@ -96,7 +98,7 @@ impl Reader {
         Ok(())
     }
 
-    /// Adds a part.
+    /// Adds what a character contributes.
     #[tactic(auto, unfolding(crate::specs::MatcherReading::with_part))]
     fn add(&mut self, alloc: Global, part: Part) -> Result<(), AllocError>
         ensures { OnOk result (self.new ≡ reading.with_part part self.old) }
@@ -119,7 +121,7 @@ impl Reader {
         }
     }
 
-    /// Reads the next character. Answers whether a matcher text goes on so.
+    /// Reads the next character. Returns whether some matcher text continues with it.
     pub fn read(&mut self, alloc: Global, c: char) -> Result<bool, AllocError>
         ensures { IfOk result (λ goes_on. reading.next self.old c
             ≡ (if goes_on then Some self.new else None)) }
@@ -134,7 +136,7 @@ impl Reader {
         }
     }
 
-    /// The matchers, where a text may end here.
+    /// Returns the matchers, or `None` if a text can't end here.
     pub fn finish(self, alloc: Global) -> Result<Option<Vec<Draft>>, AllocError>
         ensures { IfOk result (λ found. option_map (λ drafts. drafts.items) found
             ≡ reading.ended self) }

@@ -1,11 +1,12 @@
-//! Where each character of a matcher text leads, and what it adds.
+//! The grammar of matcher texts as a state machine: where each character leads, and what it adds.
+//! `matcher_reader.rt` runs it. `specs/MatcherText.antt` says the same as a grammar.
 ghost use Rattle.std.specs.Prelude.{◌≡◌};
 ghost use Rattle.amr_matchers.specs.MatcherText.{is_refused as tests_refused};
 ghost use Rattle.amr_matchers.specs.MatcherReading as reading;
 
 use crate::Operator;
 
-/// What was read last, and so what may follow.
+/// A state of the reading: what was read last, which decides what may come next.
 #[derive(Clone, Copy)]
 pub(crate) enum Place {
     Start,
@@ -26,7 +27,7 @@ pub(crate) enum Place {
     Closed,
 }
 
-/// What a character may stand for outside quotes.
+/// What a character may mean outside quotes.
 #[derive(Clone, Copy)]
 pub(crate) enum Kind {
     Blank,
@@ -61,12 +62,14 @@ pub(crate) struct Step {
     pub part: Part,
 }
 
+/// Returns a step that leads to a state and adds a part.
 fn go(place: Place, part: Part) -> Option<Step>
     ensures { result ≡ reading.go place part }
 {
     Some(Step { place, part })
 }
 
+/// Returns what a character means outside quotes.
 #[tactic(auto, unfolding(crate::specs::MatcherReading::kind_of))]
 fn kind_of(c: char) -> Kind
     ensures { result ≡ reading.kind_of c }
@@ -94,7 +97,7 @@ fn kind_of(c: char) -> Kind
     }
 }
 
-/// Whether a backslash is refused before the character.
+/// Returns whether a backslash is refused before the character.
 fn is_refused(c: char) -> bool
     ensures { result ≡ tests_refused c }
 {
@@ -110,7 +113,7 @@ fn is_refused(c: char) -> bool
         || ('0' <= c && c <= '7')
 }
 
-/// A matcher may begin here, or the braces end, or white space goes on.
+/// Steps where a matcher may begin, or the braces end, after white space or not.
 #[tactic(auto, unfolding(crate::specs::MatcherReading::begins_matcher))]
 fn begins_matcher(braced: bool, here: Place, c: char) -> Option<Step>
     ensures { result ≡ reading.begins_matcher braced here c (reading.kind_of c) }
@@ -130,7 +133,7 @@ fn begins_matcher(braced: bool, here: Place, c: char) -> Option<Step>
     }
 }
 
-/// After a name, an operator.
+/// Steps after a name, where an operator comes.
 #[tactic(auto, unfolding(crate::specs::MatcherReading::after_name))]
 fn after_name(kind: Kind) -> Option<Step>
     ensures { result ≡ reading.after_name kind }
@@ -143,7 +146,7 @@ fn after_name(kind: Kind) -> Option<Step>
     }
 }
 
-/// A value ends here.
+/// Steps where a value ends.
 #[tactic(auto, unfolding(crate::specs::MatcherReading::ends_value))]
 fn ends_value(braced: bool, spaced: Place, kind: Kind) -> Option<Step>
     ensures { result ≡ reading.ends_value braced spaced kind }
@@ -162,7 +165,7 @@ fn ends_value(braced: bool, spaced: Place, kind: Kind) -> Option<Step>
     }
 }
 
-/// A value may begin here, or is absent.
+/// Steps where a value may begin, or be left out.
 #[tactic(auto, unfolding(crate::specs::MatcherReading::begins_value))]
 fn begins_value(braced: bool, c: char) -> Option<Step>
     ensures { result ≡ reading.begins_value braced c (reading.kind_of c) }
@@ -174,7 +177,7 @@ fn begins_value(braced: bool, c: char) -> Option<Step>
     }
 }
 
-/// A name goes on, or ends.
+/// Steps in an unquoted name, which goes on or ends.
 #[tactic(auto, unfolding(crate::specs::MatcherReading::in_name))]
 fn in_name(c: char) -> Option<Step>
     ensures { result ≡ reading.in_name c (reading.kind_of c) }
@@ -185,7 +188,7 @@ fn in_name(c: char) -> Option<Step>
     }
 }
 
-/// A value goes on, or ends.
+/// Steps in an unquoted value, which goes on or ends.
 #[tactic(auto, unfolding(crate::specs::MatcherReading::in_value))]
 fn in_value(braced: bool, c: char) -> Option<Step>
     ensures { result ≡ reading.in_value braced c (reading.kind_of c) }
@@ -196,7 +199,7 @@ fn in_value(braced: bool, c: char) -> Option<Step>
     }
 }
 
-/// After an exclamation mark.
+/// Steps after an exclamation mark.
 #[tactic(auto, unfolding(crate::specs::MatcherReading::after_bang))]
 fn after_bang(kind: Kind) -> Option<Step>
     ensures { result ≡ reading.after_bang kind }
@@ -208,7 +211,7 @@ fn after_bang(kind: Kind) -> Option<Step>
     }
 }
 
-/// After an equals sign.
+/// Steps after an equals sign.
 #[tactic(auto, unfolding(crate::specs::MatcherReading::after_equals))]
 fn after_equals(braced: bool, c: char) -> Option<Step>
     ensures { result ≡ reading.after_equals braced c (reading.kind_of c) }
@@ -219,7 +222,8 @@ fn after_equals(braced: bool, c: char) -> Option<Step>
     }
 }
 
-/// In quotes: where a quote leads, where a backslash does, and what any other character does.
+/// Steps in quotes. A quote leads to `ended`, a backslash to `escape`, and any other character to
+/// `plain`.
 fn in_quotes(ended: Option<Step>, escape: Place, plain: Option<Step>, c: char) -> Option<Step>
     ensures { result ≡ reading.in_quotes ended escape plain c }
 {
@@ -232,7 +236,7 @@ fn in_quotes(ended: Option<Step>, escape: Place, plain: Option<Step>, c: char) -
     }
 }
 
-/// After a backslash in quotes.
+/// Steps after a backslash in quotes.
 fn after_backslash(quoted: Place, part: Part, c: char) -> Option<Step>
     ensures { result ≡ reading.after_backslash quoted part c }
 {
@@ -243,7 +247,7 @@ fn after_backslash(quoted: Place, part: Part, c: char) -> Option<Step>
     }
 }
 
-/// Before the first matcher, outside braces.
+/// Steps before the first matcher, outside braces.
 #[tactic(auto, unfolding(crate::specs::MatcherReading::at_start))]
 fn at_start(c: char) -> Option<Step>
     ensures { result ≡ reading.at_start c (reading.kind_of c) }
@@ -254,7 +258,7 @@ fn at_start(c: char) -> Option<Step>
     }
 }
 
-/// After the braces.
+/// Steps after the braces.
 #[tactic(auto, unfolding(crate::specs::MatcherReading::after_braces))]
 fn after_braces(kind: Kind) -> Option<Step>
     ensures { result ≡ reading.after_braces kind }
@@ -265,7 +269,8 @@ fn after_braces(kind: Kind) -> Option<Step>
     }
 }
 
-/// Where the character leads from a place, and what it adds; none where no matcher text goes on so.
+/// Returns where a character leads from a state, and what it adds. Returns `None` if no matcher
+/// text continues with it.
 #[tactic(auto, unfolding(crate::specs::MatcherReading::step_from))]
 pub(crate) fn step_from(braced: bool, place: Place, c: char) -> Option<Step>
     ensures { result ≡ reading.step_from braced place c }
@@ -305,7 +310,7 @@ pub(crate) fn step_from(braced: bool, place: Place, c: char) -> Option<Step>
     }
 }
 
-/// Where a text may end: what its end adds.
+/// Returns what the end of the text adds in a state. Returns `None` if a text can't end there.
 #[tactic(auto, unfolding(crate::specs::MatcherReading::ending))]
 pub(crate) fn ending(braced: bool, place: Place) -> Option<Part>
     ensures { result ≡ reading.ending braced place }

@@ -1,4 +1,4 @@
-//! Lists of matchers.
+//! Lists of matchers, shared by their clones, since routes and silences are cloned often.
 ghost use Rattle.std.specs.Prelude.{◌≡◌, ◌==◌, [], length, IfOk};
 ghost use Rattle.std.proofs.Common.{rules};
 ghost use Rattle.std.specs.Cmp.{partial_order_from_own_ties};
@@ -30,14 +30,14 @@ impl Model for Matchers {
 }
 
 impl Matchers {
-    /// The list of no matcher.
+    /// Returns an empty list.
     pub fn none(alloc: Global) -> Result<Matchers, AllocError>
         ensures { IfOk result (λ matchers. matchers ≡ []) }
     {
         Matchers::from_vec(alloc, Vec::new(alloc))
     }
 
-    /// The list of these matchers.
+    /// Returns the list of these matchers.
     pub fn from_vec(alloc: Global, matchers: Vec<Matcher>) -> Result<Matchers, AllocError>
         ensures { IfOk result (λ made. made ≡ matchers.items) }
     {
@@ -46,28 +46,28 @@ impl Matchers {
         })
     }
 
-    /// The matchers.
+    /// Returns the matchers as a slice.
     pub fn as_slice(&self) -> &[Matcher]
         ensures { result.now ≡ self.now }
     {
         self.shared.as_slice()
     }
 
-    /// How many matchers there are.
+    /// Returns the number of matchers.
     pub fn len(&self) -> usize
         ensures { result ≡ length self.now }
     {
         self.shared.len()
     }
 
-    /// Whether there is no matcher.
+    /// Returns whether there is no matcher.
     pub fn is_empty(&self) -> bool
         ensures { result ≡ (length self.now == 0) }
     {
         self.shared.is_empty()
     }
 
-    /// Whether all the matchers hold on the labels.
+    /// Returns whether all matchers match the labels.
     pub fn matches_all(&self, alloc: Global, labels: &Labels) -> Result<bool, AllocError>
         ensures { IfOk result (λ hold. hold ≡ all_hold self.now labels.now) }
     {

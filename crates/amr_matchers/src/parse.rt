@@ -1,4 +1,5 @@
-//! Lists of matchers read from a text.
+//! Reading a list of matchers from a text. `amr_stated` calls `Matchers::parse` for `matchers` in a
+//! configuration.
 ghost use Rattle.std.specs.Prelude.{◌≡◌, Some, IfOk, IfErr, IsErrOf, chars};
 ghost use Rattle.amr_matchers.specs.declared.pattern.MatcherError.TheVariants.{BadPattern as RefusedPattern};
 ghost use Rattle.amr_matchers.specs.MatcherText.{Spells};
@@ -16,9 +17,10 @@ use std::alloc::{AllocError, AllocFailed, Global};
 pub enum ParseError {
     /// An allocation failed.
     Memory,
-    /// The text isn't a matcher text. `at` is the length in bytes of its longest beginning that some matcher text begins with.
+    /// The text isn't a matcher text. `at` is the byte offset of the first character that no valid
+    /// matcher list could have there.
     BadMatcher { at: usize },
-    /// `regex` cannot read the value of a `=~` or `!~` as a pattern.
+    /// `regex` refuses the value of a `=~` or `!~` as a pattern.
     BadPattern,
 }
 
@@ -58,7 +60,7 @@ impl From<MatcherError> for ParseError {
     }
 }
 
-/// The matchers that a text spells, whose patterns aren't built yet.
+/// Reads the matchers that a text spells. Their patterns aren't built yet.
 fn drafts_of(alloc: Global, text: &str) -> Result<Vec<Draft>, ParseError>
     ensures read { IfOk result (λ drafts. matchers_of text.now ≡ Some drafts.items) }
     ensures refused { IfErr result (Explains text.now) }
@@ -78,7 +80,7 @@ fn drafts_of(alloc: Global, text: &str) -> Result<Vec<Draft>, ParseError>
     }
 }
 
-/// The matcher with its pattern.
+/// Builds a matcher with its pattern.
 fn matcher_of(alloc: Global, draft: &Draft) -> Result<Matcher, MatcherError>
     ensures built { IfOk result (λ matcher. matcher ≡ draft.now) }
     ensures refused { IsErrOf result RefusedPattern → MayBeRefused draft.now }
@@ -88,7 +90,7 @@ fn matcher_of(alloc: Global, draft: &Draft) -> Result<Matcher, MatcherError>
     Matcher::new(alloc, name, draft.operator, value)
 }
 
-/// The matchers with their patterns, each built once.
+/// Builds the matchers with their patterns, each once.
 fn build(alloc: Global, drafts: &[Draft]) -> Result<Vec<Matcher>, MatcherError>
     ensures built { IfOk result (λ matchers. matchers.items ≡ drafts.now) }
     ensures refused { IsErrOf result RefusedPattern → OneMayBeRefused drafts.now }
@@ -102,10 +104,13 @@ fn build(alloc: Global, drafts: &[Draft]) -> Result<Vec<Matcher>, MatcherError>
 }
 
 impl Matchers {
-    /// The matchers of a text in the matcher syntax of Alertmanager's configuration reference, as `{alertname="X", team=~"a|b"}` or `severity!=info`:
-    /// matchers separated by commas, in braces or not, with names and values unquoted or in double quotes. A text that isn't of this form is refused
-    /// as `BadMatcher`, also if a pattern in it can't be read. `BadPattern` says that `regex` refused the pattern of a `=~` or `!~`; which patterns it
-    /// refuses, no contract says.
+    /// Reads a list of matchers, in the matcher syntax of Alertmanager's configuration reference,
+    /// like `{alertname="X", team=~"a|b"}` or `severity!=info`: matchers separated by commas, in
+    /// braces or not, with names and values unquoted or in double quotes.
+    ///
+    /// Fails with `BadMatcher` if the text isn't of this form, even if a pattern in it is bad too,
+    /// and else with `BadPattern` if `regex` refuses the pattern of a `=~` or `!~`. No contract
+    /// says which patterns it refuses.
     pub fn parse(alloc: Global, text: &str) -> Result<Matchers, ParseError>
         ensures read { IfOk result (λ matchers. matchers_of text.now ≡ Some matchers) }
         ensures spelled { IfOk result (λ matchers. Spells (chars text.now) matchers) }

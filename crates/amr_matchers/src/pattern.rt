@@ -1,4 +1,5 @@
-//! Patterns that have to match a whole value.
+//! Patterns that have to match a whole value. `regex` builds and runs them; a pattern that it
+//! refuses makes no matcher.
 ghost use Rattle.std.specs.Prelude.{◌≡◌, IfOk, IsErrOf};
 ghost use Rattle.amr_matchers.specs.Patterns.{pattern_matches, MayRefuse};
 ghost use Rattle.amr_matchers.specs.declared.pattern.MatcherError.TheVariants.{BadPattern};
@@ -9,12 +10,12 @@ use std::alloc::{AllocError, AllocFailed, Global};
 use std::fmt;
 use std::marker::Model;
 
-/// Why there is no matcher.
+/// Why a matcher wasn't made.
 #[derive(Debug, Drop)]
 pub enum MatcherError {
     /// An allocation failed.
     Memory,
-    /// `regex` cannot read the value as a pattern.
+    /// `regex` refuses the value as a pattern.
     BadPattern,
 }
 
@@ -40,7 +41,7 @@ impl<T: Drop> From<AllocFailed<T>> for MatcherError {
     }
 }
 
-/// A pattern that `regex` has read. Contracts see its text.
+/// A pattern that was built. Contracts see its text.
 #[derive(Drop)]
 pub struct Pattern {
     text: Text,
@@ -59,7 +60,7 @@ impl Model for Pattern {
 }
 
 impl Pattern {
-    /// Reads a pattern, once.
+    /// Builds a pattern, once, anchored at both ends as Alertmanager does.
     pub fn new(alloc: Global, text: Text) -> Result<Pattern, MatcherError>
         ensures read { IfOk result (λ pattern. pattern ≡ text) }
         ensures refused { IsErrOf result BadPattern → MayRefuse text }
@@ -73,14 +74,14 @@ impl Pattern {
         }
     }
 
-    /// The text of the pattern.
+    /// Returns the text of the pattern.
     pub fn text(&self) -> &Text
         ensures { result.now ≡ self.now }
     {
         &self.text
     }
 
-    /// Whether the pattern matches the whole value.
+    /// Returns whether the pattern matches the whole value.
     pub fn matches(&self, alloc: Global, value: &str) -> Result<bool, AllocError>
         ensures { IfOk result (λ found. found ≡ pattern_matches self.now value.now) }
     {

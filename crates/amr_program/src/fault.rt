@@ -125,6 +125,7 @@ pub fn write_fault<W: Write>(fault: &Fault, out: &mut Outlet<W>) -> Result<(), W
     write_line(name_of(fault), &place_of(fault), out)
 }
 
+/// Writes the line of a fault from its name and its place.
 fn write_line<W: Write>(name: &str, place: &Place, out: &mut Outlet<W>) -> Result<(), WriteFailed>
     ensures written { WritesText (W.contents out.old.writer) (W.contents out.new.writer)
         result (line_with_place name.now (place_seen place.now)) }
@@ -146,6 +147,7 @@ fn write_line<W: Write>(name: &str, place: &Place, out: &mut Outlet<W>) -> Resul
     }
 }
 
+/// Returns what the line of a fault begins with.
 fn name_of(fault: &Fault) -> &'static str
     ensures { result.now ≡ fault_name fault.now }
 {
@@ -161,6 +163,7 @@ fn name_of(fault: &Fault) -> &'static str
     }
 }
 
+/// Returns the number and the name of a refusal, with what comes before them.
 fn config_name(refusal: &Refusal) -> &'static str
     ensures { result.now ≡ config_name_of refusal.now }
 {
@@ -175,6 +178,7 @@ fn config_name(refusal: &Refusal) -> &'static str
     }
 }
 
+/// Returns the number and the name of a script's fault, with what comes before them.
 fn script_name(fault: ScriptFault) -> &'static str
     ensures { result.now ≡ script_name_of fault }
 {
@@ -185,6 +189,7 @@ fn script_name(fault: ScriptFault) -> &'static str
     }
 }
 
+/// Returns the place of a fault.
 fn place_of(fault: &Fault) -> Place<'_>
     ensures { place_seen result ≡ fault_place fault.now }
 {
@@ -195,6 +200,7 @@ fn place_of(fault: &Fault) -> Place<'_>
     }
 }
 
+/// Returns the place of a refusal: the path in the configuration, if it has one.
 fn config_place(refusal: &Refusal) -> Place<'_>
     ensures { place_seen result ≡ config_place_of refusal.now }
 {
@@ -204,7 +210,7 @@ fn config_place(refusal: &Refusal) -> Place<'_>
     }
 }
 
-// The empty path, which is the whole configuration, isn't printed.
+/// Returns the place at a path. The empty path, which is the whole configuration, isn't printed.
 fn path_place(path: &str) -> Place<'_>
     ensures { place_seen result ≡ place_of_path path.now }
 {
@@ -215,6 +221,7 @@ fn path_place(path: &str) -> Place<'_>
     }
 }
 
+/// Returns the place of a script's fault: its line, if it has one.
 fn script_place(fault: ScriptFault) -> Place<'static>
     ensures { place_seen result ≡ script_place_of fault }
 {

@@ -1,4 +1,5 @@
-//! Reading all the bytes of a file. `main` opens the files.
+//! Reading all the bytes of a file. `main` opens the files; a reader that fails isn't taken for the
+//! end of a file.
 ghost use Rattle.std.specs.Prelude.{◌≡◌, IfOk, MatchResult};
 ghost use Rattle.std.specs.Io.KnownBytes.{Consumes, IsAtEnd};
 ghost use Rattle.amr_program.specs.Input.{UnreadBy};

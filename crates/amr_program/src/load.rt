@@ -1,4 +1,5 @@
-//! The configuration and the script, from the bytes of their files.
+//! Reading the configuration and the script from the bytes of their files. Checks, runs and
+//! sessions begin with this.
 ghost use Rattle.std.specs.Prelude.{◌≡◌, [], option_map, IfOk};
 ghost use Rattle.serde_json.specs.View.{view};
 ghost use Rattle.amr_program.specs.Files.{json_of, ReadsAs, FilesAre, Opens};

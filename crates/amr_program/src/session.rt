@@ -1,4 +1,5 @@
-//! The command `session`: opens a session over two files and answers commands.
+//! The command `session`: opens a session over two files and answers commands. The conversation
+//! itself is in `amr_commands`.
 ghost use Rattle.amr_program.specs.Ends.{EndsBy, ReadsBy};
 ghost use Rattle.amr_program.specs.Sessions.{SessionLeaves};
 

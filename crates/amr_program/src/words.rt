@@ -1,14 +1,16 @@
-//! The arguments after the program's name.
+//! The arguments after the program's name, which name a command and its files. `main` calls
+//! `command_of`.
 ghost use Rattle.std.specs.Prelude.{◌≡◌, map, option_map, string_bytes};
 
 /// What the arguments ask for, with the paths of the files.
 #[derive(Clone, Copy, Debug, PartialEq, Eq)]
 pub enum Command<'a> {
-    /// Validate a configuration, and count its parts.
+    /// `check`: validates a configuration, and counts its parts.
     Check { config: &'a str },
-    /// Apply all events of a script under a configuration.
+    /// `run`: applies all events of a script under a configuration.
     Run { config: &'a str, script: &'a str },
-    /// Read commands from standard input, and answer them over a script and a configuration.
+    /// `session`: reads commands from standard input, and answers them over a script and a
+    /// configuration.
     Session { config: &'a str, script: &'a str },
 }
 

@@ -1,8 +1,10 @@
-//! Decimal digits at the front of a text.
+//! Decimal digits at the front of a text, for reading moments, durations and time intervals.
+//! Numbers that are too large are cut off at a limit, so that nothing overflows.
 ghost use Rattle.std.specs.Prelude.{◌≡◌, ◌<◌, ◌^◌, min, length};
 ghost use Rattle.amr_time.specs.MomentText.{decimal};
 ghost use Rattle.amr_time.specs.MomentRead.{is_digit as tests_digit, digits_of};
 
+/// Returns whether the byte is an ASCII digit.
 pub(crate) fn is_digit(byte: u8) -> bool
     ensures { result ≡ tests_digit byte }
 {

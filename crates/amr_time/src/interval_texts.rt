@@ -128,6 +128,7 @@ fn colon_place(bytes: &[u8]) -> usize
     bytes.iter().take_while(|byte| **byte != b':').count()
 }
 
+/// Returns the range, unless it ends before it begins.
 fn range(first: u64, last: u64) -> Option<Range>
     ensures { result ≡ range_from first last }
 {
@@ -138,6 +139,7 @@ fn range(first: u64, last: u64) -> Option<Range>
     }
 }
 
+/// Returns the range of days, unless it may end before it begins.
 fn day_range(first: MonthDay, last: MonthDay) -> Option<DayRange>
     ensures { result ≡ day_range_from first last }
 {
@@ -200,6 +202,7 @@ fn is_name(bytes: &[u8], name: &str) -> bool
     bytes.eq_ignore_ascii_case(name.as_bytes())
 }
 
+/// Reads the name of a weekday, as its number from Sunday, which is 0.
 fn weekday(bytes: &[u8]) -> Option<u64>
     ensures { result ≡ weekday_at bytes.now }
 {
@@ -207,6 +210,7 @@ fn weekday(bytes: &[u8]) -> Option<u64>
     Some(place as u64)
 }
 
+/// Reads the name or the number of a month, as its number from 1.
 #[tactic(auto, unfolding(crate::specs::IntervalTexts::month_at))]
 fn month(bytes: &[u8]) -> Option<u64>
     ensures { result ≡ month_at bytes.now }
@@ -217,12 +221,14 @@ fn month(bytes: &[u8]) -> Option<u64>
     }
 }
 
+/// Reads a year.
 fn year(bytes: &[u8]) -> Option<u64>
     ensures { result ≡ year_at bytes.now }
 {
     number(0, u64::MAX, bytes)
 }
 
+/// Reads a day of the month, 1 to 31 or -1 to -31.
 fn month_day(bytes: &[u8]) -> Option<MonthDay>
     ensures { result ≡ month_day_at bytes.now }
 {

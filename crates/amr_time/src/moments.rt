@@ -1,4 +1,5 @@
-//! Moments, in nanoseconds since 1970.
+//! Moments, in nanoseconds since 1970. Only scripts and commands give moments; nothing here reads a
+//! clock.
 ghost use Rattle.std.specs.Prelude.{◌≡◌, ◌+◌, ◌<◌};
 ghost use Rattle.amr_time.specs.Time.{before_year_10000, in_same_second, next_multiple_of, IsNextMultiple};
 
@@ -65,8 +66,8 @@ impl Moment {
 }
 
 /// Returns the least multiple of the unit that is greater than the moment, in nanoseconds since
-/// 1970. It may be after the last moment, so it isn't a `Moment`. Alertmanager's clean-ups run at
-/// such multiples.
+/// 1970. It may be after the last moment, so it isn't a `Moment`. Clean-ups of alerts and groups
+/// are due at such multiples.
 pub fn next_multiple(moment: Moment, unit: Span) -> u128
     requires { 0 < unit }
     ensures value { result ≡ next_multiple_of moment unit }

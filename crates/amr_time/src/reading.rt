@@ -15,6 +15,7 @@ use jiff_core::civil::Date;
 #[derive(Clone, Copy, Debug, PartialEq, Eq)]
 pub struct BadTime;
 
+/// Reads one given byte, and returns what follows it.
 fn mark(bytes: &[u8], wanted: u8) -> Option<&[u8]>
     ensures { option_map (λ rest. rest.now) result ≡ mark_at wanted bytes.now }
 {
@@ -41,6 +42,7 @@ fn two(bytes: &[u8]) -> Option<(u8, &[u8])>
     }
 }
 
+/// Reads four digits.
 #[tactic(auto, unfolding(crate::specs::MomentRead::four_at))]
 fn four(bytes: &[u8]) -> Option<(u16, &[u8])>
     ensures value { option_map (λ x. (x.0, x.1.now)) result ≡ four_at bytes.now }
@@ -93,6 +95,7 @@ pub(crate) fn minutes(bytes: &[u8]) -> Option<(u32, &[u8])>
     }
 }
 
+/// Reads hours, minutes and seconds, in seconds.
 #[tactic(auto, unfolding(crate::specs::MomentRead::seconds_at))]
 fn seconds(bytes: &[u8]) -> Option<(u32, &[u8])>
     ensures value { option_map (λ x. (x.0, x.1.now)) result ≡ seconds_at bytes.now }
@@ -120,6 +123,7 @@ fn fraction_digits(bytes: &[u8]) -> Option<(u64, &[u8])>
     Some((number * 10u64.pow(9 - count as u32), &bytes[count..]))
 }
 
+/// Reads the fraction of a second in nanoseconds, which is 0 if there is none.
 fn fraction(bytes: &[u8]) -> Option<(u64, &[u8])>
     ensures value { option_map (λ x. (x.0, x.1.now)) result ≡ fraction_at bytes.now }
     ensures bound { IfSome result (λ x. x.0 < 2 ^ 60) }
@@ -150,6 +154,7 @@ fn offset(bytes: &[u8]) -> Option<(i32, &[u8])>
     }
 }
 
+/// Reads the `T` between date and time, and returns what follows it.
 fn time_mark(bytes: &[u8]) -> Option<&[u8]>
     ensures { option_map (λ rest. rest.now) result ≡ time_mark_at bytes.now }
 {
@@ -185,6 +190,7 @@ fn within(nanoseconds: i128) -> Option<Moment>
     }
 }
 
+/// Reads a moment from the whole text.
 #[tactic(auto, unfolding(crate::specs::MomentRead::moment_at))]
 fn moment(bytes: &[u8]) -> Option<Moment>
     ensures value { result ≡ moment_at bytes.now }

@@ -1,4 +1,4 @@
-//! Durations, in nanoseconds, and reading them.
+//! Durations, in nanoseconds, and reading them as Alertmanager's configuration writes them.
 ghost use Rattle.std.specs.Prelude.{◌≡◌, ◌+◌, ◌*◌, ◌≤◌, All, IfOk, min, map, length};
 ghost use Rattle.std.specs.Result.{result_ok};
 ghost use Rattle.amr_time.specs.Time.{longest_span, second, minute, hour};
@@ -121,6 +121,7 @@ const DAY: u64 = 86_400_000_000_000;
 /// One more than the longest duration.
 const TOO_LONG: u64 = 3650 * DAY + 1;
 
+/// The units, from the longest to the shortest.
 const UNITS: [Unit; 7] = [
     Unit {
         letters: "y",
@@ -170,6 +171,8 @@ fn scaled(digits: &[u8], unit: u64, rest: u64) -> u64
     total.min(TOO_LONG as u128) as u64
 }
 
+/// Reads amounts of these units, in this order, and returns their sum in nanoseconds. Returns
+/// `None` if anything else follows.
 #[tactic(auto, unfolding(crate::specs::SpanRead::parts_at))]
 fn parts(units: &[Unit], bytes: &[u8]) -> Option<u64>
     requires { All (λ u. 1 ≤ u.nanoseconds) units.now }

@@ -1,4 +1,4 @@
-//! Writing moments in RFC 3339.
+//! Writing moments in RFC 3339, for everything that is printed.
 ghost use Rattle.std.specs.Prelude.{◌≡◌, ◌≤◌, ◌++◌, ◌∷◌, [], OnOk, IfOk, string_bytes};
 ghost use Rattle.amr_time.specs.Calendar.{date_of};
 ghost use Rattle.amr_time.specs.MomentText.{digit, two_digits, four_digits, nine_digits, fraction_digits, fraction_text, date_text, time_text, moment_text};
@@ -23,6 +23,7 @@ fn push_digit(out: &mut String, number: u32) -> Result<(), AllocError>
     Ok(())
 }
 
+/// Appends the last two digits of a number.
 fn push_two(out: &mut String, number: u32) -> Result<(), AllocError>
     ensures { OnOk result (string_bytes out.new ≡ string_bytes out.old ++ two_digits number) }
 {
@@ -31,6 +32,7 @@ fn push_two(out: &mut String, number: u32) -> Result<(), AllocError>
     Ok(())
 }
 
+/// Appends the last four digits of a number.
 fn push_four(out: &mut String, number: u32) -> Result<(), AllocError>
     ensures { OnOk result (string_bytes out.new ≡ string_bytes out.old ++ four_digits number) }
 {
@@ -39,6 +41,7 @@ fn push_four(out: &mut String, number: u32) -> Result<(), AllocError>
     Ok(())
 }
 
+/// Appends the last nine digits of a number.
 fn push_nine(out: &mut String, number: u32) -> Result<(), AllocError>
     ensures { OnOk result (string_bytes out.new ≡ string_bytes out.old ++ nine_digits number) }
 {
@@ -61,6 +64,7 @@ fn push_fraction(out: &mut String, nanoseconds: u32) -> Result<(), AllocError>
     Ok(())
 }
 
+/// Appends the date of a day, numbered from 1970-01-01.
 fn push_date(out: &mut String, day: u32) -> Result<(), AllocError>
     requires { day ≤ 2_932_896 }
     ensures { OnOk result
@@ -77,6 +81,7 @@ fn push_date(out: &mut String, day: u32) -> Result<(), AllocError>
     Ok(())
 }
 
+/// Appends a time of day.
 fn push_time(out: &mut String, hours: u32, minutes: u32, seconds: u32) -> Result<(), AllocError>
     ensures { OnOk result
         (string_bytes out.new ≡ string_bytes out.old ++ time_text hours minutes seconds) }

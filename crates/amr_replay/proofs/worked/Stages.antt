@@ -20,7 +20,7 @@ use Rattle.amr_replay.proofs.worked.Setting.{ten, root, config_ops, alert, posts
 abbrev is : Text → Text → Matcher
 is name value = record { name = name; operator = operator.Equal; value = value }
 
--- only the critical alert is sent
+-- only the critical alert is notified
 abbrev config_by_severity : Config
 config_by_severity = record config_ops {
   rules = record {

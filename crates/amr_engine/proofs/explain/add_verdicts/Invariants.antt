@@ -2,7 +2,7 @@ use Rattle.std.proofs.Common.{◌≡◌, ◌++◌, Some, map, drop}
 use Rattle.amr_engine.specs.Explain.{verdict_at, verdicts_at}
 use Rattle.amr_engine.proofs.explain.add_verdicts.Given as goal
 
--- the answers so far, and those for the integrations that are left, are all
+-- the verdicts so far, and those for the integrations that are left, are all
 abbrev pub invariant-loop-integration : goal.invariant-loop-integration
 invariant-loop-integration l =
     l.found.items ++ map (verdict_at l.store.state l.group l.labels l.clock) (map Some (drop l.integration-index l.integrations))

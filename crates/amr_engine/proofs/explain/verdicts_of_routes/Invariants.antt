@@ -4,7 +4,7 @@ use Rattle.amr_config.specs.Routing.{chosen}
 use Rattle.amr_engine.specs.Explain.{verdicts_at}
 use Rattle.amr_engine.proofs.explain.verdicts_of_routes.Given as goal
 
--- the answers so far, and those for the routes that are left, are all
+-- the verdicts so far, and those for the routes that are left, are all
 abbrev pub invariant-loop-route : goal.invariant-loop-route
 invariant-loop-route l =
     l.found.items ++ flat_map (verdicts_at l.store.state l.labels) (drop l.route-index l.route-items)

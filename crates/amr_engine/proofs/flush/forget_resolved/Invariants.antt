@@ -4,7 +4,7 @@ use Rattle.amr_state.specs.Kept.{GrownBy, undone}
 use Rattle.amr_engine.specs.Flush.{forget, resolved_of}
 use Rattle.amr_engine.proofs.flush.forget_resolved.Given as goal
 
--- after those so far, those that are left leave as all leave
+-- dropping those so far and then those that are left is dropping all
 abbrev pub invariant-loop-labels : goal.invariant-loop-labels
 invariant-loop-labels l = record {
   ok : fold (forget l.group) l.store.state (resolved_of l.at (drop l.labels-index l.members)) ≡ fold (forget l.group) l.fn.store.state (resolved_of l.at l.members);

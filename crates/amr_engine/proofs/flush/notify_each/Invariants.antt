@@ -5,7 +5,7 @@ use Rattle.amr_state.specs.Kept.{GrownBy, undone}
 use Rattle.amr_engine.specs.Parting.{told_by}
 use Rattle.amr_engine.proofs.flush.notify_each.Given as goal
 
--- after the turns so far, those that are left end where all turns end
+-- the integrations so far and then those that are left lead to the same state as all
 abbrev pub invariant-loop-integration : goal.invariant-loop-integration
 invariant-loop-integration l = record {
   ok : fold (told_by l.at l.group l.parted) l.store.state (drop l.integration-index l.integration-items) ≡ fold (told_by l.at l.group l.parted) l.fn.store.state (integrations_of l.fn.store.state.config l.group.route);

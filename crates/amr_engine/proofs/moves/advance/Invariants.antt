@@ -6,7 +6,7 @@ use Rattle.amr_engine.specs.Weight.{first_weight}
 use Rattle.amr_engine.proofs.Cascade.{plus_moves}
 use Rattle.amr_engine.proofs.moves.advance.Given as goal
 
--- the moves that are left, and those made, are all
+-- the moves made so far and those that are left are all
 abbrev pub invariant-loop-made : goal.invariant-loop-made
 invariant-loop-made l = record {
   ok : counted_run (advance move_limit l.at l.fn.store.state) ≡ plus_moves (counted_run (advance (move_limit - l.made) l.at l.store.state)) l.made;

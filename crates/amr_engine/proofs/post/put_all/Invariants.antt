@@ -5,7 +5,7 @@ use Rattle.amr_state.specs.Kept.{undone}
 use Rattle.amr_engine.specs.Weight.{alerts_weight}
 use Rattle.amr_engine.proofs.post.put_all.Given as goal
 
--- after those so far, those that are left are stored as all are
+-- storing those so far and then those that are left is storing all
 abbrev pub invariant-loop-labels : goal.invariant-loop-labels
 invariant-loop-labels l = record {
   ok : fold put l.store.state (drop l.labels-index l.valid) ≡ fold put l.fn.store.state l.valid;

@@ -4,7 +4,7 @@ use Rattle.amr_rules.specs.Alerts.{completed}
 use Rattle.amr_engine.specs.Events.{skipped_from}
 use Rattle.amr_engine.proofs.post.sift.Given as goal
 
--- what was parted so far, and what is left to part, are all
+-- what was split so far, and what is left to split, are all
 abbrev pub invariant-loop-index : goal.invariant-loop-index
 invariant-loop-index l = record {
   valid : l.valid.items ++ filter_map (completed l.now l.timeout) (drop l.index l.posted) ≡ filter_map (completed l.now l.timeout) l.posted;

@@ -5,7 +5,7 @@ use Rattle.amr_state.specs.Kept.{undone}
 use Rattle.amr_engine.specs.Weight.{copies}
 use Rattle.amr_engine.proofs.reload.place_all.Given as goal
 
--- after those so far, those that are left are placed as all are
+-- inserting those so far and then those that are left is inserting all
 abbrev pub invariant-loop-labels : goal.invariant-loop-labels
 invariant-loop-labels l = record {
   ok : fold place l.store.state (drop l.labels-index l.alerts) ≡ fold place l.fn.store.state l.alerts;

@@ -1,4 +1,4 @@
--- What is gone from `rest` stands in the writer, which hasn't failed.
+-- The writer has got what is no longer in `rest`, and hasn't failed.
 use Rattle.std.proofs.Common.{◌≡◌, ℕ, List, ◌++◌, length}
 use Rattle.std.specs.Io.KnownBytes.{Appends}
 use Rattle.amr_lines.proofs.outlet.write_whole.Given as goal

@@ -8,7 +8,7 @@ use Rattle.amr_lines.specs.Verdicts.{finding_name, finding_members, integration_
 use Rattle.amr_lines.proofs.ObjectMembers.{with_members-append}
 use Rattle.amr_lines.proofs.verdicts.at_route_value.Goals as goal
 
--- what each answer at a route has, then the integration, then what is found
+-- what each verdict at a route has, then the integration, then the finding
 pub returns : goal.returns
 unfolding verdict_data
 returns c =

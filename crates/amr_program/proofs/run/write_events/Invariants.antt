@@ -1,4 +1,4 @@
--- The engine stands behind the events before this one, and their lines are written.
+-- The engine has applied the events before this one, and their lines are written.
 use Rattle.std.proofs.Common.{◌≡◌, take}
 use Rattle.std.specs.Io.KnownBytes.{Appends}
 use Rattle.amr_engine.specs.Events.{run_of}

@@ -5,7 +5,7 @@ use Rattle.amr_matchers.specs.Matchers.{compares}
 use Rattle.amr_rules.specs.Silences.{is_negative}
 use Rattle.amr_rules.proofs.posting.narrows.Goals as goal
 
--- a label is absent from the set of no label, and so has the empty value
+-- a label is absent from the set without labels, so it counts as empty
 pub returns : goal.returns
 returns c =
     let matcher = c.args.matcher.now in

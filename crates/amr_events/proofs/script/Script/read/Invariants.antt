@@ -2,7 +2,7 @@ use Rattle.std.proofs.Common.{◌≡◌, ◌+◌, length, take}
 use Rattle.amr_events.specs.Scripts.{lines_of, ReadAs}
 use Rattle.amr_events.proofs.script.Script.read.Given as goal
 
--- the lines so far read as the events so far
+-- the lines so far were read as the events so far
 abbrev pub invariant-loop-line : goal.invariant-loop-line
 invariant-loop-line l = record {
   counted : l.number ≡ length l.yielded + 1;

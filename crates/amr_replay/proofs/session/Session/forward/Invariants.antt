@@ -3,7 +3,7 @@ use Rattle.amr_engine.specs.Outcomes.{outcome_view}
 use Rattle.amr_replay.specs.Session.{outcomes_passed}
 use Rattle.amr_replay.proofs.session.Session.forward.Given as goal
 
--- what is told, and what is still to be told, are all
+-- the outcomes so far, and those that are left, are all
 abbrev pub invariant-loop-self : goal.invariant-loop-self
 invariant-loop-self l = record {
   config : l.self.config ≡ l.fn.self.config;
