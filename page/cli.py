@@ -58,7 +58,11 @@ def make(options: argparse.Namespace) -> str:
 
 
 def _options(words: list[str], program: str) -> argparse.Namespace:
-    parser = argparse.ArgumentParser(prog="incident-page", description="Writes one self-contained page of an incident.")
+    parser = argparse.ArgumentParser(
+        prog="incident-page",
+        description="Writes one self-contained page of an incident.",
+        epilog="docs/PAGE.md describes the page, and docs/FORMATS.md the two files.",
+    )
     parser.add_argument("config", metavar="CONFIG", help="the configuration, as JSON")
     parser.add_argument("script", metavar="SCRIPT", help="what happened, an event on each line")
     parser.add_argument("--output", metavar="FILE", help="write the page to FILE, and not to standard output")

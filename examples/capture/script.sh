@@ -1,6 +1,12 @@
 #!/usr/bin/env bash
-# Makes a script of the sample answers of this folder, and prints it.
+# Makes a script from the samples of this folder, and prints it. It needs jq.
+#
+# usage: examples/capture/script.sh
 set -eu
+if [ $# -gt 0 ]; then
+  echo "usage: examples/capture/script.sh" >&2
+  exit 2
+fi
 cd "$(dirname "$(readlink -f "${BASH_SOURCE[0]}")")"
 {
   jq -c -f alerts.jq alerts.json

@@ -14,10 +14,11 @@ from .support import EXAMPLES, LISTS, Session, TOP, WithRoom, data_of, hostile_f
 
 NAMES = ("first-page", "a-page-that-never-came", "a-flapping-alert", "a-reload")
 INCIDENTS = (
-    "all-listings", "annotations-in-the-order-of-their-names", "invalid-alerts-are-skipped", "label-sets-in-their-order",
-    "log-entries-in-the-order-of-paths", "matchers-of-silences-by-their-flags", "moments-as-they-are-read-and-written",
-    "refused-events-and-commands", "reloads-and-their-refusals", "siblings-share-log-entries", "silences-that-are-changed",
-    "the-least-silence-that-acts",
+    "alerts/annotations-in-the-order-of-their-names", "alerts/invalid-alerts-are-skipped", "alerts/label-sets-in-their-order",
+    "notification-log/log-entries-in-the-order-of-paths", "notification-log/siblings-share-log-entries",
+    "reload/reloads-and-their-refusals", "script-format/moments-as-they-are-read-and-written", "session/all-listings",
+    "session/refused-events-and-commands", "silences/matchers-of-silences-by-their-flags", "silences/silences-that-are-changed",
+    "silences/the-least-silence-that-acts",
 )
 
 

@@ -37,7 +37,7 @@ class Compared(unittest.TestCase):
         status, text, _ = page_of(RELOAD / "config.json", RELOAD / "script.jsonl", "--against", RELOAD / "changed.json")
         self.assertEqual(status, 0)
         data = data_of(text)
-        for run, kept in enumerate(("expected.txt", "expected-changed.txt")):
+        for run, kept in enumerate(("stdout", "under-the-changed-configuration/stdout")):
             reader = Reader(data, run)
             printed = [line for cursor in range(1, reader.last + 1) for line in reader.printed(cursor)]
             self.assertEqual(printed, (RELOAD / kept).read_text().splitlines())

@@ -64,7 +64,7 @@ static int is_chosen(int fd) {
     return strcmp(found, path) == 0;
 }
 
-/* How many bytes a call moves: all, or of the chosen file one; -1 where it fails, with the error set. */
+/* How many bytes a call moves: all, or of the chosen file one; -1 if it fails, with the error set. */
 static ssize_t moved(int fd, size_t count) {
     if (!is_chosen(fd)) {
         return (ssize_t)count;

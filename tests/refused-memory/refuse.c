@@ -1,8 +1,8 @@
 /* Refuses memory to the program that it is loaded into (LD_PRELOAD).
  *
  * REFUSE_AT    the number of the first growth that is refused, from 1; absent: none is
- * REFUSE_ALL   where it is set, each growth from then on is refused too
- * COUNT_TO     where it is set, a file that gets the number of growths at the end
+ * REFUSE_ALL   if it is set, each growth from then on is refused too
+ * COUNT_TO     if it is set, a file that gets the number of growths at the end
  *
  * A growth is a call of malloc, calloc, aligned_alloc or posix_memalign, and one of realloc for more bytes.
  */
