@@ -1,4 +1,4 @@
--- Items in parts, which go by the order of the items.
+-- Items in parts: the items of a part are next to each other in the order.
 use Rattle.std.specs.Prelude.{◌≡◌, List, refl}
 use Rattle.std.proofs.Common.{sym, ap, ◌∙◌}
 use Rattle.std.specs.List.{filter}
@@ -8,7 +8,7 @@ use Rattle.std.specs.declared.cmp.Ordering.TheVariants.{Less, Equal, Greater}
 use Rattle.std.specs.Ordering.{is_eq, ordering_then, ordering_reverse}
 
 module _ {D P : Type 0} where
-  -- what is before an item that is before the part is before the part too, and likewise after it
+  -- what is before an item that is before a part is before that part too; what is after an item that is after a part is after that part too
   pub record IsInParts (cmp : D → D → Ordering) (part_cmp : D → P → Ordering) : Type 0 where
     pub before : (a b : D) (part : P) → cmp a b ≡ Less → part_cmp b part ≡ Less → part_cmp a part ≡ Less
     pub after : (a b : D) (part : P) → cmp a b ≡ Less → part_cmp a part ≡ Greater → part_cmp b part ≡ Greater
@@ -17,7 +17,7 @@ module _ {D P : Type 0} where
   abbrev pub items_of : (D → P → Ordering) → List D → P → List D
   items_of part_cmp items part = filter (λ item. is_eq (part_cmp item part)) items
 
-module _ {P : Type 0} (R : P → P → Ordering) (o : IsTotalOrder R) where
+module _ {P : Type 0} {R : P → P → Ordering} (o : IsTotalOrder R) where
   turned : (x y : P) → R x y ≡ Greater → R y x ≡ Less
   turned x y e = o.antisymm y x ∙ ap ordering_reverse e
 

@@ -105,7 +105,7 @@ impl<D: Drop> Tree<D> {
     }
 
     /// Takes the tree apart at its root, if it has one.
-    fn part(self) -> Option<Parts<D>>
+    fn take_apart(self) -> Option<Parts<D>>
         ensures { MatchOption result (self ≡ ([], 0)) (IsPartsOf self) }
     {
         let mut memory = self.root?;
@@ -166,14 +166,14 @@ fn lean_right<D: Drop>(memory: Box<Node<D>>, left: Tree<D>, item: D, right: Tree
     ensures list { result.0 ≡ left.0 ++ item ∷ right.0 }
     ensures height { (left.1 ≤ result.1) × (result.1 ≤ left.1 + 1) }
 {
-    let Some(outer) = left.part() else {
+    let Some(outer) = left.take_apart() else {
         unreachable!()
     };
     if outer.left.height() >= outer.right.height() {
         let lower = fork(memory, outer.right, item, right);
         return fork(outer.memory, outer.left, outer.item, lower);
     }
-    let Some(inner) = outer.right.part() else {
+    let Some(inner) = outer.right.take_apart() else {
         unreachable!()
     };
     let first = fork(outer.memory, outer.left, outer.item, inner.left);
@@ -188,14 +188,14 @@ fn lean_left<D: Drop>(memory: Box<Node<D>>, left: Tree<D>, item: D, right: Tree<
     ensures list { result.0 ≡ left.0 ++ item ∷ right.0 }
     ensures height { (right.1 ≤ result.1) × (result.1 ≤ right.1 + 1) }
 {
-    let Some(outer) = right.part() else {
+    let Some(outer) = right.take_apart() else {
         unreachable!()
     };
     if outer.right.height() >= outer.left.height() {
         let lower = fork(memory, left, item, outer.left);
         return fork(outer.memory, lower, outer.item, outer.right);
     }
-    let Some(inner) = outer.left.part() else {
+    let Some(inner) = outer.left.take_apart() else {
         unreachable!()
     };
     let first = fork(memory, left, item, inner.left);
@@ -252,7 +252,7 @@ pub(crate) fn put<D: Ord + Drop>(tree: Tree<D>, memory: Box<Node<D>>, item: D) -
     ensures longer { length result.0 ≡ length tree.0 + 1 }
     ensures height { (tree.1 ≤ result.1) × (result.1 ≤ tree.1 + 1) }
 {
-    let Some(parts) = tree.part() else {
+    let Some(parts) = tree.take_apart() else {
         return fork(memory, Tree::new(), item, Tree::new());
     };
     if item.cmp(&parts.item).is_lt() {
@@ -269,7 +269,7 @@ fn take_first<D: Drop>(tree: Tree<D>) -> Option<First<D>>
     requires fits { length tree.0 < 2 ^ 64 }
     ensures { MatchOption result (tree ≡ ([], 0)) (IsFirstOf tree) }
 {
-    let parts = tree.part()?;
+    let parts = tree.take_apart()?;
     match take_first(parts.left) {
         None => Some(First {
             item: parts.item,
@@ -313,7 +313,7 @@ pub(crate) fn take<D: Ord + Drop>(tree: Tree<D>, item: &D) -> Taken<D>
     ensures shorter { length tree.0 ≡ length result.tree.0 + count_of result.memory }
     ensures height { (tree.1 ≤ result.tree.1 + 1) × (result.tree.1 ≤ tree.1) }
 {
-    let Some(parts) = tree.part() else {
+    let Some(parts) = tree.take_apart() else {
         return Taken {
             tree: Tree::new(),
             memory: None,
