@@ -11,7 +11,7 @@ module _ {K V : Type 0} where
 
 module _ {X : Type 0} (test : X → Bool) where
   pub kept : (x : X) (xs : List X) → test x ≡ true → filter test (x ∷ xs) ≡ x ∷ filter test xs
-  kept x xs yes = ap (λ b. cond b (x ∷ filter test xs) (filter test xs)) yes
+  kept x xs is_so = ap (λ b. cond b (x ∷ filter test xs) (filter test xs)) is_so
 
   pub left_out : (x : X) (xs : List X) → test x ≡ false → filter test (x ∷ xs) ≡ filter test xs
-  left_out x xs no = ap (λ b. cond b (x ∷ filter test xs) (filter test xs)) no
+  left_out x xs is_not = ap (λ b. cond b (x ∷ filter test xs) (filter test xs)) is_not

@@ -24,22 +24,26 @@ module _ {X : Type 0} where
   find-filter wanted kept h (x ∷ xs) =
       first_kept wanted kept x xs (wanted x) (kept x) refl refl (h x) (find-filter wanted kept h xs)
 
+  passes_first : (wanted test : X → Bool) (w : Bool) (y : X) (ys : List X) (x : X) → cond w (Some y) (find wanted ys) ≡ Some x
+      → test y ≡ true → (find wanted ys ≡ Some x → test x ≡ true) → test x ≡ true
+  passes_first wanted test true y ys x is first later = let same : y ≡ x = cc in ap test (sym same) ∙ first
+  passes_first wanted test false y ys x is first later = later is
+
   -- what holds of all holds of what is found
   found_passes : (wanted test : X → Bool) (xs : List X) (x : X) → find wanted xs ≡ Some x → list_all test xs ≡ true → test x ≡ true
   found_passes wanted test [] x is all = cc
-  found_passes wanted test (y ∷ ys) x is all = at (wanted y) is where
-    at : (b : Bool) → cond b (Some y) (find wanted ys) ≡ Some x → test x ≡ true
-    at true e = let same : y ≡ x = cc in ap test (sym same) ∙ (and_parts (test y) (list_all test ys) all).0
-    at false e = found_passes wanted test ys x e (and_parts (test y) (list_all test ys) all).1
+  found_passes wanted test (y ∷ ys) x is all =
+      let parts = and_parts (test y) (list_all test ys) all in
+      passes_first wanted test (wanted y) y ys x is parts.0 (λ later. found_passes wanted test ys x later parts.1)
 
 -- a source agrees with the target on the labels of the rule
 agrees : (now : Moment) (rule : InhibitRule) (target : LabelSet) (source : LabelSet × Alert) → inhibits now rule source target ≡ true → agree_on rule.equal source.0 target ≡ true
-agrees now rule target source yes =
-    let mutes : rule_mutes rule source.0 target ≡ true = (and_parts (not (is_resolved_at now source.1)) (rule_mutes rule source.0 target) yes).1 in
-    let both : Bool = all_hold rule.source target && all_hold rule.target source.0 in
+agrees now rule target source mutes_it =
+    let mutes : rule_mutes rule source.0 target ≡ true = (and_parts (not (is_resolved_at now source.1)) (rule_mutes rule source.0 target) mutes_it).1 in
+    let matched : Bool = all_hold rule.target target && all_hold rule.source source.0 in
     let agree : Bool = agree_on rule.equal source.0 target in
-    let by_source : (all_hold rule.source source.0 && (agree && not both)) ≡ true = (and_parts (all_hold rule.target target) _ mutes).1 in
-    (and_parts agree (not both) (and_parts (all_hold rule.source source.0) _ by_source).1).0
+    let both : Bool = all_hold rule.source target && all_hold rule.target source.0 in
+    (and_parts matched agree (and_parts (matched && agree) (not both) mutes).0).1
 
 pub inhibitor_by-sharing : (now : Moment) (target : LabelSet) (alerts : Alerts) (rule : InhibitRule)
     → first_source now rule target (sharing (first_label rule.equal target) alerts) ≡ inhibitor_by now target alerts rule
@@ -53,4 +57,4 @@ inhibitor_by-sharing now target alerts rule = by (find has rule.equal) refl wher
   by (Some name) is =
       ap (option_map (λ source. source.0))
       (find-filter (λ source. inhibits now rule source target) (λ source. has_value name (value_of target name) source.0)
-      (λ source yes. found_passes has (λ name. has_value name (value_of target name) source.0) rule.equal name is (agrees now rule target source yes)) (entries alerts))
+      (λ source mutes_it. found_passes has (λ name. has_value name (value_of target name) source.0) rule.equal name is (agrees now rule target source mutes_it)) (entries alerts))
