@@ -1,5 +1,4 @@
 use Rattle.std.proofs.Common.{◌≡◌, map, drop}
-use Rattle.std.specs.List.{find}
 use Rattle.std.specs.Map.Iter.{deref_pair}
 use Rattle.amr_rules.specs.Muting.{first_source}
 use Rattle.amr_rules.proofs.muting.first_source.Given as goal
