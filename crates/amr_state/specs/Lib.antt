@@ -1,6 +1,7 @@
 pub mod State
 pub mod Dues
 pub mod Timed
+pub mod Rostered
 pub mod Stored
 pub mod Steps
 pub mod Seen
