@@ -36,6 +36,10 @@ membership_cmp-IsAntisymmetric a b tie =
 abbrev pub membership_of : Config → Spot → Membership
 membership_of config spot = record { group = group_spot config spot; labels = spot.labels }
 
+-- the membership of the same alert in a group that is given
+abbrev pub in_group : Spot → Spot → Membership
+in_group group spot = record { group = group; labels = spot.labels }
+
 -- the place of a member: on its group's route, under its labels
 abbrev pub spot_of : Membership → Spot
 spot_of member = spot_at member.group.route member.labels

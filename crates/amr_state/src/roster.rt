@@ -1,10 +1,10 @@
 //! The configuration with the members of all groups, and the index of the members by group.
-ghost use Rattle.std.specs.Prelude.{◌≡◌, ◌<◌, ◌+◌, IsTrue, is_some, length, OnOk, OnErr, IfOk};
+ghost use Rattle.std.specs.Prelude.{◌≡◌, ◌<◌, ◌+◌, IsTrue, is_some, option_map, length, OnOk, OnErr, IfOk};
 ghost use Rattle.amr_labels.specs.Map as map;
 ghost use Rattle.amr_tables.specs.Numbered.{shown, has_place, Enters, KeepsPlaces, SamePlaces, SameEntered, NoneEntered, IsUnchanged};
 ghost use Rattle.amr_tables.specs.Queued.{in_order};
 ghost use Rattle.amr_state.specs.State.{spot_cmp, group_spot};
-ghost use Rattle.amr_state.specs.Rostered.{membership_cmp, membership_of, memberships, spot_of, member_entry_of, enrolled, CanEnrol};
+ghost use Rattle.amr_state.specs.Rostered.{membership_cmp, membership_of, memberships, spot_of, in_group, member_entry_of, enrolled, CanEnrol};
 
 use crate::membership::Membership;
 use crate::placing::group_spot;
@@ -120,10 +120,7 @@ impl Roster {
         let is = alert.is_some();
         let entry = change(&mut self.placements, journal, spot, alert)?;
         enrol(&mut self.index, member, was, is);
-        Ok(match entry {
-            None => None,
-            Some((Spot { route: _, labels }, alert)) => Some((Membership { group, labels }, alert)),
-        })
+        Ok(member_entry(group, entry))
     }
 
     /// Puts a member, or none, back into its group. It takes no memory.
@@ -159,6 +156,21 @@ impl Roster {
     {
         mem::replace(&mut self.config, config)
     }
+}
+
+/// Returns an entry of a place as one of a member of the group.
+fn member_entry(
+    group: Spot,
+    entry: Option<(Spot, Option<Alert>)>,
+) -> Option<(Membership, Option<Alert>)>
+    ensures { result ≡ option_map (λ entry. (in_group group entry.0, entry.1)) entry }
+{
+    let (spot, alert) = entry?;
+    let member = Membership {
+        group,
+        labels: spot.labels,
+    };
+    Some((member, alert))
 }
 
 /// Returns whether an alert is placed there.
