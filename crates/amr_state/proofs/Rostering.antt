@@ -21,8 +21,8 @@ use Rattle.amr_tables.specs.Queued.{Queued, has, in_order, without}
 use Rattle.amr_tables.proofs.Queueing.{sorted_inserted, sorted_in_order, sorted_without, has_inserted, has_in_order, has_without, same_from_members}
 use Rattle.amr_state.specs.declared.spot.Spot.{Spot}
 use Rattle.amr_state.specs.declared.membership.Membership.{Membership}
-use Rattle.amr_state.specs.State.{spot_at, spot_cmp, spot_cmp_total, spot_cmp-IsAntisymmetric, group_spot}
-use Rattle.amr_state.specs.Rostered.{membership_cmp, membership_cmp_total, membership_cmp-IsAntisymmetric, membership_of, in_group, spot_of, member_entry_of, memberships, members_among, IsIndexed, enrolled, CanEnrol}
+use Rattle.amr_state.specs.State.{spot_of, spot_cmp, spot_cmp_total, spot_cmp-IsAntisymmetric, group_spot}
+use Rattle.amr_state.specs.Rostered.{membership_cmp, membership_cmp_total, membership_cmp-IsAntisymmetric, membership_of, in_group, member_entry_of, memberships, members_among, IsIndexed, enrolled, CanEnrol}
 
 -- ---- truth values
 

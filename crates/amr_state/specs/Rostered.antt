@@ -40,10 +40,6 @@ membership_of config spot = record { group = group_spot config spot; labels = sp
 abbrev pub in_group : Spot → Spot → Membership
 in_group group spot = record { group = group; labels = spot.labels }
 
--- the place of a member: on its group's route, under its labels
-abbrev pub spot_of : Membership → Spot
-spot_of member = spot_at member.group.route member.labels
-
 abbrev pub memberships : Config → Map spot_cmp Alert → List Membership
 memberships config placements = map (membership_of config) (keys placements)
 

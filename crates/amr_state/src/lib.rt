@@ -16,8 +16,8 @@ pub mod views;
 
 pub use displaced::Displaced;
 pub use due::{Due, Kind, next_due};
-pub use membership::Membership;
 pub use members::{Member, members_of};
+pub use membership::Membership;
 pub use note::{Clock, FiringAlert, LogKey, Note, ResolvedAlert};
 pub use placing::{group_spot, place};
 pub use spot::Spot;

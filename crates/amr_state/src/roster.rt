@@ -3,8 +3,8 @@ ghost use Rattle.std.specs.Prelude.{◌≡◌, ◌<◌, ◌+◌, IsTrue, is_some
 ghost use Rattle.amr_labels.specs.Map as map;
 ghost use Rattle.amr_tables.specs.Numbered.{shown, has_place, Enters, KeepsPlaces, SamePlaces, SameEntered, NoneEntered, IsUnchanged};
 ghost use Rattle.amr_tables.specs.Queued.{in_order};
-ghost use Rattle.amr_state.specs.State.{spot_cmp, group_spot};
-ghost use Rattle.amr_state.specs.Rostered.{membership_cmp, membership_of, memberships, spot_of, in_group, member_entry_of, enrolled, CanEnrol};
+ghost use Rattle.amr_state.specs.State.{spot_of, spot_cmp, group_spot};
+ghost use Rattle.amr_state.specs.Rostered.{membership_cmp, membership_of, memberships, in_group, member_entry_of, enrolled, CanEnrol};
 
 use crate::membership::Membership;
 use crate::placing::group_spot;
