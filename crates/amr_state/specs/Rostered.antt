@@ -17,7 +17,7 @@ use Rattle.amr_tables.specs.Numbered.{Numbered, shown, entry_of, HasPlaces}
 use Rattle.amr_tables.specs.Queued.{Queued, has, in_order, without}
 use Rattle.amr_state.specs.declared.spot.Spot.{Spot}
 use Rattle.amr_state.specs.declared.membership.Membership.{Membership}
-use Rattle.amr_state.specs.State.{spot_at, spot_cmp, spot_cmp_total, spot_cmp-IsAntisymmetric, group_spot}
+use Rattle.amr_state.specs.State.{spot_cmp, spot_cmp_total, spot_cmp-IsAntisymmetric, group_spot}
 
 -- by group and labels
 abbrev pub membership_cmp : Membership → Membership → Ordering
