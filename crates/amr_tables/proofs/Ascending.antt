@@ -1,7 +1,6 @@
 -- A list in ascending order, around one of its items.
-use Rattle.std.proofs.Common.{◌≡◌, Bool, true, false, not, ◌||◌, Option, Some, None, List, [], ◌∷◌, ◌++◌, refl, sym, ap, ◌∙◌, subst, true≢false}
-use Rattle.std.specs.List.{AllByRecursion, list_any, find, filter}
-use Rattle.std.specs.Option.{option_or}
+use Rattle.std.proofs.Common.{◌≡◌, Bool, true, false, not, ◌||◌, List, [], ◌∷◌, ◌++◌, refl, sym, ap, ◌∙◌, subst, true≢false, append-nil}
+use Rattle.std.specs.List.{AllByRecursion, list_any, filter}
 use Rattle.std.specs.List.Sorted.{IsStrictlySortedBy}
 use Rattle.std.specs.declared.cmp.Ordering.{Ordering}
 use Rattle.std.specs.declared.cmp.Ordering.TheVariants.{Less, Equal, Greater}
@@ -9,8 +8,9 @@ use Rattle.std.specs.Ordering.{eq_by_cmp, is_eq, is_lt, match_ordering, ordering
 use Rattle.std.specs.Cmp.{IsTotalOrder}
 use Rattle.std.specs.BTreeSet.{insert_key}
 use Rattle.std.proofs.lemmas.List.Elements.{filter-append}
-use Rattle.std.proofs.lemmas.List.Folds.{list_any-append, find-append}
-use Rattle.amr_tables.specs.Queued.{has, found, without}
+use Rattle.std.proofs.lemmas.List.Folds.{list_any-append}
+use Rattle.amr_tables.specs.InParts.{IsInParts, items_of}
+use Rattle.amr_tables.specs.Queued.{has, without}
 
 module _ {D : Type 0} where
   all_map : (P Q : D → Type 0) → ((y : D) → P y → Q y) → (l : List D) → AllByRecursion P l → AllByRecursion Q l
@@ -34,13 +34,9 @@ module _ {D : Type 0} where
   none_pass p [] a = refl
   none_pass p (y ∷ l) a = rw a.0 (none_pass p l a.1)
 
-  none_found : (p : D → Bool) (l : List D) → AllByRecursion (λ y. p y ≡ false) l → find p l ≡ None
-  none_found p [] a = refl
-  none_found p (y ∷ l) a = rw a.0 (none_found p l a.1)
-
-  or_none : (a : Option D) → option_or a None ≡ a
-  or_none None = refl
-  or_none (Some y) = refl
+  none_kept : (p : D → Bool) (l : List D) → AllByRecursion (λ y. p y ≡ false) l → filter p l ≡ []
+  none_kept p [] a = refl
+  none_kept p (y ∷ l) a = rw a.0 (none_kept p l a.1)
 
   all_stay : (p : D → Bool) (l : List D) → AllByRecursion (λ y. p y ≡ false) l → filter (λ y. not (p y)) l ≡ l
   all_stay p [] a = refl
@@ -159,24 +155,6 @@ module _ {D : Type 0} (R : D → D → Ordering) where
       pub has_middle : R k x ≡ Equal → has R tree k ≡ true
       has_middle e = split_any ∙ rw e (or_true (has R l k))
 
-      split_found : found R tree k ≡ option_or (found R l k) (found R (x ∷ r) k)
-      split_found = ap (λ t. found R t k) is ∙ find-append (eq_by_cmp R k) l (x ∷ r)
-
-      pub found_left : R k x ≡ Less → found R tree k ≡ found R l k
-      found_left e =
-          let a : found R r k ≡ None = none_found (eq_by_cmp R k) r (above e) in
-          split_found ∙ rw (e, a) (or_none _)
-
-      pub found_right : R k x ≡ Greater → found R tree k ≡ found R r k
-      found_right e =
-          let a : found R l k ≡ None = none_found (eq_by_cmp R k) l (below e) in
-          split_found ∙ rw (e, a)
-
-      pub found_middle : R k x ≡ Equal → found R tree k ≡ Some x
-      found_middle e =
-          let a : found R l k ≡ None = none_found (eq_by_cmp R k) l (misses_below k l (all_map _ _ (λ y h. like_below k x y e h) l (left_below l x r whole))) in
-          split_found ∙ rw (e, a)
-
       pub without_left : R k x ≡ Less → without R tree k ≡ without R l k ++ x ∷ r
       without_left e =
           let a : without R r k ≡ r = all_stay (eq_by_cmp R k) r (above e) in
@@ -202,3 +180,20 @@ module _ {D : Type 0} (R : D → D → Ordering) where
       -- what isn't below x and isn't in the list is above x
       pub is_above : has R tree k ≡ false → is_lt (R k x) ≡ false → R k x ≡ Greater
       is_above absent e = above_of (R k x) e (not_tied (has R l k) _ _ (sym split_any ∙ absent))
+
+  module _ {P : Type 0} (Q : D → P → Ordering) (parts : IsInParts R Q) (tree l : List D) (x : D) (r : List D) (p : P) (is : tree ≡ l ++ x ∷ r) (sorted : IsStrictlySortedBy R tree) where
+    in_order : IsStrictlySortedBy R (l ++ x ∷ r)
+    in_order = subst (IsStrictlySortedBy R) is sorted
+
+    split_items : items_of Q tree p ≡ items_of Q l p ++ items_of Q (x ∷ r) p
+    split_items = ap (λ t. items_of Q t p) is ∙ filter-append (λ y. is_eq (Q y p)) l (x ∷ r)
+
+    pub items_left : Q x p ≡ Greater → items_of Q tree p ≡ items_of Q l p
+    items_left e =
+        let a : items_of Q r p ≡ [] = none_kept (λ y. is_eq (Q y p)) r (all_map _ _ (λ y h. ap is_eq (parts.after x y p h e)) r (right_above l x r in_order)) in
+        split_items ∙ rw (e, a) (append-nil _)
+
+    pub items_right : Q x p ≡ Less → items_of Q tree p ≡ items_of Q r p
+    items_right e =
+        let a : items_of Q l p ≡ [] = none_kept (λ y. is_eq (Q y p)) l (all_map _ _ (λ y h. ap is_eq (parts.before y x p h e)) l (left_below l x r in_order)) in
+        split_items ∙ rw (e, a)

@@ -1,6 +1,6 @@
 -- Laws of a queue's list: that it is in order, what is in it, and that both determine it.
 use Rattle.std.proofs.Common.{◌≡◌, Bool, true, false, cond, not, ◌||◌, ◌&&◌, List, [], ◌∷◌, Some, refl, sym, ap, ◌∙◌, subst, true≢false}
-use Rattle.std.specs.Prelude.{slice_get, is_some}
+use Rattle.std.specs.Prelude.{slice_get}
 use Rattle.std.specs.List.{AllByRecursion}
 use Rattle.std.specs.List.Sorted.{IsStrictlySortedBy}
 use Rattle.std.specs.declared.cmp.Ordering.{Ordering}
@@ -11,7 +11,7 @@ use Rattle.std.specs.FinMap.{IsAntisymmetric}
 use Rattle.std.specs.BTreeSet.{insert_key}
 use Rattle.std.proofs.lemmas.Cmp.{tied_back, tied_itself, alike_right, eq_by_cmp_equiv}
 use Rattle.std.proofs.lemmas.List.Kept.{IsStrictlySortedBy-filter}
-use Rattle.amr_tables.specs.Queued.{has, found, in_order, without, IsLeast}
+use Rattle.amr_tables.specs.Queued.{has, in_order, without, IsLeast}
 
 pub sorted_none : {D : Type 0} (R : D → D → Ordering) → IsStrictlySortedBy R []
 unfolding IsStrictlySortedBy
@@ -26,10 +26,6 @@ module _ {D : Type 0} (R : D → D → Ordering) where
         | Equal ↦ a
         | Greater ↦ (a.0, all_inserted P l k p a.1)
       ]
-
-  pub has_found : (l : List D) (k : D) → is_some (found R l k) ≡ has R l k
-  has_found [] k = refl
-  has_found (x ∷ l) k = elim (eq_by_cmp R k x) as (λ b. is_some (cond b (Some x) (found R l k)) ≡ (b || has R l k)) [ true ↦ refl | false ↦ has_found l k ]
 
   pub sorted_without : (l : List D) (k : D) → IsStrictlySortedBy R l → IsStrictlySortedBy R (without R l k)
   sorted_without l k s = IsStrictlySortedBy-filter R (λ other. not (eq_by_cmp R k other)) l s
@@ -190,24 +186,3 @@ module _ {D : Type 0} (R : D → D → Ordering) where
         let first : x ≡ y = same_firsts exact x y l m s t same in
         let rest : l ≡ m = same_from_members exact l m (tail x l s) (tail y m t) (same_from_first x y l m first s t same) in
         cc
-
-    pub same_in_order : IsAntisymmetric R → (l m : List D) → ((q : D) → has R l q ≡ has R m q) → in_order R l ≡ in_order R m
-    same_in_order exact l m same =
-        same_from_members exact _ _ (sorted_in_order l) (sorted_in_order m) (λ q. has_in_order l q ∙ same q ∙ sym (has_in_order m q))
-
-    pub has_itself_inserted : (l : List D) (k : D) → has R (insert_key R l k) k ≡ true
-    has_itself_inserted l k = has_inserted l k k ∙ rw (tied_itself o k)
-
-    -- what is found is the due itself
-    pub found_itself : IsAntisymmetric R → (l : List D) (k : D) → has R l k ≡ true → found R l k ≡ Some k
-    found_itself exact [] k h = absurd (true≢false (sym h))
-    found_itself exact (x ∷ l) k h =
-        elim (eq_by_cmp R k x) as (λ b. eq_by_cmp R k x ≡ b → (b || has R l k) ≡ true → cond b (Some x) (found R l k) ≡ Some k) [
-          | true ↦ λ e _. ap Some (sym (exact k x (equal_of (R k x) e)))
-          | false ↦ λ _ w. found_itself exact l k w
-        ] refl h
-
-    pub without_in_order : IsAntisymmetric R → (l : List D) (k : D) → without R (in_order R l) k ≡ in_order R (without R l k)
-    without_in_order exact l k =
-        same_from_members exact _ _ (sorted_without (in_order R l) k (sorted_in_order l)) (sorted_in_order (without R l k))
-        (λ q. has_without (in_order R l) k q ∙ ap (λ b. not (eq_by_cmp R q k) && b) (has_in_order l q) ∙ sym (has_in_order (without R l k) q ∙ has_without l k q))

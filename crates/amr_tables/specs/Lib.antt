@@ -6,4 +6,5 @@ pub mod Numbered
 pub mod Balanced
 pub mod BalancedFalls
 pub mod Parted
+pub mod InParts
 pub mod Queued

@@ -1,7 +1,7 @@
 -- A queue as a list.
 use Rattle.std.specs.Prelude.{◌≡◌, ℕ, ◌+◌, ◌≤◌, Bool, false, not, ◌||◌, ◌&&◌, IsTrue, Option, None, Some, List, [], ◌∷◌, length, map, refl}
 use Rattle.std.specs.Borrow.{Bor}
-use Rattle.std.specs.List.{list_any, find, filter}
+use Rattle.std.specs.List.{list_any, filter}
 use Rattle.std.specs.List.Sorted.{IsStrictlySortedBy}
 use Rattle.std.specs.declared.cmp.Ordering.{Ordering}
 use Rattle.std.specs.Ordering.{eq_by_cmp, is_gt}
@@ -30,10 +30,6 @@ module _ {D : Type 0} (cmp : D → D → Ordering) where
   -- whether the due, or one that compares equal to it, is in the list
   abbrev pub has : List D → D → Bool
   has dues due = list_any (eq_by_cmp cmp due) dues
-
-  -- the due in the list that compares equal to the due
-  abbrev pub found : List D → D → Option D
-  found dues due = find (eq_by_cmp cmp due) dues
 
   -- the list in order; of those that compare equal one is kept
   abbrev pub in_order : List D → List D

@@ -4,8 +4,10 @@ ghost use Rattle.std.specs.Prelude.{vec_len, vec_capacity};
 ghost use Rattle.std.specs.List.Sorted.{IsStrictlySortedBy};
 ghost use Rattle.std.specs.Option.{option_copied};
 ghost use Rattle.std.specs.BTreeSet.{insert_key};
-ghost use Rattle.amr_tables.specs.Queued.{values_of, has, found, without, count_of, IsLeast, HasMore, HasLess};
+ghost use Rattle.amr_tables.specs.InParts.{items_of};
+ghost use Rattle.amr_tables.specs.Queued.{values_of, has, without, IsLeast, HasMore, HasLess};
 
+use crate::parts::InParts;
 use crate::tree::{self, Node, Tree};
 use std::alloc::{AllocError, Global};
 use std::marker::Model;
@@ -47,26 +49,11 @@ impl<D: Ord + Drop> Queue<D> {
         }
     }
 
-    /// Returns how many dues there are.
-    pub fn len(&self) -> usize
-        ensures len { result ≡ length self.now.dues }
-        ensures sorted { IsStrictlySortedBy D.cmp self.now.dues }
-    {
-        self.len
-    }
-
     /// Returns how many dues more there is room for.
     pub fn room(&self) -> usize
         ensures { result ≡ self.now.room }
     {
         self.spares.len()
-    }
-
-    /// Returns whether a due is in the queue.
-    pub fn contains(&self, due: &D) -> bool
-        ensures { result ≡ has D.cmp self.now.dues due.now }
-    {
-        tree::contains(&self.tree, due)
     }
 
     /// Returns the first due.
@@ -76,15 +63,6 @@ impl<D: Ord + Drop> Queue<D> {
         ensures sorted { IsStrictlySortedBy D.cmp self.now.dues }
     {
         self.tree.first()
-    }
-
-    /// Lists the dues in order.
-    pub fn list(&self) -> Result<Vec<&D>, AllocError>
-        ensures { IfOk result (λ dues. values_of dues.items ≡ self.now.dues) }
-    {
-        let mut dues = Vec::new(self.alloc);
-        tree::list(&self.tree, &mut dues)?;
-        Ok(dues)
     }
 
     /// Makes room for `n` dues beside those that are there.
@@ -134,35 +112,30 @@ impl<D: Ord + Drop> Queue<D> {
         ensures room { self.new.room ≡ self.old.room + (if result then 1 else 0) }
         ensures len { length self.old.dues ≡ length self.new.dues + (if result then 1 else 0) }
     {
-        self.take_out(due).is_some()
-    }
-
-    /// Takes a due out of the queue, if it is there, and returns it. It takes no memory.
-    pub fn take_out(&mut self, due: &D) -> Option<D>
-        ensures found { result ≡ found D.cmp self.old.dues due.now }
-        ensures dues { self.new.dues ≡ without D.cmp self.old.dues due.now }
-        ensures members { HasLess D.cmp self.old.dues due.now self.new.dues }
-        ensures sorted { IsStrictlySortedBy D.cmp self.new.dues }
-        ensures room { self.new.room ≡ self.old.room + count_of result }
-        ensures len { length self.old.dues ≡ length self.new.dues + count_of result }
-    {
         let dues = mem::replace(&mut self.tree, Tree::new());
         let taken = tree::take(dues, due);
         self.tree = taken.tree;
-        let found = taken.found?;
-        self.len -= 1;
-        self.spares.push_reserved(found.memory);
-        Some(found.item)
+        match taken.memory {
+            None => false,
+            Some(memory) => {
+                self.len -= 1;
+                self.spares.push_reserved(memory);
+                true
+            }
+        }
     }
+}
 
-    /// Takes all dues out of the queue. It takes no memory.
-    pub fn clear(&mut self)
-        ensures dues { self.new.dues ≡ [] }
-        ensures room { self.new.room ≡ self.old.room + length self.old.dues }
+impl<D: InParts> Queue<D> {
+    /// Lists the dues of a part, in order. It passes over the other parts, so the time grows with the number of dues listed and with the
+    /// logarithm of the length of the queue.
+    pub fn part(&self, part: &D::Part) -> Result<Vec<&D>, AllocError>
+        ensures { IfOk result (λ dues. values_of dues.items
+            ≡ items_of D.part_cmp self.now.dues part.now) }
     {
-        let dues = mem::replace(&mut self.tree, Tree::new());
-        tree::scrap(dues, &mut self.spares);
-        self.len = 0;
+        let mut dues = Vec::new(self.alloc);
+        tree::list_part(&self.tree, part, &mut dues)?;
+        Ok(dues)
     }
 }
 

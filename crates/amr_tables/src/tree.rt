@@ -1,13 +1,15 @@
 //! A balanced tree: a list that is changed at a place in a number of steps that grows with the logarithm of its length. Calls nest as
 //! deep as the tree is high, and its height is at most about twice that logarithm.
-ghost use Rattle.std.specs.Prelude.{◌≡◌, ◌+◌, ◌^◌, ◌<◌, ◌≤◌, [], ◌∷◌, ◌++◌, length, max, OnOk, MatchOption, option_map, slice_get, vec_len, vec_capacity, false};
+ghost use Rattle.std.specs.Prelude.{◌≡◌, ◌+◌, ◌^◌, ◌<◌, ◌≤◌, [], ◌∷◌, ◌++◌, length, max, OnOk, MatchOption, is_some, slice_get, false};
 ghost use Rattle.std.specs.List.Sorted.{IsStrictlySortedBy};
 ghost use Rattle.std.specs.Option.{option_copied};
 ghost use Rattle.std.specs.BTreeSet.{insert_key};
 ghost use Rattle.amr_tables.specs.Balanced.{node_view, IsBalanced, DifferByAtMost, IsHeightOf, IsLow};
+ghost use Rattle.amr_tables.specs.InParts.{items_of};
 ghost use Rattle.amr_tables.specs.Parted.{IsPartsOf, IsFirstOf};
-ghost use Rattle.amr_tables.specs.Queued.{values_of, has, found, without, count_of};
+ghost use Rattle.amr_tables.specs.Queued.{values_of, has, without, count_of};
 
+use crate::parts::InParts;
 use std::alloc::AllocError;
 use std::cmp::Ordering;
 use std::marker::Model;
@@ -103,7 +105,7 @@ impl<D: Drop> Tree<D> {
     }
 
     /// Takes the tree apart at its root, if it has one.
-    fn part(self) -> Option<Parts<D>>
+    fn take_apart(self) -> Option<Parts<D>>
         ensures { MatchOption result (self ≡ ([], 0)) (IsPartsOf self) }
     {
         let mut memory = self.root?;
@@ -164,14 +166,14 @@ fn lean_right<D: Drop>(memory: Box<Node<D>>, left: Tree<D>, item: D, right: Tree
     ensures list { result.0 ≡ left.0 ++ item ∷ right.0 }
     ensures height { (left.1 ≤ result.1) × (result.1 ≤ left.1 + 1) }
 {
-    let Some(outer) = left.part() else {
+    let Some(outer) = left.take_apart() else {
         unreachable!()
     };
     if outer.left.height() >= outer.right.height() {
         let lower = fork(memory, outer.right, item, right);
         return fork(outer.memory, outer.left, outer.item, lower);
     }
-    let Some(inner) = outer.right.part() else {
+    let Some(inner) = outer.right.take_apart() else {
         unreachable!()
     };
     let first = fork(outer.memory, outer.left, outer.item, inner.left);
@@ -186,14 +188,14 @@ fn lean_left<D: Drop>(memory: Box<Node<D>>, left: Tree<D>, item: D, right: Tree<
     ensures list { result.0 ≡ left.0 ++ item ∷ right.0 }
     ensures height { (right.1 ≤ result.1) × (result.1 ≤ right.1 + 1) }
 {
-    let Some(outer) = right.part() else {
+    let Some(outer) = right.take_apart() else {
         unreachable!()
     };
     if outer.right.height() >= outer.left.height() {
         let lower = fork(memory, left, item, outer.left);
         return fork(outer.memory, lower, outer.item, outer.right);
     }
-    let Some(inner) = outer.left.part() else {
+    let Some(inner) = outer.left.take_apart() else {
         unreachable!()
     };
     let first = fork(memory, left, item, inner.left);
@@ -209,47 +211,36 @@ struct First<D> {
     rest: Tree<D>,
 }
 
-/// Returns whether an item is in a tree.
-pub(crate) fn contains<D: Ord>(tree: &Tree<D>, item: &D) -> bool
+/// Lists the items of a part of a tree, in order, after those that are listed. It visits a side of a fork only if that can have such items.
+pub(crate) fn list_part<'a, D: InParts>(
+    tree: &'a Tree<D>,
+    part: &D::Part,
+    items: &mut Vec<&'a D>,
+) -> Result<(), AllocError>
     requires { IsStrictlySortedBy D.cmp tree.now.0 }
-    ensures { result ≡ has D.cmp tree.now.0 item.now }
+    ensures { OnOk result (values_of items.new.items
+        ≡ values_of items.old.items ++ items_of D.part_cmp tree.now.0 part.now) }
 {
     match &tree.root {
-        None => false,
+        None => Ok(()),
         Some(node) => match &**node {
-            Node::Spare => false,
+            Node::Spare => Ok(()),
             Node::Fork {
                 left,
-                item: here,
+                item,
                 right,
                 ..
-            } => match item.cmp(here) {
-                Ordering::Less => contains(left, item),
-                Ordering::Equal => true,
-                Ordering::Greater => contains(right, item),
+            } => match item.part_cmp(part) {
+                Ordering::Less => list_part(right, part, items),
+                Ordering::Equal => {
+                    list_part(left, part, items)?;
+                    items.push(item)?;
+                    list_part(right, part, items)
+                }
+                Ordering::Greater => list_part(left, part, items),
             },
         },
     }
-}
-
-/// Lists the items of a tree, in order, after those that are listed.
-pub(crate) fn list<'a, D>(tree: &'a Tree<D>, items: &mut Vec<&'a D>) -> Result<(), AllocError>
-    ensures { OnOk result (values_of items.new.items ≡ values_of items.old.items ++ tree.now.0) }
-{
-    if let Some(node) = &tree.root {
-        if let Node::Fork {
-            left,
-            item,
-            right,
-            ..
-        } = &**node
-        {
-            list(left, items)?;
-            items.push(item)?;
-            list(right, items)?;
-        }
-    }
-    Ok(())
 }
 
 /// Puts an item into a tree in order, in memory that is at hand.
@@ -261,7 +252,7 @@ pub(crate) fn put<D: Ord + Drop>(tree: Tree<D>, memory: Box<Node<D>>, item: D) -
     ensures longer { length result.0 ≡ length tree.0 + 1 }
     ensures height { (tree.1 ≤ result.1) × (result.1 ≤ tree.1 + 1) }
 {
-    let Some(parts) = tree.part() else {
+    let Some(parts) = tree.take_apart() else {
         return fork(memory, Tree::new(), item, Tree::new());
     };
     if item.cmp(&parts.item).is_lt() {
@@ -278,7 +269,7 @@ fn take_first<D: Drop>(tree: Tree<D>) -> Option<First<D>>
     requires fits { length tree.0 < 2 ^ 64 }
     ensures { MatchOption result (tree ≡ ([], 0)) (IsFirstOf tree) }
 {
-    let parts = tree.part()?;
+    let parts = tree.take_apart()?;
     match take_first(parts.left) {
         None => Some(First {
             item: parts.item,
@@ -306,18 +297,11 @@ fn join<D: Drop>(left: Tree<D>, right: Tree<D>) -> Tree<D>
     }
 }
 
-/// An item that was taken out of a tree, and its memory.
-#[derive(Drop)]
-pub(crate) struct Found<D> {
-    pub(crate) item: D,
-    pub(crate) memory: Box<Node<D>>,
-}
-
-/// What is left of a tree, and what was taken out of it.
+/// What is left of a tree, and the memory of what was taken out of it.
 #[derive(Drop)]
 pub(crate) struct Taken<D> {
     pub(crate) tree: Tree<D>,
-    pub(crate) found: Option<Found<D>>,
+    pub(crate) memory: Option<Box<Node<D>>>,
 }
 
 /// Takes an item out of a tree, if it's there.
@@ -325,14 +309,14 @@ pub(crate) fn take<D: Ord + Drop>(tree: Tree<D>, item: &D) -> Taken<D>
     requires sorted { IsStrictlySortedBy D.cmp tree.0 }
     requires fits { length tree.0 < 2 ^ 64 }
     ensures list { result.tree.0 ≡ without D.cmp tree.0 item.now }
-    ensures found { option_map (λ f. f.item) result.found ≡ found D.cmp tree.0 item.now }
-    ensures shorter { length tree.0 ≡ length result.tree.0 + count_of result.found }
+    ensures found { is_some result.memory ≡ has D.cmp tree.0 item.now }
+    ensures shorter { length tree.0 ≡ length result.tree.0 + count_of result.memory }
     ensures height { (tree.1 ≤ result.tree.1 + 1) × (result.tree.1 ≤ tree.1) }
 {
-    let Some(parts) = tree.part() else {
+    let Some(parts) = tree.take_apart() else {
         return Taken {
             tree: Tree::new(),
-            found: None,
+            memory: None,
         };
     };
     match item.cmp(&parts.item) {
@@ -340,35 +324,19 @@ pub(crate) fn take<D: Ord + Drop>(tree: Tree<D>, item: &D) -> Taken<D>
             let taken = take(parts.left, item);
             Taken {
                 tree: balance(parts.memory, taken.tree, parts.item, parts.right),
-                found: taken.found,
+                memory: taken.memory,
             }
         }
         Ordering::Equal => Taken {
             tree: join(parts.left, parts.right),
-            found: Some(Found {
-                item: parts.item,
-                memory: parts.memory,
-            }),
+            memory: Some(parts.memory),
         },
         Ordering::Greater => {
             let taken = take(parts.right, item);
             Taken {
                 tree: balance(parts.memory, parts.left, parts.item, taken.tree),
-                found: taken.found,
+                memory: taken.memory,
             }
         }
-    }
-}
-
-/// Takes a tree apart, and puts its memory beside memory that is spare.
-pub(crate) fn scrap<D: Drop>(tree: Tree<D>, spares: &mut Vec<Box<Node<D>>>)
-    requires { length tree.0 + vec_len spares.old ≤ vec_capacity spares.old }
-    ensures spares { vec_len spares.new ≡ vec_len spares.old + length tree.0 }
-    ensures room { vec_capacity spares.new ≡ vec_capacity spares.old }
-{
-    if let Some(parts) = tree.part() {
-        scrap(parts.left, spares);
-        scrap(parts.right, spares);
-        spares.push_reserved(parts.memory);
     }
 }

@@ -1,6 +1,6 @@
 use Rattle.std.proofs.Common.{◌≡◌, ◌+◌, ◌++◌, ◌∷◌, length, sym, ap, ◌∙◌, arith, length-append}
 use Rattle.std.specs.declared.cmp.Ordering.TheVariants.{Less, Equal, Greater}
-use Rattle.amr_tables.proofs.Ascending.{left_is_sorted, right_is_sorted, found_left, found_right, found_middle, without_left, without_right, without_middle}
+use Rattle.amr_tables.proofs.Ascending.{left_is_sorted, right_is_sorted, has_left, has_right, has_middle, without_left, without_right, without_middle}
 use Rattle.amr_tables.proofs.tree.+take.Goals as goal
 
 pub take-taken-requires : goal.take-taken-requires
@@ -46,7 +46,7 @@ returns-in-Less-clause-found g t c =
     let p = c.in-Some.parts in
     let is : g.D.Ord.cmp c.args.item.now p.item ≡ Less = cc in
     c.take-taken.ensures.found
-    ∙ sym (found_left _ g.met.D.Ord.total _ p.left.0 p.item p.right.0 c.args.item.now c.in-Some.ensures.list c.requires.sorted is)
+    ∙ sym (has_left _ g.met.D.Ord.total _ p.left.0 p.item p.right.0 c.args.item.now c.in-Some.ensures.list c.requires.sorted is)
 
 pub returns-in-Equal-clause-list : goal.returns-in-Equal-clause-list
 returns-in-Equal-clause-list g t c =
@@ -68,10 +68,10 @@ returns-in-Greater-clause-found g t c =
     let p = c.in-Some.parts in
     let is : g.D.Ord.cmp c.args.item.now p.item ≡ Greater = cc in
     c.take-taken-in-Greater.ensures.found
-    ∙ sym (found_right _ g.met.D.Ord.total _ p.left.0 p.item p.right.0 c.args.item.now c.in-Some.ensures.list c.requires.sorted is)
+    ∙ sym (has_right _ g.met.D.Ord.total _ p.left.0 p.item p.right.0 c.args.item.now c.in-Some.ensures.list c.requires.sorted is)
 
 pub returns-in-Equal-clause-found : goal.returns-in-Equal-clause-found
 returns-in-Equal-clause-found g t c =
     let p = c.in-Some.parts in
     let is : g.D.Ord.cmp c.args.item.now p.item ≡ Equal = cc in
-    sym (found_middle _ g.met.D.Ord.total _ p.left.0 p.item p.right.0 c.args.item.now c.in-Some.ensures.list c.requires.sorted is)
+    sym (has_middle _ g.met.D.Ord.total _ p.left.0 p.item p.right.0 c.args.item.now c.in-Some.ensures.list c.requires.sorted is)
