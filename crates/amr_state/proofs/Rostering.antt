@@ -22,7 +22,7 @@ use Rattle.amr_tables.proofs.Queueing.{sorted_inserted, sorted_in_order, sorted_
 use Rattle.amr_state.specs.declared.spot.Spot.{Spot}
 use Rattle.amr_state.specs.declared.membership.Membership.{Membership}
 use Rattle.amr_state.specs.State.{spot_of, spot_cmp, spot_cmp_total, spot_cmp-IsAntisymmetric, group_spot}
-use Rattle.amr_state.specs.Rostered.{membership_cmp, membership_cmp_total, membership_cmp-IsAntisymmetric, membership_of, in_group, member_entry_of, memberships, members_among, IsIndexed, enrolled, CanEnrol}
+use Rattle.amr_state.specs.Rostered.{membership_cmp, membership_cmp_total, membership_cmp-IsAntisymmetric, membership_of, in_group, member_entry_of, memberships, members_among, with_alert, IsIndexed, enrolled, CanEnrol}
 
 -- ---- truth values
 
@@ -307,18 +307,14 @@ module _ (config : Config) (group : Spot) where
       (λ d. has_part (in_order membership_cmp (memberships config m)) d ∙ ap (λ b. is_in d && b) (has_in_order membership_cmp membership_cmp_total (memberships config m) d)
           ∙ sym (has_part (memberships config m) d))
 
-  -- a member with its alert
-  abbrev pub look_up : Map spot_cmp Alert → Membership → Option (LabelSet × Alert)
-  look_up m member = option_map (λ alert. (member.labels, alert)) (get m (spot_of member))
-
   looked_up : (m : Map spot_cmp Alert) (es : List (Spot × Alert)) → AllByRecursion (λ e. get m e.0 ≡ Some e.1) es
-      → filter_map (look_up m) (filter is_in (map (membership_of config) (map (λ e. e.0) es)))
+      → filter_map (with_alert m) (filter is_in (map (membership_of config) (map (λ e. e.0) es)))
           ≡ map (λ placement. (placement.0.labels, placement.1)) (filter (λ placement. eq_by_cmp spot_cmp (group_spot config placement.0) group) es)
   looked_up m [] h = refl
   looked_up m (e ∷ es) h =
-      elim (is_in (membership_of config e.0)) as (λ b. filter_map (look_up m) (cond b (membership_of config e.0 ∷ filter is_in (map (membership_of config) (map (λ e. e.0) es))) (filter is_in (map (membership_of config) (map (λ e. e.0) es))))
+      elim (is_in (membership_of config e.0)) as (λ b. filter_map (with_alert m) (cond b (membership_of config e.0 ∷ filter is_in (map (membership_of config) (map (λ e. e.0) es))) (filter is_in (map (membership_of config) (map (λ e. e.0) es))))
           ≡ map (λ placement. (placement.0.labels, placement.1)) (cond b (e ∷ filter (λ placement. eq_by_cmp spot_cmp (group_spot config placement.0) group) es) (filter (λ placement. eq_by_cmp spot_cmp (group_spot config placement.0) group) es))) [
-        | true ↦ ap (λ x. cons_option (option_map (λ alert. (e.0.labels, alert)) x) (filter_map (look_up m) (filter is_in (map (membership_of config) (map (λ e. e.0) es))))) h.0
+        | true ↦ ap (λ x. cons_option (option_map (λ alert. (e.0.labels, alert)) x) (filter_map (with_alert m) (filter is_in (map (membership_of config) (map (λ e. e.0) es))))) h.0
             ∙ ap (λ l. (e.0.labels, e.1) ∷ l) (looked_up m es h.1)
         | false ↦ looked_up m es h.1
       ]
@@ -327,8 +323,8 @@ module _ (config : Config) (group : Spot) where
   got m [] h = tt
   got m (e ∷ es) h = (get-entries m e.0 ∙ h.0, got m es h.1)
 
-  pub members_are : (m : Map spot_cmp Alert) → filter_map (look_up m) (filter is_in (in_order membership_cmp (memberships config m))) ≡ members_among config m group
-  members_are m = ap (filter_map (look_up m)) (part_is m) ∙ looked_up m (entries m) (got m (entries m) (own_alerts (entries m) (entries-sorted m)))
+  pub members_are : (m : Map spot_cmp Alert) → filter_map (with_alert m) (filter is_in (in_order membership_cmp (memberships config m))) ≡ members_among config m group
+  members_are m = ap (filter_map (with_alert m)) (part_is m) ∙ looked_up m (entries m) (got m (entries m) (own_alerts (entries m) (entries-sorted m)))
 
 -- ---- no members
 

@@ -9,7 +9,7 @@ use Rattle.std.specs.BTreeSet.{insert_key}
 use Rattle.std.proofs.Common.{ap}
 use Rattle.std.proofs.lemmas.Cmp.{on_total, then_total}
 use Rattle.std.proofs.lemmas.Map.Lookups.{exact_pairs}
-use Rattle.amr_labels.specs.Map.{Map, keys, entries}
+use Rattle.amr_labels.specs.Map.{Map, get, keys, entries}
 use Rattle.amr_labels.specs.Labels.{LabelSet, label_set_cmp, label_set_cmp_total, label_set_cmp-IsAntisymmetric}
 use Rattle.amr_config.specs.Config.{Config}
 use Rattle.amr_rules.specs.declared.alert.Alert.{Alert}
@@ -17,7 +17,7 @@ use Rattle.amr_tables.specs.Numbered.{Numbered, shown, entry_of, HasPlaces}
 use Rattle.amr_tables.specs.Queued.{Queued, has, in_order, without}
 use Rattle.amr_state.specs.declared.spot.Spot.{Spot}
 use Rattle.amr_state.specs.declared.membership.Membership.{Membership}
-use Rattle.amr_state.specs.State.{spot_cmp, spot_cmp_total, spot_cmp-IsAntisymmetric, group_spot}
+use Rattle.amr_state.specs.State.{spot_of, spot_cmp, spot_cmp_total, spot_cmp-IsAntisymmetric, group_spot}
 
 -- by group and labels
 abbrev pub membership_cmp : Membership → Membership → Ordering
@@ -47,6 +47,10 @@ memberships config placements = map (membership_of config) (keys placements)
 abbrev pub members_among : Config → Map spot_cmp Alert → Spot → List (LabelSet × Alert)
 members_among config placements group =
     map (λ placement. (placement.0.labels, placement.1)) (filter (λ placement. eq_by_cmp spot_cmp (group_spot config placement.0) group) (entries placements))
+
+-- the labels of a member with its alert, if there is one
+abbrev pub with_alert : Map spot_cmp Alert → Membership → Option (LabelSet × Alert)
+with_alert placements member = option_map (λ alert. (member.labels, alert)) (get placements (spot_of member))
 
 pub record Rostered : Type 0 where
   pub config : Config

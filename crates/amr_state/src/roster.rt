@@ -2,10 +2,12 @@
 ghost use Rattle.std.specs.Prelude.{◌≡◌, ◌<◌, ◌+◌, IsTrue, is_some, option_map, length, OnOk, OnErr, IfOk};
 ghost use Rattle.amr_labels.specs.Map as map;
 ghost use Rattle.amr_tables.specs.Numbered.{shown, has_place, Enters, KeepsPlaces, SamePlaces, SameEntered, NoneEntered, IsUnchanged};
-ghost use Rattle.amr_tables.specs.Queued.{in_order};
+ghost use Rattle.std.specs.List.{filter_map};
+ghost use Rattle.amr_tables.specs.Queued.{in_order, values_of};
 ghost use Rattle.amr_state.specs.State.{spot_of, spot_cmp, group_spot};
-ghost use Rattle.amr_state.specs.Rostered.{membership_cmp, membership_of, memberships, in_group, member_entry_of, enrolled, CanEnrol};
+ghost use Rattle.amr_state.specs.Rostered.{membership_cmp, membership_of, memberships, in_group, member_entry_of, members_among, with_alert, enrolled, CanEnrol};
 
+use crate::members::Member;
 use crate::membership::Membership;
 use crate::placing::group_spot;
 use crate::spot::Spot;
@@ -76,6 +78,16 @@ impl Roster {
             (memberships self.now.config (shown spot_cmp self.now.placements)) }
     {
         &self.index
+    }
+
+    /// Returns the members of a group, by labels. It passes over those of other groups.
+    #[tactic(auto, using(crate::proofs::Rostering::members_are))]
+    pub(crate) fn members_of(&self, group: &Spot) -> Result<Vec<Member>, AllocError>
+        ensures { IfOk result (λ found. found.items
+            ≡ members_among self.now.config (shown spot_cmp self.now.placements) group.now) }
+    {
+        let members = self.index.part(group)?;
+        with_alerts(self.alloc, &self.placements, members.as_slice())
     }
 
     /// Takes back that places are entered, of all. It takes no memory.
@@ -156,6 +168,28 @@ impl Roster {
     {
         mem::replace(&mut self.config, config)
     }
+}
+
+/// Returns members with copies of their labels and alerts.
+fn with_alerts(
+    alloc: Global,
+    placements: &Keyed<Spot, Alert>,
+    members: &[&Membership],
+) -> Result<Vec<Member>, AllocError>
+    ensures { IfOk result (λ found. found.items
+        ≡ filter_map (with_alert (shown spot_cmp placements.now)) (values_of members.now)) }
+{
+    let mut found = Vec::new(alloc);
+    for member in members {
+        let spot = Spot {
+            route: member.group.route,
+            labels: member.labels.clone()?,
+        };
+        if let Some(alert) = placements.get(&spot) {
+            found.push((spot.labels, alert.clone()?))?;
+        }
+    }
+    Ok(found)
 }
 
 /// Returns an entry of a place as one of a member of the group.
