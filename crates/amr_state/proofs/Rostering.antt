@@ -1,5 +1,5 @@
 -- The index of members, and how it follows a change of one of them.
-use Rattle.std.proofs.Common.{◌≡◌, ◌≤◌, ◌<◌, ◌+◌, ℕ, suc, Bool, true, false, cond, not, ◌||◌, ◌&&◌, T, List, [], ◌∷◌, Option, Some, None, is_some, map, length, refl, sym, ap, subst, ◌∙◌, arith}
+use Rattle.std.proofs.Common.{◌≡◌, ◌≤◌, ◌<◌, ◌+◌, ℕ, suc, Bool, true, false, cond, not, ◌||◌, ◌&&◌, T, List, [], ◌∷◌, ◌++◌, Option, Some, None, is_some, map, length, get_or, drop, Bor, refl, sym, ap, subst, ◌∙◌, arith}
 use Rattle.std.specs.Prelude.{option_map, Result, Ok, Err, OnErr}
 use Rattle.std.specs.List.{AllByRecursion, list_any, filter, filter_map, cons_option}
 use Rattle.std.specs.List.Sorted.{IsStrictlySortedBy}
@@ -11,13 +11,14 @@ use Rattle.std.specs.FinMap.{find, is_sorted}
 use Rattle.std.specs.FinMap.Entries.{below_all, is_some-find}
 use Rattle.std.specs.BTreeSet.{insert_key}
 use Rattle.std.proofs.lemmas.Bool.{true≢false}
+use Rattle.std.proofs.lemmas.List.{append_assoc, at_drop_more}
 use Rattle.std.proofs.lemmas.List.Kept.{IsStrictlySortedBy-filter}
 use Rattle.amr_labels.specs.Labels.{LabelSet, label_set_cmp}
 use Rattle.amr_labels.specs.Map.{Map, get, set, empty, keys, entries, len, get-set, get-entries, entries-sorted}
 use Rattle.amr_config.specs.Config.{Config}
 use Rattle.amr_rules.specs.declared.alert.Alert.{Alert}
 use Rattle.amr_tables.specs.Numbered.{Numbered, shown, is_entered, entry_of, HasPlaces}
-use Rattle.amr_tables.specs.Queued.{Queued, has, in_order, without}
+use Rattle.amr_tables.specs.Queued.{Queued, values_of, has, in_order, without}
 use Rattle.amr_tables.proofs.Queueing.{sorted_inserted, sorted_in_order, sorted_without, has_inserted, has_in_order, has_without, same_from_members}
 use Rattle.amr_state.specs.declared.spot.Spot.{Spot}
 use Rattle.amr_state.specs.declared.membership.Membership.{Membership}
@@ -325,6 +326,21 @@ module _ (config : Config) (group : Spot) where
 
   pub members_are : (m : Map spot_cmp Alert) → filter_map (with_alert m) (filter is_in (in_order membership_cmp (memberships config m))) ≡ members_among config m group
   members_are m = ap (filter_map (with_alert m)) (part_is m) ∙ looked_up m (entries m) (got m (entries m) (own_alerts (entries m) (entries-sorted m)))
+
+-- one more member with its alert
+pub member_more : (m : Map spot_cmp Alert) (members : List (Bor Membership)) (i : ℕ) (member : Bor Membership) (found more total : List (LabelSet × Alert)) → i < length members → member ≡ get_or members i member
+    → more ≡ found ++ cons_option (with_alert m member.now) [] → found ++ filter_map (with_alert m) (values_of (drop i members)) ≡ total → more ++ filter_map (with_alert m) (values_of (drop (i + 1) members)) ≡ total
+member_more m members i member found more total less is gives so_far =
+    let rest = filter_map (with_alert m) (values_of (drop (i + 1) members)) in
+    ap (λ l. l ++ rest) gives ∙ append_assoc found (cons_option (with_alert m member.now) []) rest
+    ∙ ap (λ l. found ++ l) (at_front (with_alert m member.now) rest
+        ∙ ap (λ (x : Bor Membership). cons_option (with_alert m x.now) rest) is
+        ∙ sym (at_drop_more (λ l. filter_map (with_alert m) (values_of l)) members i member less))
+    ∙ so_far
+  where
+    at_front : {X : Type 0} (o : Option X) (rest : List X) → cons_option o [] ++ rest ≡ cons_option o rest
+    at_front None rest = refl
+    at_front (Some x) rest = refl
 
 -- ---- no members
 

@@ -1,8 +1,8 @@
 //! The configuration with the members of all groups, and the index of the members by group.
-ghost use Rattle.std.specs.Prelude.{◌≡◌, ◌<◌, ◌+◌, IsTrue, is_some, option_map, length, OnOk, OnErr, IfOk};
+ghost use Rattle.std.specs.Prelude.{◌≡◌, ◌<◌, ◌+◌, ◌++◌, [], IsTrue, is_some, option_map, length, OnOk, OnErr, IfOk};
 ghost use Rattle.amr_labels.specs.Map as map;
 ghost use Rattle.amr_tables.specs.Numbered.{shown, has_place, Enters, KeepsPlaces, SamePlaces, SameEntered, NoneEntered, IsUnchanged};
-ghost use Rattle.std.specs.List.{filter_map};
+ghost use Rattle.std.specs.List.{filter_map, cons_option};
 ghost use Rattle.amr_tables.specs.Queued.{in_order, values_of};
 ghost use Rattle.amr_state.specs.State.{spot_of, spot_cmp, group_spot};
 ghost use Rattle.amr_state.specs.Rostered.{membership_cmp, membership_of, memberships, in_group, member_entry_of, members_among, with_alert, enrolled, CanEnrol};
@@ -181,15 +181,28 @@ fn with_alerts(
 {
     let mut found = Vec::new(alloc);
     for member in members {
-        let spot = Spot {
-            route: member.group.route,
-            labels: member.labels.clone()?,
-        };
-        if let Some(alert) = placements.get(&spot) {
-            found.push((spot.labels, alert.clone()?))?;
-        }
+        push_member(&mut found, placements, member)?;
     }
     Ok(found)
+}
+
+/// Appends copies of a member's labels and alert, if it has one.
+fn push_member(
+    found: &mut Vec<Member>,
+    placements: &Keyed<Spot, Alert>,
+    member: &Membership,
+) -> Result<(), AllocError>
+    ensures { OnOk result (found.new.items ≡ found.old.items ++
+        cons_option (with_alert (shown spot_cmp placements.now) member.now) []) }
+{
+    let spot = Spot {
+        route: member.group.route,
+        labels: member.labels.clone()?,
+    };
+    if let Some(alert) = placements.get(&spot) {
+        found.push((spot.labels, alert.clone()?))?;
+    }
+    Ok(())
 }
 
 /// Returns an entry of a place as one of a member of the group.
