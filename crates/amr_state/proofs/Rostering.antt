@@ -327,6 +327,12 @@ module _ (config : Config) (group : Spot) where
   pub members_are : (m : Map spot_cmp Alert) → filter_map (with_alert m) (filter is_in (in_order membership_cmp (memberships config m))) ≡ members_among config m group
   members_are m = ap (filter_map (with_alert m)) (part_is m) ∙ looked_up m (entries m) (got m (entries m) (own_alerts (entries m) (entries-sorted m)))
 
+-- what the group's part of the index gives
+pub members_found : (config : Config) (a : Numbered Spot Alert) (q : Queued Membership) (group : Spot) (members : List Membership) → IsIndexed config a q
+    → members ≡ filter (λ member. eq_by_cmp spot_cmp member.group group) q.dues → filter_map (with_alert (shown spot_cmp a)) members ≡ members_among config (shown spot_cmp a) group
+members_found config a q group members indexed is =
+    ap (filter_map (with_alert (shown spot_cmp a))) (is ∙ ap (filter (λ (member : Membership). eq_by_cmp spot_cmp member.group group)) indexed.dues) ∙ members_are config group (shown spot_cmp a)
+
 -- one more member with its alert
 pub member_more : (m : Map spot_cmp Alert) (members : List (Bor Membership)) (i : ℕ) (member : Bor Membership) (found more total : List (LabelSet × Alert)) → i < length members → member ≡ get_or members i member
     → more ≡ found ++ cons_option (with_alert m member.now) [] → found ++ filter_map (with_alert m) (values_of (drop i members)) ≡ total → more ++ filter_map (with_alert m) (values_of (drop (i + 1) members)) ≡ total

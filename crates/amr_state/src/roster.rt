@@ -81,7 +81,6 @@ impl Roster {
     }
 
     /// Returns the members of a group, by labels. It passes over those of other groups.
-    #[tactic(auto, using(crate::proofs::Rostering::members_are))]
     pub(crate) fn members_of(&self, group: &Spot) -> Result<Vec<Member>, AllocError>
         ensures { IfOk result (λ found. found.items
             ≡ members_among self.now.config (shown spot_cmp self.now.placements) group.now) }
