@@ -2,5 +2,6 @@ pub mod Least
 pub mod Timing
 pub mod Placed
 pub mod Undoing
+pub mod Fitting
 pub mod Soundness
 pub mod Emptied

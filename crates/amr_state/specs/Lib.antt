@@ -5,4 +5,5 @@ pub mod Stored
 pub mod Steps
 pub mod Seen
 pub mod Records
+pub mod Fitting
 pub mod Kept
