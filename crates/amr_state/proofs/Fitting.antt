@@ -57,12 +57,12 @@ unfolding Fits
 fits-none es s none = subst (λ l. Fits l s) (sym none) tt
 
 pub fits-push : (es : List Displaced) (e : Displaced) (s : State) → Fits es (put_back_one s e) → FitsOne s e → Fits (es ++ e ∷ []) s
-unfolding (Fits, put_back)
+unfolding Fits put_back
 fits-push [] e s before last = (tt, last)
 fits-push (x ∷ es) e s before last = (fits-push es e s before.0 last, subst (λ t. FitsOne t x) (sym (put_back-push es e s)) before.1)
 
 pub fits-pop : (es : List Displaced) (e : Displaced) (s : State) → Fits (es ++ e ∷ []) s → Fits es (put_back_one s e) × FitsOne s e
-unfolding (Fits, put_back)
+unfolding Fits put_back
 fits-pop [] e s h = (tt, h.1)
 fits-pop (x ∷ es) e s h = let rest = fits-pop es e s h.0 in ((rest.0, subst (λ t. FitsOne t x) (put_back-push es e s) h.1), rest.1)
 
@@ -94,7 +94,7 @@ since_config-push (x ∷ es) e none =
 
 -- a place with an entry after the last one of the configuration has an entry
 pub has_entry-since : (es : List Displaced) (place : Displaced) → has_entry (since_config es) place ≡ true → has_entry es place ≡ true
-unfolding (since_config, has_entry)
+unfolding since_config has_entry
 has_entry-since [] place h = h
 has_entry-since (x ∷ es) place h =
     elim (list_any is_config (x ∷ es)) as (λ b. has_entry (cond b (since_config es) (x ∷ es)) place ≡ true → has_entry (x ∷ es) place ≡ true) [
@@ -131,7 +131,7 @@ fits-members (WasNotes count ∷ es) s t none same fits = (fits-members es s t n
 -- nor does a member that is entered after the last of them
 fits-since : (es : List Displaced) (member : Membership) (alert : Option Alert) (s : State) → has_entry (since_config es) (WasPlacement member alert) ≡ true
     → Fits es s → Fits es (put_back_one s (WasPlacement member alert))
-unfolding (Fits, since_config)
+unfolding Fits since_config
 fits-since [] member alert s h fits = fits
 fits-since (x ∷ es) member alert s h fits =
     let change : Displaced = WasPlacement member alert in

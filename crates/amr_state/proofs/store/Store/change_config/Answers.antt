@@ -14,7 +14,7 @@ invariant_of-self-2 c =
     let e : Displaced = WasConfig c.replace-was.result in
     let placements = c.clear_entered.ensures.values.placements in
     kept_reconfigured a b c.replace-was.result c.self.invariant c.clear_entered.ensures.places c.clear_entered.ensures.marks refl (c.push.ensures.closed ∙ c.reserve_entry.ensures.closed)
-    (c.push.ensures.current ∙ ap (λ es. es ++ e ∷ []) c.reserve_entry.ensures.current) (sym c.replace-was.ensures.result, sym placements)
+    (c.push.ensures.current ∙ ap (λ es. es ++ e ∷ []) c.reserve_entry.ensures.current) (sym c.replace-was.ensures.value, sym placements)
     (placements ∙ ap (λ (k : Kept). k.state.placements) c.self.view_is ∙ c.requires)
 
 pub returns-clause-kept : goal.returns-clause-kept
