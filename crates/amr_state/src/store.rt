@@ -31,8 +31,9 @@ use std::marker::Model;
 use std::mem;
 
 /// The state of the replayed instance. What a change displaces is entered into the open record of the journal, so that the event
-/// can be undone without memory. A place is entered in a record once: what a later change displaces there is made by the same event. Only a change of the
-/// configuration begins anew: places are entered again after it, so that a member is put back under the configuration that gave it its group.
+/// can be undone without memory. A place is entered in a record once: what a later change displaces there is made by the same event.
+/// After a change of the configuration places are entered again, so that each member is put back under the configuration that gave it
+/// its group.
 #[derive(Drop)]
 pub struct Store {
     alloc: Global,
@@ -484,8 +485,8 @@ impl Store {
         Ok(())
     }
 
-    /// Puts another configuration in force. A place that is changed after it is entered again, so that the entries after it tell what was
-    /// there under this configuration.
+    /// Puts another configuration in force, while no group has a member. Changes after it are entered again, also of places that have
+    /// an entry already.
     fn change_config(&mut self, config: Config) -> Result<(), AllocError>
         requires { self.old.state.placements ≡ map.empty }
         ensures ok { OnOk result (self.new.state ≡ record self.old.state { config = config }) }
