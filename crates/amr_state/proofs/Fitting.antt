@@ -1,10 +1,9 @@
 -- Members are put back under the configuration that gave them their groups.
-use Rattle.std.proofs.Common.{◌≡◌, Bool, true, false, cond, ◌||◌, List, [], ◌∷◌, ◌++◌, Option, refl, sym, ap, subst, ◌∙◌}
+use Rattle.std.proofs.Common.{◌≡◌, true, false, cond, ◌||◌, List, [], ◌∷◌, ◌++◌, Option, refl, sym, ap, subst, ◌∙◌}
 use Rattle.std.specs.List.{list_any, flat_map}
 use Rattle.std.proofs.lemmas.List.{append-nil, append_assoc}
 use Rattle.std.proofs.lemmas.Grind.{flat_map-append}
-use Rattle.amr_config.specs.Config.{Config}
-use Rattle.amr_labels.specs.Map.{set, empty}
+use Rattle.amr_labels.specs.Map.{set}
 use Rattle.amr_rules.specs.declared.alert.Alert.{Alert}
 use Rattle.amr_state.specs.declared.membership.Membership.{Membership}
 use Rattle.amr_state.specs.declared.displaced.Displaced.{Displaced}

@@ -3,7 +3,7 @@ use Rattle.std.specs.Prelude.{◌≡◌, Bool, true, false, List, [], ◌∷◌,
 use Rattle.std.specs.List.{list_any}
 use Rattle.amr_labels.specs.Map.{empty}
 use Rattle.amr_state.specs.declared.displaced.Displaced.{Displaced}
-use Rattle.amr_state.specs.declared.displaced.Displaced.TheVariants.{WasMoment, WasConfig, WasAlert, WasSilence, WasPlacement, WasClock, WasLogged, WasNotes}
+use Rattle.amr_state.specs.declared.displaced.Displaced.TheVariants.{WasConfig, WasPlacement}
 use Rattle.amr_state.specs.State.{State, spot_of, group_spot}
 use Rattle.amr_state.specs.Records.{put_back}
 

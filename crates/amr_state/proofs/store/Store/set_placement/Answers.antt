@@ -1,6 +1,6 @@
 use Rattle.std.proofs.Common.{◌≡◌, [], ◌∷◌, ◌++◌, IsTrue, refl, sym, ap, subst, ◌∙◌}
 use Rattle.amr_labels.specs.Map as map
-use Rattle.amr_tables.specs.Numbered.{shown, has_place}
+use Rattle.amr_tables.specs.Numbered.{shown}
 use Rattle.amr_tables.proofs.Entering.{entry_of-none, entry_of-some, entered_again}
 use Rattle.amr_labels.specs.Map.{set-back}
 use Rattle.amr_state.specs.declared.spot.Spot.{Spot}
