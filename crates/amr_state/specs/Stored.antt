@@ -85,7 +85,7 @@ pub record SameValues (a b : Tables) : Type 0 where
 abbrev pub entries_of : Inside → List Displaced
 entries_of store = flat_map (λ closed. closed) store.journal.closed ++ store.journal.current
 
--- every record can be put back, and each place that is marked has an entry in the open one
+-- every record can be put back, with members in the groups of the configuration of that time, and each place that is marked has an entry in the open record after the last one of the configuration
 pub record IsKept (store : Inside) : Type 0 where
   pub moment : store.moment ≤ latest_read
   pub current : AreSound store.tables store.journal.current
