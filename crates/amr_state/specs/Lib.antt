@@ -6,4 +6,5 @@ pub mod Stored
 pub mod Steps
 pub mod Seen
 pub mod Records
+pub mod Fitting
 pub mod Kept

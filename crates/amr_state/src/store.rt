@@ -14,7 +14,9 @@ ghost use Rattle.amr_state.specs.Kept.{GrownBy, undone};
 
 use crate::displaced::Displaced;
 use crate::due::Due;
+use crate::membership::Membership;
 use crate::note::{Clock, LogKey, Note};
+use crate::placing::group_spot;
 use crate::spot::{Spot, TimedGroup};
 use crate::tables::Tables;
 use crate::timetable::Timetable;
@@ -30,6 +32,8 @@ use std::mem;
 
 /// The state of the replayed instance. What a change displaces is entered into the open record of the journal, so that the event
 /// can be undone without memory. A place is entered in a record once: what a later change displaces there is made by the same event.
+/// After a change of the configuration places are entered again, so that each member is put back under the configuration that gave it
+/// its group.
 #[derive(Drop)]
 pub struct Store {
     alloc: Global,
@@ -74,7 +78,6 @@ impl Store {
                 placements: Keyed::new(alloc),
                 log: Keyed::new(alloc),
                 is_moment_entered: false,
-                is_config_entered: false,
                 are_notes_entered: false,
             },
             notes: Vec::new(alloc),
@@ -128,7 +131,9 @@ impl Store {
             Displaced::WasConfig(was) => self.config = was,
             Displaced::WasAlert(labels, was) => self.tables.timetable.put_back_alert(labels, was),
             Displaced::WasSilence(id, was) => drop(self.tables.silences.displace(&id, was)),
-            Displaced::WasPlacement(spot, was) => drop(self.tables.placements.displace(&spot, was)),
+            Displaced::WasPlacement(member, was) => {
+                drop(self.tables.placements.displace(&member.into_spot(), was));
+            }
             Displaced::WasClock(group, was) => self.tables.timetable.put_back_clock(group, was),
             Displaced::WasLogged(key, was) => drop(self.tables.log.displace(&key, was)),
             Displaced::WasNotes(count) => self.notes.truncate(count),
@@ -425,9 +430,12 @@ impl Store {
         ensures kept { undone self.new ≡ undone self.old }
         ensures grown { GrownBy 1 self.old self.new }
     {
+        let group = group_spot(self.alloc, &self.config, spot.route, &spot.labels)?;
         let entry = change(&mut self.tables.placements, &mut self.journal, spot, alert)?;
         if let Some((spot, was)) = entry {
-            self.journal.push(Displaced::WasPlacement(spot, was));
+            let labels = spot.labels;
+            self.journal
+                .push(Displaced::WasPlacement(Membership { group, labels }, was));
         }
         Ok(())
     }
@@ -477,20 +485,18 @@ impl Store {
         Ok(())
     }
 
-    /// Puts another configuration in force.
+    /// Puts another configuration in force, while no group has a member. Changes after it are entered again, also of places that have
+    /// an entry already.
     fn change_config(&mut self, config: Config) -> Result<(), AllocError>
+        requires { self.old.state.placements ≡ map.empty }
         ensures ok { OnOk result (self.new.state ≡ record self.old.state { config = config }) }
         ensures kept { undone self.new ≡ undone self.old }
         ensures grown { GrownBy 1 self.old self.new }
     {
-        if self.tables.is_config_entered {
-            self.config = config;
-            return Ok(());
-        }
         self.journal.reserve_entry()?;
         let was = mem::replace(&mut self.config, config);
         self.journal.push(Displaced::WasConfig(was));
-        self.tables.is_config_entered = true;
+        self.tables.clear_entered();
         Ok(())
     }
 }
