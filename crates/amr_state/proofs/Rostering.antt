@@ -1,5 +1,5 @@
 -- The index of members, and how it follows a change of one of them.
-use Rattle.std.proofs.Common.{◌≡◌, ◌≤◌, ◌<◌, ◌+◌, ℕ, suc, Bool, true, false, cond, not, ◌||◌, ◌&&◌, T, List, [], ◌∷◌, ◌++◌, Option, Some, None, is_some, map, length, get_or, drop, Bor, refl, sym, ap, subst, ◌∙◌, arith}
+use Rattle.std.proofs.Common.{◌≡◌, ◌≤◌, ◌<◌, ◌+◌, ℕ, suc, Bool, true, false, IsTrue, cond, not, ◌||◌, ◌&&◌, T, List, [], ◌∷◌, ◌++◌, Option, Some, None, is_some, map, length, get_or, drop, Bor, refl, sym, ap, subst, ◌∙◌, arith}
 use Rattle.std.specs.Prelude.{option_map, Result, Ok, Err, OnErr}
 use Rattle.std.specs.List.{AllByRecursion, list_any, filter, filter_map, cons_option}
 use Rattle.std.specs.List.Sorted.{IsStrictlySortedBy}
@@ -362,6 +362,27 @@ indexed_again before after a q e indexed = record {
 }
 
 -- ---- entries
+
+nothing : {A B : Type 0} (f : A → B) (b : Bool) (x : A) → None ≡ option_map f (cond b None (Some x)) → IsTrue b
+nothing f true x e = refl
+nothing f false x e = cc
+
+something : {A B : Type 0} (f : A → B) (b : Bool) (x : A) (y : B) → Some y ≡ option_map f (cond b None (Some x)) → y ≡ f x
+something f true x y e = cc
+something f false x y e = cc
+
+-- nothing is entered if the place is entered already
+pub member_entry-none : (config : Config) (placements : Numbered Spot Alert) (spot : Spot) → None ≡ member_entry_of config placements spot → IsTrue (is_entered spot_cmp placements spot)
+unfolding entry_of
+member_entry-none config placements spot e =
+    nothing {B = Membership × Option Alert} (λ (entry : Spot × Option Alert). (membership_of config entry.0, entry.1)) (is_entered spot_cmp placements spot) (spot, get (shown spot_cmp placements) spot) e
+
+-- else the member with what is there
+pub member_entry-some : (config : Config) (placements : Numbered Spot Alert) (spot : Spot) (entry : Membership × Option Alert) → Some entry ≡ member_entry_of config placements spot
+    → entry ≡ (membership_of config spot, get (shown spot_cmp placements) spot)
+unfolding entry_of
+member_entry-some config placements spot entry e =
+    something {B = Membership × Option Alert} (λ (entry : Spot × Option Alert). (membership_of config entry.0, entry.1)) (is_entered spot_cmp placements spot) (spot, get (shown spot_cmp placements) spot) entry e
 
 pub on_err : {T E : Type 0} (r : Result T E) (P : Type 0) → P → OnErr r P
 on_err (Ok x) P p = tt

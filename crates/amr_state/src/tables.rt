@@ -2,10 +2,10 @@
 ghost use Rattle.amr_state.specs.Stored.{SameValues, MorePlaces, IsUnmarked};
 
 use crate::note::LogKey;
-use crate::spot::Spot;
+use crate::roster::Roster;
 use crate::timetable::Timetable;
 use amr_events::SilenceId;
-use amr_rules::{Alert, LogEntry, Silence};
+use amr_rules::{LogEntry, Silence};
 use amr_tables::Keyed;
 
 /// The places of the state that are in tables. Each table marks the places that the open record has an entry for; of the moment and the
@@ -14,7 +14,7 @@ use amr_tables::Keyed;
 pub(crate) struct Tables {
     pub(crate) timetable: Timetable,
     pub(crate) silences: Keyed<SilenceId, Silence>,
-    pub(crate) placements: Keyed<Spot, Alert>,
+    pub(crate) roster: Roster,
     pub(crate) log: Keyed<LogKey, LogEntry>,
     pub(crate) is_moment_entered: bool,
     pub(crate) are_notes_entered: bool,
@@ -29,7 +29,7 @@ impl Tables {
     {
         self.timetable.clear_entered();
         self.silences.clear_entered();
-        self.placements.clear_entered();
+        self.roster.clear_entered();
         self.log.clear_entered();
         self.is_moment_entered = false;
         self.are_notes_entered = false;

@@ -8,4 +8,4 @@ invariant_of-self c =
     let a = c.self.inside in
     let b : Inside = record a { tables = c.clear_entered.new.self; journal = c.close.new.self } in
     kept_closed a b c.self.invariant c.clear_entered.ensures.places c.clear_entered.ensures.marks refl c.close.ensures.closed c.close.ensures.current
-    (refl, sym c.clear_entered.ensures.values.placements)
+    (sym c.clear_entered.ensures.values.config, sym c.clear_entered.ensures.values.placements)

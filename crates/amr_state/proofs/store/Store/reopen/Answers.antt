@@ -9,4 +9,4 @@ invariant_of-self c =
     let a = c.self.inside in
     let b : Inside = record a { tables = c.clear_entered.new.self; journal = c.reopen.new.self } in
     kept_reopened a b c.self.invariant c.clear_entered.ensures.places c.clear_entered.ensures.marks refl c.reopen.ensures
-    (ap (λ (k : Kept). k.current) c.self.view_is ∙ c.requires.empty) (refl, sym c.clear_entered.ensures.values.placements)
+    (ap (λ (k : Kept). k.current) c.self.view_is ∙ c.requires.empty) (sym c.clear_entered.ensures.values.config, sym c.clear_entered.ensures.values.placements)
