@@ -9,8 +9,8 @@ use Rattle.amr_state.specs.Stored.{state_of}
 use Rattle.amr_state.proofs.Soundness.{kept_reconfigured, undone_pushed}
 use Rattle.amr_state.proofs.store.Store.change_config.Goals as goal
 
-pub replace_config-requires : goal.replace_config-requires
-replace_config-requires c = ap (λ (k : Kept). k.state.placements) c.self.view_is ∙ c.requires
+pub replace_config-was-requires : goal.replace_config-was-requires
+replace_config-was-requires c = ap (λ (k : Kept). k.state.placements) c.self.view_is ∙ c.requires
 
 pub invariant_of-self-2 : goal.invariant_of-self-2
 invariant_of-self-2 c =

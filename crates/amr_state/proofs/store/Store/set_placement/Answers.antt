@@ -43,8 +43,8 @@ invariant_of-self c =
     (by_place (NoNewMark a.tables b.tables) (λ x h. h) (λ x h. h) (λ k v h. h) (λ k v h. h) (λ q w h. subst IsTrue (c.in_err-entry.ensures.err.1 (spot_of q)) h) (λ k v h. h) (λ k v h. h) (λ x h. h)) refl
     (fits_alike a b c.change_member.ensures.closed c.change_member.ensures.current (sym c.change_member.ensures.config, sym c.in_err-entry.ensures.err.0) c.self.invariant.fits)
 
-pub invariant_of-self-in-None-entry : goal.invariant_of-self-in-None-entry
-invariant_of-self-in-None-entry c =
+pub invariant_of-self-in_default : goal.invariant_of-self-in_default
+invariant_of-self-in_default c =
     let a = c.self.inside in
     let t = c.change_member.new.self in
     let b : Inside = record a { tables = record a.tables { roster = t }; journal = c.change_member.new.journal } in
