@@ -19,7 +19,7 @@ use Rattle.amr_state.specs.declared.note.Clock.{Clock}
 use Rattle.amr_state.specs.declared.note.Note.{Note}
 use Rattle.amr_state.specs.declared.displaced.Displaced.{Displaced}
 use Rattle.amr_state.specs.declared.displaced.Displaced.TheVariants.{WasMoment, WasConfig, WasAlert, WasSilence, WasPlacement, WasClock, WasLogged, WasNotes}
-use Rattle.amr_state.specs.State.{State, spot_cmp, spot_cmp_total, spot_cmp-IsAntisymmetric, log_key_cmp, log_key_cmp_total, log_key_cmp-IsAntisymmetric}
+use Rattle.amr_state.specs.State.{State, spot_of, spot_cmp, spot_cmp_total, spot_cmp-IsAntisymmetric, log_key_cmp, log_key_cmp_total, log_key_cmp-IsAntisymmetric}
 use Rattle.amr_state.specs.Records.{put_back_one, put_back, present, same_place, has_entry, IsNoNote, NotesEntered, befores, before_all}
 use Rattle.amr_state.specs.Kept.{Kept, undone}
 
@@ -35,7 +35,7 @@ put_back-change s (WasMoment now) h = refl
 put_back-change s (WasConfig config) h = refl
 put_back-change s (WasAlert labels alert) h = ap (λ (m : Alerts). record s { alerts = m }) (set-back label_set_cmp_total label_set_cmp-IsAntisymmetric s.alerts labels alert)
 put_back-change s (WasSilence id silence) h = ap (λ (m : Silences). record s { silences = m }) (set-back nat_cmp_total nat_cmp-IsAntisymmetric s.silences id silence)
-put_back-change s (WasPlacement spot alert) h = ap (λ (m : Map spot_cmp Alert). record s { placements = m }) (set-back spot_cmp_total spot_cmp-IsAntisymmetric s.placements spot alert)
+put_back-change s (WasPlacement member alert) h = ap (λ (m : Map spot_cmp Alert). record s { placements = m }) (set-back spot_cmp_total spot_cmp-IsAntisymmetric s.placements (spot_of member) alert)
 put_back-change s (WasClock group clock) h = ap (λ (m : Map spot_cmp Clock). record s { clocks = m }) (set-back spot_cmp_total spot_cmp-IsAntisymmetric s.clocks group clock)
 put_back-change s (WasLogged key entry) h = ap (λ (m : Map log_key_cmp LogEntry). record s { log = m }) (set-back log_key_cmp_total log_key_cmp-IsAntisymmetric s.log key entry)
 put_back-change s (WasNotes count) h = absurd h
@@ -91,7 +91,7 @@ overwrite s (WasMoment a) (WasMoment b) t h = refl
 overwrite s (WasConfig a) (WasConfig b) t h = refl
 overwrite s (WasAlert a v) (WasAlert b w) t h = ap (λ (m : Alerts). record s { alerts = m }) (set-set label_set_cmp_total label_set_cmp-IsAntisymmetric s.alerts a b v w t)
 overwrite s (WasSilence a v) (WasSilence b w) t h = ap (λ (m : Silences). record s { silences = m }) (set-set nat_cmp_total nat_cmp-IsAntisymmetric s.silences a b v w t)
-overwrite s (WasPlacement a v) (WasPlacement b w) t h = ap (λ (m : Map spot_cmp Alert). record s { placements = m }) (set-set spot_cmp_total spot_cmp-IsAntisymmetric s.placements a b v w t)
+overwrite s (WasPlacement a v) (WasPlacement b w) t h = ap (λ (m : Map spot_cmp Alert). record s { placements = m }) (set-set spot_cmp_total spot_cmp-IsAntisymmetric s.placements (spot_of a) (spot_of b) v w t)
 overwrite s (WasClock a v) (WasClock b w) t h = ap (λ (m : Map spot_cmp Clock). record s { clocks = m }) (set-set spot_cmp_total spot_cmp-IsAntisymmetric s.clocks a b v w t)
 overwrite s (WasLogged a v) (WasLogged b w) t h = ap (λ (m : Map log_key_cmp LogEntry). record s { log = m }) (set-set log_key_cmp_total log_key_cmp-IsAntisymmetric s.log a b v w t)
 overwrite s (WasNotes a) second t h = absurd h
@@ -103,7 +103,7 @@ commute s (WasMoment a) (WasMoment b) f = absurd (unlike (sym f))
 commute s (WasConfig a) (WasConfig b) f = absurd (unlike (sym f))
 commute s (WasAlert a v) (WasAlert b w) f = ap (λ (m : Alerts). record s { alerts = m }) (set-swap label_set_cmp_total label_set_cmp-IsAntisymmetric s.alerts a b v w f)
 commute s (WasSilence a v) (WasSilence b w) f = ap (λ (m : Silences). record s { silences = m }) (set-swap nat_cmp_total nat_cmp-IsAntisymmetric s.silences a b v w f)
-commute s (WasPlacement a v) (WasPlacement b w) f = ap (λ (m : Map spot_cmp Alert). record s { placements = m }) (set-swap spot_cmp_total spot_cmp-IsAntisymmetric s.placements a b v w f)
+commute s (WasPlacement a v) (WasPlacement b w) f = ap (λ (m : Map spot_cmp Alert). record s { placements = m }) (set-swap spot_cmp_total spot_cmp-IsAntisymmetric s.placements (spot_of a) (spot_of b) v w f)
 commute s (WasClock a v) (WasClock b w) f = ap (λ (m : Map spot_cmp Clock). record s { clocks = m }) (set-swap spot_cmp_total spot_cmp-IsAntisymmetric s.clocks a b v w f)
 commute s (WasLogged a v) (WasLogged b w) f = ap (λ (m : Map log_key_cmp LogEntry). record s { log = m }) (set-swap log_key_cmp_total log_key_cmp-IsAntisymmetric s.log a b v w f)
 commute s (WasNotes a) (WasNotes b) f = absurd (unlike (sym f))
@@ -184,7 +184,7 @@ or_left : (a b c : Bool) → (b ≡ true → c ≡ true) → (a || b) ≡ true �
 or_left true b c f h = refl
 or_left false b c f h = f h
 
-or_right : (a b : Bool) → b ≡ true → (a || b) ≡ true
+pub or_right : (a b : Bool) → b ≡ true → (a || b) ≡ true
 or_right true b h = refl
 or_right false b h = h
 
@@ -198,6 +198,12 @@ pub has_entry-last : (entries : List Displaced) (e place : Displaced) → same_p
 unfolding has_entry
 has_entry-last [] e place h = ap (λ b. b || false) h
 has_entry-last (first ∷ rest) e place h = or_right (same_place place first) _ (has_entry-last rest e place h)
+
+-- and in one with other entries before
+pub has_entry-after : (before entries : List Displaced) (place : Displaced) → has_entry entries place ≡ true → has_entry (before ++ entries) place ≡ true
+unfolding has_entry
+has_entry-after [] entries place h = h
+has_entry-after (first ∷ before) entries place h = or_right (same_place place first) _ (has_entry-after before entries place h)
 
 pub put_back-none : (s : State) → put_back [] s ≡ s
 unfolding put_back

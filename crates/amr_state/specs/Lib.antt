@@ -1,8 +1,10 @@
 pub mod State
 pub mod Dues
 pub mod Timed
+pub mod Rostered
 pub mod Stored
 pub mod Steps
 pub mod Seen
 pub mod Records
+pub mod Fitting
 pub mod Kept

@@ -6,7 +6,7 @@ use Rattle.amr_labels.specs.Map.{get, set}
 use Rattle.amr_labels.specs.Labels.{label_set_cmp}
 use Rattle.amr_state.specs.declared.displaced.Displaced.{Displaced}
 use Rattle.amr_state.specs.declared.displaced.Displaced.TheVariants.{WasMoment, WasConfig, WasAlert, WasSilence, WasPlacement, WasClock, WasLogged, WasNotes}
-use Rattle.amr_state.specs.State.{State, spot_cmp, log_key_cmp}
+use Rattle.amr_state.specs.State.{State, spot_of, spot_cmp, log_key_cmp}
 
 -- the place has this value
 abbrev pub put_back_one : State → Displaced → State
@@ -14,7 +14,7 @@ put_back_one s (WasMoment moment) = record s { moment = moment }
 put_back_one s (WasConfig config) = record s { config = config }
 put_back_one s (WasAlert labels alert) = record s { alerts = set s.alerts labels alert }
 put_back_one s (WasSilence id silence) = record s { silences = set s.silences id silence }
-put_back_one s (WasPlacement spot alert) = record s { placements = set s.placements spot alert }
+put_back_one s (WasPlacement member alert) = record s { placements = set s.placements (spot_of member) alert }
 put_back_one s (WasClock group clock) = record s { clocks = set s.clocks group clock }
 put_back_one s (WasLogged key entry) = record s { log = set s.log key entry }
 put_back_one s (WasNotes count) = record s { notes = take count s.notes }
@@ -30,7 +30,7 @@ present s (WasMoment moment) = WasMoment s.moment
 present s (WasConfig config) = WasConfig s.config
 present s (WasAlert labels alert) = WasAlert labels (get s.alerts labels)
 present s (WasSilence id silence) = WasSilence id (get s.silences id)
-present s (WasPlacement spot alert) = WasPlacement spot (get s.placements spot)
+present s (WasPlacement member alert) = WasPlacement member (get s.placements (spot_of member))
 present s (WasClock group clock) = WasClock group (get s.clocks group)
 present s (WasLogged key entry) = WasLogged key (get s.log key)
 present s (WasNotes count) = WasNotes (length s.notes)
@@ -41,7 +41,7 @@ same_place (WasMoment a) (WasMoment b) = true
 same_place (WasConfig a) (WasConfig b) = true
 same_place (WasAlert a v) (WasAlert b w) = eq_by_cmp label_set_cmp a b
 same_place (WasSilence a v) (WasSilence b w) = eq_by_cmp nat_cmp a b
-same_place (WasPlacement a v) (WasPlacement b w) = eq_by_cmp spot_cmp a b
+same_place (WasPlacement a v) (WasPlacement b w) = eq_by_cmp spot_cmp (spot_of a) (spot_of b)
 same_place (WasClock a v) (WasClock b w) = eq_by_cmp spot_cmp a b
 same_place (WasLogged a v) (WasLogged b w) = eq_by_cmp log_key_cmp a b
 same_place (WasNotes a) (WasNotes b) = true

@@ -1,6 +1,6 @@
 -- What the tables and the journal of a store show.
-use Rattle.std.specs.Prelude.{◌≡◌, ◌≤◌, ℕ, Bool, false, List, IsTrue, length}
-use Rattle.std.specs.List.{AllByRecursion}
+use Rattle.std.specs.Prelude.{◌≡◌, ◌≤◌, ◌++◌, ℕ, Bool, false, List, IsTrue, length}
+use Rattle.std.specs.List.{AllByRecursion, flat_map}
 use Rattle.std.specs.Ordering.{nat_cmp}
 use Rattle.amr_labels.specs.Labels.{LabelSet, label_set_cmp}
 use Rattle.amr_time.specs.Time.{latest_read}
@@ -10,18 +10,19 @@ use Rattle.amr_state.specs.declared.note.LogKey.{LogKey}
 use Rattle.amr_state.specs.declared.displaced.Displaced.{Displaced}
 use Rattle.amr_state.specs.declared.displaced.Displaced.TheVariants.{WasMoment, WasConfig, WasAlert, WasSilence, WasPlacement, WasClock, WasLogged, WasNotes}
 use Rattle.amr_state.specs.declared.tables.Tables.{Tables}
-use Rattle.amr_state.specs.State.{State, spot_cmp, log_key_cmp}
+use Rattle.amr_state.specs.State.{State, spot_of, spot_cmp, log_key_cmp}
 use Rattle.amr_state.specs.Records.{has_entry, NotesEntered}
+use Rattle.amr_state.specs.Fitting.{Fits, since_config}
 use Rattle.amr_state.specs.Kept.{Kept}
 use Rattle.amr_state.specs.declared.store.Store.TheInside.{Inside}
 
 abbrev pub state_of : Inside → State
 state_of store = record {
   moment = store.moment;
-  config = store.config;
+  config = store.tables.roster.config;
   alerts = shown label_set_cmp store.tables.timetable.alerts;
   silences = shown nat_cmp store.tables.silences;
-  placements = shown spot_cmp store.tables.placements;
+  placements = shown spot_cmp store.tables.roster.placements;
   clocks = shown spot_cmp store.tables.timetable.clocks;
   log = shown log_key_cmp store.tables.log;
   notes = store.notes.items;
@@ -41,7 +42,7 @@ IsSound tables (WasMoment moment) = moment ≤ latest_read
 IsSound tables (WasConfig config) = Unit {0}
 IsSound tables (WasAlert labels alert) = IsTrue (has_place label_set_cmp tables.timetable.alerts labels)
 IsSound tables (WasSilence id silence) = IsTrue (has_place nat_cmp tables.silences id)
-IsSound tables (WasPlacement spot alert) = IsTrue (has_place spot_cmp tables.placements spot)
+IsSound tables (WasPlacement member alert) = IsTrue (has_place spot_cmp tables.roster.placements (spot_of member))
 IsSound tables (WasClock group clock) = IsTrue (has_place spot_cmp tables.timetable.clocks group)
 IsSound tables (WasLogged key entry) = IsTrue (has_place log_key_cmp tables.log key)
 IsSound tables (WasNotes count) = Unit {0}
@@ -49,13 +50,13 @@ IsSound tables (WasNotes count) = Unit {0}
 abbrev pub AreSound : Tables → List Displaced → Type 0
 AreSound tables = AllByRecursion (IsSound tables)
 
--- whether an entry's place is marked as entered in the open record
+-- whether an entry's place is marked as entered in the open record, after its last entry of the configuration
 abbrev pub is_marked_at : Tables → Displaced → Bool
 is_marked_at tables (WasMoment moment) = tables.is_moment_entered
-is_marked_at tables (WasConfig config) = tables.is_config_entered
+is_marked_at tables (WasConfig config) = false
 is_marked_at tables (WasAlert labels alert) = is_entered label_set_cmp tables.timetable.alerts labels
 is_marked_at tables (WasSilence id silence) = is_entered nat_cmp tables.silences id
-is_marked_at tables (WasPlacement spot alert) = is_entered spot_cmp tables.placements spot
+is_marked_at tables (WasPlacement member alert) = is_entered spot_cmp tables.roster.placements (spot_of member)
 is_marked_at tables (WasClock group clock) = is_entered spot_cmp tables.timetable.clocks group
 is_marked_at tables (WasLogged key entry) = is_entered log_key_cmp tables.log key
 is_marked_at tables (WasNotes count) = tables.are_notes_entered
@@ -68,22 +69,28 @@ IsUnmarked tables = (place : Displaced) → is_marked_at tables place ≡ false
 pub record MorePlaces (a b : Tables) : Type 0 where
   pub alerts : (k : LabelSet) → IsTrue (has_place label_set_cmp a.timetable.alerts k) → IsTrue (has_place label_set_cmp b.timetable.alerts k)
   pub silences : (k : ℕ) → IsTrue (has_place nat_cmp a.silences k) → IsTrue (has_place nat_cmp b.silences k)
-  pub placements : (k : Spot) → IsTrue (has_place spot_cmp a.placements k) → IsTrue (has_place spot_cmp b.placements k)
+  pub placements : (k : Spot) → IsTrue (has_place spot_cmp a.roster.placements k) → IsTrue (has_place spot_cmp b.roster.placements k)
   pub clocks : (k : Spot) → IsTrue (has_place spot_cmp a.timetable.clocks k) → IsTrue (has_place spot_cmp b.timetable.clocks k)
   pub log : (k : LogKey) → IsTrue (has_place log_key_cmp a.log k) → IsTrue (has_place log_key_cmp b.log k)
 
 -- the same values
 pub record SameValues (a b : Tables) : Type 0 where
+  pub config : b.roster.config ≡ a.roster.config
   pub alerts : shown label_set_cmp b.timetable.alerts ≡ shown label_set_cmp a.timetable.alerts
   pub silences : shown nat_cmp b.silences ≡ shown nat_cmp a.silences
-  pub placements : shown spot_cmp b.placements ≡ shown spot_cmp a.placements
+  pub placements : shown spot_cmp b.roster.placements ≡ shown spot_cmp a.roster.placements
   pub clocks : shown spot_cmp b.timetable.clocks ≡ shown spot_cmp a.timetable.clocks
   pub log : shown log_key_cmp b.log ≡ shown log_key_cmp a.log
 
--- every record can be put back, and each place that is marked has an entry in the open one
+-- the entries of all records, the oldest first
+abbrev pub entries_of : Inside → List Displaced
+entries_of store = flat_map (λ closed. closed) store.journal.closed ++ store.journal.current
+
+-- every record can be put back, with members in the groups of the configuration of that time, and each place that is marked has an entry in the open record after the last one of the configuration
 pub record IsKept (store : Inside) : Type 0 where
   pub moment : store.moment ≤ latest_read
   pub current : AreSound store.tables store.journal.current
   pub closed : AllByRecursion (AreSound store.tables) store.journal.closed
-  pub marked : (place : Displaced) → IsTrue (is_marked_at store.tables place) → IsTrue (has_entry store.journal.current place)
+  pub marked : (place : Displaced) → IsTrue (is_marked_at store.tables place) → IsTrue (has_entry (since_config store.journal.current) place)
   pub notes : IsTrue store.tables.are_notes_entered → NotesEntered store.journal.current (length store.notes.items)
+  pub fits : Fits (entries_of store) (state_of store)

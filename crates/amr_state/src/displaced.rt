@@ -1,6 +1,7 @@
 //! What an event displaces: a place of the state, with the value that it had.
+use crate::membership::Membership;
 use crate::note::{Clock, LogKey};
-use crate::spot::{Spot, TimedGroup};
+use crate::spot::TimedGroup;
 use amr_config::Config;
 use amr_events::SilenceId;
 use amr_labels::Labels;
@@ -18,8 +19,8 @@ pub enum Displaced {
     WasAlert(Labels, Option<Alert>),
     /// The silence with this id.
     WasSilence(SilenceId, Option<Silence>),
-    /// The member of a route's group with these labels.
-    WasPlacement(Spot, Option<Alert>),
+    /// The member of a group with these labels.
+    WasPlacement(Membership, Option<Alert>),
     /// The timer of a group.
     WasClock(TimedGroup, Option<Clock>),
     /// The entry of the notification log under this key.

@@ -4,8 +4,10 @@
 mod displaced;
 mod due;
 mod members;
+mod membership;
 mod note;
 mod placing;
+mod roster;
 mod spot;
 mod store;
 mod tables;
@@ -15,6 +17,7 @@ pub mod views;
 pub use displaced::Displaced;
 pub use due::{Due, Kind, next_due};
 pub use members::{Member, members_of};
+pub use membership::Membership;
 pub use note::{Clock, FiringAlert, LogKey, Note, ResolvedAlert};
 pub use placing::{group_spot, place};
 pub use spot::Spot;

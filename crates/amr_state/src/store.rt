@@ -8,13 +8,15 @@ ghost use Rattle.amr_labels.specs.Map.{len};
 ghost use Rattle.amr_tables.specs.Numbered.{shown};
 ghost use Rattle.amr_tables.specs.Queued.{in_order};
 ghost use Rattle.amr_time.specs.Time.{latest_read};
-ghost use Rattle.amr_state.specs.State.{start, spot_cmp, log_key_cmp};
+ghost use Rattle.amr_state.specs.State.{start, members, spot_cmp, log_key_cmp};
 ghost use Rattle.amr_state.specs.Dues.{due_cmp, dues};
 ghost use Rattle.amr_state.specs.Kept.{GrownBy, undone};
 
 use crate::displaced::Displaced;
 use crate::due::Due;
+use crate::members::Member;
 use crate::note::{Clock, LogKey, Note};
+use crate::roster::Roster;
 use crate::spot::{Spot, TimedGroup};
 use crate::tables::Tables;
 use crate::timetable::Timetable;
@@ -26,15 +28,15 @@ use amr_tables::{Journal, Keyed, Queue, change};
 use amr_time::Moment;
 use std::alloc::{AllocError, Global};
 use std::marker::Model;
-use std::mem;
 
 /// The state of the replayed instance. What a change displaces is entered into the open record of the journal, so that the event
 /// can be undone without memory. A place is entered in a record once: what a later change displaces there is made by the same event.
+/// After a change of the configuration places are entered again, so that each member is put back under the configuration that gave it
+/// its group.
 #[derive(Drop)]
 pub struct Store {
     alloc: Global,
     moment: Moment,
-    config: Config,
     tables: Tables,
     notes: Vec<Shared<Note>>,
     journal: Journal<Displaced>,
@@ -67,14 +69,12 @@ impl Store {
         Store {
             alloc,
             moment: Moment::START,
-            config,
             tables: Tables {
                 timetable: Timetable::new(alloc),
                 silences: Keyed::new(alloc),
-                placements: Keyed::new(alloc),
+                roster: Roster::new(alloc, config),
                 log: Keyed::new(alloc),
                 is_moment_entered: false,
-                is_config_entered: false,
                 are_notes_entered: false,
             },
             notes: Vec::new(alloc),
@@ -125,10 +125,10 @@ impl Store {
         self.tables.clear_entered();
         match self.journal.pop() {
             Displaced::WasMoment(was) => self.moment = was,
-            Displaced::WasConfig(was) => self.config = was,
+            Displaced::WasConfig(was) => drop(self.tables.roster.replace_config(was)),
             Displaced::WasAlert(labels, was) => self.tables.timetable.put_back_alert(labels, was),
             Displaced::WasSilence(id, was) => drop(self.tables.silences.displace(&id, was)),
-            Displaced::WasPlacement(spot, was) => drop(self.tables.placements.displace(&spot, was)),
+            Displaced::WasPlacement(member, was) => self.tables.roster.put_back_member(member, was),
             Displaced::WasClock(group, was) => self.tables.timetable.put_back_clock(group, was),
             Displaced::WasLogged(key, was) => drop(self.tables.log.displace(&key, was)),
             Displaced::WasNotes(count) => self.notes.truncate(count),
@@ -187,7 +187,7 @@ impl Store {
     pub fn config(&self) -> &Config
         ensures { result.now ≡ self.now.state.config }
     {
-        &self.config
+        self.tables.roster.config()
     }
 
     /// The stored alerts, under their labels.
@@ -208,7 +208,15 @@ impl Store {
     pub(crate) fn placements(&self) -> &Keyed<Spot, Alert>
         ensures { shown spot_cmp result.now ≡ self.now.state.placements }
     {
-        &self.tables.placements
+        self.tables.roster.placements()
+    }
+
+    /// Returns the members of a group, by labels.
+    #[tactic(auto, unfolding(crate::specs::State::members))]
+    pub(crate) fn members_of(&self, group: &Spot) -> Result<Vec<Member>, AllocError>
+        ensures { IfOk result (λ found. found.items ≡ members self.now.state group.now) }
+    {
+        self.tables.roster.members_of(group)
     }
 
     /// The timers of the groups.
@@ -425,9 +433,12 @@ impl Store {
         ensures kept { undone self.new ≡ undone self.old }
         ensures grown { GrownBy 1 self.old self.new }
     {
-        let entry = change(&mut self.tables.placements, &mut self.journal, spot, alert)?;
-        if let Some((spot, was)) = entry {
-            self.journal.push(Displaced::WasPlacement(spot, was));
+        let entry = self
+            .tables
+            .roster
+            .change_member(&mut self.journal, spot, alert)?;
+        if let Some((member, was)) = entry {
+            self.journal.push(Displaced::WasPlacement(member, was));
         }
         Ok(())
     }
@@ -457,7 +468,7 @@ impl Store {
         ensures kept { undone self.new ≡ undone self.old }
         ensures grown { GrownBy (len self.old.state.placements) self.old self.new }
     {
-        let spots = keys_of(self.alloc, &self.tables.placements)?;
+        let spots = keys_of(self.alloc, self.tables.roster.placements())?;
         for spot in &spots {
             self.set_placement(spot, None)?;
         }
@@ -477,20 +488,18 @@ impl Store {
         Ok(())
     }
 
-    /// Puts another configuration in force.
+    /// Puts another configuration in force, while no group has a member. Changes after it are entered again, also of places that have
+    /// an entry already.
     fn change_config(&mut self, config: Config) -> Result<(), AllocError>
+        requires { self.old.state.placements ≡ map.empty }
         ensures ok { OnOk result (self.new.state ≡ record self.old.state { config = config }) }
         ensures kept { undone self.new ≡ undone self.old }
         ensures grown { GrownBy 1 self.old self.new }
     {
-        if self.tables.is_config_entered {
-            self.config = config;
-            return Ok(());
-        }
         self.journal.reserve_entry()?;
-        let was = mem::replace(&mut self.config, config);
+        let was = self.tables.roster.replace_config(config);
         self.journal.push(Displaced::WasConfig(was));
-        self.tables.is_config_entered = true;
+        self.tables.clear_entered();
         Ok(())
     }
 }

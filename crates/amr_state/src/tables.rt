@@ -2,27 +2,26 @@
 ghost use Rattle.amr_state.specs.Stored.{SameValues, MorePlaces, IsUnmarked};
 
 use crate::note::LogKey;
-use crate::spot::Spot;
+use crate::roster::Roster;
 use crate::timetable::Timetable;
 use amr_events::SilenceId;
-use amr_rules::{Alert, LogEntry, Silence};
+use amr_rules::{LogEntry, Silence};
 use amr_tables::Keyed;
 
-/// The places of the state that are in tables. Each table marks the places that the open record has an entry for; of the three places that are
-/// in no table the marks are here too.
+/// The places of the state that are in tables. Each table marks the places that the open record has an entry for; of the moment and the
+/// notifications, which are in no table, the marks are here too. A configuration is always entered.
 #[derive(Drop)]
 pub(crate) struct Tables {
     pub(crate) timetable: Timetable,
     pub(crate) silences: Keyed<SilenceId, Silence>,
-    pub(crate) placements: Keyed<Spot, Alert>,
+    pub(crate) roster: Roster,
     pub(crate) log: Keyed<LogKey, LogEntry>,
     pub(crate) is_moment_entered: bool,
-    pub(crate) is_config_entered: bool,
     pub(crate) are_notes_entered: bool,
 }
 
 impl Tables {
-    /// Takes the marks of all places away, since another record is open. It takes no memory.
+    /// Takes the marks of all places away, so that a change of any place is entered again. It takes no memory.
     pub(crate) fn clear_entered(&mut self)
         ensures values { SameValues self.old self.new }
         ensures places { MorePlaces self.old self.new }
@@ -30,10 +29,9 @@ impl Tables {
     {
         self.timetable.clear_entered();
         self.silences.clear_entered();
-        self.placements.clear_entered();
+        self.roster.clear_entered();
         self.log.clear_entered();
         self.is_moment_entered = false;
-        self.is_config_entered = false;
         self.are_notes_entered = false;
     }
 }

@@ -193,7 +193,7 @@ struct GroupMoments {
 }
 
 /// Puts a value, or none, back under a key that has a place, and drops what is there. It takes no memory.
-fn put_back<K: Key + Drop, V: Drop>(table: &mut Keyed<K, V>, key: &K, value: Option<V>)
+pub(crate) fn put_back<K: Key + Drop, V: Drop>(table: &mut Keyed<K, V>, key: &K, value: Option<V>)
     requires { IsTrue (has_place K.cmp table.old key.now) }
     ensures shown { shown K.cmp table.new ≡ map.set (shown K.cmp table.old) key.now value }
     ensures places { SamePlaces K.cmp table.old table.new }
@@ -205,7 +205,11 @@ fn put_back<K: Key + Drop, V: Drop>(table: &mut Keyed<K, V>, key: &K, value: Opt
 }
 
 /// Makes room for the dues of a place, unless it is there.
-fn make_room(queue: &mut Queue<Due>, is_there: bool, n: usize) -> Result<(), AllocError>
+pub(crate) fn make_room<D: Ord + Drop>(
+    queue: &mut Queue<D>,
+    is_there: bool,
+    n: usize,
+) -> Result<(), AllocError>
     ensures room { OnOk result (queue.old.room + (if is_there then 0 else n) ≤ queue.new.room) }
     ensures more { queue.old.room ≤ queue.new.room }
     ensures dues { queue.new.dues ≡ queue.old.dues }

@@ -26,12 +26,12 @@ invariant_of-self-2 c =
           kept_pushed a b e c.self.invariant (record { alerts = λ k h. h; silences = λ k h. h; placements = λ k h. h; clocks = λ k h. h; log = λ k h. h }) c.self.invariant.moment (w.push.ensures.closed ∙ w.reserve_entry.ensures.closed)
           (pushed ∙ ap (λ es. es ++ e ∷ []) w.reserve_entry.ensures.current) tt
           (by_place (NewMarkAt (WasNotes w.len.result) a.tables b.tables) (λ x h. h) (λ x h. h) (λ k v h. h) (λ k v h. h) (λ k v h. h) (λ k v h. h) (λ k v h. h) (λ x h. refl))
-          (λ _. notes_entered-last a.journal.current w.len.result (length b.notes.items) (subst (λ k. k ≤ length b.notes.items) (sym count) (more_notes a.notes.items b.notes.items note all))))
+          (λ _. notes_entered-last a.journal.current w.len.result (length b.notes.items) (subst (λ k. k ≤ length b.notes.items) (sym count) (more_notes a.notes.items b.notes.items note all))) refl (refl, refl) tt)
       | else-not-self w ↦
           let b : Inside = record a { notes = c.push_reserved.new.self } in
           let all : c.push_reserved.new.self.items ≡ a.notes.items ++ note ∷ [] = items ∙ ap (λ (x : Inside). x.notes.items ++ note ∷ []) w.self-inside-is ∙ ap (λ xs. xs ++ note ∷ []) c.reserve.ensures.items in
           subst (λ x. IsKept (record x { notes = c.push_reserved.new.self })) (sym w.self-inside-is) (
-          kept_same a b c.self.invariant (record { alerts = λ k h. h; silences = λ k h. h; placements = λ k h. h; clocks = λ k h. h; log = λ k h. h }) c.self.invariant.moment refl refl (λ place h. h) (more_notes a.notes.items b.notes.items note all))
+          kept_same a b c.self.invariant (record { alerts = λ k h. h; silences = λ k h. h; placements = λ k h. h; clocks = λ k h. h; log = λ k h. h }) c.self.invariant.moment refl refl (λ place h. h) (more_notes a.notes.items b.notes.items note all) (refl, refl))
     ]
 
 pub returns-clause-kept : goal.returns-clause-kept

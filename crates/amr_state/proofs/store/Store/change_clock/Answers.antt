@@ -11,7 +11,7 @@ use Rattle.amr_state.specs.State.{spot_cmp, spot_cmp-IsAntisymmetric}
 use Rattle.amr_state.specs.Kept.{undone}
 use Rattle.amr_state.specs.declared.store.Store.TheInside.{Inside}
 use Rattle.amr_state.specs.Stored.{state_of}
-use Rattle.amr_state.proofs.Soundness.{by_place, NoNewMark, NewMarkAt, kept_grown, kept_entered, undone_pushed, undone_covered, taken}
+use Rattle.amr_state.proofs.Soundness.{by_place, NoNewMark, NewMarkAt, fits_alike, kept_grown, kept_entered, undone_pushed, undone_covered, taken}
 use Rattle.amr_state.proofs.store.Store.change_clock.Goals as goal
 
 pub invariant_of-self-in-Some : goal.invariant_of-self-in-Some
@@ -26,7 +26,7 @@ invariant_of-self-in-Some c =
     kept_entered a b e c.self.invariant (record { alerts = λ k h. subst (λ v. IsTrue (has_place label_set_cmp v k)) (sym c.change_clock.ensures.alerts) h; silences = λ k h. h; placements = λ k h. h; clocks = c.change_clock.ensures.places; log = λ k h. h })
     c.self.invariant.moment (c.push.ensures.closed ∙ c.change_clock.ensures.closed) (pushed ∙ ap (λ es. es ++ e ∷ []) c.change_clock.ensures.current)
     (subst (λ k. IsTrue (has_place spot_cmp t.clocks k)) (sym (ap (λ p. p.0) is)) c.in_ok-entry.ensures.made)
-    (subst (λ k. (place : Displaced) → NewMarkAt (WasClock k c.in-Some.was) a.tables b.tables place) (sym (ap (λ p. p.0) is)) (by_place (NewMarkAt (WasClock c.args.group.now c.in-Some.was) a.tables b.tables) (λ x h. h) (λ x h. h) (λ k v h. subst (λ x. IsTrue (is_entered label_set_cmp x k)) c.change_clock.ensures.alerts h) (λ k v h. h) (λ k v h. h) (λ q w h. subst IsTrue (c.in_ok-entry.ensures.entered q) h) (λ k v h. h) (λ x h. h))) refl refl
+    (subst (λ k. (place : Displaced) → NewMarkAt (WasClock k c.in-Some.was) a.tables b.tables place) (sym (ap (λ p. p.0) is)) (by_place (NewMarkAt (WasClock c.args.group.now c.in-Some.was) a.tables b.tables) (λ x h. h) (λ x h. h) (λ k v h. subst (λ x. IsTrue (is_entered label_set_cmp x k)) c.change_clock.ensures.alerts h) (λ k v h. h) (λ k v h. h) (λ q w h. subst IsTrue (c.in_ok-entry.ensures.entered q) h) (λ k v h. h) (λ x h. h))) refl refl refl (refl, refl) tt
 
 pub invariant_of-self : goal.invariant_of-self
 invariant_of-self c =
@@ -34,7 +34,7 @@ invariant_of-self c =
     let t = c.change_clock.new.self in
     let b : Inside = record a { tables = record a.tables { timetable = t }; journal = c.change_clock.new.journal } in
     kept_grown a b c.self.invariant (record { alerts = λ k h. subst (λ v. IsTrue (has_place label_set_cmp v k)) (sym c.change_clock.ensures.alerts) h; silences = λ k h. h; placements = λ k h. h; clocks = c.change_clock.ensures.places; log = λ k h. h }) refl c.change_clock.ensures.closed c.change_clock.ensures.current
-    (by_place (NoNewMark a.tables b.tables) (λ x h. h) (λ x h. h) (λ k v h. subst (λ x. IsTrue (is_entered label_set_cmp x k)) c.change_clock.ensures.alerts h) (λ k v h. h) (λ k v h. h) (λ q w h. subst IsTrue (c.in_err-entry.ensures.err.1 q) h) (λ k v h. h) (λ x h. h)) refl
+    (by_place (NoNewMark a.tables b.tables) (λ x h. h) (λ x h. h) (λ k v h. subst (λ x. IsTrue (is_entered label_set_cmp x k)) c.change_clock.ensures.alerts h) (λ k v h. h) (λ k v h. h) (λ q w h. subst IsTrue (c.in_err-entry.ensures.err.1 q) h) (λ k v h. h) (λ x h. h)) refl (fits_alike a b c.change_clock.ensures.closed c.change_clock.ensures.current (refl, refl) c.self.invariant.fits)
 
 pub invariant_of-self-in-None-1 : goal.invariant_of-self-in-None-1
 invariant_of-self-in-None-1 c =
@@ -43,7 +43,7 @@ invariant_of-self-in-None-1 c =
     let b : Inside = record a { tables = record a.tables { timetable = t }; journal = c.change_clock.new.journal } in
     let marked = entry_of-none spot_cmp a.tables.timetable.clocks c.args.group.now (taken _ c.in_default.not-Some ∙ c.in_ok-entry.ensures.entry) in
     kept_grown a b c.self.invariant (record { alerts = λ k h. subst (λ v. IsTrue (has_place label_set_cmp v k)) (sym c.change_clock.ensures.alerts) h; silences = λ k h. h; placements = λ k h. h; clocks = c.change_clock.ensures.places; log = λ k h. h }) refl c.change_clock.ensures.closed c.change_clock.ensures.current
-    (by_place (NoNewMark a.tables b.tables) (λ x h. h) (λ x h. h) (λ k v h. subst (λ x. IsTrue (is_entered label_set_cmp x k)) c.change_clock.ensures.alerts h) (λ k v h. h) (λ k v h. h) (λ q w h. entered_again spot_cmp spot_cmp-IsAntisymmetric a.tables.timetable.clocks t.clocks c.args.group.now q marked c.in_ok-entry.ensures.entered h) (λ k v h. h) (λ x h. h)) refl
+    (by_place (NoNewMark a.tables b.tables) (λ x h. h) (λ x h. h) (λ k v h. subst (λ x. IsTrue (is_entered label_set_cmp x k)) c.change_clock.ensures.alerts h) (λ k v h. h) (λ k v h. h) (λ q w h. entered_again spot_cmp spot_cmp-IsAntisymmetric a.tables.timetable.clocks t.clocks c.args.group.now q marked c.in_ok-entry.ensures.entered h) (λ k v h. h) (λ x h. h)) refl (fits_alike a b c.change_clock.ensures.closed c.change_clock.ensures.current (refl, refl) c.self.invariant.fits)
 
 pub returns-in-Some-clause-kept : goal.returns-in-Some-clause-kept
 returns-in-Some-clause-kept c =

@@ -1,15 +1,16 @@
 use Rattle.std.proofs.Common.{refl, ap, ◌∙◌, arith}
 use Rattle.amr_labels.specs.Map as map
+use Rattle.amr_tables.specs.Numbered.{shown}
 use Rattle.amr_state.specs.Kept.{Kept}
 use Rattle.std.specs.List.{fold}
-use Rattle.amr_state.specs.State.{spot_cmp_total, spot_cmp-IsAntisymmetric}
+use Rattle.amr_state.specs.State.{spot_cmp, spot_cmp_total, spot_cmp-IsAntisymmetric}
 use Rattle.amr_state.proofs.Emptied.{removed_all}
 use Rattle.amr_state.proofs.store.Store.clear_placements.Goals as goal
 
 pub loop-spot-init : goal.loop-spot-init
 loop-spot-init c = (
   ap (λ m. record c.args.self.now.state { placements = m }) (
-      ap (fold map.remove c.args.self.now.state.placements) (c.deref-spot-items.ensures.value ∙ c.in_ok-spots.ensures ∙ ap map.keys (ap (λ (k : Kept). k.state.placements) c.self.view_is))
+      ap (fold map.remove c.args.self.now.state.placements) (c.deref-spot-items.ensures.value ∙ c.in_ok-spots.ensures ∙ ap (λ t. map.keys (shown spot_cmp t)) c.placements.ensures ∙ ap map.keys (ap (λ (k : Kept). k.state.placements) c.self.view_is))
       ∙ removed_all spot_cmp_total spot_cmp-IsAntisymmetric c.args.self.now.state.placements),
   (refl, omega arith),
 )

@@ -1,4 +1,5 @@
-use Rattle.std.proofs.Common.{refl}
+use Rattle.std.proofs.Common.{refl, sym, ap, ◌∙◌}
+use Rattle.amr_state.specs.Kept.{Kept}
 use Rattle.amr_state.specs.declared.store.Store.TheInside.{Inside}
 use Rattle.amr_state.proofs.Soundness.{kept_reopened}
 use Rattle.amr_state.proofs.store.Store.reopen.Goals as goal
@@ -8,3 +9,4 @@ invariant_of-self c =
     let a = c.self.inside in
     let b : Inside = record a { tables = c.clear_entered.new.self; journal = c.reopen.new.self } in
     kept_reopened a b c.self.invariant c.clear_entered.ensures.places c.clear_entered.ensures.marks refl c.reopen.ensures
+    (ap (λ (k : Kept). k.current) c.self.view_is ∙ c.requires.empty) (sym c.clear_entered.ensures.values.config, sym c.clear_entered.ensures.values.placements)

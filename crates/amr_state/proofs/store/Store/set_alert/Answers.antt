@@ -9,7 +9,7 @@ use Rattle.amr_state.specs.State.{spot_cmp}
 use Rattle.amr_state.specs.Kept.{undone}
 use Rattle.amr_state.specs.declared.store.Store.TheInside.{Inside}
 use Rattle.amr_state.specs.Stored.{state_of}
-use Rattle.amr_state.proofs.Soundness.{by_place, NoNewMark, NewMarkAt, kept_grown, kept_entered, undone_pushed, undone_covered, taken}
+use Rattle.amr_state.proofs.Soundness.{by_place, NoNewMark, NewMarkAt, fits_alike, kept_grown, kept_entered, undone_pushed, undone_covered, taken}
 use Rattle.amr_state.proofs.store.Store.set_alert.Goals as goal
 
 pub invariant_of-self-in-Some : goal.invariant_of-self-in-Some
@@ -23,7 +23,7 @@ invariant_of-self-in-Some c =
     kept_entered a b e c.self.invariant (record { alerts = c.change_alert.ensures.places; silences = λ k h. h; placements = λ k h. h; clocks = λ k h. subst (λ v. IsTrue (has_place spot_cmp v k)) (sym c.change_alert.ensures.clocks) h; log = λ k h. h })
     c.self.invariant.moment (c.push.ensures.closed ∙ c.change_alert.ensures.closed) (pushed ∙ ap (λ es. es ++ e ∷ []) c.change_alert.ensures.current)
     (subst (λ k. IsTrue (has_place label_set_cmp t.alerts k)) (sym (ap (λ p. p.0) is)) c.in_ok-entry.ensures.made)
-    (subst (λ k. (place : Displaced) → NewMarkAt (WasAlert k c.in-Some.was) a.tables b.tables place) (sym (ap (λ p. p.0) is)) (by_place (NewMarkAt (WasAlert c.args.labels.now c.in-Some.was) a.tables b.tables) (λ x h. h) (λ x h. h) (λ q w h. subst IsTrue (c.in_ok-entry.ensures.entered q) h) (λ k v h. h) (λ k v h. h) (λ k v h. subst (λ x. IsTrue (is_entered spot_cmp x k)) c.change_alert.ensures.clocks h) (λ k v h. h) (λ x h. h))) refl refl
+    (subst (λ k. (place : Displaced) → NewMarkAt (WasAlert k c.in-Some.was) a.tables b.tables place) (sym (ap (λ p. p.0) is)) (by_place (NewMarkAt (WasAlert c.args.labels.now c.in-Some.was) a.tables b.tables) (λ x h. h) (λ x h. h) (λ q w h. subst IsTrue (c.in_ok-entry.ensures.entered q) h) (λ k v h. h) (λ k v h. h) (λ k v h. subst (λ x. IsTrue (is_entered spot_cmp x k)) c.change_alert.ensures.clocks h) (λ k v h. h) (λ x h. h))) refl refl refl (refl, refl) tt
 
 pub invariant_of-self : goal.invariant_of-self
 invariant_of-self c =
@@ -31,7 +31,7 @@ invariant_of-self c =
     let t = c.change_alert.new.self in
     let b : Inside = record a { tables = record a.tables { timetable = t }; journal = c.change_alert.new.journal } in
     kept_grown a b c.self.invariant (record { alerts = c.change_alert.ensures.places; silences = λ k h. h; placements = λ k h. h; clocks = λ k h. subst (λ v. IsTrue (has_place spot_cmp v k)) (sym c.change_alert.ensures.clocks) h; log = λ k h. h }) refl c.change_alert.ensures.closed c.change_alert.ensures.current
-    (by_place (NoNewMark a.tables b.tables) (λ x h. h) (λ x h. h) (λ q w h. subst IsTrue (c.in_err-entry.ensures.err.1 q) h) (λ k v h. h) (λ k v h. h) (λ k v h. subst (λ x. IsTrue (is_entered spot_cmp x k)) c.change_alert.ensures.clocks h) (λ k v h. h) (λ x h. h)) refl
+    (by_place (NoNewMark a.tables b.tables) (λ x h. h) (λ x h. h) (λ q w h. subst IsTrue (c.in_err-entry.ensures.err.1 q) h) (λ k v h. h) (λ k v h. h) (λ k v h. subst (λ x. IsTrue (is_entered spot_cmp x k)) c.change_alert.ensures.clocks h) (λ k v h. h) (λ x h. h)) refl (fits_alike a b c.change_alert.ensures.closed c.change_alert.ensures.current (refl, refl) c.self.invariant.fits)
 
 pub invariant_of-self-in_default : goal.invariant_of-self-in_default
 invariant_of-self-in_default c =
@@ -40,7 +40,7 @@ invariant_of-self-in_default c =
     let b : Inside = record a { tables = record a.tables { timetable = t }; journal = c.change_alert.new.journal } in
     let marked = entry_of-none label_set_cmp a.tables.timetable.alerts c.args.labels.now (taken _ c.in_default.not-Some ∙ c.in_ok-entry.ensures.entry) in
     kept_grown a b c.self.invariant (record { alerts = c.change_alert.ensures.places; silences = λ k h. h; placements = λ k h. h; clocks = λ k h. subst (λ v. IsTrue (has_place spot_cmp v k)) (sym c.change_alert.ensures.clocks) h; log = λ k h. h }) refl c.change_alert.ensures.closed c.change_alert.ensures.current
-    (by_place (NoNewMark a.tables b.tables) (λ x h. h) (λ x h. h) (λ q w h. entered_again label_set_cmp label_set_cmp-IsAntisymmetric a.tables.timetable.alerts t.alerts c.args.labels.now q marked c.in_ok-entry.ensures.entered h) (λ k v h. h) (λ k v h. h) (λ k v h. subst (λ x. IsTrue (is_entered spot_cmp x k)) c.change_alert.ensures.clocks h) (λ k v h. h) (λ x h. h)) refl
+    (by_place (NoNewMark a.tables b.tables) (λ x h. h) (λ x h. h) (λ q w h. entered_again label_set_cmp label_set_cmp-IsAntisymmetric a.tables.timetable.alerts t.alerts c.args.labels.now q marked c.in_ok-entry.ensures.entered h) (λ k v h. h) (λ k v h. h) (λ k v h. subst (λ x. IsTrue (is_entered spot_cmp x k)) c.change_alert.ensures.clocks h) (λ k v h. h) (λ x h. h)) refl (fits_alike a b c.change_alert.ensures.closed c.change_alert.ensures.current (refl, refl) c.self.invariant.fits)
 
 pub returns-in-Some-clause-kept : goal.returns-in-Some-clause-kept
 returns-in-Some-clause-kept c =

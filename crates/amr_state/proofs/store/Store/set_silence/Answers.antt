@@ -7,7 +7,7 @@ use Rattle.amr_state.specs.declared.displaced.Displaced.TheVariants.{WasSilence}
 use Rattle.amr_state.specs.Kept.{undone}
 use Rattle.amr_state.specs.declared.store.Store.TheInside.{Inside}
 use Rattle.amr_state.specs.Stored.{state_of}
-use Rattle.amr_state.proofs.Soundness.{by_place, NoNewMark, NewMarkAt, kept_grown, kept_entered, undone_pushed, undone_covered, taken}
+use Rattle.amr_state.proofs.Soundness.{by_place, NoNewMark, NewMarkAt, fits_alike, kept_grown, kept_entered, undone_pushed, undone_covered, taken}
 use Rattle.amr_state.proofs.store.Store.set_silence.Goals as goal
 
 pub invariant_of-self-in-Some : goal.invariant_of-self-in-Some
@@ -20,7 +20,7 @@ invariant_of-self-in-Some c =
     kept_entered a b e c.self.invariant (record { alerts = λ k h. h; silences = c.change.ensures.places; placements = λ k h. h; clocks = λ k h. h; log = λ k h. h })
     c.self.invariant.moment (c.push.ensures.closed ∙ c.change.ensures.closed) (pushed ∙ ap (λ es. es ++ e ∷ []) c.change.ensures.current)
     c.in_ok-entry.ensures.made
-    (by_place (NewMarkAt (WasSilence c.args.id c.in-Some.was) a.tables b.tables) (λ x h. h) (λ x h. h) (λ k v h. h) (λ q w h. subst IsTrue (c.in_ok-entry.ensures.entered q) h) (λ k v h. h) (λ k v h. h) (λ k v h. h) (λ x h. h)) refl refl
+    (by_place (NewMarkAt (WasSilence c.args.id c.in-Some.was) a.tables b.tables) (λ x h. h) (λ x h. h) (λ k v h. h) (λ q w h. subst IsTrue (c.in_ok-entry.ensures.entered q) h) (λ k v h. h) (λ k v h. h) (λ k v h. h) (λ x h. h)) refl refl refl (refl, refl) tt
 
 pub invariant_of-self : goal.invariant_of-self
 invariant_of-self c =
@@ -28,7 +28,7 @@ invariant_of-self c =
     let t = c.change.new.table in
     let b : Inside = record a { tables = record a.tables { silences = t }; journal = c.change.new.journal } in
     kept_grown a b c.self.invariant (record { alerts = λ k h. h; silences = c.change.ensures.places; placements = λ k h. h; clocks = λ k h. h; log = λ k h. h }) refl c.change.ensures.closed c.change.ensures.current
-    (by_place (NoNewMark a.tables b.tables) (λ x h. h) (λ x h. h) (λ k v h. h) (λ q w h. subst IsTrue (c.in_err-entry.ensures.err.1 q) h) (λ k v h. h) (λ k v h. h) (λ k v h. h) (λ x h. h)) refl
+    (by_place (NoNewMark a.tables b.tables) (λ x h. h) (λ x h. h) (λ k v h. h) (λ q w h. subst IsTrue (c.in_err-entry.ensures.err.1 q) h) (λ k v h. h) (λ k v h. h) (λ k v h. h) (λ x h. h)) refl (fits_alike a b c.change.ensures.closed c.change.ensures.current (refl, refl) c.self.invariant.fits)
 
 pub invariant_of-self-in_default : goal.invariant_of-self-in_default
 invariant_of-self-in_default c =
@@ -37,7 +37,7 @@ invariant_of-self-in_default c =
     let b : Inside = record a { tables = record a.tables { silences = t }; journal = c.change.new.journal } in
     let marked = entry_of-none nat_cmp a.tables.silences c.args.id (taken _ c.in_default.not-Some ∙ c.in_ok-entry.ensures.entry) in
     kept_grown a b c.self.invariant (record { alerts = λ k h. h; silences = c.change.ensures.places; placements = λ k h. h; clocks = λ k h. h; log = λ k h. h }) refl c.change.ensures.closed c.change.ensures.current
-    (by_place (NoNewMark a.tables b.tables) (λ x h. h) (λ x h. h) (λ k v h. h) (λ q w h. entered_again nat_cmp nat_cmp-IsAntisymmetric a.tables.silences t c.args.id q marked c.in_ok-entry.ensures.entered h) (λ k v h. h) (λ k v h. h) (λ k v h. h) (λ x h. h)) refl
+    (by_place (NoNewMark a.tables b.tables) (λ x h. h) (λ x h. h) (λ k v h. h) (λ q w h. entered_again nat_cmp nat_cmp-IsAntisymmetric a.tables.silences t c.args.id q marked c.in_ok-entry.ensures.entered h) (λ k v h. h) (λ k v h. h) (λ k v h. h) (λ x h. h)) refl (fits_alike a b c.change.ensures.closed c.change.ensures.current (refl, refl) c.self.invariant.fits)
 
 pub returns-in-Some-clause-kept : goal.returns-in-Some-clause-kept
 returns-in-Some-clause-kept c =

@@ -1,14 +1,14 @@
-use Rattle.std.proofs.Common.{IsTrue, sym, ap, subst, ◌∙◌}
+use Rattle.std.proofs.Common.{IsTrue, refl, sym, ap, subst, ◌∙◌}
 use Rattle.amr_labels.specs.Map as map
 use Rattle.amr_labels.specs.Labels.{label_set_cmp}
 use Rattle.amr_tables.specs.Numbered.{shown, has_place, is_entered}
 use Rattle.amr_state.specs.declared.displaced.Displaced.{Displaced}
 use Rattle.amr_state.specs.declared.displaced.Displaced.TheVariants.{WasMoment, WasConfig, WasAlert, WasSilence, WasPlacement, WasClock, WasLogged, WasNotes}
-use Rattle.amr_state.specs.State.{spot_cmp}
+use Rattle.amr_state.specs.State.{spot_cmp, spot_of, group_spot}
 use Rattle.amr_state.specs.Kept.{undone}
 use Rattle.amr_state.specs.declared.store.Store.TheInside.{Inside}
 use Rattle.amr_state.specs.Stored.{state_of}
-use Rattle.amr_state.proofs.Soundness.{by_place, last_is_sound, kept_popped, undone_popped}
+use Rattle.amr_state.proofs.Soundness.{by_place, last_is_sound, last_fits, kept_popped, undone_popped}
 use Rattle.amr_state.proofs.store.Store.undo_entry.Goals as goal
 
 pub invariant_of-self : goal.invariant_of-self
@@ -17,7 +17,7 @@ invariant_of-self c =
     let m = c.clear_entered.new.self in
     let b : Inside = record a { moment = c.in-WasMoment.was; tables = m; journal = c.pop.new.self } in
     let e : Displaced = WasMoment c.in-WasMoment.was in
-    kept_popped a b e c.self.invariant c.clear_entered.ensures.places c.clear_entered.ensures.marks (last_is_sound a c.pop.new.self.current e c.self.invariant c.in-WasMoment.ensures.current) c.in-WasMoment.ensures.closed c.in-WasMoment.ensures.current
+    kept_popped a b e c.self.invariant c.clear_entered.ensures.places c.clear_entered.ensures.marks (last_is_sound a c.pop.new.self.current e c.self.invariant c.in-WasMoment.ensures.current) c.in-WasMoment.ensures.closed c.in-WasMoment.ensures.current (sym c.clear_entered.ensures.values.config, sym c.clear_entered.ensures.values.placements)
 
 pub returns-in-WasMoment-clause-kept : goal.returns-in-WasMoment-clause-kept
 returns-in-WasMoment-clause-kept c =
@@ -25,25 +25,30 @@ returns-in-WasMoment-clause-kept c =
     let m = c.clear_entered.new.self in
     let b : Inside = record a { moment = c.in-WasMoment.was; tables = m; journal = c.pop.new.self } in
     let e : Displaced = WasMoment c.in-WasMoment.was in
-    undone_popped a b e (λ i. record (state_of a) { moment = c.in-WasMoment.was; alerts = c.clear_entered.ensures.values.alerts i; silences = c.clear_entered.ensures.values.silences i; placements = c.clear_entered.ensures.values.placements i; clocks = c.clear_entered.ensures.values.clocks i; log = c.clear_entered.ensures.values.log i })
+    undone_popped a b e (λ i. record (state_of a) { config = c.clear_entered.ensures.values.config i; moment = c.in-WasMoment.was; alerts = c.clear_entered.ensures.values.alerts i; silences = c.clear_entered.ensures.values.silences i; placements = c.clear_entered.ensures.values.placements i; clocks = c.clear_entered.ensures.values.clocks i; log = c.clear_entered.ensures.values.log i })
     c.in-WasMoment.ensures.current c.in-WasMoment.ensures.closed c.in-WasMoment.ensures.records
     ∙ ap undone c.self.view_is
+
+pub replace_config-requires : goal.replace_config-requires
+replace_config-requires c = c.clear_entered.ensures.values.placements ∙ last_fits c.self.inside c.pop.new.self.current (WasConfig c.in-WasConfig.was) c.self.invariant c.in-WasConfig.ensures.current
 
 pub invariant_of-self-in-WasConfig : goal.invariant_of-self-in-WasConfig
 invariant_of-self-in-WasConfig c =
     let a = c.self.inside in
     let m = c.clear_entered.new.self in
-    let b : Inside = record a { config = c.in-WasConfig.was; tables = m; journal = c.pop.new.self } in
+    let b : Inside = record a { tables = record m { roster = c.replace_config.new.self }; journal = c.pop.new.self } in
     let e : Displaced = WasConfig c.in-WasConfig.was in
-    kept_popped a b e c.self.invariant c.clear_entered.ensures.places c.clear_entered.ensures.marks c.self.invariant.moment c.in-WasConfig.ensures.closed c.in-WasConfig.ensures.current
+    kept_popped a b e c.self.invariant (record { alerts = c.clear_entered.ensures.places.alerts; silences = c.clear_entered.ensures.places.silences; placements = λ k h. subst (λ x. IsTrue (has_place spot_cmp x k)) (sym c.replace_config.ensures.placements) (c.clear_entered.ensures.places.placements k h); clocks = c.clear_entered.ensures.places.clocks; log = c.clear_entered.ensures.places.log })
+    (by_place _ (λ x. c.clear_entered.ensures.marks (WasMoment x)) (λ x. c.clear_entered.ensures.marks (WasConfig x)) (λ k v. c.clear_entered.ensures.marks (WasAlert k v)) (λ k v. c.clear_entered.ensures.marks (WasSilence k v)) (λ k v. ap (λ x. is_entered spot_cmp x (spot_of k)) c.replace_config.ensures.placements ∙ c.clear_entered.ensures.marks (WasPlacement k v)) (λ k v. c.clear_entered.ensures.marks (WasClock k v)) (λ k v. c.clear_entered.ensures.marks (WasLogged k v)) (λ x. c.clear_entered.ensures.marks (WasNotes x)))
+    c.self.invariant.moment c.in-WasConfig.ensures.closed c.in-WasConfig.ensures.current (sym c.replace_config.ensures.config, sym (ap (λ x. shown spot_cmp x) c.replace_config.ensures.placements ∙ c.clear_entered.ensures.values.placements))
 
 pub returns-in-WasConfig-clause-kept : goal.returns-in-WasConfig-clause-kept
 returns-in-WasConfig-clause-kept c =
     let a = c.self.inside in
     let m = c.clear_entered.new.self in
-    let b : Inside = record a { config = c.in-WasConfig.was; tables = m; journal = c.pop.new.self } in
+    let b : Inside = record a { tables = record m { roster = c.replace_config.new.self }; journal = c.pop.new.self } in
     let e : Displaced = WasConfig c.in-WasConfig.was in
-    undone_popped a b e (λ i. record (state_of a) { config = c.in-WasConfig.was; alerts = c.clear_entered.ensures.values.alerts i; silences = c.clear_entered.ensures.values.silences i; placements = c.clear_entered.ensures.values.placements i; clocks = c.clear_entered.ensures.values.clocks i; log = c.clear_entered.ensures.values.log i })
+    undone_popped a b e (λ i. record (state_of a) { config = c.replace_config.ensures.config i; alerts = c.clear_entered.ensures.values.alerts i; silences = c.clear_entered.ensures.values.silences i; placements = (ap (λ x. shown spot_cmp x) c.replace_config.ensures.placements ∙ c.clear_entered.ensures.values.placements) i; clocks = c.clear_entered.ensures.values.clocks i; log = c.clear_entered.ensures.values.log i })
     c.in-WasConfig.ensures.current c.in-WasConfig.ensures.closed c.in-WasConfig.ensures.records
     ∙ ap undone c.self.view_is
 
@@ -53,7 +58,7 @@ invariant_of-self-in-WasNotes c =
     let m = c.clear_entered.new.self in
     let b : Inside = record a { notes = c.truncate.new.self; tables = m; journal = c.pop.new.self } in
     let e : Displaced = WasNotes c.in-WasNotes.count in
-    kept_popped a b e c.self.invariant c.clear_entered.ensures.places c.clear_entered.ensures.marks c.self.invariant.moment c.in-WasNotes.ensures.closed c.in-WasNotes.ensures.current
+    kept_popped a b e c.self.invariant c.clear_entered.ensures.places c.clear_entered.ensures.marks c.self.invariant.moment c.in-WasNotes.ensures.closed c.in-WasNotes.ensures.current (sym c.clear_entered.ensures.values.config, sym c.clear_entered.ensures.values.placements)
 
 pub returns-in-WasNotes-clause-kept : goal.returns-in-WasNotes-clause-kept
 returns-in-WasNotes-clause-kept c =
@@ -61,7 +66,7 @@ returns-in-WasNotes-clause-kept c =
     let m = c.clear_entered.new.self in
     let b : Inside = record a { notes = c.truncate.new.self; tables = m; journal = c.pop.new.self } in
     let e : Displaced = WasNotes c.in-WasNotes.count in
-    undone_popped a b e (λ i. record (state_of a) { notes = c.truncate.ensures.items i; alerts = c.clear_entered.ensures.values.alerts i; silences = c.clear_entered.ensures.values.silences i; placements = c.clear_entered.ensures.values.placements i; clocks = c.clear_entered.ensures.values.clocks i; log = c.clear_entered.ensures.values.log i })
+    undone_popped a b e (λ i. record (state_of a) { config = c.clear_entered.ensures.values.config i; notes = c.truncate.ensures.items i; alerts = c.clear_entered.ensures.values.alerts i; silences = c.clear_entered.ensures.values.silences i; placements = c.clear_entered.ensures.values.placements i; clocks = c.clear_entered.ensures.values.clocks i; log = c.clear_entered.ensures.values.log i })
     c.in-WasNotes.ensures.current c.in-WasNotes.ensures.closed c.in-WasNotes.ensures.records
     ∙ ap undone c.self.view_is
 
@@ -76,7 +81,7 @@ invariant_of-self-in-WasAlert c =
     let e : Displaced = WasAlert c.in-WasAlert.labels c.in-WasAlert.was in
     kept_popped a b e c.self.invariant (record { alerts = λ k h. subst IsTrue (sym (c.put_back_alert.ensures.places k)) (c.clear_entered.ensures.places.alerts k h); silences = c.clear_entered.ensures.places.silences; placements = c.clear_entered.ensures.places.placements; clocks = λ k h. subst (λ x. IsTrue (has_place spot_cmp x k)) (sym c.put_back_alert.ensures.clocks) (c.clear_entered.ensures.places.clocks k h); log = c.clear_entered.ensures.places.log })
     (by_place _ (λ x. c.clear_entered.ensures.marks (WasMoment x)) (λ x. c.clear_entered.ensures.marks (WasConfig x)) (λ k v. c.put_back_alert.ensures.entered k ∙ c.clear_entered.ensures.marks (WasAlert k v)) (λ k v. c.clear_entered.ensures.marks (WasSilence k v)) (λ k v. c.clear_entered.ensures.marks (WasPlacement k v)) (λ k v. ap (λ x. is_entered spot_cmp x k) c.put_back_alert.ensures.clocks ∙ c.clear_entered.ensures.marks (WasClock k v)) (λ k v. c.clear_entered.ensures.marks (WasLogged k v)) (λ x. c.clear_entered.ensures.marks (WasNotes x)))
-    c.self.invariant.moment c.in-WasAlert.ensures.closed c.in-WasAlert.ensures.current
+    c.self.invariant.moment c.in-WasAlert.ensures.closed c.in-WasAlert.ensures.current (sym c.clear_entered.ensures.values.config, sym c.clear_entered.ensures.values.placements)
 
 pub returns-in-WasAlert-clause-kept : goal.returns-in-WasAlert-clause-kept
 returns-in-WasAlert-clause-kept c =
@@ -84,7 +89,7 @@ returns-in-WasAlert-clause-kept c =
     let m = c.clear_entered.new.self in
     let b : Inside = record a { tables = record m { timetable = c.put_back_alert.new.self }; journal = c.pop.new.self } in
     let e : Displaced = WasAlert c.in-WasAlert.labels c.in-WasAlert.was in
-    undone_popped a b e (λ i. record (state_of a) { alerts = (c.put_back_alert.ensures.shown ∙ ap (λ x. map.set x c.in-WasAlert.labels c.in-WasAlert.was) c.clear_entered.ensures.values.alerts) i; silences = c.clear_entered.ensures.values.silences i; placements = c.clear_entered.ensures.values.placements i; clocks = (ap (λ x. shown spot_cmp x) c.put_back_alert.ensures.clocks ∙ c.clear_entered.ensures.values.clocks) i; log = c.clear_entered.ensures.values.log i })
+    undone_popped a b e (λ i. record (state_of a) { config = c.clear_entered.ensures.values.config i; alerts = (c.put_back_alert.ensures.shown ∙ ap (λ x. map.set x c.in-WasAlert.labels c.in-WasAlert.was) c.clear_entered.ensures.values.alerts) i; silences = c.clear_entered.ensures.values.silences i; placements = c.clear_entered.ensures.values.placements i; clocks = (ap (λ x. shown spot_cmp x) c.put_back_alert.ensures.clocks ∙ c.clear_entered.ensures.values.clocks) i; log = c.clear_entered.ensures.values.log i })
     c.in-WasAlert.ensures.current c.in-WasAlert.ensures.closed c.in-WasAlert.ensures.records
     ∙ ap undone c.self.view_is
 
@@ -99,7 +104,7 @@ invariant_of-self-in-WasSilence c =
     let e : Displaced = WasSilence c.in-WasSilence.id c.in-WasSilence.was in
     kept_popped a b e c.self.invariant (record { alerts = c.clear_entered.ensures.places.alerts; silences = λ k h. subst IsTrue (sym (c.displace.ensures.places k)) (c.clear_entered.ensures.places.silences k h); placements = c.clear_entered.ensures.places.placements; clocks = c.clear_entered.ensures.places.clocks; log = c.clear_entered.ensures.places.log })
     (by_place _ (λ x. c.clear_entered.ensures.marks (WasMoment x)) (λ x. c.clear_entered.ensures.marks (WasConfig x)) (λ k v. c.clear_entered.ensures.marks (WasAlert k v)) (λ k v. c.displace.ensures.entered k ∙ c.clear_entered.ensures.marks (WasSilence k v)) (λ k v. c.clear_entered.ensures.marks (WasPlacement k v)) (λ k v. c.clear_entered.ensures.marks (WasClock k v)) (λ k v. c.clear_entered.ensures.marks (WasLogged k v)) (λ x. c.clear_entered.ensures.marks (WasNotes x)))
-    c.self.invariant.moment c.in-WasSilence.ensures.closed c.in-WasSilence.ensures.current
+    c.self.invariant.moment c.in-WasSilence.ensures.closed c.in-WasSilence.ensures.current (sym c.clear_entered.ensures.values.config, sym c.clear_entered.ensures.values.placements)
 
 pub returns-in-WasSilence-clause-kept : goal.returns-in-WasSilence-clause-kept
 returns-in-WasSilence-clause-kept c =
@@ -107,30 +112,36 @@ returns-in-WasSilence-clause-kept c =
     let m = c.clear_entered.new.self in
     let b : Inside = record a { tables = record m { silences = c.displace.new.self }; journal = c.pop.new.self } in
     let e : Displaced = WasSilence c.in-WasSilence.id c.in-WasSilence.was in
-    undone_popped a b e (λ i. record (state_of a) { alerts = c.clear_entered.ensures.values.alerts i; silences = (c.displace.ensures.shown ∙ ap (λ x. map.set x c.in-WasSilence.id c.in-WasSilence.was) c.clear_entered.ensures.values.silences) i; placements = c.clear_entered.ensures.values.placements i; clocks = c.clear_entered.ensures.values.clocks i; log = c.clear_entered.ensures.values.log i })
+    undone_popped a b e (λ i. record (state_of a) { config = c.clear_entered.ensures.values.config i; alerts = c.clear_entered.ensures.values.alerts i; silences = (c.displace.ensures.shown ∙ ap (λ x. map.set x c.in-WasSilence.id c.in-WasSilence.was) c.clear_entered.ensures.values.silences) i; placements = c.clear_entered.ensures.values.placements i; clocks = c.clear_entered.ensures.values.clocks i; log = c.clear_entered.ensures.values.log i })
     c.in-WasSilence.ensures.current c.in-WasSilence.ensures.closed c.in-WasSilence.ensures.records
     ∙ ap undone c.self.view_is
 
-pub displace-requires-in-WasPlacement : goal.displace-requires-in-WasPlacement
-displace-requires-in-WasPlacement c = c.clear_entered.ensures.places.placements c.in-WasPlacement.spot (last_is_sound c.self.inside c.pop.new.self.current (WasPlacement c.in-WasPlacement.spot c.in-WasPlacement.was) c.self.invariant c.in-WasPlacement.ensures.current)
+pub put_back_member-requires : goal.put_back_member-requires
+put_back_member-requires c =
+    let e : Displaced = WasPlacement c.in-WasPlacement.member c.in-WasPlacement.was in
+    record {
+      place = c.clear_entered.ensures.places.placements (spot_of c.in-WasPlacement.member) (last_is_sound c.self.inside c.pop.new.self.current e c.self.invariant c.in-WasPlacement.ensures.current);
+      group = last_fits c.self.inside c.pop.new.self.current e c.self.invariant c.in-WasPlacement.ensures.current ∙ ap (λ config. group_spot config (spot_of c.in-WasPlacement.member)) (sym c.clear_entered.ensures.values.config);
+    }
 
 pub invariant_of-self-in-WasPlacement : goal.invariant_of-self-in-WasPlacement
 invariant_of-self-in-WasPlacement c =
     let a = c.self.inside in
     let m = c.clear_entered.new.self in
-    let b : Inside = record a { tables = record m { placements = c.displace-in-WasPlacement.new.self }; journal = c.pop.new.self } in
-    let e : Displaced = WasPlacement c.in-WasPlacement.spot c.in-WasPlacement.was in
-    kept_popped a b e c.self.invariant (record { alerts = c.clear_entered.ensures.places.alerts; silences = c.clear_entered.ensures.places.silences; placements = λ k h. subst IsTrue (sym (c.displace-in-WasPlacement.ensures.places k)) (c.clear_entered.ensures.places.placements k h); clocks = c.clear_entered.ensures.places.clocks; log = c.clear_entered.ensures.places.log })
-    (by_place _ (λ x. c.clear_entered.ensures.marks (WasMoment x)) (λ x. c.clear_entered.ensures.marks (WasConfig x)) (λ k v. c.clear_entered.ensures.marks (WasAlert k v)) (λ k v. c.clear_entered.ensures.marks (WasSilence k v)) (λ k v. c.displace-in-WasPlacement.ensures.entered k ∙ c.clear_entered.ensures.marks (WasPlacement k v)) (λ k v. c.clear_entered.ensures.marks (WasClock k v)) (λ k v. c.clear_entered.ensures.marks (WasLogged k v)) (λ x. c.clear_entered.ensures.marks (WasNotes x)))
+    let b : Inside = record a { tables = record m { roster = c.put_back_member.new.self }; journal = c.pop.new.self } in
+    let e : Displaced = WasPlacement c.in-WasPlacement.member c.in-WasPlacement.was in
+    kept_popped a b e c.self.invariant (record { alerts = c.clear_entered.ensures.places.alerts; silences = c.clear_entered.ensures.places.silences; placements = λ k h. subst IsTrue (sym (c.put_back_member.ensures.places k)) (c.clear_entered.ensures.places.placements k h); clocks = c.clear_entered.ensures.places.clocks; log = c.clear_entered.ensures.places.log })
+    (by_place _ (λ x. c.clear_entered.ensures.marks (WasMoment x)) (λ x. c.clear_entered.ensures.marks (WasConfig x)) (λ k v. c.clear_entered.ensures.marks (WasAlert k v)) (λ k v. c.clear_entered.ensures.marks (WasSilence k v)) (λ k v. c.put_back_member.ensures.entered (spot_of k) ∙ c.clear_entered.ensures.marks (WasPlacement k v)) (λ k v. c.clear_entered.ensures.marks (WasClock k v)) (λ k v. c.clear_entered.ensures.marks (WasLogged k v)) (λ x. c.clear_entered.ensures.marks (WasNotes x)))
     c.self.invariant.moment c.in-WasPlacement.ensures.closed c.in-WasPlacement.ensures.current
+    (sym (c.put_back_member.ensures.config ∙ c.clear_entered.ensures.values.config), sym (c.put_back_member.ensures.shown ∙ ap (λ x. map.set x (spot_of c.in-WasPlacement.member) c.in-WasPlacement.was) c.clear_entered.ensures.values.placements))
 
 pub returns-in-WasPlacement-clause-kept : goal.returns-in-WasPlacement-clause-kept
 returns-in-WasPlacement-clause-kept c =
     let a = c.self.inside in
     let m = c.clear_entered.new.self in
-    let b : Inside = record a { tables = record m { placements = c.displace-in-WasPlacement.new.self }; journal = c.pop.new.self } in
-    let e : Displaced = WasPlacement c.in-WasPlacement.spot c.in-WasPlacement.was in
-    undone_popped a b e (λ i. record (state_of a) { alerts = c.clear_entered.ensures.values.alerts i; silences = c.clear_entered.ensures.values.silences i; placements = (c.displace-in-WasPlacement.ensures.shown ∙ ap (λ x. map.set x c.in-WasPlacement.spot c.in-WasPlacement.was) c.clear_entered.ensures.values.placements) i; clocks = c.clear_entered.ensures.values.clocks i; log = c.clear_entered.ensures.values.log i })
+    let b : Inside = record a { tables = record m { roster = c.put_back_member.new.self }; journal = c.pop.new.self } in
+    let e : Displaced = WasPlacement c.in-WasPlacement.member c.in-WasPlacement.was in
+    undone_popped a b e (λ i. record (state_of a) { config = (c.put_back_member.ensures.config ∙ c.clear_entered.ensures.values.config) i; alerts = c.clear_entered.ensures.values.alerts i; silences = c.clear_entered.ensures.values.silences i; placements = (c.put_back_member.ensures.shown ∙ ap (λ x. map.set x (spot_of c.in-WasPlacement.member) c.in-WasPlacement.was) c.clear_entered.ensures.values.placements) i; clocks = c.clear_entered.ensures.values.clocks i; log = c.clear_entered.ensures.values.log i })
     c.in-WasPlacement.ensures.current c.in-WasPlacement.ensures.closed c.in-WasPlacement.ensures.records
     ∙ ap undone c.self.view_is
 
@@ -145,7 +156,7 @@ invariant_of-self-in-WasClock c =
     let e : Displaced = WasClock c.in-WasClock.group c.in-WasClock.was in
     kept_popped a b e c.self.invariant (record { alerts = λ k h. subst (λ x. IsTrue (has_place label_set_cmp x k)) (sym c.put_back_clock.ensures.alerts) (c.clear_entered.ensures.places.alerts k h); silences = c.clear_entered.ensures.places.silences; placements = c.clear_entered.ensures.places.placements; clocks = λ k h. subst IsTrue (sym (c.put_back_clock.ensures.places k)) (c.clear_entered.ensures.places.clocks k h); log = c.clear_entered.ensures.places.log })
     (by_place _ (λ x. c.clear_entered.ensures.marks (WasMoment x)) (λ x. c.clear_entered.ensures.marks (WasConfig x)) (λ k v. ap (λ x. is_entered label_set_cmp x k) c.put_back_clock.ensures.alerts ∙ c.clear_entered.ensures.marks (WasAlert k v)) (λ k v. c.clear_entered.ensures.marks (WasSilence k v)) (λ k v. c.clear_entered.ensures.marks (WasPlacement k v)) (λ k v. c.put_back_clock.ensures.entered k ∙ c.clear_entered.ensures.marks (WasClock k v)) (λ k v. c.clear_entered.ensures.marks (WasLogged k v)) (λ x. c.clear_entered.ensures.marks (WasNotes x)))
-    c.self.invariant.moment c.in-WasClock.ensures.closed c.in-WasClock.ensures.current
+    c.self.invariant.moment c.in-WasClock.ensures.closed c.in-WasClock.ensures.current (sym c.clear_entered.ensures.values.config, sym c.clear_entered.ensures.values.placements)
 
 pub returns-in-WasClock-clause-kept : goal.returns-in-WasClock-clause-kept
 returns-in-WasClock-clause-kept c =
@@ -153,7 +164,7 @@ returns-in-WasClock-clause-kept c =
     let m = c.clear_entered.new.self in
     let b : Inside = record a { tables = record m { timetable = c.put_back_clock.new.self }; journal = c.pop.new.self } in
     let e : Displaced = WasClock c.in-WasClock.group c.in-WasClock.was in
-    undone_popped a b e (λ i. record (state_of a) { alerts = (ap (λ x. shown label_set_cmp x) c.put_back_clock.ensures.alerts ∙ c.clear_entered.ensures.values.alerts) i; silences = c.clear_entered.ensures.values.silences i; placements = c.clear_entered.ensures.values.placements i; clocks = (c.put_back_clock.ensures.shown ∙ ap (λ x. map.set x c.in-WasClock.group c.in-WasClock.was) c.clear_entered.ensures.values.clocks) i; log = c.clear_entered.ensures.values.log i })
+    undone_popped a b e (λ i. record (state_of a) { config = c.clear_entered.ensures.values.config i; alerts = (ap (λ x. shown label_set_cmp x) c.put_back_clock.ensures.alerts ∙ c.clear_entered.ensures.values.alerts) i; silences = c.clear_entered.ensures.values.silences i; placements = c.clear_entered.ensures.values.placements i; clocks = (c.put_back_clock.ensures.shown ∙ ap (λ x. map.set x c.in-WasClock.group c.in-WasClock.was) c.clear_entered.ensures.values.clocks) i; log = c.clear_entered.ensures.values.log i })
     c.in-WasClock.ensures.current c.in-WasClock.ensures.closed c.in-WasClock.ensures.records
     ∙ ap undone c.self.view_is
 
@@ -168,7 +179,7 @@ invariant_of-self-in-WasLogged c =
     let e : Displaced = WasLogged c.in-WasLogged.key c.in-WasLogged.was in
     kept_popped a b e c.self.invariant (record { alerts = c.clear_entered.ensures.places.alerts; silences = c.clear_entered.ensures.places.silences; placements = c.clear_entered.ensures.places.placements; clocks = c.clear_entered.ensures.places.clocks; log = λ k h. subst IsTrue (sym (c.displace-in-WasLogged.ensures.places k)) (c.clear_entered.ensures.places.log k h) })
     (by_place _ (λ x. c.clear_entered.ensures.marks (WasMoment x)) (λ x. c.clear_entered.ensures.marks (WasConfig x)) (λ k v. c.clear_entered.ensures.marks (WasAlert k v)) (λ k v. c.clear_entered.ensures.marks (WasSilence k v)) (λ k v. c.clear_entered.ensures.marks (WasPlacement k v)) (λ k v. c.clear_entered.ensures.marks (WasClock k v)) (λ k v. c.displace-in-WasLogged.ensures.entered k ∙ c.clear_entered.ensures.marks (WasLogged k v)) (λ x. c.clear_entered.ensures.marks (WasNotes x)))
-    c.self.invariant.moment c.in-WasLogged.ensures.closed c.in-WasLogged.ensures.current
+    c.self.invariant.moment c.in-WasLogged.ensures.closed c.in-WasLogged.ensures.current (sym c.clear_entered.ensures.values.config, sym c.clear_entered.ensures.values.placements)
 
 pub returns-in-WasLogged-clause-kept : goal.returns-in-WasLogged-clause-kept
 returns-in-WasLogged-clause-kept c =
@@ -176,6 +187,6 @@ returns-in-WasLogged-clause-kept c =
     let m = c.clear_entered.new.self in
     let b : Inside = record a { tables = record m { log = c.displace-in-WasLogged.new.self }; journal = c.pop.new.self } in
     let e : Displaced = WasLogged c.in-WasLogged.key c.in-WasLogged.was in
-    undone_popped a b e (λ i. record (state_of a) { alerts = c.clear_entered.ensures.values.alerts i; silences = c.clear_entered.ensures.values.silences i; placements = c.clear_entered.ensures.values.placements i; clocks = c.clear_entered.ensures.values.clocks i; log = (c.displace-in-WasLogged.ensures.shown ∙ ap (λ x. map.set x c.in-WasLogged.key c.in-WasLogged.was) c.clear_entered.ensures.values.log) i })
+    undone_popped a b e (λ i. record (state_of a) { config = c.clear_entered.ensures.values.config i; alerts = c.clear_entered.ensures.values.alerts i; silences = c.clear_entered.ensures.values.silences i; placements = c.clear_entered.ensures.values.placements i; clocks = c.clear_entered.ensures.values.clocks i; log = (c.displace-in-WasLogged.ensures.shown ∙ ap (λ x. map.set x c.in-WasLogged.key c.in-WasLogged.was) c.clear_entered.ensures.values.log) i })
     c.in-WasLogged.ensures.current c.in-WasLogged.ensures.closed c.in-WasLogged.ensures.records
     ∙ ap undone c.self.view_is

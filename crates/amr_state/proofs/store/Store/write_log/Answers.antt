@@ -8,7 +8,7 @@ use Rattle.amr_state.specs.State.{log_key_cmp, log_key_cmp-IsAntisymmetric}
 use Rattle.amr_state.specs.Kept.{undone}
 use Rattle.amr_state.specs.declared.store.Store.TheInside.{Inside}
 use Rattle.amr_state.specs.Stored.{state_of}
-use Rattle.amr_state.proofs.Soundness.{by_place, NoNewMark, NewMarkAt, kept_grown, kept_entered, undone_pushed, undone_covered, taken}
+use Rattle.amr_state.proofs.Soundness.{by_place, NoNewMark, NewMarkAt, fits_alike, kept_grown, kept_entered, undone_pushed, undone_covered, taken}
 use Rattle.amr_state.proofs.store.Store.write_log.Goals as goal
 
 pub invariant_of-self-in-Some : goal.invariant_of-self-in-Some
@@ -22,7 +22,7 @@ invariant_of-self-in-Some c =
     kept_entered a b e c.self.invariant (record { alerts = λ k h. h; silences = λ k h. h; placements = λ k h. h; clocks = λ k h. h; log = c.change.ensures.places })
     c.self.invariant.moment (c.push.ensures.closed ∙ c.change.ensures.closed) (pushed ∙ ap (λ es. es ++ e ∷ []) c.change.ensures.current)
     (subst (λ k. IsTrue (has_place log_key_cmp t k)) (sym (ap (λ p. p.0) is)) c.in_ok-entry.ensures.made)
-    (subst (λ k. (place : Displaced) → NewMarkAt (WasLogged k c.in-Some.was) a.tables b.tables place) (sym (ap (λ p. p.0) is)) (by_place (NewMarkAt (WasLogged c.args.key.now c.in-Some.was) a.tables b.tables) (λ x h. h) (λ x h. h) (λ k v h. h) (λ k v h. h) (λ k v h. h) (λ k v h. h) (λ q w h. subst IsTrue (c.in_ok-entry.ensures.entered q) h) (λ x h. h))) refl refl
+    (subst (λ k. (place : Displaced) → NewMarkAt (WasLogged k c.in-Some.was) a.tables b.tables place) (sym (ap (λ p. p.0) is)) (by_place (NewMarkAt (WasLogged c.args.key.now c.in-Some.was) a.tables b.tables) (λ x h. h) (λ x h. h) (λ k v h. h) (λ k v h. h) (λ k v h. h) (λ k v h. h) (λ q w h. subst IsTrue (c.in_ok-entry.ensures.entered q) h) (λ x h. h))) refl refl refl (refl, refl) tt
 
 pub invariant_of-self : goal.invariant_of-self
 invariant_of-self c =
@@ -30,7 +30,7 @@ invariant_of-self c =
     let t = c.change.new.table in
     let b : Inside = record a { tables = record a.tables { log = t }; journal = c.change.new.journal } in
     kept_grown a b c.self.invariant (record { alerts = λ k h. h; silences = λ k h. h; placements = λ k h. h; clocks = λ k h. h; log = c.change.ensures.places }) refl c.change.ensures.closed c.change.ensures.current
-    (by_place (NoNewMark a.tables b.tables) (λ x h. h) (λ x h. h) (λ k v h. h) (λ k v h. h) (λ k v h. h) (λ k v h. h) (λ q w h. subst IsTrue (c.in_err-entry.ensures.err.1 q) h) (λ x h. h)) refl
+    (by_place (NoNewMark a.tables b.tables) (λ x h. h) (λ x h. h) (λ k v h. h) (λ k v h. h) (λ k v h. h) (λ k v h. h) (λ q w h. subst IsTrue (c.in_err-entry.ensures.err.1 q) h) (λ x h. h)) refl (fits_alike a b c.change.ensures.closed c.change.ensures.current (refl, refl) c.self.invariant.fits)
 
 pub invariant_of-self-in_default : goal.invariant_of-self-in_default
 invariant_of-self-in_default c =
@@ -39,7 +39,7 @@ invariant_of-self-in_default c =
     let b : Inside = record a { tables = record a.tables { log = t }; journal = c.change.new.journal } in
     let marked = entry_of-none log_key_cmp a.tables.log c.args.key.now (taken _ c.in_default.not-Some ∙ c.in_ok-entry.ensures.entry) in
     kept_grown a b c.self.invariant (record { alerts = λ k h. h; silences = λ k h. h; placements = λ k h. h; clocks = λ k h. h; log = c.change.ensures.places }) refl c.change.ensures.closed c.change.ensures.current
-    (by_place (NoNewMark a.tables b.tables) (λ x h. h) (λ x h. h) (λ k v h. h) (λ k v h. h) (λ k v h. h) (λ k v h. h) (λ q w h. entered_again log_key_cmp log_key_cmp-IsAntisymmetric a.tables.log t c.args.key.now q marked c.in_ok-entry.ensures.entered h) (λ x h. h)) refl
+    (by_place (NoNewMark a.tables b.tables) (λ x h. h) (λ x h. h) (λ k v h. h) (λ k v h. h) (λ k v h. h) (λ k v h. h) (λ q w h. entered_again log_key_cmp log_key_cmp-IsAntisymmetric a.tables.log t c.args.key.now q marked c.in_ok-entry.ensures.entered h) (λ x h. h)) refl (fits_alike a b c.change.ensures.closed c.change.ensures.current (refl, refl) c.self.invariant.fits)
 
 pub returns-in-Some-clause-kept : goal.returns-in-Some-clause-kept
 returns-in-Some-clause-kept c =

@@ -1,4 +1,5 @@
 use Rattle.std.proofs.Common.{IsTrue, refl, sym, subst}
+use Rattle.amr_state.specs.State.{spot_of}
 use Rattle.amr_state.proofs.Soundness.{by_place}
 use Rattle.amr_state.proofs.tables.Tables.clear_entered.Goals as goal
 
@@ -13,5 +14,5 @@ returns-clause-places c = record {
 
 pub returns-clause-marks : goal.returns-clause-marks
 returns-clause-marks c =
-    by_place _ (λ x. refl) (λ x. refl) (λ k v. c.clear_entered.ensures.alerts_entered k) (λ k v. c.clear_entered-2.ensures.entered k) (λ k v. c.clear_entered-3.ensures.entered k)
+    by_place _ (λ x. refl) (λ x. refl) (λ k v. c.clear_entered.ensures.alerts_entered k) (λ k v. c.clear_entered-2.ensures.entered k) (λ k v. c.clear_entered-3.ensures.entered (spot_of k))
     (λ k v. c.clear_entered.ensures.clocks_entered k) (λ k v. c.clear_entered-4.ensures.entered k) (λ x. refl)

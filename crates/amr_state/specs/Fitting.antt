@@ -1,0 +1,28 @@
+-- The members that are put back have the groups that the configuration of that time gives them.
+use Rattle.std.specs.Prelude.{◌≡◌, Bool, true, false, List, [], ◌∷◌, if◌then◌else◌}
+use Rattle.std.specs.List.{list_any}
+use Rattle.amr_labels.specs.Map.{empty}
+use Rattle.amr_state.specs.declared.displaced.Displaced.{Displaced}
+use Rattle.amr_state.specs.declared.displaced.Displaced.TheVariants.{WasConfig, WasPlacement}
+use Rattle.amr_state.specs.State.{State, spot_of, group_spot}
+use Rattle.amr_state.specs.Records.{put_back}
+
+-- a configuration is put back while no group has a member, and a member with the group that the configuration in force gives it
+abbrev pub FitsOne : State → Displaced → Type 0
+FitsOne s (WasConfig config) = s.placements ≡ empty
+FitsOne s (WasPlacement member alert) = member.group ≡ group_spot s.config (spot_of member)
+FitsOne s _ = Unit {0}
+
+-- so it is with each entry when those after it are put back
+unfoldable pub Fits : List Displaced → State → Type 0
+Fits [] s = Unit {0}
+Fits (first ∷ rest) s = Fits rest s × FitsOne (put_back rest s) first
+
+abbrev pub is_config : Displaced → Bool
+is_config (WasConfig config) = true
+is_config _ = false
+
+-- the entries after the last one of the configuration
+unfoldable pub since_config : List Displaced → List Displaced
+since_config [] = []
+since_config (first ∷ rest) = if list_any is_config (first ∷ rest) then since_config rest else first ∷ rest

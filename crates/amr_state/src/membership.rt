@@ -1,0 +1,33 @@
+//! A member of a group, without its alert.
+ghost use Rattle.std.specs.Prelude.{◌≡◌};
+
+use crate::spot::Spot;
+use amr_labels::Labels;
+use amr_tables::InParts;
+use std::cmp::Ordering;
+
+/// A member of a group. Memberships are ordered by group, then by labels.
+#[derive(PartialEq, Eq, PartialOrd, Ord, Drop)]
+pub struct Membership {
+    pub group: Spot,
+    /// The labels of the alert.
+    pub labels: Labels,
+}
+
+/// Memberships are in parts by group.
+impl InParts for Membership {
+    ghost use Rattle.amr_labels.specs.Labels.{label_set_cmp};
+    ghost use Rattle.amr_tables.specs.InParts.{IsInParts-by_first};
+    ghost use Rattle.amr_state.specs.declared.membership.Membership.{Membership};
+    ghost use Rattle.amr_state.specs.State.{spot_cmp, spot_cmp_total};
+
+    type Part = Spot;
+
+    ghost part_cmp = { λ member group. spot_cmp member.group group };
+
+    ghost in_parts = { IsInParts-by_first spot_cmp_total (λ (member : Membership). member.group) (λ a b. label_set_cmp a.labels b.labels) };
+
+    fn part_cmp(&self, part: &Spot) -> Ordering {
+        self.group.cmp(part)
+    }
+}

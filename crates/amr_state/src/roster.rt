@@ -1,0 +1,245 @@
+//! The configuration with the members of all groups, and the index of the members by group.
+ghost use Rattle.std.specs.Prelude.{◌≡◌, ◌<◌, ◌+◌, ◌++◌, [], IsTrue, is_some, option_map, length, OnOk, OnErr, IfOk};
+ghost use Rattle.amr_labels.specs.Map as map;
+ghost use Rattle.amr_tables.specs.Numbered.{shown, has_place, Enters, KeepsPlaces, SamePlaces, SameEntered, NoneEntered, IsUnchanged};
+ghost use Rattle.std.specs.List.{filter_map, cons_option};
+ghost use Rattle.amr_tables.specs.Queued.{in_order, values_of};
+ghost use Rattle.amr_state.specs.State.{spot_of, spot_cmp, group_spot};
+ghost use Rattle.amr_state.specs.Rostered.{membership_cmp, membership_of, memberships, in_group, member_entry_of, members_among, with_alert, enrolled, CanEnrol};
+
+use crate::members::Member;
+use crate::membership::Membership;
+use crate::placing::group_spot;
+use crate::spot::Spot;
+use crate::timetable::{make_room, put_back};
+use amr_config::Config;
+use amr_rules::Alert;
+use amr_tables::{Journal, Keyed, Queue, change};
+use std::alloc::{AllocError, Global};
+use std::marker::Model;
+use std::mem;
+
+/// The configuration with the members of all groups. The index of the members follows each change of them.
+#[derive(Drop)]
+pub(crate) struct Roster {
+    alloc: Global,
+    config: Config,
+    placements: Keyed<Spot, Alert>,
+    index: Queue<Membership>,
+}
+
+impl Model for Roster {
+    ghost use Rattle.std.specs.Coded.{codes};
+    ghost use Rattle.amr_labels.specs.Map as map;
+    ghost use Rattle.amr_state.specs.Rostered.{Rostered, IsIndexed};
+
+    ghost Value = { Rostered };
+
+    ghost coded = { Prim.hlevel (codes, map.code) };
+
+    ghost view = { λ r. record { config = r.config; placements = r.placements } };
+
+    ghost invariant = { λ r. IsIndexed r.config r.placements r.index };
+}
+
+impl Roster {
+    /// No member, under a configuration.
+    pub(crate) fn new(alloc: Global, config: Config) -> Roster
+        ensures config { result.config ≡ config }
+        ensures shown { shown spot_cmp result.placements ≡ map.empty }
+        ensures entered { NoneEntered spot_cmp result.placements }
+    {
+        Roster {
+            alloc,
+            config,
+            placements: Keyed::new(alloc),
+            index: Queue::new(alloc),
+        }
+    }
+
+    /// The configuration in force.
+    pub(crate) fn config(&self) -> &Config
+        ensures { result.now ≡ self.now.config }
+    {
+        &self.config
+    }
+
+    /// The members of all groups, under their routes and labels.
+    pub(crate) fn placements(&self) -> &Keyed<Spot, Alert>
+        ensures { result.now ≡ self.now.placements }
+    {
+        &self.placements
+    }
+
+    /// The members of all groups, by group.
+    pub(crate) fn index(&self) -> &Queue<Membership>
+        ensures { result.now.dues ≡
+            in_order membership_cmp
+            (memberships self.now.config (shown spot_cmp self.now.placements)) }
+    {
+        &self.index
+    }
+
+    /// Returns the members of a group, by labels. It passes over those of other groups.
+    pub(crate) fn members_of(&self, group: &Spot) -> Result<Vec<Member>, AllocError>
+        ensures { IfOk result (λ found. found.items
+            ≡ members_among self.now.config (shown spot_cmp self.now.placements) group.now) }
+    {
+        let members = self.index.part(group)?;
+        with_alerts(self.alloc, &self.placements, members.as_slice())
+    }
+
+    /// Takes back that places are entered, of all. It takes no memory.
+    pub(crate) fn clear_entered(&mut self)
+        ensures shown { shown spot_cmp self.new.placements ≡ shown spot_cmp self.old.placements }
+        ensures places { SamePlaces spot_cmp self.old.placements self.new.placements }
+        ensures entered { NoneEntered spot_cmp self.new.placements }
+        ensures config { self.new.config ≡ self.old.config }
+    {
+        self.placements.clear_entered();
+    }
+
+    /// Puts a member, or none, under its route and labels. Returns what the open record has to take up.
+    pub(crate) fn change_member<E>(
+        &mut self,
+        journal: &mut Journal<E>,
+        spot: &Spot,
+        alert: Option<Alert>,
+    ) -> Result<Option<(Membership, Option<Alert>)>, AllocError>
+        ensures entry { IfOk result (λ entry. entry
+            ≡ member_entry_of self.old.config self.old.placements spot.now) }
+        ensures shown { OnOk result (shown spot_cmp self.new.placements ≡
+            map.set (shown spot_cmp self.old.placements) spot.now alert) }
+        ensures entered { OnOk result
+            (Enters spot_cmp self.old.placements self.new.placements spot.now) }
+        ensures made { OnOk result (IsTrue (has_place spot_cmp self.new.placements spot.now)) }
+        ensures err { OnErr result (IsUnchanged spot_cmp self.old.placements self.new.placements) }
+        ensures places { KeepsPlaces spot_cmp self.old.placements self.new.placements }
+        ensures config { self.new.config ≡ self.old.config }
+        ensures room { IfOk result (λ entry. IsTrue (is_some entry) → 0 < journal.new.entry_room) }
+        ensures closed { journal.new.closed ≡ journal.old.closed }
+        ensures current { journal.new.current ≡ journal.old.current }
+        ensures record_room { journal.new.record_room ≡ journal.old.record_room }
+    {
+        let group = group_spot(self.alloc, &self.config, spot.route, &spot.labels)?;
+        let member = Membership {
+            group: group.clone()?,
+            labels: spot.labels.clone()?,
+        };
+        make_room(&mut self.index, self.placements.has_place(spot), 1)?;
+        let was = is_placed(&self.placements, spot);
+        let is = alert.is_some();
+        let entry = change(&mut self.placements, journal, spot, alert)?;
+        enrol(&mut self.index, member, was, is);
+        Ok(member_entry(group, entry))
+    }
+
+    /// Puts a member, or none, back into its group. It takes no memory.
+    pub(crate) fn put_back_member(&mut self, member: Membership, alert: Option<Alert>)
+        requires place { IsTrue (has_place spot_cmp self.old.placements (spot_of member)) }
+        requires group { member.group ≡ group_spot self.old.config (spot_of member) }
+        ensures shown { shown spot_cmp self.new.placements ≡
+            map.set (shown spot_cmp self.old.placements) (spot_of member) alert }
+        ensures places { SamePlaces spot_cmp self.old.placements self.new.placements }
+        ensures entered { SameEntered spot_cmp self.old.placements self.new.placements }
+        ensures config { self.new.config ≡ self.old.config }
+    {
+        let spot = Spot {
+            route: member.group.route,
+            labels: member.labels,
+        };
+        let was = is_placed(&self.placements, &spot);
+        let is = alert.is_some();
+        put_back(&mut self.placements, &spot, alert);
+        let member = Membership {
+            group: member.group,
+            labels: spot.labels,
+        };
+        enrol(&mut self.index, member, was, is);
+    }
+
+    /// Puts another configuration in force while there are no members, and returns the one before. It takes no memory.
+    pub(crate) fn replace_config(&mut self, config: Config) -> Config
+        requires { shown spot_cmp self.old.placements ≡ map.empty }
+        ensures before { result ≡ self.old.config }
+        ensures config { self.new.config ≡ config }
+        ensures placements { self.new.placements ≡ self.old.placements }
+    {
+        mem::replace(&mut self.config, config)
+    }
+}
+
+/// Returns members with copies of their labels and alerts.
+fn with_alerts(
+    alloc: Global,
+    placements: &Keyed<Spot, Alert>,
+    members: &[&Membership],
+) -> Result<Vec<Member>, AllocError>
+    ensures { IfOk result (λ found. found.items
+        ≡ filter_map (with_alert (shown spot_cmp placements.now)) (values_of members.now)) }
+{
+    let mut found = Vec::new(alloc);
+    for member in members {
+        push_member(&mut found, placements, member)?;
+    }
+    Ok(found)
+}
+
+/// Appends copies of a member's labels and alert, if it has one.
+fn push_member(
+    found: &mut Vec<Member>,
+    placements: &Keyed<Spot, Alert>,
+    member: &Membership,
+) -> Result<(), AllocError>
+    ensures { OnOk result (found.new.items ≡ found.old.items ++
+        cons_option (with_alert (shown spot_cmp placements.now) member.now) []) }
+{
+    let spot = Spot {
+        route: member.group.route,
+        labels: member.labels.clone()?,
+    };
+    if let Some(alert) = placements.get(&spot) {
+        found.push((spot.labels, alert.clone()?))?;
+    }
+    Ok(())
+}
+
+/// Returns an entry of a place as one of a member of the group.
+fn member_entry(
+    group: Spot,
+    entry: Option<(Spot, Option<Alert>)>,
+) -> Option<(Membership, Option<Alert>)>
+    ensures { result ≡ option_map (λ entry. (in_group group entry.0, entry.1)) entry }
+{
+    let (spot, alert) = entry?;
+    let member = Membership {
+        group,
+        labels: spot.labels,
+    };
+    Some((member, alert))
+}
+
+/// Returns whether an alert is placed there.
+fn is_placed(placements: &Keyed<Spot, Alert>, spot: &Spot) -> bool
+    ensures { result ≡ is_some (map.get (shown spot_cmp placements.now) spot.now) }
+{
+    match placements.get(spot) {
+        None => false,
+        Some(_) => true,
+    }
+}
+
+/// Puts a member into the index or takes it out, by whether it was there and is now. It takes no memory.
+fn enrol(index: &mut Queue<Membership>, member: Membership, was: bool, is: bool)
+    requires { CanEnrol index.old.dues index.old.room member was is }
+    ensures dues { index.new.dues ≡ enrolled index.old.dues member was is }
+    ensures all { index.new.room + length index.new.dues ≡ index.old.room + length index.old.dues }
+{
+    match (was, is) {
+        (false, true) => index.put(member),
+        (true, false) => {
+            let _found = index.take(&member);
+        }
+        _ => {}
+    }
+}
