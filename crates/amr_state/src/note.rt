@@ -1,6 +1,7 @@
 //! What the state holds beside alerts: clocks of groups, keys of the notification log, notes.
 ghost use Rattle.std.specs.Prelude.{◌≡◌};
 ghost use Rattle.std.proofs.Common.{rules};
+ghost use Rattle.amr_state.specs.State.{log_key_cmp_integration, log_key_cmp_group};
 
 use amr_labels::{Exact, Labels, Listing, Text, TextMap};
 use amr_matchers::Matchers;
@@ -85,11 +86,31 @@ impl Ord for LogKey {
     ghost matches_eq = { Prim.search (comparing, rules) };
 
     fn cmp(&self, other: &LogKey) -> Ordering {
-        let by_path = self.path.as_slice().cmp(other.path.as_slice());
-        let by_group = self.group.cmp(&other.group).then(by_path);
-        let by_place = self.place.cmp(&other.place).then(by_group);
-        let by_kind = self.kind.cmp(&other.kind).then(by_place);
-        self.receiver.cmp(&other.receiver).then(by_kind)
+        self.receiver
+            .cmp(&other.receiver)
+            .then_with(|| self.cmp_integration(other))
+    }
+}
+
+impl LogKey {
+    /// Compares two keys of one receiver: by integration, then by group and path.
+    fn cmp_integration(&self, other: &LogKey) -> Ordering
+        ensures { result ≡ log_key_cmp_integration self.now other.now }
+    {
+        self.kind.cmp(&other.kind).then_with(|| {
+            self.place
+                .cmp(&other.place)
+                .then_with(|| self.cmp_group(other))
+        })
+    }
+
+    /// Compares two keys of one integration: by group, then by path.
+    fn cmp_group(&self, other: &LogKey) -> Ordering
+        ensures { result ≡ log_key_cmp_group self.now other.now }
+    {
+        self.group
+            .cmp(&other.group)
+            .then_with(|| self.path.as_slice().cmp(other.path.as_slice()))
     }
 }
 
