@@ -3,6 +3,7 @@ ghost use Rattle.std.specs.Prelude.{◌≡◌, ◌≤◌, ◌<◌, ◌+◌, ◌+
 ghost use Rattle.std.specs.Prelude.{option_map, slice_get};
 ghost use Rattle.std.specs.Ordering.{nat_cmp};
 ghost use Rattle.amr_labels.specs.Labels.{label_set_cmp};
+ghost use Rattle.amr_config.specs.Groups.{groups_of};
 ghost use Rattle.amr_labels.specs.Map as map;
 ghost use Rattle.amr_labels.specs.Map.{len};
 ghost use Rattle.amr_tables.specs.Numbered.{shown};
@@ -18,9 +19,9 @@ use crate::note::{Clock, LogKey, Note};
 use crate::spot::{Spot, TimedGroup};
 use crate::tables::Tables;
 use crate::timetable::Timetable;
-use amr_config::Config;
+use amr_config::{Config, RouteGroup, Router};
 use amr_events::SilenceId;
-use amr_labels::{Labels, Shared};
+use amr_labels::{Labels, Listing, Shared};
 use amr_rules::{Alert, LogEntry, Silence};
 use amr_tables::{Journal, Keyed, Queue, change};
 use amr_time::Moment;
@@ -34,7 +35,7 @@ use std::mem;
 pub struct Store {
     alloc: Global,
     moment: Moment,
-    config: Config,
+    config: Router,
     tables: Tables,
     notes: Vec<Shared<Note>>,
     journal: Journal<Displaced>,
@@ -67,7 +68,7 @@ impl Store {
         Store {
             alloc,
             moment: Moment::START,
-            config,
+            config: Router::new(alloc, config),
             tables: Tables {
                 timetable: Timetable::new(alloc),
                 silences: Keyed::new(alloc),
@@ -187,7 +188,7 @@ impl Store {
     pub fn config(&self) -> &Config
         ensures { result.now ≡ self.now.state.config }
     {
-        &self.config
+        self.config.config()
     }
 
     /// The stored alerts, under their labels.
@@ -238,6 +239,15 @@ impl Store {
         ensures { result.now ≡ self.now.state.notes }
     {
         self.notes.as_slice()
+    }
+
+    /// Returns the groups that take an alert with these labels, by route. They are worked out once for each label set and configuration.
+    pub fn groups_of(&mut self, labels: &Labels) -> Result<Shared<Listing<RouteGroup>>, AllocError>
+        ensures groups { IfOk result (λ groups. groups
+            ≡ groups_of self.old.state.config labels.now) }
+        ensures same { self.new ≡ self.old }
+    {
+        self.config.groups_of(labels)
     }
 
     // ---- changes
@@ -484,11 +494,12 @@ impl Store {
         ensures grown { GrownBy 1 self.old self.new }
     {
         if self.tables.is_config_entered {
-            self.config = config;
+            self.config = Router::new(self.alloc, config);
             return Ok(());
         }
         self.journal.reserve_entry()?;
-        let was = mem::replace(&mut self.config, config);
+        let router = Router::new(self.alloc, config);
+        let was = mem::replace(&mut self.config, router);
         self.journal.push(Displaced::WasConfig(was));
         self.tables.is_config_entered = true;
         Ok(())
