@@ -1,10 +1,14 @@
 -- An alert that is placed on a route: first its copy, then the clock of its group.
-use Rattle.std.specs.Prelude.{◌≡◌, ℕ, Result, Ok, Err}
+use Rattle.std.specs.Prelude.{◌≡◌, ℕ, zero, suc, List, [], ◌∷◌, Result, Ok, Err}
 use Rattle.std.specs.Result.{OnOk}
-use Rattle.std.proofs.Common.{ap, ◌∙◌}
+use Rattle.std.specs.Prelude.{Some, map, length, slice_get, option_map}
+use Rattle.std.proofs.Common.{ap, sym, refl, ◌∙◌}
 use Rattle.amr_labels.specs.Map.{get, insert}
 use Rattle.amr_labels.specs.Labels.{LabelSet}
-use Rattle.amr_config.specs.Routing.{group_wait_of}
+use Rattle.amr_config.specs.Config.{Config}
+use Rattle.amr_config.specs.Routing.{chosen, group_wait_of}
+use Rattle.amr_config.specs.Groups.{groups_of, group_at}
+use Rattle.amr_config.specs.declared.router.RouteGroup.{RouteGroup}
 use Rattle.amr_rules.specs.declared.alert.Alert.{Alert}
 use Rattle.amr_state.specs.declared.note.Clock.{Clock}
 use Rattle.amr_state.specs.declared.spot.Spot.{Spot}
@@ -25,3 +29,30 @@ placed s copied labels alert copy route group spot clock grouped at same wound i
     wound ∙ ap (λ (g : Spot). clock_with s.moment (group_wait_of s.config route) alert (get s.clocks g)) grouped in
     ap (λ (x : State). record x { clocks = insert x.clocks group clock }) is
     ∙ (λ i. record s { placements = insert s.placements (at i) (same i); clocks = insert s.clocks (grouped i) (by i) })
+
+-- ---- the groups that take an alert
+
+routes_of_made : (config : Config) (labels : LabelSet) (routes : List ℕ) → map (λ (group : RouteGroup). group.route) (map (group_at config labels) routes) ≡ routes
+routes_of_made config labels [] = refl
+routes_of_made config labels (n ∷ ns) = ap (λ t. n ∷ t) (routes_of_made config labels ns)
+
+pub routes_of_groups : (config : Config) (labels : LabelSet) → map (λ (group : RouteGroup). group.route) (groups_of config labels) ≡ chosen config labels
+unfolding groups_of
+routes_of_groups config labels = routes_of_made config labels (chosen config labels)
+
+made_count : (config : Config) (labels : LabelSet) (routes : List ℕ) → length (map (group_at config labels) routes) ≡ length routes
+made_count config labels [] = refl
+made_count config labels (n ∷ ns) = ap suc (made_count config labels ns)
+
+pub count_of_groups : (config : Config) (labels : LabelSet) → length (groups_of config labels) ≡ length (chosen config labels)
+unfolding groups_of
+count_of_groups config labels = made_count config labels (chosen config labels)
+
+made_among : (config : Config) (labels : LabelSet) (routes : List ℕ) (n : ℕ) (group : RouteGroup) → slice_get (map (group_at config labels) routes) n ≡ Some group → group ≡ group_at config labels group.route
+made_among config labels [] n group e = cc
+made_among config labels (r ∷ rs) zero group e = let same : group_at config labels r ≡ group = cc in sym same ∙ ap (λ (g : RouteGroup). group_at config labels g.route) same
+made_among config labels (r ∷ rs) (suc n) group e = made_among config labels rs n group e
+
+pub group_among : (config : Config) (labels : LabelSet) (n : ℕ) (group : RouteGroup) → slice_get (groups_of config labels) n ≡ Some group → group ≡ group_at config labels group.route
+unfolding groups_of
+group_among config labels n group = made_among config labels (chosen config labels) n group

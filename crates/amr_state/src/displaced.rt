@@ -2,7 +2,7 @@
 use crate::membership::Membership;
 use crate::note::{Clock, LogKey};
 use crate::spot::TimedGroup;
-use amr_config::Config;
+use amr_config::Router;
 use amr_events::SilenceId;
 use amr_labels::Labels;
 use amr_rules::{Alert, LogEntry, Silence};
@@ -13,8 +13,8 @@ use amr_time::Moment;
 pub enum Displaced {
     /// The clock.
     WasMoment(Moment),
-    /// The configuration in force.
-    WasConfig(Config),
+    /// The configuration in force, with what it remembers.
+    WasConfig(Router),
     /// The stored alert with these labels.
     WasAlert(Labels, Option<Alert>),
     /// The silence with this id.

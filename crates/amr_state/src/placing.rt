@@ -1,6 +1,7 @@
 //! Alerts in groups: placing them.
 ghost use Rattle.std.specs.Prelude.{◌≡◌, ◌+◌, ◌*◌, ◌≤◌, length, OnOk, IfOk, nat_lt};
 ghost use Rattle.amr_config.specs.Routing.{chosen};
+ghost use Rattle.amr_config.specs.Groups.{group_at};
 ghost use Rattle.amr_time.specs.Time.{latest_read};
 ghost use Rattle.amr_state.specs.State.{spot_at, group_spot, clock_with, place_on, place};
 ghost use Rattle.amr_state.specs.Kept.{GrownBy, undone};
@@ -8,7 +9,7 @@ ghost use Rattle.amr_state.specs.Kept.{GrownBy, undone};
 use crate::note::Clock;
 use crate::spot::Spot;
 use crate::store::Store;
-use amr_config::Config;
+use amr_config::{Config, RouteGroup};
 use amr_labels::Labels;
 use amr_rules::Alert;
 use amr_time::{Moment, Span};
@@ -52,19 +53,24 @@ pub fn group_spot(
     Ok(Spot { route, labels })
 }
 
-/// The alert becomes a member on the route.
+/// Inserts an alert into a group, as a member of it.
 fn place_on(
     store: &mut Store,
-    route: usize,
+    group: &RouteGroup,
     labels: &Labels,
     alert: &Alert,
 ) -> Result<(), AllocError>
+    requires { group.now ≡ group_at store.old.state.config labels.now group.now.route }
     ensures ok { OnOk result (store.new.state
-        ≡ place_on labels.now alert.now store.old.state route) }
+        ≡ place_on labels.now alert.now store.old.state group.now.route) }
     ensures kept { undone store.new ≡ undone store.old }
     ensures grown { GrownBy 2 store.old store.new }
 {
-    let group = group_spot(store.alloc(), store.config(), route, labels)?;
+    let route = group.route;
+    let group = Spot {
+        route,
+        labels: group.labels.clone()?,
+    };
     let wait = store.config().group_wait(route);
     let clock = store.clocks().get(&group).copied();
     let clock = clock_with(store.moment(), wait, alert, clock);
@@ -76,16 +82,16 @@ fn place_on(
     store.set_clock(&group, clock)
 }
 
-/// The alert becomes a member on each chosen route.
+/// Inserts an alert into its group on each route that takes it.
 pub fn place(store: &mut Store, labels: &Labels, alert: &Alert) -> Result<(), AllocError>
     ensures ok { OnOk result (store.new.state ≡ place store.old.state (labels.now, alert.now)) }
     ensures kept { undone store.new ≡ undone store.old }
     ensures grown { GrownBy (2 * length (chosen store.old.state.config labels.now))
         store.old store.new }
 {
-    let routes = store.config().routes_of(store.alloc(), labels)?;
-    for route in &routes {
-        place_on(store, *route, labels, alert)?;
+    let groups = store.groups_of(labels)?;
+    for group in groups.get().as_slice() {
+        place_on(store, group, labels, alert)?;
     }
     Ok(())
 }

@@ -1,6 +1,7 @@
 //! The configuration with the members of all groups, and the index of the members by group.
 ghost use Rattle.std.specs.Prelude.{◌≡◌, ◌<◌, ◌+◌, ◌++◌, [], IsTrue, is_some, option_map, length, OnOk, OnErr, IfOk};
 ghost use Rattle.amr_labels.specs.Map as map;
+ghost use Rattle.amr_config.specs.Groups.{groups_of};
 ghost use Rattle.amr_tables.specs.Numbered.{shown, has_place, Enters, KeepsPlaces, SamePlaces, SameEntered, NoneEntered, IsUnchanged};
 ghost use Rattle.std.specs.List.{filter_map, cons_option};
 ghost use Rattle.amr_tables.specs.Queued.{in_order, values_of};
@@ -12,7 +13,8 @@ use crate::membership::Membership;
 use crate::placing::group_spot;
 use crate::spot::Spot;
 use crate::timetable::{make_room, put_back};
-use amr_config::Config;
+use amr_config::{Config, RouteGroup, Router};
+use amr_labels::{Labels, Listing, Shared};
 use amr_rules::Alert;
 use amr_tables::{Journal, Keyed, Queue, change};
 use std::alloc::{AllocError, Global};
@@ -23,7 +25,7 @@ use std::mem;
 #[derive(Drop)]
 pub(crate) struct Roster {
     alloc: Global,
-    config: Config,
+    config: Router,
     placements: Keyed<Spot, Alert>,
     index: Queue<Membership>,
 }
@@ -51,7 +53,7 @@ impl Roster {
     {
         Roster {
             alloc,
-            config,
+            config: Router::new(alloc, config),
             placements: Keyed::new(alloc),
             index: Queue::new(alloc),
         }
@@ -61,7 +63,18 @@ impl Roster {
     pub(crate) fn config(&self) -> &Config
         ensures { result.now ≡ self.now.config }
     {
-        &self.config
+        self.config.config()
+    }
+
+    /// Returns the groups that take an alert with these labels, by route.
+    pub(crate) fn groups_of(
+        &mut self,
+        labels: &Labels,
+    ) -> Result<Shared<Listing<RouteGroup>>, AllocError>
+        ensures groups { IfOk result (λ groups. groups ≡ groups_of self.old.config labels.now) }
+        ensures same { self.new ≡ self.old }
+    {
+        self.config.groups_of(labels)
     }
 
     /// The members of all groups, under their routes and labels.
@@ -121,7 +134,7 @@ impl Roster {
         ensures current { journal.new.current ≡ journal.old.current }
         ensures record_room { journal.new.record_room ≡ journal.old.record_room }
     {
-        let group = group_spot(self.alloc, &self.config, spot.route, &spot.labels)?;
+        let group = group_spot(self.alloc, self.config.config(), spot.route, &spot.labels)?;
         let member = Membership {
             group: group.clone()?,
             labels: spot.labels.clone()?,
@@ -159,7 +172,7 @@ impl Roster {
     }
 
     /// Puts another configuration in force while there are no members, and returns the one before. It takes no memory.
-    pub(crate) fn replace_config(&mut self, config: Config) -> Config
+    pub(crate) fn replace_config(&mut self, config: Router) -> Router
         requires { shown spot_cmp self.old.placements ≡ map.empty }
         ensures before { result ≡ self.old.config }
         ensures config { self.new.config ≡ config }

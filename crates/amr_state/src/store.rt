@@ -3,6 +3,7 @@ ghost use Rattle.std.specs.Prelude.{◌≡◌, ◌≤◌, ◌<◌, ◌+◌, ◌+
 ghost use Rattle.std.specs.Prelude.{option_map, slice_get};
 ghost use Rattle.std.specs.Ordering.{nat_cmp};
 ghost use Rattle.amr_labels.specs.Labels.{label_set_cmp};
+ghost use Rattle.amr_config.specs.Groups.{groups_of};
 ghost use Rattle.amr_labels.specs.Map as map;
 ghost use Rattle.amr_labels.specs.Map.{len};
 ghost use Rattle.amr_tables.specs.Numbered.{shown};
@@ -20,9 +21,9 @@ use crate::roster::Roster;
 use crate::spot::{Spot, TimedGroup};
 use crate::tables::Tables;
 use crate::timetable::Timetable;
-use amr_config::Config;
+use amr_config::{Config, RouteGroup, Router};
 use amr_events::SilenceId;
-use amr_labels::{Labels, Shared};
+use amr_labels::{Labels, Listing, Shared};
 use amr_rules::{Alert, LogEntry, Silence};
 use amr_tables::{Journal, Keyed, Queue, change};
 use amr_time::Moment;
@@ -246,6 +247,15 @@ impl Store {
         ensures { result.now ≡ self.now.state.notes }
     {
         self.notes.as_slice()
+    }
+
+    /// Returns the groups that take an alert with these labels, by route. They are worked out once for each label set and configuration.
+    pub fn groups_of(&mut self, labels: &Labels) -> Result<Shared<Listing<RouteGroup>>, AllocError>
+        ensures groups { IfOk result (λ groups. groups
+            ≡ groups_of self.old.state.config labels.now) }
+        ensures same { self.new ≡ self.old }
+    {
+        self.tables.roster.groups_of(labels)
     }
 
     // ---- changes
@@ -497,7 +507,10 @@ impl Store {
         ensures grown { GrownBy 1 self.old self.new }
     {
         self.journal.reserve_entry()?;
-        let was = self.tables.roster.replace_config(config);
+        let was = self
+            .tables
+            .roster
+            .replace_config(Router::new(self.alloc, config));
         self.journal.push(Displaced::WasConfig(was));
         self.tables.clear_entered();
         Ok(())
