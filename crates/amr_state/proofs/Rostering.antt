@@ -18,7 +18,7 @@ use Rattle.amr_labels.specs.Map.{Map, get, set, empty, keys, entries, len, get-s
 use Rattle.amr_config.specs.Config.{Config}
 use Rattle.amr_rules.specs.declared.alert.Alert.{Alert}
 use Rattle.amr_tables.specs.Numbered.{Numbered, shown, is_entered, entry_of, HasPlaces}
-use Rattle.amr_tables.specs.Queued.{Queued, values_of, has, in_order, without}
+use Rattle.amr_tables.specs.Queued.{Queued, values_of, has, in_order}
 use Rattle.amr_tables.proofs.Queueing.{sorted_inserted, sorted_in_order, sorted_without, has_inserted, has_in_order, has_without, same_from_members}
 use Rattle.amr_state.specs.declared.spot.Spot.{Spot}
 use Rattle.amr_state.specs.declared.membership.Membership.{Membership}
@@ -62,10 +62,10 @@ module _ (config : Config) where
   tied_at d k =
       alike (eq_by_cmp membership_cmp d (membership_of config k)) (eq_by_cmp membership_cmp d (membership_of config (spot_of d)) && eq_by_cmp spot_cmp (spot_of d) k)
       (λ e. let is : d ≡ membership_of config k = membership_cmp-IsAntisymmetric d (membership_of config k) (equal_of _ e) in
-          subst (λ (x : Membership). (eq_by_cmp membership_cmp x (membership_of config (spot_of x)) && eq_by_cmp spot_cmp (spot_of x) k) ≡ true) (sym is)
-          (both _ _ (ap is_eq (tied_itself membership_cmp_total (membership_of config k))) (ap is_eq (tied_itself spot_cmp_total k))))
+      subst (λ (x : Membership). (eq_by_cmp membership_cmp x (membership_of config (spot_of x)) && eq_by_cmp spot_cmp (spot_of x) k) ≡ true) (sym is)
+      (both _ _ (ap is_eq (tied_itself membership_cmp_total (membership_of config k))) (ap is_eq (tied_itself spot_cmp_total k))))
       (λ e. let is : spot_of d ≡ k = spot_cmp-IsAntisymmetric (spot_of d) k (equal_of _ (other_of (eq_by_cmp membership_cmp d (membership_of config (spot_of d))) _ e)) in
-          subst (λ (x : Spot). eq_by_cmp membership_cmp d (membership_of config x) ≡ true) is (one_of _ (eq_by_cmp spot_cmp (spot_of d) k) e))
+      subst (λ (x : Spot). eq_by_cmp membership_cmp d (membership_of config x) ≡ true) is (one_of _ (eq_by_cmp spot_cmp (spot_of d) k) e))
 
   or_of : (a b c : Bool) → ((a && b) || (a && c)) ≡ (a && (b || c))
   or_of true b c = refl
@@ -151,8 +151,8 @@ module _ (config : Config) where
       (sorted_enrolled before (membership_of config k) (is_some (get m k)) (is_some w) (sorted_in_order membership_cmp membership_cmp_total (memberships config m)))
       (sorted_in_order membership_cmp membership_cmp_total (memberships config (set m k w)))
       (λ d. has_enrolled before (membership_of config k) (is_some (get m k)) (is_some w) (there_in_order m k) d
-          ∙ ap (cond (eq_by_cmp membership_cmp d (membership_of config k)) (is_some w)) (has_in_order membership_cmp membership_cmp_total (memberships config m) d)
-          ∙ sym (has_set m k w d) ∙ sym (has_in_order membership_cmp membership_cmp_total (memberships config (set m k w)) d))
+      ∙ ap (cond (eq_by_cmp membership_cmp d (membership_of config k)) (is_some w)) (has_in_order membership_cmp membership_cmp_total (memberships config m) d)
+      ∙ sym (has_set m k w d) ∙ sym (has_in_order membership_cmp membership_cmp_total (memberships config (set m k w)) d))
 
 -- ---- room for the index
 
@@ -282,7 +282,7 @@ module _ (config : Config) (group : Spot) where
   below_part k [] in_k h = tt
   below_part k (f ∷ fs) in_k h =
       elim (is_in (membership_of config f.0)) as (λ b. is_in (membership_of config f.0) ≡ b → AllByRecursion (λ y. membership_cmp (membership_of config k) y ≡ Less)
-          (cond b (membership_of config f.0 ∷ filter is_in (map (membership_of config) (map (λ e. e.0) fs))) (filter is_in (map (membership_of config) (map (λ e. e.0) fs))))) [
+      (cond b (membership_of config f.0 ∷ filter is_in (map (membership_of config) (map (λ e. e.0) fs))) (filter is_in (map (membership_of config) (map (λ e. e.0) fs))))) [
         | true ↦ λ in_f. (by_labels k f.0 in_k in_f (less_is _ (first _ _ h)), below_part k fs in_k (second _ _ h))
         | false ↦ λ _. below_part k fs in_k (second _ _ h)
       ] refl
@@ -292,7 +292,7 @@ module _ (config : Config) (group : Spot) where
   sorted_part [] h = tt
   sorted_part (e ∷ es) h =
       elim (is_in (membership_of config e.0)) as (λ b. is_in (membership_of config e.0) ≡ b → IsStrictlySortedBy membership_cmp
-          (cond b (membership_of config e.0 ∷ filter is_in (map (membership_of config) (map (λ e. e.0) es))) (filter is_in (map (membership_of config) (map (λ e. e.0) es))))) [
+      (cond b (membership_of config e.0 ∷ filter is_in (map (membership_of config) (map (λ e. e.0) es))) (filter is_in (map (membership_of config) (map (λ e. e.0) es))))) [
         | true ↦ λ in_e. (below_part e.0 es in_e (first _ _ h), sorted_part es (second _ _ h))
         | false ↦ λ _. sorted_part es (second _ _ h)
       ] refl
@@ -306,15 +306,15 @@ module _ (config : Config) (group : Spot) where
       same_from_members membership_cmp membership_cmp_total membership_cmp-IsAntisymmetric _ _
       (sorted_filter _ (sorted_in_order membership_cmp membership_cmp_total (memberships config m))) (sorted_part (entries m) (entries-sorted m))
       (λ d. has_part (in_order membership_cmp (memberships config m)) d ∙ ap (λ b. is_in d && b) (has_in_order membership_cmp membership_cmp_total (memberships config m) d)
-          ∙ sym (has_part (memberships config m) d))
+      ∙ sym (has_part (memberships config m) d))
 
   looked_up : (m : Map spot_cmp Alert) (es : List (Spot × Alert)) → AllByRecursion (λ e. get m e.0 ≡ Some e.1) es
       → filter_map (with_alert m) (filter is_in (map (membership_of config) (map (λ e. e.0) es)))
-          ≡ map (λ placement. (placement.0.labels, placement.1)) (filter (λ placement. eq_by_cmp spot_cmp (group_spot config placement.0) group) es)
+      ≡ map (λ placement. (placement.0.labels, placement.1)) (filter (λ placement. eq_by_cmp spot_cmp (group_spot config placement.0) group) es)
   looked_up m [] h = refl
   looked_up m (e ∷ es) h =
       elim (is_in (membership_of config e.0)) as (λ b. filter_map (with_alert m) (cond b (membership_of config e.0 ∷ filter is_in (map (membership_of config) (map (λ e. e.0) es))) (filter is_in (map (membership_of config) (map (λ e. e.0) es))))
-          ≡ map (λ placement. (placement.0.labels, placement.1)) (cond b (e ∷ filter (λ placement. eq_by_cmp spot_cmp (group_spot config placement.0) group) es) (filter (λ placement. eq_by_cmp spot_cmp (group_spot config placement.0) group) es))) [
+      ≡ map (λ placement. (placement.0.labels, placement.1)) (cond b (e ∷ filter (λ placement. eq_by_cmp spot_cmp (group_spot config placement.0) group) es) (filter (λ placement. eq_by_cmp spot_cmp (group_spot config placement.0) group) es))) [
         | true ↦ ap (λ x. cons_option (option_map (λ alert. (e.0.labels, alert)) x) (filter_map (with_alert m) (filter is_in (map (membership_of config) (map (λ e. e.0) es))))) h.0
             ∙ ap (λ l. (e.0.labels, e.1) ∷ l) (looked_up m es h.1)
         | false ↦ looked_up m es h.1
@@ -340,8 +340,8 @@ member_more m members i member found more total less is gives so_far =
     let rest = filter_map (with_alert m) (values_of (drop (i + 1) members)) in
     ap (λ l. l ++ rest) gives ∙ append_assoc found (cons_option (with_alert m member.now) []) rest
     ∙ ap (λ l. found ++ l) (at_front (with_alert m member.now) rest
-        ∙ ap (λ (x : Bor Membership). cons_option (with_alert m x.now) rest) is
-        ∙ sym (at_drop_more (λ l. filter_map (with_alert m) (values_of l)) members i member less))
+    ∙ ap (λ (x : Bor Membership). cons_option (with_alert m x.now) rest) is
+    ∙ sym (at_drop_more (λ l. filter_map (with_alert m) (values_of l)) members i member less))
     ∙ so_far
   where
     at_front : {X : Type 0} (o : Option X) (rest : List X) → cons_option o [] ++ rest ≡ cons_option o rest
@@ -395,4 +395,4 @@ unfolding entry_of
 entry_is config placements group spot entry is same =
     (λ i. option_map {U = Membership × Option Alert} (λ (entry : Spot × Option Alert). (in_group (is i) entry.0, entry.1)) (same i))
     ∙ elim (is_entered spot_cmp placements spot) as (λ b. option_map {U = Membership × Option Alert} (λ (entry : Spot × Option Alert). (in_group (group_spot config spot) entry.0, entry.1)) (cond b None (Some (spot, get (shown spot_cmp placements) spot)))
-        ≡ option_map {U = Membership × Option Alert} (λ (entry : Spot × Option Alert). (membership_of config entry.0, entry.1)) (cond b None (Some (spot, get (shown spot_cmp placements) spot)))) [ true ↦ refl | false ↦ refl ]
+    ≡ option_map {U = Membership × Option Alert} (λ (entry : Spot × Option Alert). (membership_of config entry.0, entry.1)) (cond b None (Some (spot, get (shown spot_cmp placements) spot)))) [ true ↦ refl | false ↦ refl ]

@@ -4,9 +4,9 @@ ghost use Rattle.amr_labels.specs.Map as map;
 ghost use Rattle.amr_config.specs.Groups.{groups_of};
 ghost use Rattle.amr_tables.specs.Numbered.{shown, has_place, Enters, KeepsPlaces, SamePlaces, SameEntered, NoneEntered, IsUnchanged};
 ghost use Rattle.std.specs.List.{filter_map, cons_option};
-ghost use Rattle.amr_tables.specs.Queued.{in_order, values_of};
+ghost use Rattle.amr_tables.specs.Queued.{values_of};
 ghost use Rattle.amr_state.specs.State.{spot_of, spot_cmp, group_spot};
-ghost use Rattle.amr_state.specs.Rostered.{membership_cmp, membership_of, memberships, in_group, member_entry_of, members_among, with_alert, enrolled, CanEnrol};
+ghost use Rattle.amr_state.specs.Rostered.{in_group, member_entry_of, members_among, with_alert, enrolled, CanEnrol};
 
 use crate::members::Member;
 use crate::membership::Membership;
@@ -45,7 +45,7 @@ impl Model for Roster {
 }
 
 impl Roster {
-    /// No member, under a configuration.
+    /// Returns a roster without members.
     pub(crate) fn new(alloc: Global, config: Config) -> Roster
         ensures config { result.config ≡ config }
         ensures shown { shown spot_cmp result.placements ≡ map.empty }
@@ -59,7 +59,7 @@ impl Roster {
         }
     }
 
-    /// The configuration in force.
+    /// Returns the configuration in force.
     pub(crate) fn config(&self) -> &Config
         ensures { result.now ≡ self.now.config }
     {
@@ -77,20 +77,11 @@ impl Roster {
         self.config.groups_of(labels)
     }
 
-    /// The members of all groups, under their routes and labels.
+    /// Returns the members of all groups, under their routes and labels.
     pub(crate) fn placements(&self) -> &Keyed<Spot, Alert>
         ensures { result.now ≡ self.now.placements }
     {
         &self.placements
-    }
-
-    /// The members of all groups, by group.
-    pub(crate) fn index(&self) -> &Queue<Membership>
-        ensures { result.now.dues ≡
-            in_order membership_cmp
-            (memberships self.now.config (shown spot_cmp self.now.placements)) }
-    {
-        &self.index
     }
 
     /// Returns the members of a group, by labels. It passes over those of other groups.

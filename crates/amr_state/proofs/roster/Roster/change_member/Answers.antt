@@ -1,7 +1,6 @@
 use Rattle.std.proofs.Common.{◌≡◌, ◌+◌, ◌≤◌, ◌||◌, IsTrue, OnErr, cond, sym, ap, subst, ◌∙◌}
 use Rattle.std.specs.Ordering.{eq_by_cmp}
 use Rattle.amr_tables.specs.Numbered.{has_place, is_entered, places_for, IsUnchanged}
-use Rattle.amr_state.specs.declared.spot.Spot.{Spot}
 use Rattle.amr_state.specs.declared.membership.Membership.{Membership}
 use Rattle.amr_state.specs.State.{spot_cmp, group_spot}
 use Rattle.amr_state.specs.Rostered.{Rostered, membership_of, member_entry_of}

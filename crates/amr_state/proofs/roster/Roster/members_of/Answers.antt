@@ -13,5 +13,5 @@ returns c =
     let r = c.self.inside in
     subst (λ (all : List (LabelSet × Alert)). IfOk c.with_alerts.result (λ found. found.items ≡ all))
     (members_found r.config r.placements r.index c.args.group.now (values_of c.as_slice.result.now) c.self.invariant (ap values_of c.as_slice.ensures.value ∙ c.in_ok-members.ensures)
-        ∙ ap (λ (t : Rostered). members_among t.config (shown spot_cmp t.placements) c.args.group.now) c.self.view_is)
+    ∙ ap (λ (t : Rostered). members_among t.config (shown spot_cmp t.placements) c.args.group.now) c.self.view_is)
     c.with_alerts.ensures

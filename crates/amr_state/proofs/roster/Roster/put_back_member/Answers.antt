@@ -1,6 +1,5 @@
 use Rattle.std.proofs.Common.{◌≡◌, length, refl, sym, ap, ◌∙◌, arith}
 use Rattle.amr_tables.specs.Numbered.{has_place, is_entered}
-use Rattle.amr_state.specs.declared.membership.Membership.{Membership}
 use Rattle.amr_state.specs.State.{spot_of, spot_cmp, group_spot}
 use Rattle.amr_state.specs.Rostered.{Rostered, membership_of}
 use Rattle.amr_state.proofs.Rostering.{may_enrol, indexed_after}

@@ -1,4 +1,4 @@
-use Rattle.std.proofs.Common.{IsTrue, refl, sym, ap, subst, ◌∙◌}
+use Rattle.std.proofs.Common.{IsTrue, sym, ap, subst, ◌∙◌}
 use Rattle.amr_labels.specs.Map as map
 use Rattle.amr_labels.specs.Labels.{label_set_cmp}
 use Rattle.amr_tables.specs.Numbered.{shown, has_place, is_entered}
