@@ -6,40 +6,25 @@ use Rattle.std.proofs.lemmas.List.{append-nil}
 use Rattle.serde_json.specs.Data.{Data, Items, no_items, item}
 use Rattle.serde_json.specs.Find.{as_array}
 use Rattle.amr_labels.specs.Labels.{Text}
-use Rattle.amr_matchers.specs.Matchers.{Matcher}
 use Rattle.amr_time.specs.SpanRead.{span_of}
 use Rattle.amr_stated.specs.declared.error.Refusal.TheVariants.{BadConfig}
-use Rattle.amr_stated.specs.declared.read_routes.Front.{Front}
-use Rattle.amr_stated.specs.declared.read_routes.Back.{Back}
 use Rattle.amr_stated.specs.declared.route.Route.{Route}
 use Rattle.amr_stated.specs.declared.rule.InhibitRule.{InhibitRule}
 use Rattle.amr_stated.specs.Paths.{under, item_path}
-use Rattle.amr_stated.specs.Members.{◌>>=◌, member_of, optional, or_faulty, text_at, flag_at, items_at, span_at, texts_at, any_item, list_in}
+use Rattle.amr_stated.specs.Members.{◌>>=◌, member_of, optional, stated, or_faulty, text_at, flag_at, items_at, span_at, texts_at, any_item, list_in}
 use Rattle.amr_stated.specs.ReadIntervals.{names_at}
 use Rattle.amr_stated.specs.Readings.{plain, next, items_in_turn}
-use Rattle.amr_stated.specs.RouteParts.{grouping_stated, front_at, back_at, children_at, is_deeper, is_too_deep}
-use Rattle.amr_stated.specs.ReadRoutes.{route_from, own_into, add_route, child_into, tree_from, routes_at}
+use Rattle.amr_stated.specs.RouteParts.{grouping_stated, children_at, is_deeper, is_too_deep}
+use Rattle.amr_stated.specs.ReadRoutes.{route_at, own_into, add_route, child_into, tree_from, routes_at}
 use Rattle.amr_stated.specs.Walking.{walked_at}
-use Rattle.amr_stated.specs.Table.{IsText, IsFlag, IsDuration, IsListOf, StatesIf, States, StatesOr, HasAt, IsGrouping, IsDefinedName, IsRoute, IsArray, IsTree, Tree, AreTrees, NoMore, OneMore, StatesMatchers, IsRule, StatesWhole}
+use Rattle.amr_stated.specs.Table.{IsText, IsFlag, IsDuration, IsListOf, StatesIf, States, StatesOr, HasAt, IsGrouping, IsDefinedName, IsRoute, IsArray, IsTree, Tree, AreTrees, NoMore, OneMore, IsRule, StatesWhole}
 use Rattle.amr_stated.specs.Faults.{Finding, Fault, text_found, flag_found, object_found, spelled_found, each_found, items_found, list_found, if_there, at, if_there_or, needed_at, match_found, defined_name_found, route_found, global_found, rule_found, receiver_found, interval_list_found, names_under, findings_of}
-use Rattle.amr_stated.proofs.Judged.{Judged, judged_ok, judged_fault, judged_then, judged_map, judged_stated, judged_text, judged_flag, judged_object}
+use Rattle.amr_stated.proofs.Judged.{judged_ok, judged_fault, judged_stated, judged_text, judged_flag, judged_object}
 use Rattle.amr_stated.proofs.JudgedParts.{judged_texts, judged_span, judged_names, judged_timeout, judged_defined, names_under_read}
 use Rattle.amr_stated.proofs.JudgedReceivers.{judged_receivers}
 use Rattle.amr_stated.proofs.JudgedWalks.{JudgedWalk, walk_by, walk_plain, walk_as, walk_next, walk_map, walk_matchers, walk_rules}
 
 -- ---- what a route states itself
-
-record IsFront (whole d : Data) (front : Front) : Type 0 where
-  active : StatesOr [] (IsListOf (IsDefinedName whole)) (codes "active_time_intervals") d front.active_time_intervals
-  continues : StatesOr false IsFlag (codes "continue") d front.continues
-  group_by : States IsGrouping (codes "group_by") d front.group_by
-  group_interval : States IsDuration (codes "group_interval") d front.group_interval
-  group_wait : States IsDuration (codes "group_wait") d front.group_wait
-
-record IsBack (whole d : Data) (back : Back) : Type 0 where
-  mute : StatesOr [] (IsListOf (IsDefinedName whole)) (codes "mute_time_intervals") d back.mute_time_intervals
-  receiver : States IsText (codes "receiver") d back.receiver
-  repeat_interval : States IsDuration (codes "repeat_interval") d back.repeat_interval
 
 grouped : (o : Option Data) (names : Option (List Text)) → StatesIf (IsListOf IsText) o names → StatesIf IsGrouping o (grouping_stated names)
 grouped None None h = tt
@@ -47,73 +32,63 @@ grouped None (Some names) h = absurd h
 grouped (Some v) None h = absurd h
 grouped (Some v) (Some names) h = (names, h, refl)
 
-front_found : Data → List ℕ → Data → List Finding
-front_found whole path d =
-    at (list_found (defined_name_found whole)) path (codes "active_time_intervals") d
-    ++ (at flag_found path (codes "continue") d
-    ++ (at (list_found text_found) path (codes "group_by") d
-    ++ (at (spelled_found span_of) path (codes "group_interval") d
-    ++ at (spelled_found span_of) path (codes "group_wait") d)))
-
-judged_front : (whole : Data) (path : List ℕ) (d : Data) → Judged (front_at whole path d) (front_found whole path d) (IsFront whole d)
-unfolding front_at front_found
-judged_front whole path d =
-    judged_then _ _ _ _ _ _ (judged_stated (names_at whole) (list_found (defined_name_found whole)) (IsListOf (IsDefinedName whole)) path (codes "active_time_intervals") d (judged_names whole _)) (λ active has_active.
-    judged_then _ _ _ _ _ _ (judged_stated flag_at flag_found IsFlag path (codes "continue") d (judged_flag _)) (λ continues has_continues.
-    judged_then _ _ _ _ _ _ (judged_stated texts_at (list_found text_found) (IsListOf IsText) path (codes "group_by") d (judged_texts _)) (λ group_by has_group_by.
-    judged_then _ _ _ _ _ _ (judged_stated span_at (spelled_found span_of) IsDuration path (codes "group_interval") d (judged_span _)) (λ group_interval has_interval.
-    judged_map _ _ _ _ _ (judged_stated span_at (spelled_found span_of) IsDuration path (codes "group_wait") d (judged_span _)) (λ group_wait has_wait.
-    record {
-      active = (active, has_active, refl);
-      continues = (continues, has_continues, refl);
-      group_by = grouped (member_of (codes "group_by") d) group_by has_group_by;
-      group_interval = has_interval;
-      group_wait = has_wait;
-    })))))
-
-back_found : Data → List ℕ → Data → List Finding
-back_found whole path d =
-    at (list_found (defined_name_found whole)) path (codes "mute_time_intervals") d
-    ++ (at text_found path (codes "receiver") d
-    ++ at (spelled_found span_of) path (codes "repeat_interval") d)
-
-judged_back : (whole : Data) (path : List ℕ) (d : Data) → Judged (back_at whole path d) (back_found whole path d) (IsBack whole d)
-unfolding back_at back_found
-judged_back whole path d =
-    judged_then _ _ _ _ _ _ (judged_stated (names_at whole) (list_found (defined_name_found whole)) (IsListOf (IsDefinedName whole)) path (codes "mute_time_intervals") d (judged_names whole _)) (λ mute has_mute.
-    judged_then _ _ _ _ _ _ (judged_stated text_at text_found IsText path (codes "receiver") d (judged_text _)) (λ receiver has_receiver.
-    judged_map _ _ _ _ _ (judged_stated span_at (spelled_found span_of) IsDuration path (codes "repeat_interval") d (judged_span _)) (λ repeat_interval has_repeat.
-    record { mute = (mute, has_mute, refl); receiver = has_receiver; repeat_interval = has_repeat })))
-
 -- a route added to those before it
 abbrev AddsRoute : Data → Option ℕ → Data → List Route → List Route → Type 0
 AddsRoute whole parent d before after = (route : Route) × (after ≡ before ++ route ∷ []) × (route.parent ≡ parent) × IsRoute whole d route
 
 own_found : Data → List ℕ → Data → List Finding
-own_found whole path d = object_found path d ++ (front_found whole path d ++ (match_found (codes "match") (codes "match_re") (codes "matchers") path d ++ back_found whole path d))
+own_found whole path d =
+    object_found path d
+    ++ (at (list_found (defined_name_found whole)) path (codes "active_time_intervals") d
+    ++ (at flag_found path (codes "continue") d
+    ++ (at (list_found text_found) path (codes "group_by") d
+    ++ (at (spelled_found span_of) path (codes "group_interval") d
+    ++ (at (spelled_found span_of) path (codes "group_wait") d
+    ++ (match_found (codes "match") (codes "match_re") (codes "matchers") path d
+    ++ (at (list_found (defined_name_found whole)) path (codes "mute_time_intervals") d
+    ++ (at text_found path (codes "receiver") d
+    ++ at (spelled_found span_of) path (codes "repeat_interval") d))))))))
 
-is_route : (whole : Data) (parent : Option ℕ) (d : Data) (front : Front) (matchers : List Matcher) (back : Back) → IsFront whole d front → StatesMatchers (codes "match") (codes "match_re") (codes "matchers") d matchers → IsBack whole d back → IsRoute whole d (route_from parent front matchers back)
-is_route whole parent d front matchers back has_front has_matchers has_back =
-    record {
-      receiver = has_back.receiver;
-      group_by = has_front.group_by;
-      group_wait = has_front.group_wait;
-      group_interval = has_front.group_interval;
-      repeat_interval = has_back.repeat_interval;
-      continues = has_front.continues;
-      matchers = has_matchers;
-      active_time_intervals = has_front.active;
-      mute_time_intervals = has_back.mute;
-    }
+abbrev IsRouteOf : Data → Option ℕ → Data → Route → Type 0
+IsRouteOf whole parent d route = (route.parent ≡ parent) × IsRoute whole d route
+
+walk_stated_names : (whole : Data) (path : List ℕ) (key : Text) (d : Data) → JudgedWalk (plain (stated (names_at whole) path key d)) (at (list_found (defined_name_found whole)) path key d) (States (IsListOf (IsDefinedName whole)) key d)
+walk_stated_names whole path key d = walk_plain _ _ _ (judged_stated (names_at whole) (list_found (defined_name_found whole)) (IsListOf (IsDefinedName whole)) path key d (judged_names whole _))
+
+walk_stated_span : (path : List ℕ) (key : Text) (d : Data) → JudgedWalk (plain (stated span_at path key d)) (at (spelled_found span_of) path key d) (States IsDuration key d)
+walk_stated_span path key d = walk_plain _ _ _ (judged_stated span_at (spelled_found span_of) IsDuration path key d (judged_span _))
+
+walk_one : (whole : Data) (path : List ℕ) (parent : Option ℕ) (d : Data) → JudgedWalk (route_at whole path parent d) (own_found whole path d) (IsRouteOf whole parent d)
+unfolding route_at own_found
+walk_one whole path parent d =
+    walk_next _ _ _ _ _ _ (walk_plain _ _ _ (judged_object path d)) (λ members is_object.
+    walk_next _ _ _ _ _ _ (walk_stated_names whole path (codes "active_time_intervals") d) (λ active has_active.
+    walk_next _ _ _ _ _ _ (walk_plain _ _ _ (judged_stated flag_at flag_found IsFlag path (codes "continue") d (judged_flag _))) (λ continues has_continues.
+    walk_next _ _ _ _ _ _ (walk_plain _ _ _ (judged_stated texts_at (list_found text_found) (IsListOf IsText) path (codes "group_by") d (judged_texts _))) (λ group_by has_group_by.
+    walk_next _ _ _ _ _ _ (walk_stated_span path (codes "group_interval") d) (λ group_interval has_interval.
+    walk_next _ _ _ _ _ _ (walk_stated_span path (codes "group_wait") d) (λ group_wait has_wait.
+    walk_next _ _ _ _ _ _ (walk_matchers path (codes "match") (codes "match_re") (codes "matchers") d) (λ matchers has_matchers.
+    walk_next _ _ _ _ _ _ (walk_stated_names whole path (codes "mute_time_intervals") d) (λ mute has_mute.
+    walk_next _ _ _ _ _ _ (walk_plain _ _ _ (judged_stated text_at text_found IsText path (codes "receiver") d (judged_text _))) (λ receiver has_receiver.
+    walk_map _ _ _ _ _ (walk_stated_span path (codes "repeat_interval") d) (λ repeat_interval has_repeat. (
+      refl,
+      record {
+        receiver = has_receiver;
+        group_by = grouped (member_of (codes "group_by") d) group_by has_group_by;
+        group_wait = has_wait;
+        group_interval = has_interval;
+        repeat_interval = has_repeat;
+        continues = (continues, has_continues, refl);
+        matchers = has_matchers;
+        active_time_intervals = (active, has_active, refl);
+        mute_time_intervals = (mute, has_mute, refl);
+      },
+    )))))))))))
 
 walk_own : (whole : Data) (path : List ℕ) (parent : Option ℕ) (d : Data) (routes : List Route) → JudgedWalk (own_into whole path parent d routes) (own_found whole path d) (AddsRoute whole parent d routes)
-unfolding own_into own_found
+unfolding own_into
 walk_own whole path parent d routes =
-    walk_next _ _ _ _ _ _ (walk_plain _ _ _ (judged_object path d)) (λ members is_object.
-    walk_next _ _ _ _ _ _ (walk_plain _ _ _ (judged_front whole path d)) (λ front has_front.
-    walk_next _ _ _ _ _ _ (walk_matchers path (codes "match") (codes "match_re") (codes "matchers") d) (λ matchers has_matchers.
-    walk_map _ _ _ _ _ (walk_plain _ _ _ (judged_back whole path d)) (λ back has_back.
-    (route_from parent front matchers back, refl, refl, is_route whole parent d front matchers back has_front has_matchers has_back)))))
+    walk_map _ _ _ _ _ (walk_one whole path parent d) (λ route (of, is). (route, refl, of, is))
 
 -- ---- routes below routes
 
@@ -164,7 +139,7 @@ walk_below whole left path parent d own judges shallow = go (member_of (codes "r
     go (Some v) shallow = list v (as_array v) refl shallow
 
 -- the members of a route, one after another
-flattened : (object a b c d e match m r i rest : List Finding) → (object ++ ((a ++ (b ++ (c ++ (d ++ e)))) ++ (match ++ (m ++ (r ++ i))))) ++ rest ≡ object ++ (a ++ (b ++ (c ++ (d ++ (e ++ (match ++ (m ++ (r ++ (i ++ rest)))))))))
+flattened : (object a b c d e match m r i rest : List Finding) → (object ++ (a ++ (b ++ (c ++ (d ++ (e ++ (match ++ (m ++ (r ++ i))))))))) ++ rest ≡ object ++ (a ++ (b ++ (c ++ (d ++ (e ++ (match ++ (m ++ (r ++ (i ++ rest)))))))))
 flattened object a b c d e match m r i rest = simp append_assoc refl
 
 route_grows : (whole : Data) (parent : Option ℕ) (d : Data) (routes own after : List Route) → AddsRoute whole parent d routes own → AddsBelow whole (length routes) (member_of (codes "routes") d) own after → AddsTree whole parent d routes after
@@ -173,7 +148,7 @@ route_grows whole parent d routes own after (route, adds, of, is) (children, fou
     (route ∷ trees, rest ∙ ap (λ l. l ++ trees) adds ∙ append_assoc routes (route ∷ []) trees, Tree (length routes) parent d route children trees is of (found, states, same) (subst (λ n. AreTrees whole n (length routes) children trees) long are))
 
 found_in_order : (whole : Data) (left : ℕ) (path : List ℕ) (d : Data) → own_found whole path d ++ at (list_found (route_found whole left)) path (codes "routes") d ≡ route_found whole (suc left) path d
-unfolding own_found front_found back_found route_found
+unfolding own_found route_found
 found_in_order whole left path d =
     flattened (object_found path d)
     (at (list_found (defined_name_found whole)) path (codes "active_time_intervals") d)

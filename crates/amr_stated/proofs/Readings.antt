@@ -61,3 +61,9 @@ pub past_object : {B : Type 0} (e : ConfigError) (path : List ℕ) (d : Data) (r
 past_object e path d rest some h =
     let found = some_from (as_object d) some in
     stops_later e (plain (members_at path d)) (λ (whole : Members). rest) found.0 (ap (or_faulty path) found.1) h
+
+-- what is read past an object whose members aren't asked as one
+pub read_past_object : {B : Type 0} (path : List ℕ) (d : Data) (rest : Reading B) → is_some (as_object d) ≡ true → (next (plain (members_at path d)) (λ (whole : Members). rest)).value ≡ rest.value
+read_past_object path d rest some =
+    let found = some_from (as_object d) some in
+    read_on (plain (members_at path d)) (λ (whole : Members). rest) found.0 (ap (or_faulty path) found.1)

@@ -1,28 +1,33 @@
 -- The routes of a configuration, by the walk through their members in the order of the keys.
-use Rattle.std.specs.Prelude.{ℕ, zero, suc, List, [], ◌∷◌, ◌++◌, length, Option, Some, None, Ok, Err, codes}
+use Rattle.std.specs.Prelude.{ℕ, zero, suc, List, [], ◌∷◌, ◌++◌, length, Option, Some, None, Ok, Err, false, codes, unwrap_or}
 use Rattle.serde_json.specs.Data.{Data}
-use Rattle.amr_matchers.specs.Matchers.{Matcher}
 use Rattle.amr_stated.specs.declared.error.Refusal.TheVariants.{BadConfig, TooDeep}
 use Rattle.amr_stated.specs.declared.route.Route.{Route}
-use Rattle.amr_stated.specs.declared.read_routes.Front.{Front}
-use Rattle.amr_stated.specs.declared.read_routes.Back.{Back}
 use Rattle.amr_stated.specs.Paths.{under, item_path}
-use Rattle.amr_stated.specs.Members.{member_of, members_at}
+use Rattle.amr_stated.specs.Members.{member_of, stated, members_at, text_at, flag_at, span_at, texts_at}
 use Rattle.amr_stated.specs.Readings.{Reading, plain, ◌>>=◌, items_in_turn}
 use Rattle.amr_stated.specs.ReadMatchers.{matchers_at}
-use Rattle.amr_stated.specs.RouteParts.{front_at, back_at, children_at}
+use Rattle.amr_stated.specs.ReadIntervals.{names_at}
+use Rattle.amr_stated.specs.RouteParts.{grouping_stated, children_at}
 
-abbrev pub route_from : Option ℕ → Front → List Matcher → Back → Route
-route_from parent front matchers back = record { parent = parent; matchers = matchers; continues = front.continues; receiver = back.receiver; group_by = front.group_by; group_wait = front.group_wait; group_interval = front.group_interval; repeat_interval = back.repeat_interval; active_time_intervals = front.active_time_intervals; mute_time_intervals = back.mute_time_intervals }
+-- what a route states itself, key by key
+unfoldable pub route_at : Data → List ℕ → Option ℕ → Data → Reading Route
+route_at whole path parent d = do
+  members ← plain (members_at path d)
+  active ← plain (stated (names_at whole) path (codes "active_time_intervals") d)
+  continues ← plain (stated flag_at path (codes "continue") d)
+  group_by ← plain (stated texts_at path (codes "group_by") d)
+  group_interval ← plain (stated span_at path (codes "group_interval") d)
+  group_wait ← plain (stated span_at path (codes "group_wait") d)
+  matchers ← matchers_at path (codes "match") (codes "match_re") (codes "matchers") d
+  mute ← plain (stated (names_at whole) path (codes "mute_time_intervals") d)
+  receiver ← plain (stated text_at path (codes "receiver") d)
+  repeat_interval ← plain (stated span_at path (codes "repeat_interval") d)
+  plain (Ok (record { parent = parent; matchers = matchers; continues = unwrap_or continues false; receiver = receiver; group_by = grouping_stated group_by; group_wait = group_wait; group_interval = group_interval; repeat_interval = repeat_interval; active_time_intervals = unwrap_or active []; mute_time_intervals = unwrap_or mute [] }))
 
 -- the routes so far, and then what this one states itself
 unfoldable pub own_into : Data → List ℕ → Option ℕ → Data → List Route → Reading (List Route)
-own_into whole path parent d routes = do
-  members ← plain (members_at path d)
-  front ← plain (front_at whole path d)
-  matchers ← matchers_at path (codes "match") (codes "match_re") (codes "matchers") d
-  back ← plain (back_at whole path d)
-  plain (Ok (routes ++ route_from parent front matchers back ∷ []))
+own_into whole path parent d routes = route_at whole path parent d >>= λ route. plain (Ok (routes ++ route ∷ []))
 
 -- the routes so far, then this one and those below it, at most so many levels
 unfoldable pub add_route : Data → ℕ → List ℕ → Option ℕ → Data → List Route → Reading (List Route)
