@@ -7,7 +7,7 @@ use Rattle.std.specs.Cmp.{nat_cmp_is}
 use Rattle.std.proofs.lemmas.Option.{none-some, same_Some}
 use Rattle.serde_json.specs.Find.{get, get_member}
 use Rattle.amr_stated.specs.Members.{member_of}
-use Rattle.std.proofs.Common.{◌≡◌, inl, inr, ◌⊎◌, ◌≢◌, ℕ, ◌+◌, ◌-◌, ◌<◌, Bool, true, false, true≢false, not, if◌then◌else◌, List, [], ◌∷◌, ◌++◌, length, take, drop, Option, Some, None, Result, Ok, Err, refl, sym, ap, ◌∙◌, arith, append_assoc, codes}
+use Rattle.std.proofs.Common.{◌≡◌, inl, inr, ◌⊎◌, ◌≢◌, ℕ, ◌+◌, ◌-◌, ◌<◌, Bool, true, false, true≢false, not, if◌then◌else◌, List, [], ◌∷◌, ◌++◌, length, take, drop, Option, Some, None, Ok, refl, sym, ap, ◌∙◌, arith, append_assoc, codes}
 use Rattle.std.proofs.lemmas.List.{append-nil, take-append-drop}
 use Rattle.std.specs.List.{flat_map, list_all}
 use Rattle.std.specs.Cmp.Lexicographic.{nat_list_cmp_total, same_text}
@@ -17,27 +17,22 @@ use Rattle.std.specs.declared.cmp.Ordering.{Ordering}
 use Rattle.std.specs.declared.cmp.Ordering.TheVariants.{Less, Equal, Greater}
 use Rattle.serde_json.specs.Data.{Data, null, boolean, number, string, array, object, Items, no_items, item, Members, no_members, member}
 use Rattle.amr_labels.specs.Labels.{Text, text_cmp}
-use Rattle.amr_stated.specs.declared.error.Refusal.{Refusal}
 use Rattle.amr_stated.specs.declared.receiver.Integration.{Integration}
 use Rattle.amr_stated.specs.declared.receiver.Receiver.{Receiver}
 use Rattle.amr_stated.specs.declared.read_receivers.Kind.{Kind}
-use Rattle.amr_stated.specs.Members.{◌>>=◌, present, optional, stated, needed, or_faulty, each_item, each_member, flag_at, items_at, members_at}
+use Rattle.amr_stated.specs.Members.{present, optional, stated, needed, or_faulty, flag_at, items_at, members_at}
 use Rattle.amr_stated.specs.Paths.{under, item_path}
 use Rattle.amr_stated.specs.ReadReceivers.{default_of, entry_into, entries_at, stands, kind_key, stated_entries, with_kind, kind_named, kind_into, kinds_at, name_at, receiver_at, receiver_into, receivers_list, receivers_at}
 use Rattle.amr_stated.proofs.Preorder.{ok_same, bind_ok}
 use Rattle.amr_stated.specs.declared.stated.Stated.{Stated}
 use Rattle.amr_stated.specs.ReadIntervals.{intervals_at}
-use Rattle.amr_stated.specs.Readings.{plain}
+use Rattle.amr_stated.specs.Readings.{give, items_in_turn, members_in_turn}
 use Rattle.amr_stated.specs.Timeout.{timeout_at}
 use Rattle.amr_stated.specs.ReadRules.{rules_at}
 use Rattle.amr_stated.specs.ReadRoutes.{routes_at}
 use Rattle.amr_stated.specs.Walking.{walked_at}
 use Rattle.amr_stated.specs.Keys.{IsBelow, AreInOrder, HasOrderedKeys, HaveOrderedKeys, AllHaveOrderedKeys}
 use Rattle.amr_stated.specs.Order.{integration_cmp, are_in_order}
-
-pub then_ok : {A B : Type 0} (part : Result A Refusal) (rest : A → Result B Refusal) (b : B) → (part >>= rest) ≡ Ok b → (a : A) × (part ≡ Ok a) × (rest a ≡ Ok b)
-then_ok (Ok a) rest b e = (a, refl, e)
-then_ok (Err r) rest b e = cc
 
 -- ---- of a list, each
 
@@ -89,41 +84,41 @@ abbrev Placed : Text → ℕ → List Integration → Type 0
 Placed kind i [] = Unit {0}
 Placed kind i (x ∷ xs) = (x.kind ≡ kind) × (x.place ≡ i) × Placed kind (i + 1) xs
 
-entry_adds : (kind : Text) (path : List ℕ) (i : ℕ) (d : Data) (before after : List Integration) → entry_into kind path i d before ≡ Ok after → (x : Integration) × (x.kind ≡ kind) × (x.place ≡ i) × (after ≡ before ++ x ∷ [])
+entry_adds : (kind : Text) (path : List ℕ) (i : ℕ) (d : Data) (before after : List Integration) → (entry_into kind path i d before).value ≡ Ok after → (x : Integration) × (x.kind ≡ kind) × (x.place ≡ i) × (after ≡ before ++ x ∷ [])
 unfolding entry_into
 entry_adds kind path i d before after e =
-    let whole = then_ok (members_at (item_path path i) d) _ after e in
-    let said = then_ok (stated flag_at (item_path path i) (codes "send_resolved") d) _ after whole.2 in
-    let sends = then_ok (or_faulty (item_path path i) (option_or said.0 (default_of kind))) _ after said.2 in
+    let whole = bind_ok (members_at (item_path path i) d) _ after e in
+    let said = bind_ok (stated flag_at (item_path path i) (codes "send_resolved") d) _ after whole.2 in
+    let sends = bind_ok (or_faulty (item_path path i) (option_or said.0 (default_of kind))) _ after said.2 in
     (record { kind = kind; place = i; send_resolved = sends.0 }, refl, refl, sym (ok_same _ after sends.2))
 
-entries_placed : (kind : Text) (path : List ℕ) (i : ℕ) (ds : Items) (before after : List Integration) → each_item (entry_into kind path) i ds before ≡ Ok after → (more : List Integration) × (after ≡ before ++ more) × Placed kind i more
+entries_placed : (kind : Text) (path : List ℕ) (i : ℕ) (ds : Items) (before after : List Integration) → (items_in_turn (entry_into kind path) i ds before).value ≡ Ok after → (more : List Integration) × (after ≡ before ++ more) × Placed kind i more
 entries_placed kind path i no_items before after e = ([], sym (ok_same before after e) ∙ sym (append-nil before), tt)
 entries_placed kind path i (item d ds) before after e =
-    let one = then_ok (entry_into kind path i d before) _ after e in
+    let one = bind_ok (entry_into kind path i d before) _ after e in
     let (x, is_kind, is_place, adds) = entry_adds kind path i d before one.0 one.1 in
     let (more, rest, placed) = entries_placed kind path (i + 1) ds one.0 after one.2 in
     (x ∷ more, rest ∙ ap (λ l. l ++ more) adds ∙ append_assoc before (x ∷ []) more, (is_kind, is_place, placed))
 
-all_placed : (kind : Text) (path : List ℕ) (d : Data) (out : List Integration) → entries_at kind path d ≡ Ok out → Placed kind 0 out
+all_placed : (kind : Text) (path : List ℕ) (d : Data) (out : List Integration) → (entries_at kind path d).value ≡ Ok out → Placed kind 0 out
 unfolding entries_at
 all_placed kind path d out e =
-    let items = then_ok (items_at path d) _ out e in
+    let items = bind_ok (items_at path d) _ out e in
     let (more, is, placed) = entries_placed kind path 0 items.0 [] out items.2 in
     rw is placed
 
-stated_placed : (kind : Text) (path : List ℕ) (d : Data) (out : List Integration) → stated_entries kind path d ≡ Ok out → Placed kind 0 out
+stated_placed : (kind : Text) (path : List ℕ) (d : Data) (out : List Integration) → (stated_entries kind path d).value ≡ Ok out → Placed kind 0 out
 unfolding stated_entries
 stated_placed kind path d out e =
-    let found = then_ok (optional (entries_at kind path) (present (Some d))) _ out e in
+    let found = bind_ok (optional (entries_at kind path) (present (Some d))) _ out e in
     go (present (Some d)) found.0 found.1 (sym (ok_same _ out found.2))
   where
-    go : (o : Option Data) (found : Option (List Integration)) → optional (entries_at kind path) o ≡ Ok found → out ≡ unwrap_or found [] → Placed kind 0 out
+    go : (o : Option Data) (found : Option (List Integration)) → (optional (entries_at kind path) o).value ≡ Ok found → out ≡ unwrap_or found [] → Placed kind 0 out
     go None found e is =
         let none = ok_same _ found e in
         rw is (rw (← none) tt)
     go (Some v) found e is =
-        let read = then_ok (entries_at kind path v) _ found e in
+        let read = bind_ok (entries_at kind path v) _ found e in
         let some = ok_same _ found read.2 in
         rw is (rw (← some) (all_placed kind path v read.0 read.1))
 
@@ -200,24 +195,24 @@ record Brings (before : Bool) (key : Text) (ks out : List Kind) : Type 0 where
   placed : Placed kind.name 0 kind.integrations
   is : out ≡ with_kind ks kind
 
-kind_step : (before : Bool) (path : List ℕ) (key : Text) (d : Data) (ks out : List Kind) → kind_into before path key d ks ≡ Ok out → (out ≡ ks) ⊎ Brings before key ks out
+kind_step : (before : Bool) (path : List ℕ) (key : Text) (d : Data) (ks out : List Kind) → (kind_into before path key d ks).value ≡ Ok out → (out ≡ ks) ⊎ Brings before key ks out
 unfolding kind_into
 kind_step before path key d ks out e = go (stands before key) refl e
   where
-    named : (o : Option Text) → kind_key key ≡ o → stands before key ≡ true → kind_named (under path key) d ks o ≡ Ok out → (out ≡ ks) ⊎ Brings before key ks out
+    named : (o : Option Text) → kind_key key ≡ o → stands before key ≡ true → (kind_named (under path key) d ks o).value ≡ Ok out → (out ≡ ks) ⊎ Brings before key ks out
     named None is side e = inl (sym (ok_same ks out e))
     named (Some name) is side e =
-        let read = then_ok (stated_entries name (under path key) d) _ out e in
+        let read = bind_ok (stated_entries name (under path key) d) _ out e in
         inr (record { kind = record { name = name; integrations = read.0 }; side = side; named = is; placed = stated_placed name (under path key) d read.0 read.1; is = sym (ok_same _ out read.2) })
 
-    go : (b : Bool) → stands before key ≡ b → (if b then kind_named (under path key) d ks (kind_key key) else Ok ks) ≡ Ok out → (out ≡ ks) ⊎ Brings before key ks out
+    go : (b : Bool) → stands before key ≡ b → (if b then kind_named (under path key) d ks (kind_key key) else give ks).value ≡ Ok out → (out ≡ ks) ⊎ Brings before key ks out
     go true side e = named (kind_key key) refl side e
     go false side e = inl (sym (ok_same ks out e))
 
-kinds_tidy : (before : Bool) (path : List ℕ) (ms : Members) (ks out : List Kind) → each_member (kind_into before path) ms ks ≡ Ok out → AreInOrder ms → Tidy ks → Off before ms ks → Tidy out
+kinds_tidy : (before : Bool) (path : List ℕ) (ms : Members) (ks out : List Kind) → (members_in_turn (kind_into before path) ms ks).value ≡ Ok out → AreInOrder ms → Tidy ks → Off before ms ks → Tidy out
 kinds_tidy before path no_members ks out e order tidy off = rw (← ok_same ks out e) tidy
 kinds_tidy before path (member key d ms) ks out e order tidy off =
-    let one = then_ok (kind_into before path key d ks) _ out e in
+    let one = bind_ok (kind_into before path key d ks) _ out e in
     elim (kind_step before path key d ks one.0 one.1) [
       | inl same ↦ kinds_tidy before path ms ks out (rw same at one.2) order.1 tidy off.1
       | inr brings ↦ let kind = brings.kind in
@@ -226,10 +221,10 @@ kinds_tidy before path (member key d ms) ks out e order tidy off =
           (off_with before key ms ks kind brings.named order.0 off.1)
     ]
 
-kinds_named : (path : List ℕ) (ms : Members) (ks out : List Kind) → each_member (kind_into true path) ms ks ≡ Ok out → Each (IsNamed true) ks → Each (IsNamed true) out
+kinds_named : (path : List ℕ) (ms : Members) (ks out : List Kind) → (members_in_turn (kind_into true path) ms ks).value ≡ Ok out → Each (IsNamed true) ks → Each (IsNamed true) out
 kinds_named path no_members ks out e named = rw (← ok_same ks out e) named
 kinds_named path (member key d ms) ks out e named =
-    let one = then_ok (kind_into true path key d ks) _ out e in
+    let one = bind_ok (kind_into true path key d ks) _ out e in
     elim (kind_step true path key d ks one.0 one.1) [
       | inl same ↦ kinds_named path ms ks out (rw same at one.2) named
       | inr brings ↦ let kind = brings.kind in
@@ -295,7 +290,7 @@ tidy_rising (k ∷ ks) tidy =
 
 -- ---- receivers
 
-object_ordered : (path : List ℕ) (d : Data) (ms : Members) → HasOrderedKeys d → members_at path d ≡ Ok ms → AreInOrder ms
+object_ordered : (path : List ℕ) (d : Data) (ms : Members) → HasOrderedKeys d → (members_at path d).value ≡ Ok ms → AreInOrder ms
 object_ordered path null ms order e = absurd (cc)
 object_ordered path (boolean b) ms order e = absurd (cc)
 object_ordered path (number n) ms order e = absurd (cc)
@@ -303,14 +298,14 @@ object_ordered path (string t) ms order e = absurd (cc)
 object_ordered path (array ds) ms order e = absurd (cc)
 object_ordered path (object ks) ms order e = rw (← ok_same ks ms e) order.0
 
-receiver_in_order : (path : List ℕ) (d : Data) (receiver : Receiver) → HasOrderedKeys d → receiver_at path d ≡ Ok receiver → are_in_order receiver.integrations ≡ true
+receiver_in_order : (path : List ℕ) (d : Data) (receiver : Receiver) → HasOrderedKeys d → (receiver_at path d).value ≡ Ok receiver → are_in_order receiver.integrations ≡ true
 unfolding receiver_at kinds_at
 receiver_in_order path d receiver order e =
-    let first = then_ok (kinds_at true path d []) _ receiver e in
-    let name = then_ok (needed name_at path (codes "name") d) _ receiver first.2 in
-    let all = then_ok (kinds_at false path d first.0) _ receiver name.2 in
-    let members = then_ok (members_at path d) _ first.0 first.1 in
-    let again = then_ok (members_at path d) _ all.0 all.1 in
+    let first = bind_ok (kinds_at true path d []) _ receiver e in
+    let name = bind_ok (needed name_at path (codes "name") d) _ receiver first.2 in
+    let all = bind_ok (kinds_at false path d first.0) _ receiver name.2 in
+    let members = bind_ok (members_at path d) _ first.0 first.1 in
+    let again = bind_ok (members_at path d) _ all.0 all.1 in
     let ms : Members = members.0 in
     let rising = object_ordered path d ms order members.1 in
     let tidy = kinds_tidy true path ms [] first.0 members.2 rising tt (off_none true ms) in
@@ -330,16 +325,16 @@ all_push (r ∷ rs) receiver h k = go (λ h. all_push rs receiver h k) (are_in_o
     go rest true is h = rw is (rest h)
     go rest false is h = absurd (true≢false (sym h))
 
-list_in_order : (path : List ℕ) (i : ℕ) (ds : Items) (before after : List Receiver) → HaveOrderedKeys ds → each_item (receiver_into path) i ds before ≡ Ok after → AreReceiversInOrder before → AreReceiversInOrder after
+list_in_order : (path : List ℕ) (i : ℕ) (ds : Items) (before after : List Receiver) → HaveOrderedKeys ds → (items_in_turn (receiver_into path) i ds before).value ≡ Ok after → AreReceiversInOrder before → AreReceiversInOrder after
 unfolding receiver_into
 list_in_order path i no_items before after order e h = rw (← ok_same before after e) h
 list_in_order path i (item d ds) before after order e h =
-    let one = then_ok (receiver_into path i d before) _ after e in
-    let read = then_ok (receiver_at (item_path path i) d) _ one.0 one.1 in
+    let one = bind_ok (receiver_into path i d before) _ after e in
+    let read = bind_ok (receiver_at (item_path path i) d) _ one.0 one.1 in
     let is = ok_same _ one.0 read.2 in
     list_in_order path (i + 1) ds one.0 after order.1 one.2 (rw (← is) (all_push before read.0 h (receiver_in_order (item_path path i) d read.0 order.0 read.1)))
 
-items_ordered : (path : List ℕ) (d : Data) (ds : Items) → HasOrderedKeys d → items_at path d ≡ Ok ds → HaveOrderedKeys ds
+items_ordered : (path : List ℕ) (d : Data) (ds : Items) → HasOrderedKeys d → (items_at path d).value ≡ Ok ds → HaveOrderedKeys ds
 items_ordered path null ds order e = absurd (cc)
 items_ordered path (boolean b) ds order e = absurd (cc)
 items_ordered path (number n) ds order e = absurd (cc)
@@ -381,31 +376,31 @@ member_ordered key d v order e = go d order (present_is (get key d) v e)
     go (array ds) order e = absurd (none-some v e)
     go (object ms) order e = found_ordered key ms v order.1 e
 
-pub receivers_in_order : (d : Data) (receivers : List Receiver) → HasOrderedKeys d → receivers_at d ≡ Ok receivers → AreReceiversInOrder receivers
+pub receivers_in_order : (d : Data) (receivers : List Receiver) → HasOrderedKeys d → (receivers_at d).value ≡ Ok receivers → AreReceiversInOrder receivers
 unfolding receivers_at receivers_list
 receivers_in_order d receivers order e =
-    let found = then_ok (stated receivers_list [] (codes "receivers") d) _ receivers e in
+    let found = bind_ok (stated receivers_list [] (codes "receivers") d) _ receivers e in
     go (member_of (codes "receivers") d) refl found.0 found.1 (sym (ok_same _ receivers found.2))
   where
-    go : (o : Option Data) → member_of (codes "receivers") d ≡ o → (found : Option (List Receiver)) → optional (receivers_list (codes "receivers")) o ≡ Ok found → receivers ≡ unwrap_or found [] → AreReceiversInOrder receivers
+    go : (o : Option Data) → member_of (codes "receivers") d ≡ o → (found : Option (List Receiver)) → (optional (receivers_list (codes "receivers")) o).value ≡ Ok found → receivers ≡ unwrap_or found [] → AreReceiversInOrder receivers
     go None at found e is =
         let none = ok_same _ found e in
         rw is (rw (← none) refl)
     go (Some v) at found e is =
-        let read = then_ok (receivers_list (codes "receivers") v) _ found e in
+        let read = bind_ok (receivers_list (codes "receivers") v) _ found e in
         let some = ok_same _ found read.2 in
-        let items = then_ok (items_at (codes "receivers") v) _ read.0 read.1 in
+        let items = bind_ok (items_at (codes "receivers") v) _ read.0 read.1 in
         let ordered = items_ordered (codes "receivers") v items.0 (member_ordered (codes "receivers") d v order at) items.1 in
         rw is (rw (← some) (list_in_order (codes "receivers") 0 items.0 [] read.0 ordered items.2 refl))
 
 pub walked_in_order : (d : Data) (stated : Stated) → HasOrderedKeys d → (walked_at d).value ≡ Ok stated → AreReceiversInOrder stated.receivers
 unfolding walked_at
 walked_in_order d stated order e =
-    let timeout = bind_ok (plain (timeout_at d)) _ stated e in
+    let timeout = bind_ok (timeout_at d) _ stated e in
     let rules = bind_ok (rules_at d) _ stated timeout.2 in
-    let mute = bind_ok (plain (intervals_at (codes "mute_time_intervals") d [])) _ stated rules.2 in
-    let receivers = bind_ok (plain (receivers_at d)) _ stated mute.2 in
+    let mute = bind_ok (intervals_at (codes "mute_time_intervals") d []) _ stated rules.2 in
+    let receivers = bind_ok (receivers_at d) _ stated mute.2 in
     let routes = bind_ok (routes_at d) _ stated receivers.2 in
-    let named = bind_ok (plain (intervals_at (codes "time_intervals") d mute.0)) _ stated routes.2 in
+    let named = bind_ok (intervals_at (codes "time_intervals") d mute.0) _ stated routes.2 in
     let same = ok_same _ stated named.2 in
     rw (← same) (receivers_in_order d receivers.0 order receivers.1)

@@ -1,5 +1,5 @@
 -- What is read of a receiver states what is there, and a refusal is that of the first fault.
-use Rattle.std.proofs.Common.{◌≡◌, ℕ, zero, suc, ◌+◌, Bool, true, false, not, ◌||◌, if◌then◌else◌, List, [], ◌∷◌, ◌++◌, length, Option, Some, None, Ok, Err, inl, inr, ◌⊎◌, refl, sym, ap, subst, ◌∙◌, arith, codes}
+use Rattle.std.proofs.Common.{◌≡◌, ℕ, zero, suc, ◌+◌, Bool, true, false, not, ◌||◌, if◌then◌else◌, List, [], ◌∷◌, ◌++◌, length, Option, Some, None, inl, inr, ◌⊎◌, refl, sym, ap, subst, ◌∙◌, arith, codes}
 use Rattle.std.specs.Prelude.{unwrap_or, is_some, ◌==◌}
 use Rattle.std.specs.List.{flat_map, Contains}
 use Rattle.std.specs.Option.{option_or, option_map_or}
@@ -13,12 +13,12 @@ use Rattle.std.specs.declared.cmp.Ordering.TheVariants.{Less, Equal, Greater}
 use Rattle.serde_json.specs.Data.{Data, null, boolean, number, string, array, object, Items, no_items, item, Members, no_members, member}
 use Rattle.serde_json.specs.Find.{as_array, as_object, get_item}
 use Rattle.amr_labels.specs.Labels.{Text, text_cmp}
-use Rattle.amr_stated.specs.declared.error.Refusal.TheVariants.{BadConfig}
 use Rattle.amr_stated.specs.declared.receiver.Integration.{Integration}
 use Rattle.amr_stated.specs.declared.receiver.Receiver.{Receiver}
 use Rattle.amr_stated.specs.declared.read_receivers.Kind.{Kind}
 use Rattle.amr_stated.specs.Paths.{under, item_path}
-use Rattle.amr_stated.specs.Members.{◌>>=◌, present, member_of, stated, each_member, or_faulty, flag_at}
+use Rattle.amr_stated.specs.Members.{present, member_of, stated, or_faulty, flag_at}
+use Rattle.amr_stated.specs.Readings.{give, faulty, next, members_in_turn}
 use Rattle.amr_stated.specs.ReadReceivers.{default_of, entry_into, entries_at, stands, kind_key, stated_entries, with_kind, kind_named, kind_into, kinds_at, name_at, receiver_at, receiver_into, receivers_list, receivers_at}
 use Rattle.amr_stated.specs.Table.{IsText, IsFlag, IsListOf, StatesEach, StatesIf, StatesOr, HasAt, IsIntegration, AreIntegrations, IsMember, StatesIntegration, IsReceiver}
 use Rattle.amr_stated.specs.Faults.{unless_some, unless, flag_found, list_found, if_there, at, entry_found, entries_found, kinds_found, side_found, receiver_name_found, receiver_found}
@@ -76,7 +76,7 @@ judged_kind : (side : Bool) (path : List ℕ) (key : Text) (d : Data) (kinds : L
 unfolding kind_into
 judged_kind side path key d kinds = go (stands side key)
   where
-    go : (b : Bool) → Judged (if b then kind_named (under path key) d kinds (kind_key key) else Ok kinds) (if b then entries_found (under path key) d (kind_key key) else []) (KindIf b key d kinds)
+    go : (b : Bool) → Judged (if b then kind_named (under path key) d kinds (kind_key key) else give kinds) (if b then entries_found (under path key) d (kind_key key) else []) (KindIf b key d kinds)
     go true = judged_named (under path key) d kinds (kind_key key)
     go false = judged_ok kinds _ refl
 
@@ -85,30 +85,30 @@ abbrev KindsFrom : Bool → Members → List Kind → List Kind → Type 0
 KindsFrom side no_members before after = after ≡ before
 KindsFrom side (member key d ms) before after = (one : List Kind) × KindIf (stands side key) key d before one × KindsFrom side ms one after
 
-judged_kinds : (side : Bool) (path : List ℕ) (ms : Members) (kinds : List Kind) → Judged (each_member (kind_into side path) ms kinds) (kinds_found side path ms) (KindsFrom side ms kinds)
+judged_kinds : (side : Bool) (path : List ℕ) (ms : Members) (kinds : List Kind) → Judged (members_in_turn (kind_into side path) ms kinds) (kinds_found side path ms) (KindsFrom side ms kinds)
 judged_kinds side path no_members kinds = judged_ok kinds _ refl
 judged_kinds side path (member key d ms) kinds =
-    judged_then (kind_into side path key d kinds) (each_member (kind_into side path) ms) _ (kinds_found side path ms) (KindIf (stands side key) key d kinds) _ (judged_kind side path key d kinds) (λ one from.
-    judged_as (each_member (kind_into side path) ms one) (kinds_found side path ms) (KindsFrom side ms one) _ (judged_kinds side path ms one) (λ after rest. (one, from, rest)))
+    judged_then (kind_into side path key d kinds) (members_in_turn (kind_into side path) ms) _ (kinds_found side path ms) (KindIf (stands side key) key d kinds) _ (judged_kind side path key d kinds) (λ one from.
+    judged_as (members_in_turn (kind_into side path) ms one) (kinds_found side path ms) (KindsFrom side ms one) _ (judged_kinds side path ms one) (λ after rest. (one, from, rest)))
 
 -- the kinds on a side of an object
 abbrev SideFrom : Bool → Data → List Kind → List Kind → Type 0
 SideFrom side d before after = (ms : Members) × (as_object d ≡ Some ms) × KindsFrom side ms before after
 
 judged_side : (side : Bool) (path : List ℕ) (d : Data) (kinds : List Kind) → Judged (kinds_at side path d kinds) (side_found side path (as_object d)) (SideFrom side d kinds)
-unfolding kinds_at
+unfolding kinds_at next
 judged_side side path d kinds = go (as_object d) refl
   where
-    go : (o : Option Members) → as_object d ≡ o → Judged (or_faulty path o >>= λ ms. each_member (kind_into side path) ms kinds) (side_found side path o) (SideFrom side d kinds)
+    go : (o : Option Members) → as_object d ≡ o → Judged (next (or_faulty path o) (λ ms. members_in_turn (kind_into side path) ms kinds)) (side_found side path o) (SideFrom side d kinds)
     go None is = judged_fault path _
-    go (Some ms) is = judged_as (each_member (kind_into side path) ms kinds) _ _ _ (judged_kinds side path ms kinds) (λ after from. (ms, is, from))
+    go (Some ms) is = judged_as (members_in_turn (kind_into side path) ms kinds) _ _ _ (judged_kinds side path ms kinds) (λ after from. (ms, is, from))
 
 judged_name : (path : List ℕ) (d : Data) → Judged (name_at path d) (receiver_name_found path d) (IsText d)
 unfolding name_at
 judged_name path d =
-    judged_spelled (λ text. if length text == 0 then Err (BadConfig path) else Ok text) (λ o. unless path (option_map_or (λ name. not (length name == 0)) o false)) path d (IsText d) refl (λ text is. go text is (length text == 0))
+    judged_spelled (λ text. if length text == 0 then faulty path else give text) (λ o. unless path (option_map_or (λ name. not (length name == 0)) o false)) path d (IsText d) refl (λ text is. go text is (length text == 0))
   where
-    go : (text : Text) → IsText d text → (b : Bool) → Judged (if b then Err (BadConfig path) else Ok text) (unless path (not b)) (IsText d)
+    go : (text : Text) → IsText d text → (b : Bool) → Judged (if b then faulty path else give text) (unless path (not b)) (IsText d)
     go text is true = judged_fault path _
     go text is false = judged_ok text _ is
 

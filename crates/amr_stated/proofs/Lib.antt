@@ -4,7 +4,7 @@ pub mod Judged
 pub mod JudgedParts
 pub mod JudgedReceivers
 pub mod JudgedRoutes
-pub mod JudgedWalks
+pub mod JudgedMatchers
 pub mod KindPlacing
 pub mod Levels
 pub mod Names

@@ -1,13 +1,13 @@
 -- What a route states beside its matchers, and the levels of the tree.
-use Rattle.std.specs.Prelude.{ℕ, zero, suc, List, [], ◌∷◌, Bool, true, false, Option, Some, None, Result, Ok, codes, unwrap_or, if◌then◌else◌}
+use Rattle.std.specs.Prelude.{ℕ, zero, suc, List, [], ◌∷◌, Bool, true, false, Option, Some, None, codes, unwrap_or, if◌then◌else◌}
 use Rattle.std.specs.Option.{option_map_or}
 use Rattle.std.specs.Ordering.{eq_by_cmp}
 use Rattle.serde_json.specs.Data.{Data, Items, no_items}
 use Rattle.amr_labels.specs.Labels.{Text, text_cmp}
-use Rattle.amr_stated.specs.declared.error.Refusal.{Refusal}
 use Rattle.amr_stated.specs.declared.route.Grouping.{Grouping}
 use Rattle.amr_stated.specs.declared.route.Grouping.TheVariants.{AllLabels, Named}
-use Rattle.amr_stated.specs.Members.{◌>>=◌, member_of, items_at, stated, any_item, list_in}
+use Rattle.amr_stated.specs.Members.{member_of, items_at, stated, any_item, list_in}
+use Rattle.amr_stated.specs.Readings.{Reading, give, ◌>>=◌}
 
 -- `["..."]`
 unfoldable pub is_all : List Text → Bool
@@ -24,8 +24,8 @@ grouping_stated None = None
 grouping_stated (Some names) = Some (grouping_of names)
 
 -- the list of the routes below, which may be absent
-unfoldable pub children_at : List ℕ → Data → Result Items Refusal
-children_at path d = stated items_at path (codes "routes") d >>= λ found. Ok (unwrap_or found no_items)
+unfoldable pub children_at : List ℕ → Data → Reading Items
+children_at path d = stated items_at path (codes "routes") d >>= λ found. give (unwrap_or found no_items)
 
 -- ---- levels
 

@@ -14,6 +14,7 @@ use serde_json::Value;
 use std::alloc::Global;
 
 /// The names under a key, each of which the whole configuration defines.
+#[tactic(auto, unfolding(crate::specs::Readings::next))]
 pub(crate) fn names_member(
     alloc: Global,
     whole: &Value,
@@ -30,7 +31,7 @@ pub(crate) fn names_member(
     }
 }
 
-#[tactic(auto, unfolding(crate::specs::ReadIntervals::names_at))]
+#[tactic(auto, unfolding(crate::specs::ReadIntervals::names_at, crate::specs::Readings::next))]
 fn names(
     alloc: Global,
     whole: &Value,
@@ -48,7 +49,7 @@ fn names(
     Ok(names)
 }
 
-#[tactic(auto, unfolding(crate::specs::ReadIntervals::name_into))]
+#[tactic(auto, unfolding(crate::specs::ReadIntervals::name_into, crate::specs::Readings::next))]
 fn add_name(
     alloc: Global,
     whole: &Value,

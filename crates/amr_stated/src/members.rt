@@ -69,7 +69,7 @@ pub(crate) fn items<'v>(
     }
 }
 
-#[tactic(auto, unfolding(crate::specs::Members::span_at))]
+#[tactic(auto, unfolding(crate::specs::Members::span_at, crate::specs::Readings::next))]
 fn span(alloc: Global, place: &Place, value: &Value) -> Result<Span, ConfigError>
     ensures { Gives (λ n. n) result (span_at (place_path place.now) (view value.now)) }
 {
@@ -79,7 +79,7 @@ fn span(alloc: Global, place: &Place, value: &Value) -> Result<Span, ConfigError
     }
 }
 
-#[tactic(auto, unfolding(crate::specs::Members::text_into))]
+#[tactic(auto, unfolding(crate::specs::Members::text_into, crate::specs::Readings::next))]
 fn text_item(
     alloc: Global,
     place: &Place,
@@ -95,7 +95,7 @@ fn text_item(
     Ok(())
 }
 
-#[tactic(auto, unfolding(crate::specs::Members::texts_at))]
+#[tactic(auto, unfolding(crate::specs::Members::texts_at, crate::specs::Readings::next))]
 fn texts(alloc: Global, place: &Place, value: &Value) -> Result<Listing<Text>, ConfigError>
     ensures { Gives (λ ts. ts) result (texts_at (place_path place.now) (view value.now)) }
 {
@@ -107,6 +107,7 @@ fn texts(alloc: Global, place: &Place, value: &Value) -> Result<Listing<Text>, C
     Ok(texts)
 }
 
+#[tactic(auto, unfolding(crate::specs::Readings::next))]
 pub(crate) fn flag_member(
     alloc: Global,
     place: &Place,
@@ -122,6 +123,7 @@ pub(crate) fn flag_member(
     }
 }
 
+#[tactic(auto, unfolding(crate::specs::Readings::next))]
 pub(crate) fn span_member(
     alloc: Global,
     place: &Place,
@@ -137,6 +139,7 @@ pub(crate) fn span_member(
     }
 }
 
+#[tactic(auto, unfolding(crate::specs::Readings::next))]
 pub(crate) fn text_member(
     alloc: Global,
     place: &Place,
@@ -155,6 +158,7 @@ pub(crate) fn text_member(
     }
 }
 
+#[tactic(auto, unfolding(crate::specs::Readings::next))]
 pub(crate) fn texts_member(
     alloc: Global,
     place: &Place,

@@ -18,7 +18,7 @@ use amr_time::Span;
 use serde_json::Value;
 use std::alloc::Global;
 
-#[tactic(auto, unfolding(crate::specs::Timeout::timeout_in))]
+#[tactic(auto, unfolding(crate::specs::Timeout::timeout_in, crate::specs::Readings::next))]
 fn timeout(alloc: Global, value: &Value) -> Result<Option<Span>, ConfigError>
     ensures { Gives (λ o. o) result (timeout_in (view value.now)) }
 {
@@ -29,6 +29,7 @@ fn timeout(alloc: Global, value: &Value) -> Result<Option<Span>, ConfigError>
     span_member(alloc, &here, value, "resolve_timeout")
 }
 
+#[tactic(auto, unfolding(crate::specs::Readings::next))]
 fn timeout_member(alloc: Global, value: &Value) -> Result<Option<Option<Span>>, ConfigError>
     ensures { Gives (λ o. o) result
         (optional timeout_in (member_of (codes "global") (view value.now))) }
@@ -50,7 +51,7 @@ fn stated_timeout(timeout: Option<Option<Span>>) -> Span
     }
 }
 
-#[tactic(auto, unfolding(crate::specs::Timeout::timeout_at))]
+#[tactic(auto, unfolding(crate::specs::Timeout::timeout_at, crate::specs::Readings::next))]
 fn read_timeout(alloc: Global, value: &Value) -> Result<Span, ConfigError>
     ensures { Gives (λ span. span) result (timeout_at (view value.now)) }
 {

@@ -34,7 +34,7 @@ pub(crate) fn read_mute_time_intervals(
 }
 
 /// Adds the intervals that the list under a key of a whole configuration defines.
-#[tactic(auto, unfolding(crate::specs::ReadIntervals::intervals_at))]
+#[tactic(auto, unfolding(crate::specs::ReadIntervals::intervals_at, crate::specs::Readings::next))]
 pub(crate) fn read_intervals(
     alloc: Global,
     value: &Value,
@@ -49,6 +49,7 @@ pub(crate) fn read_intervals(
     }
 }
 
+#[tactic(auto, unfolding(crate::specs::Readings::next))]
 fn with_intervals(
     alloc: Global,
     place: &Place,
@@ -66,7 +67,7 @@ fn with_intervals(
     Ok(intervals)
 }
 
-#[tactic(auto, unfolding(crate::specs::ReadIntervals::interval_into))]
+#[tactic(auto, unfolding(crate::specs::ReadIntervals::interval_into, crate::specs::Readings::next))]
 fn add_interval(
     alloc: Global,
     place: &Place,
@@ -83,7 +84,7 @@ fn add_interval(
     Ok(())
 }
 
-#[tactic(auto, unfolding(crate::specs::ReadIntervals::interval_at))]
+#[tactic(auto, unfolding(crate::specs::ReadIntervals::interval_at, crate::specs::Readings::next))]
 fn interval(
     alloc: Global,
     place: &Place,
@@ -113,7 +114,7 @@ fn interval(
 }
 
 /// A text that no interval before it has as its name.
-#[tactic(auto, unfolding(crate::specs::ReadIntervals::new_name_at))]
+#[tactic(auto, unfolding(crate::specs::ReadIntervals::new_name_at, crate::specs::Readings::next))]
 fn new_name(
     alloc: Global,
     place: &Place,
@@ -138,7 +139,7 @@ fn is_taken(name: &str, intervals: &[NamedInterval]) -> bool
         .any(|interval| same(interval.name.as_str(), name))
 }
 
-#[tactic(auto, unfolding(crate::specs::ReadIntervals::interval_members_at))]
+#[tactic(auto, unfolding(crate::specs::ReadIntervals::interval_members_at, crate::specs::Readings::next))]
 fn interval_members(
     alloc: Global,
     place: &Place,
@@ -155,7 +156,7 @@ fn interval_members(
     Ok(members)
 }
 
-#[tactic(auto, unfolding(crate::specs::ReadIntervals::interval_member_into))]
+#[tactic(auto, unfolding(crate::specs::ReadIntervals::interval_member_into, crate::specs::Readings::next))]
 fn add_interval_member(
     alloc: Global,
     place: &Place,
@@ -171,7 +172,7 @@ fn add_interval_member(
     Ok(())
 }
 
-#[tactic(auto, unfolding(crate::specs::ReadIntervals::interval_member_at))]
+#[tactic(auto, unfolding(crate::specs::ReadIntervals::interval_member_at, crate::specs::Readings::next))]
 fn interval_member(
     alloc: Global,
     place: &Place,
@@ -207,6 +208,7 @@ fn interval_fields(
     })
 }
 
+#[tactic(auto, unfolding(crate::specs::Readings::next))]
 fn location_member(
     alloc: Global,
     place: &Place,
@@ -223,7 +225,7 @@ fn location_member(
 }
 
 /// That the location is `UTC`, in which moments are read.
-#[tactic(auto, unfolding(crate::specs::ReadIntervals::location_at))]
+#[tactic(auto, unfolding(crate::specs::ReadIntervals::location_at, crate::specs::Readings::next))]
 fn location(alloc: Global, place: &Place, value: &Value) -> Result<bool, ConfigError>
     ensures { Gives (λ b. b) result (location_at (place_path place.now) (view value.now)) }
 {
@@ -283,6 +285,7 @@ fn day_range(value: &Value) -> Option<DayRange>
     }
 }
 
+#[tactic(auto, unfolding(crate::specs::Readings::next))]
 fn ranges_member(
     alloc: Global,
     field: Field,
@@ -299,7 +302,7 @@ fn ranges_member(
     }
 }
 
-#[tactic(auto, unfolding(crate::specs::ReadIntervals::ranges_at))]
+#[tactic(auto, unfolding(crate::specs::ReadIntervals::ranges_at, crate::specs::Readings::next))]
 fn ranges(
     alloc: Global,
     field: Field,
@@ -317,7 +320,7 @@ fn ranges(
     Ok(ranges)
 }
 
-#[tactic(auto, unfolding(crate::specs::ReadIntervals::range_into))]
+#[tactic(auto, unfolding(crate::specs::ReadIntervals::range_into, crate::specs::Readings::next))]
 fn add_range(
     alloc: Global,
     field: Field,
@@ -338,6 +341,7 @@ fn add_range(
     }
 }
 
+#[tactic(auto, unfolding(crate::specs::Readings::next))]
 fn days_member(
     alloc: Global,
     place: &Place,
@@ -353,7 +357,7 @@ fn days_member(
     }
 }
 
-#[tactic(auto, unfolding(crate::specs::ReadIntervals::ranges_at))]
+#[tactic(auto, unfolding(crate::specs::ReadIntervals::ranges_at, crate::specs::Readings::next))]
 fn day_ranges(alloc: Global, place: &Place, value: &Value) -> Result<Listing<DayRange>, ConfigError>
     ensures { Gives (λ rs. rs) result
         (ranges_at day_range_in (place_path place.now) (view value.now)) }
@@ -366,7 +370,7 @@ fn day_ranges(alloc: Global, place: &Place, value: &Value) -> Result<Listing<Day
     Ok(ranges)
 }
 
-#[tactic(auto, unfolding(crate::specs::ReadIntervals::range_into))]
+#[tactic(auto, unfolding(crate::specs::ReadIntervals::range_into, crate::specs::Readings::next))]
 fn add_day_range(
     alloc: Global,
     place: &Place,
@@ -386,6 +390,7 @@ fn add_day_range(
     }
 }
 
+#[tactic(auto, unfolding(crate::specs::Readings::next))]
 fn times_member(
     alloc: Global,
     place: &Place,
@@ -401,7 +406,7 @@ fn times_member(
     }
 }
 
-#[tactic(auto, unfolding(crate::specs::ReadIntervals::times_at))]
+#[tactic(auto, unfolding(crate::specs::ReadIntervals::times_at, crate::specs::Readings::next))]
 fn times(alloc: Global, place: &Place, value: &Value) -> Result<Listing<TimeRange>, ConfigError>
     ensures { Gives (λ rs. rs) result (times_at (place_path place.now) (view value.now)) }
 {
@@ -413,7 +418,7 @@ fn times(alloc: Global, place: &Place, value: &Value) -> Result<Listing<TimeRang
     Ok(ranges)
 }
 
-#[tactic(auto, unfolding(crate::specs::ReadIntervals::time_range_into))]
+#[tactic(auto, unfolding(crate::specs::ReadIntervals::time_range_into, crate::specs::Readings::next))]
 fn add_time_range(
     alloc: Global,
     place: &Place,
@@ -429,7 +434,7 @@ fn add_time_range(
     Ok(())
 }
 
-#[tactic(auto, unfolding(crate::specs::ReadIntervals::time_range_at))]
+#[tactic(auto, unfolding(crate::specs::ReadIntervals::time_range_at, crate::specs::Readings::next))]
 fn time_range(alloc: Global, place: &Place, value: &Value) -> Result<TimeRange, ConfigError>
     ensures { Gives (λ r. r) result (time_range_at (place_path place.now) (view value.now)) }
 {
@@ -453,7 +458,7 @@ fn time_range(alloc: Global, place: &Place, value: &Value) -> Result<TimeRange, 
     }
 }
 
-#[tactic(auto, unfolding(crate::specs::ReadIntervals::time_of))]
+#[tactic(auto, unfolding(crate::specs::ReadIntervals::time_of, crate::specs::Readings::next))]
 fn start_time(alloc: Global, place: &Place, value: &Value) -> Result<u32, ConfigError>
     ensures { Gives (λ n. n) result (time_of time_at (place_path place.now) (view value.now)) }
 {
@@ -463,7 +468,7 @@ fn start_time(alloc: Global, place: &Place, value: &Value) -> Result<u32, Config
     }
 }
 
-#[tactic(auto, unfolding(crate::specs::ReadIntervals::time_of))]
+#[tactic(auto, unfolding(crate::specs::ReadIntervals::time_of, crate::specs::Readings::next))]
 fn end_time(alloc: Global, place: &Place, value: &Value) -> Result<u32, ConfigError>
     ensures { Gives (λ n. n) result (time_of end_time_at (place_path place.now) (view value.now)) }
 {

@@ -56,7 +56,7 @@ fn default(kind: &str) -> Option<bool>
     None
 }
 
-#[tactic(auto, unfolding(crate::specs::ReadReceivers::entry_into))]
+#[tactic(auto, unfolding(crate::specs::ReadReceivers::entry_into, crate::specs::Readings::next))]
 fn add_entry(
     alloc: Global,
     kind: &Text,
@@ -84,7 +84,7 @@ fn add_entry(
     Ok(())
 }
 
-#[tactic(auto, unfolding(crate::specs::ReadReceivers::entries_at))]
+#[tactic(auto, unfolding(crate::specs::ReadReceivers::entries_at, crate::specs::Readings::next))]
 fn entries(
     alloc: Global,
     kind: &Text,
@@ -122,7 +122,7 @@ fn kind_key(key: &str) -> Option<&str>
     key.strip_suffix("_configs")
 }
 
-#[tactic(auto, unfolding(crate::specs::ReadReceivers::stated_entries))]
+#[tactic(auto, unfolding(crate::specs::ReadReceivers::stated_entries, crate::specs::Readings::next))]
 fn stated_entries(
     alloc: Global,
     kind: &Text,
@@ -158,7 +158,7 @@ fn insert_kind(kinds: &mut Vec<Kind>, kind: Kind) -> Result<(), AllocError>
     Ok(())
 }
 
-#[tactic(auto, unfolding(crate::specs::ReadReceivers::kind_into))]
+#[tactic(auto, unfolding(crate::specs::ReadReceivers::kind_into, crate::specs::Readings::next))]
 fn add_kind(
     alloc: Global,
     before: bool,
@@ -185,7 +185,7 @@ fn add_kind(
 }
 
 /// Adds the kinds whose keys stand on that side of `name`.
-#[tactic(auto, unfolding(crate::specs::ReadReceivers::kinds_at))]
+#[tactic(auto, unfolding(crate::specs::ReadReceivers::kinds_at, crate::specs::Readings::next))]
 fn add_kinds(
     alloc: Global,
     before: bool,
@@ -205,7 +205,7 @@ fn add_kinds(
     Ok(())
 }
 
-#[tactic(auto, unfolding(crate::specs::ReadReceivers::name_at))]
+#[tactic(auto, unfolding(crate::specs::ReadReceivers::name_at, crate::specs::Readings::next))]
 fn name<'v>(alloc: Global, place: &Place, value: &'v Value) -> Result<&'v str, ConfigError>
     ensures { Gives (λ s. s.now) result (name_at (place_path place.now) (view value.now)) }
 {
@@ -236,7 +236,7 @@ fn joined(alloc: Global, kinds: &[Kind]) -> Result<Listing<Integration>, AllocEr
     Ok(all)
 }
 
-#[tactic(auto, unfolding(crate::specs::ReadReceivers::receiver_at))]
+#[tactic(auto, unfolding(crate::specs::ReadReceivers::receiver_at, crate::specs::Readings::next))]
 fn read_receiver(alloc: Global, place: &Place, value: &Value) -> Result<Receiver, ConfigError>
     ensures { Gives (λ r. r) result (receiver_at (place_path place.now) (view value.now)) }
 {
@@ -252,7 +252,7 @@ fn read_receiver(alloc: Global, place: &Place, value: &Value) -> Result<Receiver
     Ok(Receiver { name, integrations })
 }
 
-#[tactic(auto, unfolding(crate::specs::ReadReceivers::receiver_into))]
+#[tactic(auto, unfolding(crate::specs::ReadReceivers::receiver_into, crate::specs::Readings::next))]
 fn add_receiver(
     alloc: Global,
     place: &Place,
@@ -268,7 +268,7 @@ fn add_receiver(
     Ok(())
 }
 
-#[tactic(auto, unfolding(crate::specs::ReadReceivers::receivers_list))]
+#[tactic(auto, unfolding(crate::specs::ReadReceivers::receivers_list, crate::specs::Readings::next))]
 fn receivers(alloc: Global, place: &Place, value: &Value) -> Result<Listing<Receiver>, ConfigError>
     ensures { Gives (λ rs. rs) result (receivers_list (place_path place.now) (view value.now)) }
 {
@@ -281,7 +281,7 @@ fn receivers(alloc: Global, place: &Place, value: &Value) -> Result<Listing<Rece
 }
 
 /// The receivers of a whole configuration.
-#[tactic(auto, unfolding(crate::specs::ReadReceivers::receivers_at))]
+#[tactic(auto, unfolding(crate::specs::ReadReceivers::receivers_at, crate::specs::Readings::next))]
 pub(crate) fn read_receivers(alloc: Global, value: &Value) -> Result<Listing<Receiver>, ConfigError>
     ensures { Gives (λ rs. rs) result (receivers_at (view value.now)) }
 {

@@ -105,7 +105,7 @@ fn add_own(
 }
 
 /// The routes below a route.
-#[tactic(auto, unfolding(crate::specs::RouteParts::children_at))]
+#[tactic(auto, unfolding(crate::specs::RouteParts::children_at, crate::specs::Readings::next))]
 fn children<'v>(alloc: Global, place: &Place, value: &'v Value) -> Result<&'v [Value], ConfigError>
     ensures { Gives (λ s. items_view s.now) result
         (children_at (place_path place.now) (view value.now)) }
@@ -183,7 +183,7 @@ pub fn is_too_deep(value: &Value) -> bool
 }
 
 /// The routes of a whole configuration, parents first.
-#[tactic(auto, unfolding(crate::specs::ReadRoutes::routes_at))]
+#[tactic(auto, unfolding(crate::specs::ReadRoutes::routes_at, crate::specs::Readings::next))]
 pub(crate) fn read_routes(alloc: Global, value: &Value) -> Result<Listing<Route>, ConfigError>
     ensures { Reads (λ rs. rs) result (routes_at (view value.now)) }
 {

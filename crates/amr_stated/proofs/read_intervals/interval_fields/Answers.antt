@@ -1,5 +1,6 @@
 use Rattle.std.proofs.Common.{refl}
 use Rattle.std.proofs.lemmas.Result.{err_from_is_err_and}
+use Rattle.amr_stated.specs.Readings.{next}
 use Rattle.amr_stated.specs.ReadIntervals.{interval_fields_at}
 use Rattle.amr_stated.proofs.Failing.{fails_first, fails_later}
 use Rattle.amr_stated.proofs.read_intervals.interval_fields.Goals as goal
@@ -41,5 +42,5 @@ returns-in_err-years c =
     rw (p.1, p.2) (fails_later _ _ _ _ c.in_ok-days_of_month.ensures (fails_later _ _ _ _ c.in_ok-_location.ensures (fails_later _ _ _ _ c.in_ok-months.ensures (fails_later _ _ _ _ c.in_ok-times.ensures (fails_later _ _ _ _ c.in_ok-weekdays.ensures (fails_first _ _ _ c.in_err-years.ensures))))))
 
 pub returns : goal.returns
-unfolding interval_fields_at
+unfolding interval_fields_at next
 returns c = rw (c.in_ok-days_of_month.ensures, c.in_ok-_location.ensures, c.in_ok-months.ensures, c.in_ok-times.ensures, c.in_ok-weekdays.ensures, c.in_ok-years.ensures) refl
