@@ -9,7 +9,7 @@ use Rattle.serde_json.specs.Find.{get, get_member}
 use Rattle.amr_stated.specs.Members.{member_of}
 use Rattle.std.proofs.Common.{◌≡◌, inl, inr, ◌⊎◌, ◌≢◌, ℕ, ◌+◌, ◌-◌, ◌<◌, Bool, true, false, true≢false, not, if◌then◌else◌, List, [], ◌∷◌, ◌++◌, length, take, drop, Option, Some, None, Ok, refl, sym, ap, ◌∙◌, arith, append_assoc, codes}
 use Rattle.std.proofs.lemmas.List.{append-nil, take-append-drop}
-use Rattle.std.specs.List.{flat_map, list_all}
+use Rattle.std.specs.List.{list_all}
 use Rattle.std.specs.Cmp.Lexicographic.{nat_list_cmp_total, same_text}
 use Rattle.std.specs.FinMap.{slice_cmp-IsAntisymmetric, nat_cmp-IsAntisymmetric}
 use Rattle.std.specs.Ordering.{nat_cmp, ordering_then, is_gt, is_lt, match_ordering}
@@ -19,10 +19,9 @@ use Rattle.serde_json.specs.Data.{Data, null, boolean, number, string, array, ob
 use Rattle.amr_labels.specs.Labels.{Text, text_cmp}
 use Rattle.amr_stated.specs.declared.receiver.Integration.{Integration}
 use Rattle.amr_stated.specs.declared.receiver.Receiver.{Receiver}
-use Rattle.amr_stated.specs.declared.read_receivers.Kind.{Kind}
 use Rattle.amr_stated.specs.Members.{present, optional, stated, needed, or_faulty, flag_at, items_at, members_at}
 use Rattle.amr_stated.specs.Paths.{under, item_path}
-use Rattle.amr_stated.specs.ReadReceivers.{default_of, entry_into, entries_at, stands, kind_key, stated_entries, with_kind, kind_named, kind_into, kinds_at, name_at, receiver_at, receiver_into, receivers_list, receivers_at}
+use Rattle.amr_stated.specs.ReadReceivers.{default_of, entry_into, entries_at, stands, kind_key, stated_entries, with_entries, entries_under, kind_into, kinds_at, name_at, receiver_at, receiver_into, receivers_list, receivers_at}
 use Rattle.amr_stated.proofs.Preorder.{ok_same, bind_ok}
 use Rattle.amr_stated.specs.declared.stated.Stated.{Stated}
 use Rattle.amr_stated.specs.ReadIntervals.{intervals_at}
@@ -48,12 +47,12 @@ each_append : {X : Type 0} (P : X → Type 0) (xs ys : List X) → Each P xs →
 each_append P [] ys h k = k
 each_append P (x ∷ xs) ys h k = (h.0, each_append P xs ys h.1 k)
 
-each_with : (P : Kind → Type 0) (ks : List Kind) (kind : Kind) → Each P ks → P kind → Each P (with_kind ks kind)
-each_with P [] kind h p = (p, tt)
-each_with P (k ∷ ks) kind h p = go (each_with P ks kind h.1 p) (is_gt (text_cmp k.name kind.name))
+each_with : (P : Integration → Type 0) (xs : List Integration) (kind : Text) (entries : List Integration) → Each P xs → Each P entries → Each P (with_entries xs kind entries)
+each_with P [] kind entries h new = new
+each_with P (x ∷ xs) kind entries h new = go (each_with P xs kind entries h.1 new) (is_gt (text_cmp x.kind kind))
   where
-    go : Each P (with_kind ks kind) → (b : Bool) → Each P (if b then kind ∷ k ∷ ks else k ∷ with_kind ks kind)
-    go rest true = (p, h)
+    go : Each P (with_entries xs kind entries) → (b : Bool) → Each P (if b then entries ++ x ∷ xs else x ∷ with_entries xs kind entries)
+    go rest true = each_append P entries (x ∷ xs) new h
     go rest false = (h.0, rest)
 
 -- ---- texts
@@ -122,114 +121,9 @@ stated_placed kind path d out e =
         let some = ok_same _ found read.2 in
         rw is (rw (← some) (all_placed kind path v read.0 read.1))
 
--- ---- kinds
-
-abbrev Tidy : List Kind → Type 0
-Tidy [] = Unit {0}
-Tidy (k ∷ ks) = Placed k.name 0 k.integrations × Each (λ other. text_cmp k.name other.name ≡ Less) ks × Tidy ks
-
-tidy_with : (ks : List Kind) (kind : Kind) → Tidy ks → Placed kind.name 0 kind.integrations → Each (λ k. k.name ≢ kind.name) ks → Tidy (with_kind ks kind)
-tidy_with [] kind tidy placed apart = (placed, tt, tt)
-tidy_with (k ∷ ks) kind tidy placed apart = go (tidy_with ks kind tidy.2 placed apart.1) (text_cmp k.name kind.name) refl
-  where
-    go : Tidy (with_kind ks kind) → (o : Ordering) → text_cmp k.name kind.name ≡ o → Tidy (if is_gt o then kind ∷ k ∷ ks else k ∷ with_kind ks kind)
-    go rest Less is = (tidy.0, each_with (λ other. text_cmp k.name other.name ≡ Less) ks kind tidy.1 is, rest)
-    go rest Equal is = absurd (apart.0 (equal_texts k.name kind.name is))
-    go rest Greater is =
-        let less = below_other k.name kind.name is in
-        (placed, (less, each_map (λ other. text_cmp k.name other.name ≡ Less) (λ other. text_cmp kind.name other.name ≡ Less) ks (λ other h. nat_list_cmp_total.trans kind.name k.name other.name less h) tidy.1), tidy)
-
--- ---- the keys that name kinds
-
-kind_from : (b : Bool) (key name : Text) → ends_with nat_eq key (codes "_configs") ≡ b → (if b then Some (take (length key - 8) key) else None) ≡ Some name → key ≡ name ++ codes "_configs"
-kind_from true key name ends is =
-    let front = same_Some _ name is in
-    let back : drop (length key - 8) key ≡ codes "_configs" = sym (same_text (codes "_configs") (drop (length key - 8) key) (sym ends)) in
-    sym (take-append-drop (length key - 8) key) ∙ ap (λ l. l ++ drop (length key - 8) key) front ∙ ap (λ l. name ++ l) back
-kind_from false key name ends is = absurd (none-some name is)
-
-key_of_kind : (key name : Text) → kind_key key ≡ Some name → key ≡ name ++ codes "_configs"
-unfolding kind_key
-key_of_kind key name e = kind_from (ends_with nat_eq key (codes "_configs")) key name refl e
-
-one_key : (key other name : Text) → kind_key key ≡ Some name → kind_key other ≡ Some name → key ≡ other
-one_key key other name e f = key_of_kind key name e ∙ sym (key_of_kind other name f)
-
--- no kind is named by a key on that side
-abbrev Off : Bool → Members → List Kind → Type 0
-Off before no_members ks = Unit {0}
-Off before (member key d ms) ks = ((name : Text) → stands before key ≡ true → kind_key key ≡ Some name → Each (λ k. k.name ≢ name) ks) × Off before ms ks
-
-off_none : (before : Bool) (ms : Members) → Off before ms []
-off_none before no_members = tt
-off_none before (member key d ms) = (λ name side is. tt, off_none before ms)
-
--- the kind was named by a key on that side
-abbrev IsNamed : Bool → Kind → Type 0
-IsNamed before kind = (key : Text) × (kind_key key ≡ Some kind.name) × (stands before key ≡ true)
-
-not_both : (key : Text) → stands true key ≡ true → stands false key ≡ true → ⊥
-unfolding stands
-not_both key first second = go (text_cmp key (codes "name")) first second
-  where
-    go : (o : Ordering) → match_ordering o true false (not true) ≡ true → match_ordering o false false (not false) ≡ true → ⊥
-    go Less e f = true≢false (sym f)
-    go Equal e f = true≢false (sym f)
-    go Greater e f = true≢false (sym e)
-
-off_after : (ms : Members) (ks : List Kind) → Each (IsNamed true) ks → Off false ms ks
-off_after no_members ks named = tt
-off_after (member key d ms) ks named =
-    (λ name side is. each_map (IsNamed true) (λ k. k.name ≢ name) ks (λ k by same. not_both key (rw (one_key by.0 key name (by.1 ∙ ap (λ n. Some n) same) is) at by.2) side) named, off_after ms ks named)
-
-off_with : (before : Bool) (key : Text) (ms : Members) (ks : List Kind) (kind : Kind) → kind_key key ≡ Some kind.name → IsBelow key ms → Off before ms ks → Off before ms (with_kind ks kind)
-off_with before key no_members ks kind is below off = tt
-off_with before key (member later d ms) ks kind is below off =
-    (λ name side by. each_with (λ k. k.name ≢ name) ks kind (off.0 name side by) (λ same. less_apart key later below.0 (one_key key later name (is ∙ ap (λ n. Some n) same) by)), off_with before key ms ks kind is below.1 off.1)
-
--- what a member does to the kinds
-record Brings (before : Bool) (key : Text) (ks out : List Kind) : Type 0 where
-  kind : Kind
-  side : stands before key ≡ true
-  named : kind_key key ≡ Some kind.name
-  placed : Placed kind.name 0 kind.integrations
-  is : out ≡ with_kind ks kind
-
-kind_step : (before : Bool) (path : List ℕ) (key : Text) (d : Data) (ks out : List Kind) → (kind_into before path key d ks).value ≡ Ok out → (out ≡ ks) ⊎ Brings before key ks out
-unfolding kind_into
-kind_step before path key d ks out e = go (stands before key) refl e
-  where
-    named : (o : Option Text) → kind_key key ≡ o → stands before key ≡ true → (kind_named (under path key) d ks o).value ≡ Ok out → (out ≡ ks) ⊎ Brings before key ks out
-    named None is side e = inl (sym (ok_same ks out e))
-    named (Some name) is side e =
-        let read = bind_ok (stated_entries name (under path key) d) _ out e in
-        inr (record { kind = record { name = name; integrations = read.0 }; side = side; named = is; placed = stated_placed name (under path key) d read.0 read.1; is = sym (ok_same _ out read.2) })
-
-    go : (b : Bool) → stands before key ≡ b → (if b then kind_named (under path key) d ks (kind_key key) else give ks).value ≡ Ok out → (out ≡ ks) ⊎ Brings before key ks out
-    go true side e = named (kind_key key) refl side e
-    go false side e = inl (sym (ok_same ks out e))
-
-kinds_tidy : (before : Bool) (path : List ℕ) (ms : Members) (ks out : List Kind) → (members_in_turn (kind_into before path) ms ks).value ≡ Ok out → AreInOrder ms → Tidy ks → Off before ms ks → Tidy out
-kinds_tidy before path no_members ks out e order tidy off = rw (← ok_same ks out e) tidy
-kinds_tidy before path (member key d ms) ks out e order tidy off =
-    let one = bind_ok (kind_into before path key d ks) _ out e in
-    elim (kind_step before path key d ks one.0 one.1) [
-      | inl same ↦ kinds_tidy before path ms ks out (rw same at one.2) order.1 tidy off.1
-      | inr brings ↦ let kind = brings.kind in
-          kinds_tidy before path ms (with_kind ks kind) out (rw brings.is at one.2) order.1
-          (tidy_with ks kind tidy brings.placed (off.0 kind.name brings.side brings.named))
-          (off_with before key ms ks kind brings.named order.0 off.1)
-    ]
-
-kinds_named : (path : List ℕ) (ms : Members) (ks out : List Kind) → (members_in_turn (kind_into true path) ms ks).value ≡ Ok out → Each (IsNamed true) ks → Each (IsNamed true) out
-kinds_named path no_members ks out e named = rw (← ok_same ks out e) named
-kinds_named path (member key d ms) ks out e named =
-    let one = bind_ok (kind_into true path key d ks) _ out e in
-    elim (kind_step true path key d ks one.0 one.1) [
-      | inl same ↦ kinds_named path ms ks out (rw same at one.2) named
-      | inr brings ↦ let kind = brings.kind in
-          kinds_named path ms (with_kind ks kind) out (rw brings.is at one.2) (each_with (IsNamed true) ks kind named (key, brings.named, brings.side))
-    ]
+placed_kinds : (kind : Text) (i : ℕ) (xs : List Integration) → Placed kind i xs → Each (λ x. x.kind ≡ kind) xs
+placed_kinds kind i [] placed = tt
+placed_kinds kind i (x ∷ xs) placed = (placed.0, placed_kinds kind (i + 1) xs placed.2)
 
 -- ---- in order
 
@@ -266,27 +160,131 @@ placed_rising : (kind : Text) (i : ℕ) (xs : List Integration) → Placed kind 
 placed_rising kind i [] placed = tt
 placed_rising kind i (x ∷ xs) placed = (after_place kind x (i + 1) xs placed.0 (omega (arith, placed.1)) placed.2, placed_rising kind (i + 1) xs placed.2)
 
-abbrev all_of : List Kind → List Integration
-all_of ks = flat_map (λ (kind : Kind). kind.integrations) ks
-
 after_kind : (kind : Text) (x : Integration) (other : Text) (i : ℕ) (ys : List Integration) → x.kind ≡ kind → text_cmp kind other ≡ Less → Placed other i ys → Each (λ y. integration_cmp x y ≡ Less) ys
 after_kind kind x other i [] is less placed = tt
 after_kind kind x other i (y ∷ ys) is less placed =
     (by_kind x y (rw (is, placed.0) less), after_kind kind x other (i + 1) ys is less placed.2)
 
-after_kinds : (kind : Text) (x : Integration) (ks : List Kind) → x.kind ≡ kind → Each (λ other. text_cmp kind other.name ≡ Less) ks → Tidy ks → Each (λ y. integration_cmp x y ≡ Less) (all_of ks)
-after_kinds kind x [] is below tidy = tt
-after_kinds kind x (k ∷ ks) is below tidy =
-    each_append (λ y. integration_cmp x y ≡ Less) k.integrations (all_of ks) (after_kind kind x k.name 0 k.integrations is below.0 tidy.0) (after_kinds kind x ks is below.1 tidy.2)
+before_those : (kind : Text) (i : ℕ) (entries xs : List Integration) → Placed kind i entries → Each (λ y. text_cmp kind y.kind ≡ Less) xs → Each (λ x. Each (λ y. integration_cmp x y ≡ Less) xs) entries
+before_those kind i [] xs placed above = tt
+before_those kind i (x ∷ entries) xs placed above =
+    (each_map (λ y. text_cmp kind y.kind ≡ Less) (λ y. integration_cmp x y ≡ Less) xs (λ y h. by_kind x y (rw placed.0 h)) above, before_those kind (i + 1) entries xs placed.2 above)
 
-across_kinds : (kind : Text) (i : ℕ) (xs : List Integration) (ks : List Kind) → Placed kind i xs → Each (λ other. text_cmp kind other.name ≡ Less) ks → Tidy ks → Each (λ x. Each (λ y. integration_cmp x y ≡ Less) (all_of ks)) xs
-across_kinds kind i [] ks placed below tidy = tt
-across_kinds kind i (x ∷ xs) ks placed below tidy = (after_kinds kind x ks placed.0 below tidy, across_kinds kind (i + 1) xs ks placed.2 below tidy)
+-- a kind below that of an integration is below those of the integrations after it
+below_later : (kind : Text) (x y : Integration) → text_cmp kind x.kind ≡ Less → integration_cmp x y ≡ Less → text_cmp kind y.kind ≡ Less
+below_later kind x y less before = go (text_cmp x.kind y.kind) refl before
+  where
+    go : (o : Ordering) → text_cmp x.kind y.kind ≡ o → ordering_then o (nat_cmp x.place y.place) ≡ Less → text_cmp kind y.kind ≡ Less
+    go Less is h = nat_list_cmp_total.trans kind x.kind y.kind less is
+    go Equal is h = rw (← equal_texts x.kind y.kind is) less
+    go Greater is h = cc
 
-tidy_rising : (ks : List Kind) → Tidy ks → Rising (all_of ks)
-tidy_rising [] tidy = tt
-tidy_rising (k ∷ ks) tidy =
-    rising_append k.integrations (all_of ks) (placed_rising k.name 0 k.integrations tidy.0) (tidy_rising ks tidy.2) (across_kinds k.name 0 k.integrations ks tidy.0 tidy.1 tidy.2)
+rising_with : (xs : List Integration) (kind : Text) (entries : List Integration) → Rising xs → Placed kind 0 entries → Each (λ x. x.kind ≢ kind) xs → Rising (with_entries xs kind entries)
+rising_with [] kind entries rising placed apart = placed_rising kind 0 entries placed
+rising_with (x ∷ xs) kind entries rising placed apart = go (rising_with xs kind entries rising.1 placed apart.1) (text_cmp x.kind kind) refl
+  where
+    go : Rising (with_entries xs kind entries) → (o : Ordering) → text_cmp x.kind kind ≡ o → Rising (if is_gt o then entries ++ x ∷ xs else x ∷ with_entries xs kind entries)
+    go rest Less is = (each_with (λ y. integration_cmp x y ≡ Less) xs kind entries rising.0 (after_kind x.kind x kind 0 entries refl is placed), rest)
+    go rest Equal is = absurd (apart.0 (equal_texts x.kind kind is))
+    go rest Greater is =
+        let less = below_other x.kind kind is in
+        let above : Each (λ y. text_cmp kind y.kind ≡ Less) (x ∷ xs) = (less, each_map (λ y. integration_cmp x y ≡ Less) (λ y. text_cmp kind y.kind ≡ Less) xs (λ y h. below_later kind x y less h) rising.0) in
+        rising_append entries (x ∷ xs) (placed_rising kind 0 entries placed) rising (before_those kind 0 entries (x ∷ xs) placed above)
+
+-- ---- the keys that name kinds
+
+kind_from : (b : Bool) (key name : Text) → ends_with nat_eq key (codes "_configs") ≡ b → (if b then Some (take (length key - 8) key) else None) ≡ Some name → key ≡ name ++ codes "_configs"
+kind_from true key name ends is =
+    let front = same_Some _ name is in
+    let back : drop (length key - 8) key ≡ codes "_configs" = sym (same_text (codes "_configs") (drop (length key - 8) key) (sym ends)) in
+    sym (take-append-drop (length key - 8) key) ∙ ap (λ l. l ++ drop (length key - 8) key) front ∙ ap (λ l. name ++ l) back
+kind_from false key name ends is = absurd (none-some name is)
+
+key_of_kind : (key name : Text) → kind_key key ≡ Some name → key ≡ name ++ codes "_configs"
+unfolding kind_key
+key_of_kind key name e = kind_from (ends_with nat_eq key (codes "_configs")) key name refl e
+
+one_key : (key other name : Text) → kind_key key ≡ Some name → kind_key other ≡ Some name → key ≡ other
+one_key key other name e f = key_of_kind key name e ∙ sym (key_of_kind other name f)
+
+-- no integration is of a kind that a key on that side names
+abbrev Off : Bool → Members → List Integration → Type 0
+Off before no_members ks = Unit {0}
+Off before (member key d ms) ks = ((name : Text) → stands before key ≡ true → kind_key key ≡ Some name → Each (λ x. x.kind ≢ name) ks) × Off before ms ks
+
+off_none : (before : Bool) (ms : Members) → Off before ms []
+off_none before no_members = tt
+off_none before (member key d ms) = (λ name side is. tt, off_none before ms)
+
+-- a key on that side names the kind
+abbrev IsNamed : Bool → Integration → Type 0
+IsNamed before x = (key : Text) × (kind_key key ≡ Some x.kind) × (stands before key ≡ true)
+
+not_both : (key : Text) → stands true key ≡ true → stands false key ≡ true → ⊥
+unfolding stands
+not_both key first second = go (text_cmp key (codes "name")) first second
+  where
+    go : (o : Ordering) → match_ordering o true false (not true) ≡ true → match_ordering o false false (not false) ≡ true → ⊥
+    go Less e f = true≢false (sym f)
+    go Equal e f = true≢false (sym f)
+    go Greater e f = true≢false (sym e)
+
+off_after : (ms : Members) (ks : List Integration) → Each (IsNamed true) ks → Off false ms ks
+off_after no_members ks named = tt
+off_after (member key d ms) ks named =
+    (λ name side is. each_map (IsNamed true) (λ x. x.kind ≢ name) ks (λ x by same. not_both key (rw (one_key by.0 key name (by.1 ∙ ap (λ n. Some n) same) is) at by.2) side) named, off_after ms ks named)
+
+off_with : (before : Bool) (key : Text) (ms : Members) (ks : List Integration) (kind : Text) (entries : List Integration) → kind_key key ≡ Some kind → Placed kind 0 entries → IsBelow key ms → Off before ms ks → Off before ms (with_entries ks kind entries)
+off_with before key no_members ks kind entries is placed below off = tt
+off_with before key (member later d ms) ks kind entries is placed below off =
+    let apart : (name : Text) → kind_key later ≡ Some name → Each (λ x. x.kind ≢ name) entries = λ name by. each_map (λ x. x.kind ≡ kind) (λ x. x.kind ≢ name) entries (λ x of same. less_apart key later below.0 (one_key key later name (is ∙ ap (λ n. Some n) (sym of ∙ same)) by)) (placed_kinds kind 0 entries placed) in
+    (λ name side by. each_with (λ x. x.kind ≢ name) ks kind entries (off.0 name side by) (apart name by), off_with before key ms ks kind entries is placed below.1 off.1)
+
+-- what a member does to the integrations
+record Brings (before : Bool) (key : Text) (ks out : List Integration) : Type 0 where
+  kind : Text
+  entries : List Integration
+  side : stands before key ≡ true
+  named : kind_key key ≡ Some kind
+  placed : Placed kind 0 entries
+  is : out ≡ with_entries ks kind entries
+
+kind_step : (before : Bool) (path : List ℕ) (key : Text) (d : Data) (ks out : List Integration) → (kind_into before path key d ks).value ≡ Ok out → (out ≡ ks) ⊎ Brings before key ks out
+unfolding kind_into
+kind_step before path key d ks out e = go (stands before key) refl e
+  where
+    named : (o : Option Text) → kind_key key ≡ o → stands before key ≡ true → (entries_under (under path key) d ks o).value ≡ Ok out → (out ≡ ks) ⊎ Brings before key ks out
+    named None is side e = inl (sym (ok_same ks out e))
+    named (Some name) is side e =
+        let read = bind_ok (stated_entries name (under path key) d) _ out e in
+        inr (record { kind = name; entries = read.0; side = side; named = is; placed = stated_placed name (under path key) d read.0 read.1; is = sym (ok_same _ out read.2) })
+
+    go : (b : Bool) → stands before key ≡ b → (if b then entries_under (under path key) d ks (kind_key key) else give ks).value ≡ Ok out → (out ≡ ks) ⊎ Brings before key ks out
+    go true side e = named (kind_key key) refl side e
+    go false side e = inl (sym (ok_same ks out e))
+
+kinds_rising : (before : Bool) (path : List ℕ) (ms : Members) (ks out : List Integration) → (members_in_turn (kind_into before path) ms ks).value ≡ Ok out → AreInOrder ms → Rising ks → Off before ms ks → Rising out
+kinds_rising before path no_members ks out e order rising off = rw (← ok_same ks out e) rising
+kinds_rising before path (member key d ms) ks out e order rising off =
+    let one = bind_ok (kind_into before path key d ks) _ out e in
+    elim (kind_step before path key d ks one.0 one.1) [
+      | inl same ↦ kinds_rising before path ms ks out (rw same at one.2) order.1 rising off.1
+      | inr brings ↦
+          kinds_rising before path ms (with_entries ks brings.kind brings.entries) out (rw brings.is at one.2) order.1
+          (rising_with ks brings.kind brings.entries rising brings.placed (off.0 brings.kind brings.side brings.named))
+          (off_with before key ms ks brings.kind brings.entries brings.named brings.placed order.0 off.1)
+    ]
+
+kinds_named : (path : List ℕ) (ms : Members) (ks out : List Integration) → (members_in_turn (kind_into true path) ms ks).value ≡ Ok out → Each (IsNamed true) ks → Each (IsNamed true) out
+kinds_named path no_members ks out e named = rw (← ok_same ks out e) named
+kinds_named path (member key d ms) ks out e named =
+    let one = bind_ok (kind_into true path key d ks) _ out e in
+    elim (kind_step true path key d ks one.0 one.1) [
+      | inl same ↦ kinds_named path ms ks out (rw same at one.2) named
+      | inr brings ↦
+          let new : Each (IsNamed true) brings.entries = each_map (λ x. x.kind ≡ brings.kind) (IsNamed true) brings.entries (λ x of. (key, brings.named ∙ ap (λ n. Some n) (sym of), brings.side)) (placed_kinds brings.kind 0 brings.entries brings.placed) in
+          kinds_named path ms (with_entries ks brings.kind brings.entries) out (rw brings.is at one.2) (each_with (IsNamed true) ks brings.kind brings.entries named new)
+    ]
 
 -- ---- receivers
 
@@ -307,12 +305,12 @@ receiver_in_order path d receiver order e =
     let members = bind_ok (members_at path d) _ first.0 first.1 in
     let again = bind_ok (members_at path d) _ all.0 all.1 in
     let ms : Members = members.0 in
-    let rising = object_ordered path d ms order members.1 in
-    let tidy = kinds_tidy true path ms [] first.0 members.2 rising tt (off_none true ms) in
+    let order_of = object_ordered path d ms order members.1 in
+    let before = kinds_rising true path ms [] first.0 members.2 order_of tt (off_none true ms) in
     let named = kinds_named path ms [] first.0 members.2 tt in
     let same : again.0 ≡ ms = ok_same again.0 ms (sym again.1 ∙ members.1) in
-    let whole = kinds_tidy false path ms first.0 all.0 (rw same at again.2) rising tidy (off_after ms first.0 named) in
-    rw (← ok_same _ receiver all.2) (rising_in_order (all_of all.0) (tidy_rising all.0 whole))
+    let whole = kinds_rising false path ms first.0 all.0 (rw same at again.2) order_of before (off_after ms first.0 named) in
+    rw (← ok_same _ receiver all.2) (rising_in_order all.0 whole)
 
 abbrev AreReceiversInOrder : List Receiver → Type 0
 AreReceiversInOrder receivers = list_all (λ (receiver : Receiver). are_in_order receiver.integrations) receivers ≡ true

@@ -5,7 +5,7 @@ pub mod JudgedParts
 pub mod JudgedReceivers
 pub mod JudgedRoutes
 pub mod JudgedMatchers
-pub mod KindPlacing
+pub mod EntryPlacing
 pub mod Levels
 pub mod Names
 pub mod PatternsMet

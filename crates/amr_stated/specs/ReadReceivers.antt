@@ -1,13 +1,12 @@
 -- The receivers of a configuration, by the walk through their members in the order of the keys.
 use Rattle.std.specs.Prelude.{ℕ, ◌+◌, ◌-◌, List, [], ◌∷◌, ◌++◌, length, Bool, true, false, Option, Some, None, codes, unwrap_or, if◌then◌else◌, not, ◌||◌, take, nat_eq, ◌==◌}
-use Rattle.std.specs.List.{ends_with, flat_map}
+use Rattle.std.specs.List.{ends_with}
 use Rattle.std.specs.Option.{option_or}
 use Rattle.std.specs.Ordering.{match_ordering, eq_by_cmp, is_gt}
 use Rattle.serde_json.specs.Data.{Data}
 use Rattle.amr_labels.specs.Labels.{Text, text_cmp}
 use Rattle.amr_stated.specs.declared.receiver.Integration.{Integration}
 use Rattle.amr_stated.specs.declared.receiver.Receiver.{Receiver}
-use Rattle.amr_stated.specs.declared.read_receivers.Kind.{Kind}
 use Rattle.amr_stated.specs.Paths.{under, item_path}
 use Rattle.amr_stated.specs.Members.{present, optional, stated, needed, or_faulty, text_at, flag_at, items_at, members_at}
 use Rattle.amr_stated.specs.Readings.{Reading, give, faulty, ◌>>=◌, items_in_turn, members_in_turn}
@@ -50,27 +49,27 @@ kind_key key = if ends_with nat_eq key (codes "_configs") then Some (take (lengt
 unfoldable pub stated_entries : Text → List ℕ → Data → Reading (List Integration)
 stated_entries kind path d = optional (entries_at kind path) (present (Some d)) >>= λ found. give (unwrap_or found [])
 
--- a kind in its place among kinds in order
-abbrev pub with_kind : List Kind → Kind → List Kind
-with_kind [] kind = kind ∷ []
-with_kind (k ∷ ks) kind = if is_gt (text_cmp k.name kind.name) then kind ∷ k ∷ ks else k ∷ with_kind ks kind
+-- the entries of a kind among integrations by kind: before the first of a greater kind
+abbrev pub with_entries : List Integration → Text → List Integration → List Integration
+with_entries [] kind entries = entries
+with_entries (x ∷ xs) kind entries = if is_gt (text_cmp x.kind kind) then entries ++ x ∷ xs else x ∷ with_entries xs kind entries
 
--- before the first kind that is greater
-abbrev pub kind_place : List Kind → Text → ℕ
-kind_place [] name = 0
-kind_place (k ∷ ks) name = if is_gt (text_cmp k.name name) then 0 else kind_place ks name + 1
+-- the place of the first of a greater kind
+abbrev pub place_after : List Integration → Text → ℕ
+place_after [] kind = 0
+place_after (x ∷ xs) kind = if is_gt (text_cmp x.kind kind) then 0 else place_after xs kind + 1
 
-abbrev pub kind_named : List ℕ → Data → List Kind → Option Text → Reading (List Kind)
-kind_named path d kinds None = give kinds
-kind_named path d kinds (Some name) = stated_entries name path d >>= λ entries. give (with_kind kinds (record { name = name; integrations = entries }))
+abbrev pub entries_under : List ℕ → Data → List Integration → Option Text → Reading (List Integration)
+entries_under path d integrations None = give integrations
+entries_under path d integrations (Some kind) = stated_entries kind path d >>= λ entries. give (with_entries integrations kind entries)
 
--- a member on that side whose key names a kind
-unfoldable pub kind_into : Bool → List ℕ → Text → Data → List Kind → Reading (List Kind)
-kind_into before path key d kinds = if stands before key then kind_named (under path key) d kinds (kind_key key) else give kinds
+-- a member on that side, if its key names a kind
+unfoldable pub kind_into : Bool → List ℕ → Text → Data → List Integration → Reading (List Integration)
+kind_into before path key d integrations = if stands before key then entries_under (under path key) d integrations (kind_key key) else give integrations
 
 -- the kinds on that side
-unfoldable pub kinds_at : Bool → List ℕ → Data → List Kind → Reading (List Kind)
-kinds_at before path d kinds = members_at path d >>= λ members. members_in_turn (kind_into before path) members kinds
+unfoldable pub kinds_at : Bool → List ℕ → Data → List Integration → Reading (List Integration)
+kinds_at before path d integrations = members_at path d >>= λ members. members_in_turn (kind_into before path) members integrations
 
 -- a text that isn't empty
 unfoldable pub name_at : List ℕ → Data → Reading Text
@@ -82,7 +81,7 @@ receiver_at path d = do
   first ← kinds_at true path d []
   name ← needed name_at path (codes "name") d
   all ← kinds_at false path d first
-  give (record { name = name; integrations = flat_map (λ kind. kind.integrations) all })
+  give (record { name = name; integrations = all })
 
 unfoldable pub receiver_into : List ℕ → ℕ → Data → List Receiver → Reading (List Receiver)
 receiver_into path i d receivers = receiver_at (item_path path i) d >>= λ receiver. give (receivers ++ receiver ∷ [])

@@ -6,4 +6,4 @@ use Rattle.amr_stated.specs.ReadReceivers.{kind_into, kinds_at}
 use Rattle.amr_stated.proofs.read_receivers.add_kinds.Given as goal
 
 abbrev pub invariant-loop-key : goal.invariant-loop-key
-invariant-loop-key l = members_in_turn (kind_into l.before (place_path l.place)) (members_view l.key-iterator) l.kinds.items ≡ kinds_at l.before (place_path l.place) (view l.value) l.fn.kinds.items
+invariant-loop-key l = members_in_turn (kind_into l.before (place_path l.place)) (members_view l.key-iterator) l.integrations.items ≡ kinds_at l.before (place_path l.place) (view l.value) l.fn.integrations.items
