@@ -17,7 +17,7 @@ use Rattle.amr_stated.specs.declared.read_intervals.Field.TheVariants.{Weekdays,
 use Rattle.amr_stated.specs.Paths.{under, item_path}
 use Rattle.amr_stated.specs.Members.{member_of, stated, or_faulty, text_at, span_at, text_into, texts_at}
 use Rattle.amr_stated.specs.Readings.{give, faulty, items_in_turn}
-use Rattle.amr_stated.specs.ReadIntervals.{range_in, day_range_in, range_into, ranges_at, time_of, times_from, time_range_at, time_range_into, times_at, is_utc, location_at, interval_fields_at, interval_member_at, interval_member_into, interval_members_at, is_taken, new_name_at, interval_at, interval_into, intervals_from, intervals_at, is_defined, name_into, names_at}
+use Rattle.amr_stated.specs.ReadIntervals.{range_in, day_range_in, range_into, ranges_at, time_of, times_from, time_range_at, time_range_into, times_at, is_utc, location_at, interval_member_at, interval_member_into, interval_members_at, is_taken, new_name_at, interval_at, interval_into, intervals_from, intervals_at, is_defined, name_into, names_at}
 use Rattle.amr_stated.specs.Timeout.{timeout_in, timeout_at}
 use Rattle.amr_stated.specs.Table.{IsText, IsDuration, IsListOf, StatesEach, StatesIf, States, StatesOr, HasAt, StatesTimeout, IsTime, IsTimeRange, IsRange, IsIntervalMember, IsInterval, IsDefinedName}
 use Rattle.amr_stated.specs.Faults.{unless_some, unless, spelled_found, text_found, object_found, list_found, if_there, at, global_found, range_found, start_before_end, time_in, time_range_found, location_found, interval_member_found, new_name_found, interval_found, name_in, intervals_found, names_in, interval_list_found, defined_name_found, names_under}
@@ -91,7 +91,7 @@ judged_ranges_under : {A : Type 0} (reads : Data → Option A) (path key : List 
 judged_ranges_under reads path key d = judged_stated (ranges_at reads) (list_found (range_found reads)) (IsListOf (IsRange reads)) path key d (judged_ranges reads (under path key))
 
 judged_interval_member : (path : List ℕ) (d : Data) → Judged (interval_member_at path d) (interval_member_found path d) (IsIntervalMember d)
-unfolding interval_member_at interval_fields_at
+unfolding interval_member_at
 judged_interval_member path d =
     judged_then _ _ _ _ _ _ (judged_object path d) (λ whole object.
     judged_then _ _ _ _ _ _ (judged_ranges_under day_range_in path (codes "days_of_month") d) (λ days has_days.

@@ -57,14 +57,17 @@ no_members e path d none h = rw none (fails_at _ e path h)
 pub no_object : (e : ConfigError) (path : List ℕ) (d : Data) → is_some (as_object d) ≡ false → IsFault e path → Fails e (members_at path d)
 no_object e path d none h = no_members e path d (is_none_from (as_object d) none) h
 
--- past an object whose members aren't asked as one
-pub past_object : {B : Type 0} (e : ConfigError) (path : List ℕ) (d : Data) (rest : Reading B) → is_some (as_object d) ≡ true → Stops e (MayGive rest) → Stops e (MayGive (next (members_at path d) (λ (whole : Members). rest)))
-past_object e path d rest some h =
-    let found = some_from (as_object d) some in
-    stops_past e (members_at path d) (λ (whole : Members). rest) found.0 (ap (or_faulty path) found.1) h
+-- an object that is there, and whose members aren't asked as one
+pub object_there : {B : Type 0} (path : List ℕ) (d : Data) (rest : Reading B) → is_some (as_object d) ≡ true → next (members_at path d) (λ (whole : Members). rest) ≡ rest
+unfolding next
+object_there path d rest some = rw (some_from (as_object d) some).1 refl
 
--- what is read past an object whose members aren't asked as one
+pub fails_past_object : {B : Type 0} (e : ConfigError) (path : List ℕ) (d : Data) (rest : Reading B) → is_some (as_object d) ≡ true → Fails e rest → Fails e (next (members_at path d) (λ (whole : Members). rest))
+fails_past_object e path d rest some h = rw (object_there path d rest some) h
+
+pub past_object : {B : Type 0} (e : ConfigError) (path : List ℕ) (d : Data) (rest : Reading B) → is_some (as_object d) ≡ true → Stops e (MayGive rest) → Stops e (MayGive (next (members_at path d) (λ (whole : Members). rest)))
+past_object e path d rest some h = rw (object_there path d rest some) h
+
+-- what is read past it
 pub read_past_object : {B : Type 0} (path : List ℕ) (d : Data) (rest : Reading B) → is_some (as_object d) ≡ true → (next (members_at path d) (λ (whole : Members). rest)).value ≡ rest.value
-read_past_object path d rest some =
-    let found = some_from (as_object d) some in
-    read_on (members_at path d) (λ (whole : Members). rest) found.0 (ap (λ o. (or_faulty path o).value) found.1)
+read_past_object path d rest some = ap (λ (reading : Reading _). reading.value) (object_there path d rest some)

@@ -72,9 +72,9 @@ is_utc text = eq_by_cmp text_cmp text (codes "UTC")
 unfoldable pub location_at : List ℕ → Data → Reading Bool
 location_at path d = text_at path d >>= λ text. if is_utc text then give true else faulty path
 
--- the fields of a member of an interval
-unfoldable pub interval_fields_at : List ℕ → Data → Reading IntervalMember
-interval_fields_at path d = do
+unfoldable pub interval_member_at : List ℕ → Data → Reading IntervalMember
+interval_member_at path d = do
+  whole ← members_at path d
   days_of_month ← stated (ranges_at day_range_in) path (codes "days_of_month") d
   location ← stated location_at path (codes "location") d
   months ← stated (ranges_at (range_in Months)) path (codes "months") d
@@ -82,9 +82,6 @@ interval_fields_at path d = do
   weekdays ← stated (ranges_at (range_in Weekdays)) path (codes "weekdays") d
   years ← stated (ranges_at (range_in Years)) path (codes "years") d
   give (record { times = times; weekdays = weekdays; days_of_month = days_of_month; months = months; years = years })
-
-unfoldable pub interval_member_at : List ℕ → Data → Reading IntervalMember
-interval_member_at path d = members_at path d >>= λ whole. interval_fields_at path d
 
 unfoldable pub interval_member_into : List ℕ → ℕ → Data → List IntervalMember → Reading (List IntervalMember)
 interval_member_into path i d members = interval_member_at (item_path path i) d >>= λ member. give (members ++ member ∷ [])

@@ -1,4 +1,6 @@
 //! The names by which routes take time intervals, read from a value.
+#![tactic(auto, unfolding(crate::specs::Readings::next))]
+
 ghost use Rattle.std.specs.Prelude.{◌≡◌};
 ghost use Rattle.serde_json.specs.View.{view, items_view};
 ghost use Rattle.amr_stated.specs.Paths.{place_path};
@@ -14,7 +16,6 @@ use serde_json::Value;
 use std::alloc::Global;
 
 /// The names under a key, each of which the whole configuration defines.
-#[tactic(auto, unfolding(crate::specs::Readings::next))]
 pub(crate) fn names_member(
     alloc: Global,
     whole: &Value,

@@ -1,4 +1,6 @@
 //! Members and items of a value, by their shapes.
+#![tactic(auto, unfolding(crate::specs::Readings::next))]
+
 ghost use Rattle.std.specs.Prelude.{◌≡◌, ℕ, Bool, List, option_map};
 ghost use Rattle.std.specs.Ordering.{eq_by_cmp};
 ghost use Rattle.amr_labels.specs.Labels.{text_cmp};
@@ -107,7 +109,6 @@ fn texts(alloc: Global, place: &Place, value: &Value) -> Result<Listing<Text>, C
     Ok(texts)
 }
 
-#[tactic(auto, unfolding(crate::specs::Readings::next))]
 pub(crate) fn flag_member(
     alloc: Global,
     place: &Place,
@@ -123,7 +124,6 @@ pub(crate) fn flag_member(
     }
 }
 
-#[tactic(auto, unfolding(crate::specs::Readings::next))]
 pub(crate) fn span_member(
     alloc: Global,
     place: &Place,
@@ -139,7 +139,6 @@ pub(crate) fn span_member(
     }
 }
 
-#[tactic(auto, unfolding(crate::specs::Readings::next))]
 pub(crate) fn text_member(
     alloc: Global,
     place: &Place,
@@ -158,7 +157,6 @@ pub(crate) fn text_member(
     }
 }
 
-#[tactic(auto, unfolding(crate::specs::Readings::next))]
 pub(crate) fn texts_member(
     alloc: Global,
     place: &Place,

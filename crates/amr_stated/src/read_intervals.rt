@@ -1,4 +1,6 @@
 //! Time intervals, read from a value.
+#![tactic(auto, unfolding(crate::specs::Readings::next))]
+
 ghost use Rattle.std.specs.Prelude.{◌≡◌, [], Some, codes};
 ghost use Rattle.std.specs.List.{list_any};
 ghost use Rattle.std.specs.Ordering.{eq_by_cmp};
@@ -9,7 +11,7 @@ ghost use Rattle.amr_stated.specs.Paths.{place_path};
 ghost use Rattle.amr_stated.specs.declared.read_intervals.Field.TheVariants.{Months, Years};
 ghost use Rattle.amr_stated.specs.Answers.{Gives, Changes};
 ghost use Rattle.amr_stated.specs.Members.{stated};
-ghost use Rattle.amr_stated.specs.ReadIntervals.{range_in, day_range_in, range_into, ranges_at, time_of, time_range_at, time_range_into, times_at, location_at, interval_fields_at, interval_member_at, interval_member_into, interval_members_at, is_taken as taken_of, new_name_at, interval_at, interval_into, intervals_from, intervals_at};
+ghost use Rattle.amr_stated.specs.ReadIntervals.{range_in, day_range_in, range_into, ranges_at, time_of, time_range_at, time_range_into, times_at, location_at, interval_member_at, interval_member_into, interval_members_at, is_taken as taken_of, new_name_at, interval_at, interval_into, intervals_from, intervals_at};
 
 use crate::error::ConfigError;
 use crate::interval::NamedInterval;
@@ -49,7 +51,6 @@ pub(crate) fn read_intervals(
     }
 }
 
-#[tactic(auto, unfolding(crate::specs::Readings::next))]
 fn with_intervals(
     alloc: Global,
     place: &Place,
@@ -183,16 +184,6 @@ fn interval_member(
     if !value.is_object() {
         return Err(place.faulty(alloc));
     }
-    interval_fields(alloc, place, value)
-}
-
-fn interval_fields(
-    alloc: Global,
-    place: &Place,
-    value: &Value,
-) -> Result<IntervalMember, ConfigError>
-    ensures { Gives (λ m. m) result (interval_fields_at (place_path place.now) (view value.now)) }
-{
     let days_of_month = days_member(alloc, place, value, "days_of_month")?;
     let _location = location_member(alloc, place, value, "location")?;
     let months = ranges_member(alloc, Field::Months, place, value, "months")?;
@@ -208,7 +199,6 @@ fn interval_fields(
     })
 }
 
-#[tactic(auto, unfolding(crate::specs::Readings::next))]
 fn location_member(
     alloc: Global,
     place: &Place,
@@ -285,7 +275,6 @@ fn day_range(value: &Value) -> Option<DayRange>
     }
 }
 
-#[tactic(auto, unfolding(crate::specs::Readings::next))]
 fn ranges_member(
     alloc: Global,
     field: Field,
@@ -341,7 +330,6 @@ fn add_range(
     }
 }
 
-#[tactic(auto, unfolding(crate::specs::Readings::next))]
 fn days_member(
     alloc: Global,
     place: &Place,
@@ -390,7 +378,6 @@ fn add_day_range(
     }
 }
 
-#[tactic(auto, unfolding(crate::specs::Readings::next))]
 fn times_member(
     alloc: Global,
     place: &Place,
