@@ -17,7 +17,7 @@ use Rattle.amr_stated.specs.Paths.{under, item_path}
 use Rattle.amr_stated.specs.Members.{present, member_of, or_faulty, texts_at}
 use Rattle.amr_stated.specs.Readings.{Reading, give, faulty, next, matchers_met, if_present, items_in_turn, members_in_turn}
 use Rattle.amr_stated.specs.ReadMatchers.{matcher_at, stated_into, matcher_into, members_into, object_into, spelled_at, spelled_into, texts_into, list_into, matchers_at}
-use Rattle.amr_stated.specs.ReadRules.{rule_at, rule_into, rules_list, rules_from, rules_at}
+use Rattle.amr_stated.specs.ReadRules.{rule_at, rule_into, rules_list, rules_at}
 use Rattle.amr_stated.specs.Table.{IsText, IsListOf, StatesEach, StatesIf, StatesOr, MatcherOf, MatchersOf, IsMatchObject, IsMatcherText, IsMatcherList, StatesMatchers, IsRule}
 use Rattle.amr_stated.specs.Faults.{Finding, Fault, Pattern, first_fault, patterns_before, text_found, items_found, list_found, if_there, at, patterns_found, matchers_found, matcher_text_found, value_found, values_found, members_found, match_object_found, match_found, rule_found}
 use Rattle.amr_stated.proofs.Judged.{Judged, by_findings, judged_ok, judged_fault, judged_then, judged_as, judged_map, judged_stated, judged_text, judged_object, judged_spelled, Adds, judged_each, judged_items, judged_list}
@@ -177,10 +177,7 @@ walk_rule_list : (path : List ℕ) (d : Data) → Judged (rules_list path d) (li
 unfolding rules_list
 walk_rule_list path d = judged_list (rule_into path) rule_found path d (λ i. IsRule) (walk_rule_into path)
 
-walk_rules_from : (path : List ℕ) (o : Option Data) → Judged (rules_from path o) (if_there (list_found rule_found path) o) (λ rules. (found : Option (List InhibitRule)) × StatesIf (IsListOf IsRule) o found × (rules ≡ unwrap_or found []))
-walk_rules_from path None = judged_ok [] _ (None, tt, refl)
-walk_rules_from path (Some d) = judged_as _ _ _ _ (walk_rule_list path d) (λ rules is. (Some rules, is, refl))
-
 pub walk_rules : (d : Data) → Judged (rules_at d) (at (list_found rule_found) [] (codes "inhibit_rules") d) (StatesOr [] (IsListOf IsRule) (codes "inhibit_rules") d)
 unfolding rules_at
-walk_rules d = walk_rules_from (codes "inhibit_rules") (member_of (codes "inhibit_rules") d)
+walk_rules d =
+    judged_map _ _ _ _ _ (judged_stated rules_list (list_found rule_found) (IsListOf IsRule) [] (codes "inhibit_rules") d (walk_rule_list _)) (λ found states. (found, states, refl))

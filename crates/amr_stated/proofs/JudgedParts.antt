@@ -21,7 +21,7 @@ use Rattle.amr_stated.specs.ReadIntervals.{range_in, day_range_in, range_into, r
 use Rattle.amr_stated.specs.Timeout.{timeout_in, timeout_at}
 use Rattle.amr_stated.specs.Table.{IsText, IsDuration, IsListOf, StatesEach, StatesIf, States, StatesOr, HasAt, StatesTimeout, IsTime, IsTimeRange, IsRange, IsIntervalMember, IsInterval, IsDefinedName}
 use Rattle.amr_stated.specs.Faults.{unless_some, unless, spelled_found, text_found, object_found, list_found, if_there, at, global_found, range_found, start_before_end, time_in, time_range_found, location_found, interval_member_found, new_name_found, interval_found, name_in, intervals_found, names_in, interval_list_found, defined_name_found, names_under}
-use Rattle.amr_stated.proofs.Judged.{Judged, by_findings, judged_ok, judged_fault, judged_then, judged_as, judged_map, judged_or_faulty, judged_if, judged_optional, judged_stated, judged_needed, judged_text, judged_object, judged_spelled, Adds, AddsEach, adds_none, adds_more, judged_items, judged_list, judged_added}
+use Rattle.amr_stated.proofs.Judged.{Judged, by_findings, judged_ok, judged_fault, judged_then, judged_as, judged_map, judged_or_faulty, judged_if, judged_stated, judged_needed, judged_text, judged_object, judged_spelled, Adds, AddsEach, adds_none, adds_more, judged_items, judged_list, judged_added}
 
 -- ---- texts and durations
 
@@ -208,14 +208,14 @@ judged_names whole path d = judged_list (name_into whole path) (defined_name_fou
 
 -- ---- the timeout
 
-judged_timeout_in : (d : Data) → Judged (timeout_in d) (global_found (codes "global") d) (States IsDuration (codes "resolve_timeout") d)
+judged_timeout_in : (path : List ℕ) (d : Data) → Judged (timeout_in path d) (global_found path d) (States IsDuration (codes "resolve_timeout") d)
 unfolding timeout_in
-judged_timeout_in d =
-    judged_then _ _ _ _ _ _ (judged_object (codes "global") d) (λ whole object.
-    judged_stated span_at (spelled_found span_of) IsDuration (codes "global") (codes "resolve_timeout") d (judged_span _))
+judged_timeout_in path d =
+    judged_then _ _ _ _ _ _ (judged_object path d) (λ whole object.
+    judged_stated span_at (spelled_found span_of) IsDuration path (codes "resolve_timeout") d (judged_span _))
 
 pub judged_timeout : (d : Data) → Judged (timeout_at d) (object_found [] d ++ at global_found [] (codes "global") d) (StatesTimeout d)
 unfolding timeout_at
 judged_timeout d =
     judged_then _ _ _ _ _ _ (judged_object [] d) (λ whole object.
-    judged_map _ _ _ _ _ (judged_optional timeout_in (global_found (codes "global")) (States IsDuration (codes "resolve_timeout")) (member_of (codes "global") d) judged_timeout_in) (λ found states. (found, states, refl)))
+    judged_map _ _ _ _ _ (judged_stated timeout_in global_found (States IsDuration (codes "resolve_timeout")) [] (codes "global") d (judged_timeout_in _)) (λ found states. (found, states, refl)))

@@ -1,13 +1,14 @@
 -- A walk goes as its parts go.
-use Rattle.std.proofs.Common.{◌≡◌, ℕ, List, Option, Some, None, is_some, Ok, true, false, inl, inr, refl, ap, ◌∙◌}
+use Rattle.std.proofs.Common.{◌≡◌, ℕ, List, Option, Some, None, is_some, Result, Ok, Err, true, false, inl, inr, refl, ap, ◌∙◌}
 use Rattle.std.proofs.lemmas.List.Elements.{Contains-append_left, Contains-append_right}
+use Rattle.std.specs.Prelude.{unwrap_or}
 use Rattle.serde_json.specs.Data.{Data, Members}
 use Rattle.serde_json.specs.Find.{as_object}
 use Rattle.amr_stated.specs.declared.error.ConfigError.{ConfigError}
 use Rattle.amr_stated.specs.declared.error.ConfigError.TheVariants.{Memory, Refused}
-use Rattle.amr_stated.specs.Members.{or_faulty, members_at}
+use Rattle.amr_stated.specs.Members.{members_at}
 use Rattle.amr_stated.specs.Readings.{Reading, give, next, patterns_after, value_after, MayGive}
-use Rattle.amr_stated.specs.Answers.{IsFault, Fails, Stops}
+use Rattle.amr_stated.specs.Answers.{IsFault, Fails, Stops, Reads}
 use Rattle.amr_stated.proofs.Failing.{fails_at}
 
 is_none_from : {A : Type 0} (o : Option A) → is_some o ≡ false → o ≡ None
@@ -71,3 +72,10 @@ past_object e path d rest some h = rw (object_there path d rest some) h
 -- what is read past it
 pub read_past_object : {B : Type 0} (path : List ℕ) (d : Data) (rest : Reading B) → is_some (as_object d) ≡ true → (next (members_at path d) (λ (whole : Members). rest)).value ≡ rest.value
 read_past_object path d rest some = ap (λ (reading : Reading _). reading.value) (object_there path d rest some)
+
+-- a list that is there
+pub reads_stated : {X : Type 0} (result : Result (List X) ConfigError) (part : Reading (List X)) (default : List X) → Reads (λ xs. xs) result part → Reads (λ xs. xs) result (next (next part (λ xs. give (Some xs))) (λ found. give (unwrap_or found default)))
+reads_stated (Ok xs) part default h =
+    read_on (next part (λ xs. give (Some xs))) (λ found. give (unwrap_or found default)) (Some xs) (read_on part (λ xs. give (Some xs)) xs h)
+reads_stated (Err e) part default h =
+    stops_first e (next part (λ xs. give (Some xs))) (λ found. give (unwrap_or found default)) (stops_first e part (λ xs. give (Some xs)) h)

@@ -1,9 +1,9 @@
 -- The inhibition rules of a configuration, by the walk through their members in the order of the keys.
-use Rattle.std.specs.Prelude.{ℕ, List, [], ◌∷◌, ◌++◌, Option, Some, None, codes, unwrap_or}
+use Rattle.std.specs.Prelude.{ℕ, List, [], ◌∷◌, ◌++◌, codes, unwrap_or}
 use Rattle.serde_json.specs.Data.{Data}
 use Rattle.amr_stated.specs.declared.rule.InhibitRule.{InhibitRule}
 use Rattle.amr_stated.specs.Paths.{item_path}
-use Rattle.amr_stated.specs.Members.{member_of, stated, items_at, members_at, texts_at}
+use Rattle.amr_stated.specs.Members.{stated, items_at, members_at, texts_at}
 use Rattle.amr_stated.specs.Readings.{Reading, give, ◌>>=◌, items_in_turn}
 use Rattle.amr_stated.specs.ReadMatchers.{matchers_at}
 
@@ -22,11 +22,6 @@ rule_into path i d rules = rule_at (item_path path i) d >>= λ rule. give (rules
 unfoldable pub rules_list : List ℕ → Data → Reading (List InhibitRule)
 rules_list path d = items_at path d >>= λ ds. items_in_turn (rule_into path) 0 ds []
 
--- rules that may be absent
-abbrev pub rules_from : List ℕ → Option Data → Reading (List InhibitRule)
-rules_from path None = give []
-rules_from path (Some d) = rules_list path d
-
--- the rules of a whole configuration
+-- the rules of a whole configuration, which may be absent
 unfoldable pub rules_at : Data → Reading (List InhibitRule)
-rules_at d = rules_from (codes "inhibit_rules") (member_of (codes "inhibit_rules") d)
+rules_at d = stated rules_list [] (codes "inhibit_rules") d >>= λ found. give (unwrap_or found [])
