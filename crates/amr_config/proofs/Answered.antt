@@ -11,8 +11,7 @@ use Rattle.amr_stated.specs.RouteParts.{is_too_deep}
 use Rattle.amr_stated.specs.Walking.{walked_at}
 use Rattle.amr_stated.specs.Table.{StatesWhole}
 use Rattle.amr_stated.specs.Faults.{Finding, first_fault, patterns_before, findings_of}
-use Rattle.amr_stated.proofs.Judged.{Tells}
-use Rattle.amr_stated.proofs.JudgedWalks.{JudgedWalk}
+use Rattle.amr_stated.proofs.Judged.{Judged, Tells}
 use Rattle.amr_stated.proofs.JudgedRoutes.{walked_judged}
 use Rattle.amr_stated.proofs.Standing.{deep_stands}
 use Rattle.amr_config.specs.Config.{Config}
@@ -48,7 +47,7 @@ by_pattern : (d : Data) (refusal : Refusal) (o : Option (List ℕ)) → IsBadPat
 by_pattern d refusal None bad = inr bad
 by_pattern d refusal (Some path) bad = inr bad
 
-answered : (d : Data) (answer : Result Config Refusal) → JudgedWalk (walked_at d) (findings_of d) (StatesWhole d) → MayGive (next (walked_at d) (λ stated. plain (unless_refused stated (refusal_of stated)))) answer → AnswersBy d (first_fault (findings_of d)) answer
+answered : (d : Data) (answer : Result Config Refusal) → Judged (walked_at d) (findings_of d) (StatesWhole d) → MayGive (next (walked_at d) (λ stated. plain (unless_refused stated (refusal_of stated)))) answer → AnswersBy d (first_fault (findings_of d)) answer
 unfolding next
 answered d (Ok config) j is = by_value d (Ok config) (walked_at d).value j.tells is
 answered d (Err refusal) j (inl is) = by_value d (Err refusal) (walked_at d).value j.tells is

@@ -11,7 +11,7 @@ use Rattle.amr_stated.specs.declared.stated.Stated.{Stated}
 use Rattle.amr_stated.specs.Paths.{under, item_path}
 use Rattle.amr_stated.specs.Members.{member_of}
 use Rattle.amr_stated.specs.ReadIntervals.{intervals_at}
-use Rattle.amr_stated.specs.Readings.{plain, items_in_turn}
+use Rattle.amr_stated.specs.Readings.{items_in_turn}
 use Rattle.amr_stated.specs.Timeout.{timeout_at}
 use Rattle.amr_stated.specs.ReadReceivers.{receivers_at}
 use Rattle.amr_stated.specs.ReadRules.{rules_at}
@@ -139,7 +139,7 @@ unfolding add_route
 route_adds whole zero path parent d routes after e may = cc
 route_adds whole (suc left) path parent d routes after e may =
     let a = bind_ok (own_into whole path parent d routes) _ after e in
-    let b = bind_ok (plain (children_at path d)) _ after a.2 in
+    let b = bind_ok (children_at path d) _ after a.2 in
     let own = own_adds whole path parent d routes a.0 a.1 in
     let opened = own_opens routes own.0 a.0 own.2 (rw own.1 may) in
     let rest = items_add whole left path (length routes) (route_adds whole left) 0 b.0 a.0 after b.2 opened in
@@ -175,12 +175,12 @@ pub record IsTree (routes : List Route) : Type 0 where
 pub walked_tree : (d : Data) (stated : Stated) → (walked_at d).value ≡ Ok stated → IsTree stated.routes
 unfolding walked_at
 walked_tree d stated e =
-    let timeout = bind_ok (plain (timeout_at d)) _ stated e in
+    let timeout = bind_ok (timeout_at d) _ stated e in
     let rules = bind_ok (rules_at d) _ stated timeout.2 in
-    let mute = bind_ok (plain (intervals_at (codes "mute_time_intervals") d [])) _ stated rules.2 in
-    let receivers = bind_ok (plain (receivers_at d)) _ stated mute.2 in
+    let mute = bind_ok (intervals_at (codes "mute_time_intervals") d []) _ stated rules.2 in
+    let receivers = bind_ok (receivers_at d) _ stated mute.2 in
     let routes = bind_ok (routes_at d) _ stated receivers.2 in
-    let named = bind_ok (plain (intervals_at (codes "time_intervals") d mute.0)) _ stated routes.2 in
+    let named = bind_ok (intervals_at (codes "time_intervals") d mute.0) _ stated routes.2 in
     let same = ok_same _ stated named.2 in
     let adds = routes_add d routes.0 routes.1 in
     rw (← same) (record { some = adds.longer; root = adds.has; linked = adds.linked })

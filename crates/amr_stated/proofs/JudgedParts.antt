@@ -1,5 +1,5 @@
 -- What is read of members without patterns states what is there, and a refusal is that of the first fault.
-use Rattle.std.proofs.Common.{◌≡◌, ℕ, ◌+◌, Bool, true, false, not, ◌||◌, if◌then◌else◌, List, [], ◌∷◌, ◌++◌, map, Option, Some, None, Ok, Err, refl, sym, ap, ◌∙◌, codes, ltb→lt}
+use Rattle.std.proofs.Common.{◌≡◌, ℕ, ◌+◌, Bool, true, false, not, ◌||◌, if◌then◌else◌, List, [], ◌∷◌, ◌++◌, map, Option, Some, None, refl, sym, ap, ◌∙◌, codes, ltb→lt}
 use Rattle.std.specs.Prelude.{option_and_then, unwrap_or, nat_lt}
 use Rattle.std.specs.List.{list_any}
 use Rattle.std.specs.Option.{option_map_or}
@@ -13,15 +13,15 @@ use Rattle.amr_time.specs.SpanRead.{span_of}
 use Rattle.amr_time.specs.declared.intervals.TimeRange.{TimeRange}
 use Rattle.amr_time.specs.declared.intervals.IntervalMember.{IntervalMember}
 use Rattle.amr_stated.specs.declared.interval.NamedInterval.{NamedInterval}
-use Rattle.amr_stated.specs.declared.error.Refusal.TheVariants.{BadConfig}
 use Rattle.amr_stated.specs.declared.read_intervals.Field.TheVariants.{Weekdays, Months, Years}
 use Rattle.amr_stated.specs.Paths.{under, item_path}
-use Rattle.amr_stated.specs.Members.{◌>>=◌, member_of, stated, each_item, or_faulty, text_at, span_at, text_into, texts_at}
-use Rattle.amr_stated.specs.ReadIntervals.{range_in, day_range_in, range_into, ranges_at, time_of, times_from, time_range_at, time_range_into, times_at, is_utc, location_at, interval_fields_at, interval_member_at, interval_member_into, interval_members_at, is_taken, new_name_at, interval_at, interval_into, intervals_from, intervals_at, is_defined, name_into, names_at}
+use Rattle.amr_stated.specs.Members.{member_of, stated, or_faulty, text_at, span_at, text_into, texts_at}
+use Rattle.amr_stated.specs.Readings.{give, faulty, items_in_turn}
+use Rattle.amr_stated.specs.ReadIntervals.{range_in, day_range_in, range_into, ranges_at, time_of, times_from, time_range_at, time_range_into, times_at, is_utc, location_at, interval_member_at, interval_member_into, interval_members_at, is_taken, new_name_at, interval_at, interval_into, intervals_from, intervals_at, is_defined, name_into, names_at}
 use Rattle.amr_stated.specs.Timeout.{timeout_in, timeout_at}
 use Rattle.amr_stated.specs.Table.{IsText, IsDuration, IsListOf, StatesEach, StatesIf, States, StatesOr, HasAt, StatesTimeout, IsTime, IsTimeRange, IsRange, IsIntervalMember, IsInterval, IsDefinedName}
 use Rattle.amr_stated.specs.Faults.{unless_some, unless, spelled_found, text_found, object_found, list_found, if_there, at, global_found, range_found, start_before_end, time_in, time_range_found, location_found, interval_member_found, new_name_found, interval_found, name_in, intervals_found, names_in, interval_list_found, defined_name_found, names_under}
-use Rattle.amr_stated.proofs.Judged.{Judged, by_findings, judged_ok, judged_fault, judged_then, judged_as, judged_map, judged_or_faulty, judged_if, judged_optional, judged_stated, judged_needed, judged_text, judged_object, judged_spelled, Adds, AddsEach, adds_none, adds_more, judged_list, judged_added}
+use Rattle.amr_stated.proofs.Judged.{Judged, by_findings, judged_ok, judged_fault, judged_then, judged_as, judged_map, judged_or_faulty, judged_if, judged_stated, judged_needed, judged_text, judged_object, judged_spelled, Adds, AddsEach, adds_none, adds_more, judged_items, judged_list, judged_added}
 
 -- ---- texts and durations
 
@@ -84,14 +84,14 @@ IsLocation d b = Unit {0}
 judged_location : (path : List ℕ) (d : Data) → Judged (location_at path d) (location_found path d) (IsLocation d)
 unfolding location_at
 judged_location path d =
-    judged_spelled (λ text. if is_utc text then Ok true else Err (BadConfig path)) (λ o. unless path (option_map_or is_utc o false)) path d (IsLocation d) refl (λ text is.
+    judged_spelled (λ text. if is_utc text then give true else faulty path) (λ o. unless path (option_map_or is_utc o false)) path d (IsLocation d) refl (λ text is.
     judged_if (is_utc text) true path (IsLocation d) (λ utc. tt))
 
 judged_ranges_under : {A : Type 0} (reads : Data → Option A) (path key : List ℕ) (d : Data) → Judged (stated (ranges_at reads) path key d) (at (list_found (range_found reads)) path key d) (States (IsListOf (IsRange reads)) key d)
 judged_ranges_under reads path key d = judged_stated (ranges_at reads) (list_found (range_found reads)) (IsListOf (IsRange reads)) path key d (judged_ranges reads (under path key))
 
 judged_interval_member : (path : List ℕ) (d : Data) → Judged (interval_member_at path d) (interval_member_found path d) (IsIntervalMember d)
-unfolding interval_member_at interval_fields_at
+unfolding interval_member_at
 judged_interval_member path d =
     judged_then _ _ _ _ _ _ (judged_object path d) (λ whole object.
     judged_then _ _ _ _ _ _ (judged_ranges_under day_range_in path (codes "days_of_month") d) (λ days has_days.
@@ -119,14 +119,14 @@ same_taken : (name : Text) (intervals : List NamedInterval) → list_any (λ oth
 same_taken name [] = refl
 same_taken name (interval ∷ intervals) = ap (λ b. eq_by_cmp text_cmp interval.name name || b) (same_taken name intervals)
 
-judged_unless : {A : Type 0} (b : Bool) (x : A) (path : List ℕ) (P : A → Type 0) → P x → Judged (if b then Err (BadConfig path) else Ok x) (unless path (not b)) P
+judged_unless : {A : Type 0} (b : Bool) (x : A) (path : List ℕ) (P : A → Type 0) → P x → Judged (if b then faulty path else give x) (unless path (not b)) P
 judged_unless true x path P p = judged_fault path P
 judged_unless false x path P p = judged_ok x P p
 
 judged_new_name : (intervals : List NamedInterval) (path : List ℕ) (d : Data) → Judged (new_name_at intervals path d) (new_name_found (names_of intervals) path d) (IsText d)
 unfolding new_name_at
 judged_new_name intervals path d =
-    judged_spelled (λ name. if is_taken name intervals then Err (BadConfig path) else Ok name) (λ o. unless path (option_map_or (λ name. not (list_any (λ other. eq_by_cmp text_cmp other name) (names_of intervals))) o false)) path d (IsText d) refl (λ name is.
+    judged_spelled (λ name. if is_taken name intervals then faulty path else give name) (λ o. unless path (option_map_or (λ name. not (list_any (λ other. eq_by_cmp text_cmp other name) (names_of intervals))) o false)) path d (IsText d) refl (λ name is.
     by_findings _ (unless path (not (is_taken name intervals))) _ (IsText d) (ap (λ b. unless path (not b)) (sym (same_taken name intervals)))
     (judged_unless (is_taken name intervals) name path (IsText d) is))
 
@@ -156,12 +156,12 @@ names_after : (d : Data) (i : ℕ) (before after : List NamedInterval) → Adds 
 names_after d i before after (interval, adds, is) =
     ap (λ l. names_of before ++ l) (name_there d interval is) ∙ sym (names_push before interval) ∙ ap names_of (sym adds)
 
-judged_intervals : (path : List ℕ) (i : ℕ) (ds : Items) (intervals : List NamedInterval) → Judged (each_item (interval_into path) i ds intervals) (intervals_found (names_of intervals) path i ds) (AddsEach (λ i. IsInterval) i ds intervals)
+judged_intervals : (path : List ℕ) (i : ℕ) (ds : Items) (intervals : List NamedInterval) → Judged (items_in_turn (interval_into path) i ds intervals) (intervals_found (names_of intervals) path i ds) (AddsEach (λ i. IsInterval) i ds intervals)
 judged_intervals path i no_items intervals = judged_ok intervals _ (adds_none (λ i. IsInterval) i intervals)
 judged_intervals path i (item d ds) intervals =
-    judged_then (interval_into path i d intervals) (each_item (interval_into path) (i + 1) ds) (interval_found (names_of intervals) (item_path path i) d) (intervals_found (names_of intervals ++ name_in d) path (i + 1) ds) (Adds (λ i. IsInterval) i d intervals) (AddsEach (λ i. IsInterval) i (item d ds) intervals) (judged_interval_into path i d intervals) (λ one adds.
+    judged_then (interval_into path i d intervals) (items_in_turn (interval_into path) (i + 1) ds) (interval_found (names_of intervals) (item_path path i) d) (intervals_found (names_of intervals ++ name_in d) path (i + 1) ds) (Adds (λ i. IsInterval) i d intervals) (AddsEach (λ i. IsInterval) i (item d ds) intervals) (judged_interval_into path i d intervals) (λ one adds.
     by_findings _ (intervals_found (names_of one) path (i + 1) ds) _ _ (ap (λ names. intervals_found names path (i + 1) ds) (sym (names_after d i intervals one adds)))
-    (judged_as (each_item (interval_into path) (i + 1) ds one) (intervals_found (names_of one) path (i + 1) ds) (AddsEach (λ i. IsInterval) (i + 1) ds one) (AddsEach (λ i. IsInterval) i (item d ds) intervals) (judged_intervals path (i + 1) ds one) (λ after rest. adds_more (λ i. IsInterval) i d ds intervals one after adds rest)))
+    (judged_as (items_in_turn (interval_into path) (i + 1) ds one) (intervals_found (names_of one) path (i + 1) ds) (AddsEach (λ i. IsInterval) (i + 1) ds one) (AddsEach (λ i. IsInterval) i (item d ds) intervals) (judged_intervals path (i + 1) ds one) (λ after rest. adds_more (λ i. IsInterval) i d ds intervals one after adds rest)))
 
 -- the intervals of a list that may be absent, after those before it
 abbrev pub AddsIntervals : Text → Data → List NamedInterval → List NamedInterval → Type 0
@@ -169,11 +169,9 @@ AddsIntervals key d before after = (more : List NamedInterval) × (after ≡ bef
 
 judged_from : (path : List ℕ) (o : Option Data) (intervals : List NamedInterval) → Judged (intervals_from path o intervals) (if_there (λ v. interval_list_found (names_of intervals) path (as_array v)) o) (λ after. (more : List NamedInterval) × (after ≡ intervals ++ more) × (found : Option (List NamedInterval)) × StatesIf (IsListOf IsInterval) o found × (more ≡ unwrap_or found []))
 judged_from path None intervals = judged_ok intervals _ ([], sym (append-nil intervals), None, tt, refl)
-judged_from path (Some d) intervals = go (as_array d) refl
-  where
-    go : (o : Option Items) → as_array d ≡ o → Judged (or_faulty path o >>= λ ds. each_item (interval_into path) 0 ds intervals) (interval_list_found (names_of intervals) path o) (λ after. (more : List NamedInterval) × (after ≡ intervals ++ more) × (found : Option (List NamedInterval)) × StatesIf (IsListOf IsInterval) (Some d) found × (more ≡ unwrap_or found []))
-    go None is = judged_fault path _
-    go (Some ds) is = judged_as (each_item (interval_into path) 0 ds intervals) (intervals_found (names_of intervals) path 0 ds) _ _ (judged_intervals path 0 ds intervals) (λ after (more, adds, are). (more, adds, Some more, (ds, is, are), refl))
+judged_from path (Some d) intervals =
+    judged_items (λ ds. items_in_turn (interval_into path) 0 ds intervals) (interval_list_found (names_of intervals) path) path d _ refl (λ ds is.
+    judged_as (items_in_turn (interval_into path) 0 ds intervals) (intervals_found (names_of intervals) path 0 ds) _ _ (judged_intervals path 0 ds intervals) (λ after (more, adds, are). (more, adds, Some more, (ds, is, are), refl)))
 
 pub judged_defined : (key : Text) (d : Data) (intervals : List NamedInterval) → Judged (intervals_at key d intervals) (if_there (λ v. interval_list_found (names_of intervals) key (as_array v)) (member_of key d)) (AddsIntervals key d intervals)
 unfolding intervals_at
@@ -201,7 +199,7 @@ names_under_read key d intervals (found, states, is) = go (member_of key d) foun
 judged_name_into : (whole : Data) (path : List ℕ) (i : ℕ) (d : Data) (names : List Text) → Judged (name_into whole path i d names) (defined_name_found whole (item_path path i) d) (Adds (λ i. IsDefinedName whole) i d names)
 unfolding name_into
 judged_name_into whole path i d names =
-    judged_spelled (λ name. if is_defined whole name then Ok (names ++ name ∷ []) else Err (BadConfig (item_path path i))) (λ o. unless (item_path path i) (option_map_or (is_defined whole) o false)) (item_path path i) d (Adds (λ i. IsDefinedName whole) i d names) refl (λ name is.
+    judged_spelled (λ name. if is_defined whole name then give (names ++ name ∷ []) else faulty (item_path path i)) (λ o. unless (item_path path i) (option_map_or (is_defined whole) o false)) (item_path path i) d (Adds (λ i. IsDefinedName whole) i d names) refl (λ name is.
     judged_if (is_defined whole name) (names ++ name ∷ []) (item_path path i) (Adds (λ i. IsDefinedName whole) i d names) (λ defined. (name, refl, (is, defined))))
 
 pub judged_names : (whole : Data) (path : List ℕ) (d : Data) → Judged (names_at whole path d) (list_found (defined_name_found whole) path d) (IsListOf (IsDefinedName whole) d)
@@ -210,14 +208,14 @@ judged_names whole path d = judged_list (name_into whole path) (defined_name_fou
 
 -- ---- the timeout
 
-judged_timeout_in : (d : Data) → Judged (timeout_in d) (global_found (codes "global") d) (States IsDuration (codes "resolve_timeout") d)
+judged_timeout_in : (path : List ℕ) (d : Data) → Judged (timeout_in path d) (global_found path d) (States IsDuration (codes "resolve_timeout") d)
 unfolding timeout_in
-judged_timeout_in d =
-    judged_then _ _ _ _ _ _ (judged_object (codes "global") d) (λ whole object.
-    judged_stated span_at (spelled_found span_of) IsDuration (codes "global") (codes "resolve_timeout") d (judged_span _))
+judged_timeout_in path d =
+    judged_then _ _ _ _ _ _ (judged_object path d) (λ whole object.
+    judged_stated span_at (spelled_found span_of) IsDuration path (codes "resolve_timeout") d (judged_span _))
 
 pub judged_timeout : (d : Data) → Judged (timeout_at d) (object_found [] d ++ at global_found [] (codes "global") d) (StatesTimeout d)
 unfolding timeout_at
 judged_timeout d =
     judged_then _ _ _ _ _ _ (judged_object [] d) (λ whole object.
-    judged_map _ _ _ _ _ (judged_optional timeout_in (global_found (codes "global")) (States IsDuration (codes "resolve_timeout")) (member_of (codes "global") d) judged_timeout_in) (λ found states. (found, states, refl)))
+    judged_map _ _ _ _ _ (judged_stated timeout_in global_found (States IsDuration (codes "resolve_timeout")) [] (codes "global") d (judged_timeout_in _)) (λ found states. (found, states, refl)))

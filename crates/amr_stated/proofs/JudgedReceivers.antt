@@ -1,7 +1,7 @@
 -- What is read of a receiver states what is there, and a refusal is that of the first fault.
-use Rattle.std.proofs.Common.{◌≡◌, ℕ, zero, suc, ◌+◌, Bool, true, false, not, ◌||◌, if◌then◌else◌, List, [], ◌∷◌, ◌++◌, length, Option, Some, None, Ok, Err, inl, inr, ◌⊎◌, refl, sym, ap, subst, ◌∙◌, arith, codes}
+use Rattle.std.proofs.Common.{◌≡◌, ℕ, zero, suc, ◌+◌, Bool, true, false, not, ◌||◌, if◌then◌else◌, List, [], ◌∷◌, ◌++◌, length, Option, Some, None, inl, inr, ◌⊎◌, refl, sym, ap, subst, ◌∙◌, arith, codes}
 use Rattle.std.specs.Prelude.{unwrap_or, is_some, ◌==◌}
-use Rattle.std.specs.List.{flat_map, Contains}
+use Rattle.std.specs.List.{Contains}
 use Rattle.std.specs.Option.{option_or, option_map_or}
 use Rattle.std.specs.Ordering.{is_gt}
 use Rattle.std.proofs.lemmas.List.Elements.{Contains-append_left, Contains-append_right, Contains-append_cases}
@@ -13,13 +13,12 @@ use Rattle.std.specs.declared.cmp.Ordering.TheVariants.{Less, Equal, Greater}
 use Rattle.serde_json.specs.Data.{Data, null, boolean, number, string, array, object, Items, no_items, item, Members, no_members, member}
 use Rattle.serde_json.specs.Find.{as_array, as_object, get_item}
 use Rattle.amr_labels.specs.Labels.{Text, text_cmp}
-use Rattle.amr_stated.specs.declared.error.Refusal.TheVariants.{BadConfig}
 use Rattle.amr_stated.specs.declared.receiver.Integration.{Integration}
 use Rattle.amr_stated.specs.declared.receiver.Receiver.{Receiver}
-use Rattle.amr_stated.specs.declared.read_receivers.Kind.{Kind}
 use Rattle.amr_stated.specs.Paths.{under, item_path}
-use Rattle.amr_stated.specs.Members.{◌>>=◌, present, member_of, stated, each_member, or_faulty, flag_at}
-use Rattle.amr_stated.specs.ReadReceivers.{default_of, entry_into, entries_at, stands, kind_key, stated_entries, with_kind, kind_named, kind_into, kinds_at, name_at, receiver_at, receiver_into, receivers_list, receivers_at}
+use Rattle.amr_stated.specs.Members.{present, member_of, stated, or_faulty, flag_at}
+use Rattle.amr_stated.specs.Readings.{give, faulty, next, members_in_turn}
+use Rattle.amr_stated.specs.ReadReceivers.{default_of, entry_into, entries_at, stands, kind_key, stated_entries, with_entries, entries_under, kind_into, kinds_at, name_at, receiver_at, receiver_into, receivers_list, receivers_at}
 use Rattle.amr_stated.specs.Table.{IsText, IsFlag, IsListOf, StatesEach, StatesIf, StatesOr, HasAt, IsIntegration, AreIntegrations, IsMember, StatesIntegration, IsReceiver}
 use Rattle.amr_stated.specs.Faults.{unless_some, unless, flag_found, list_found, if_there, at, entry_found, entries_found, kinds_found, side_found, receiver_name_found, receiver_found}
 use Rattle.amr_stated.proofs.Judged.{Judged, by_findings, judged_ok, judged_fault, judged_then, judged_as, judged_map, judged_or_faulty, judged_optional, judged_stated, judged_needed, judged_flag, judged_object, judged_spelled, Adds, judged_list, judged_added}
@@ -58,180 +57,159 @@ unfolding stated_entries
 judged_stated_entries kind path d =
     judged_map _ (λ found. unwrap_or found []) _ _ _ (judged_optional (entries_at kind path) (list_found (entry_found kind) path) (AreIntegrations kind) (present (Some d)) (judged_entries kind path)) (λ found states. (found, states, refl))
 
--- what a member on a side does to the kinds
-abbrev KindFrom : Option Text → Data → List Kind → List Kind → Type 0
+-- what a member on a side does to the integrations
+abbrev KindFrom : Option Text → Data → List Integration → List Integration → Type 0
 KindFrom None d before after = after ≡ before
-KindFrom (Some name) d before after = (integrations : List Integration) × HasEntries name d integrations × (after ≡ with_kind before (record { name = name; integrations = integrations }))
+KindFrom (Some kind) d before after = (entries : List Integration) × HasEntries kind d entries × (after ≡ with_entries before kind entries)
 
-abbrev KindIf : Bool → Text → Data → List Kind → List Kind → Type 0
+abbrev KindIf : Bool → Text → Data → List Integration → List Integration → Type 0
 KindIf true key d before after = KindFrom (kind_key key) d before after
 KindIf false key d before after = after ≡ before
 
-judged_named : (path : List ℕ) (d : Data) (kinds : List Kind) (o : Option Text) → Judged (kind_named path d kinds o) (entries_found path d o) (KindFrom o d kinds)
-judged_named path d kinds None = judged_ok kinds _ refl
-judged_named path d kinds (Some name) =
-    judged_map (stated_entries name path d) (λ entries. with_kind kinds (record { name = name; integrations = entries })) _ (HasEntries name d) (KindFrom (Some name) d kinds) (judged_stated_entries name path d) (λ entries has. (entries, has, refl))
+judged_named : (path : List ℕ) (d : Data) (before : List Integration) (o : Option Text) → Judged (entries_under path d before o) (entries_found path d o) (KindFrom o d before)
+judged_named path d before None = judged_ok before _ refl
+judged_named path d before (Some kind) =
+    judged_map (stated_entries kind path d) (λ entries. with_entries before kind entries) _ (HasEntries kind d) (KindFrom (Some kind) d before) (judged_stated_entries kind path d) (λ entries has. (entries, has, refl))
 
-judged_kind : (side : Bool) (path : List ℕ) (key : Text) (d : Data) (kinds : List Kind) → Judged (kind_into side path key d kinds) (if stands side key then entries_found (under path key) d (kind_key key) else []) (KindIf (stands side key) key d kinds)
+judged_kind : (side : Bool) (path : List ℕ) (key : Text) (d : Data) (before : List Integration) → Judged (kind_into side path key d before) (if stands side key then entries_found (under path key) d (kind_key key) else []) (KindIf (stands side key) key d before)
 unfolding kind_into
-judged_kind side path key d kinds = go (stands side key)
+judged_kind side path key d before = go (stands side key)
   where
-    go : (b : Bool) → Judged (if b then kind_named (under path key) d kinds (kind_key key) else Ok kinds) (if b then entries_found (under path key) d (kind_key key) else []) (KindIf b key d kinds)
-    go true = judged_named (under path key) d kinds (kind_key key)
-    go false = judged_ok kinds _ refl
+    go : (b : Bool) → Judged (if b then entries_under (under path key) d before (kind_key key) else give before) (if b then entries_found (under path key) d (kind_key key) else []) (KindIf b key d before)
+    go true = judged_named (under path key) d before (kind_key key)
+    go false = judged_ok before _ refl
 
--- what the members on a side do to the kinds, one after another
-abbrev KindsFrom : Bool → Members → List Kind → List Kind → Type 0
+-- what the members on a side do to the integrations, one after another
+abbrev KindsFrom : Bool → Members → List Integration → List Integration → Type 0
 KindsFrom side no_members before after = after ≡ before
-KindsFrom side (member key d ms) before after = (one : List Kind) × KindIf (stands side key) key d before one × KindsFrom side ms one after
+KindsFrom side (member key d ms) before after = (one : List Integration) × KindIf (stands side key) key d before one × KindsFrom side ms one after
 
-judged_kinds : (side : Bool) (path : List ℕ) (ms : Members) (kinds : List Kind) → Judged (each_member (kind_into side path) ms kinds) (kinds_found side path ms) (KindsFrom side ms kinds)
-judged_kinds side path no_members kinds = judged_ok kinds _ refl
-judged_kinds side path (member key d ms) kinds =
-    judged_then (kind_into side path key d kinds) (each_member (kind_into side path) ms) _ (kinds_found side path ms) (KindIf (stands side key) key d kinds) _ (judged_kind side path key d kinds) (λ one from.
-    judged_as (each_member (kind_into side path) ms one) (kinds_found side path ms) (KindsFrom side ms one) _ (judged_kinds side path ms one) (λ after rest. (one, from, rest)))
+judged_kinds : (side : Bool) (path : List ℕ) (ms : Members) (before : List Integration) → Judged (members_in_turn (kind_into side path) ms before) (kinds_found side path ms) (KindsFrom side ms before)
+judged_kinds side path no_members before = judged_ok before _ refl
+judged_kinds side path (member key d ms) before =
+    judged_then (kind_into side path key d before) (members_in_turn (kind_into side path) ms) _ (kinds_found side path ms) (KindIf (stands side key) key d before) _ (judged_kind side path key d before) (λ one from.
+    judged_as (members_in_turn (kind_into side path) ms one) (kinds_found side path ms) (KindsFrom side ms one) _ (judged_kinds side path ms one) (λ after rest. (one, from, rest)))
 
--- the kinds on a side of an object
-abbrev SideFrom : Bool → Data → List Kind → List Kind → Type 0
+-- the members on a side of an object
+abbrev SideFrom : Bool → Data → List Integration → List Integration → Type 0
 SideFrom side d before after = (ms : Members) × (as_object d ≡ Some ms) × KindsFrom side ms before after
 
-judged_side : (side : Bool) (path : List ℕ) (d : Data) (kinds : List Kind) → Judged (kinds_at side path d kinds) (side_found side path (as_object d)) (SideFrom side d kinds)
-unfolding kinds_at
-judged_side side path d kinds = go (as_object d) refl
+judged_side : (side : Bool) (path : List ℕ) (d : Data) (before : List Integration) → Judged (kinds_at side path d before) (side_found side path (as_object d)) (SideFrom side d before)
+unfolding kinds_at next
+judged_side side path d before = go (as_object d) refl
   where
-    go : (o : Option Members) → as_object d ≡ o → Judged (or_faulty path o >>= λ ms. each_member (kind_into side path) ms kinds) (side_found side path o) (SideFrom side d kinds)
+    go : (o : Option Members) → as_object d ≡ o → Judged (next (or_faulty path o) (λ ms. members_in_turn (kind_into side path) ms before)) (side_found side path o) (SideFrom side d before)
     go None is = judged_fault path _
-    go (Some ms) is = judged_as (each_member (kind_into side path) ms kinds) _ _ _ (judged_kinds side path ms kinds) (λ after from. (ms, is, from))
+    go (Some ms) is = judged_as (members_in_turn (kind_into side path) ms before) _ _ _ (judged_kinds side path ms before) (λ after from. (ms, is, from))
 
 judged_name : (path : List ℕ) (d : Data) → Judged (name_at path d) (receiver_name_found path d) (IsText d)
 unfolding name_at
 judged_name path d =
-    judged_spelled (λ text. if length text == 0 then Err (BadConfig path) else Ok text) (λ o. unless path (option_map_or (λ name. not (length name == 0)) o false)) path d (IsText d) refl (λ text is. go text is (length text == 0))
+    judged_spelled (λ text. if length text == 0 then faulty path else give text) (λ o. unless path (option_map_or (λ name. not (length name == 0)) o false)) path d (IsText d) refl (λ text is. go text is (length text == 0))
   where
-    go : (text : Text) → IsText d text → (b : Bool) → Judged (if b then Err (BadConfig path) else Ok text) (unless path (not b)) (IsText d)
+    go : (text : Text) → IsText d text → (b : Bool) → Judged (if b then faulty path else give text) (unless path (not b)) (IsText d)
     go text is true = judged_fault path _
     go text is false = judged_ok text _ is
 
--- ---- the kinds are those that are stated
+-- ---- the integrations are those that are stated
 
--- the kind of a member
-record IsKindOf (ms : Members) (kind : Kind) : Type 0 where
+-- an integration of the entries of a member
+record IsOfMember (ms : Members) (x : Integration) : Type 0 where
   key : Text
   list : Data
+  kind : Text
+  entries : List Integration
   is_member : IsMember key list ms
-  names_kind : kind_key key ≡ Some kind.name
-  entries : HasEntries kind.name list kind.integrations
+  names_kind : kind_key key ≡ Some kind
+  has : HasEntries kind list entries
+  within : Contains entries x
 
-kind_later : (k : Text) (d : Data) (ms : Members) (kind : Kind) → IsKindOf ms kind → IsKindOf (member k d ms) kind
-kind_later k d ms kind is = record { key = is.key; list = is.list; is_member = inr is.is_member; names_kind = is.names_kind; entries = is.entries }
-
-in_with : (ks : List Kind) (kind x : Kind) → Contains (with_kind ks kind) x → Contains ks x ⊎ (x ≡ kind)
-in_with [] kind x (zero, lt, is) = inr (sym is)
-in_with [] kind x (suc k, lt, is) = absurd (omega (arith, lt))
-in_with (k ∷ ks) kind x c = go (λ c. in_with ks kind x c) (is_gt (text_cmp k.name kind.name)) c
+in_with : (xs : List Integration) (kind : Text) (entries : List Integration) (x : Integration) → Contains (with_entries xs kind entries) x → Contains xs x ⊎ Contains entries x
+in_with [] kind entries x c = inr c
+in_with (y ∷ ys) kind entries x c = go (λ c. in_with ys kind entries x c) (is_gt (text_cmp y.kind kind)) c
   where
-    later : Contains ks x ⊎ (x ≡ kind) → Contains (k ∷ ks) x ⊎ (x ≡ kind)
+    later : Contains ys x ⊎ Contains entries x → Contains (y ∷ ys) x ⊎ Contains entries x
     later (inl (n, lt, is)) = inl (suc n, omega (arith, lt), is)
-    later (inr e) = inr e
+    later (inr c) = inr c
 
-    go : (Contains (with_kind ks kind) x → Contains ks x ⊎ (x ≡ kind)) → (b : Bool) → Contains (if b then kind ∷ k ∷ ks else k ∷ with_kind ks kind) x → Contains (k ∷ ks) x ⊎ (x ≡ kind)
-    go rest true (zero, lt, is) = inr (sym is)
-    go rest true (suc n, lt, is) = inl (n, omega (arith, lt), is)
+    go : (Contains (with_entries ys kind entries) x → Contains ys x ⊎ Contains entries x) → (b : Bool) → Contains (if b then entries ++ y ∷ ys else y ∷ with_entries ys kind entries) x → Contains (y ∷ ys) x ⊎ Contains entries x
+    go rest true c = elim (Contains-append_cases entries (y ∷ ys) x c) [ inl new ↦ inr new | inr old ↦ inl old ]
     go rest false (zero, lt, is) = inl (0, omega arith, is)
     go rest false (suc n, lt, is) = later (rest (n, omega (arith, lt), is))
 
-kept_with : (ks : List Kind) (kind x : Kind) → Contains ks x → Contains (with_kind ks kind) x
-kept_with [] kind x (n, lt, is) = absurd (omega (arith, lt))
-kept_with (k ∷ ks) kind x c = go (λ c. kept_with ks kind x c) (is_gt (text_cmp k.name kind.name)) c
+kept_with : (xs : List Integration) (kind : Text) (entries : List Integration) (x : Integration) → Contains xs x → Contains (with_entries xs kind entries) x
+kept_with [] kind entries x (n, lt, is) = absurd (omega (arith, lt))
+kept_with (y ∷ ys) kind entries x c = go (λ c. kept_with ys kind entries x c) (is_gt (text_cmp y.kind kind)) c
   where
-    go : (Contains ks x → Contains (with_kind ks kind) x) → (b : Bool) → Contains (k ∷ ks) x → Contains (if b then kind ∷ k ∷ ks else k ∷ with_kind ks kind) x
-    go rest true (n, lt, is) = (suc n, omega (arith, lt), is)
+    go : (Contains ys x → Contains (with_entries ys kind entries) x) → (b : Bool) → Contains (y ∷ ys) x → Contains (if b then entries ++ y ∷ ys else y ∷ with_entries ys kind entries) x
+    go rest true c = Contains-append_right entries (y ∷ ys) x c
     go rest false (zero, lt, is) = (0, omega arith, is)
     go rest false (suc n, lt, is) =
         let (m, less, same) = rest (n, omega (arith, lt), is) in
         (suc m, omega (arith, less), same)
 
-new_with : (ks : List Kind) (kind : Kind) → Contains (with_kind ks kind) kind
-new_with [] kind = (0, omega arith, refl)
-new_with (k ∷ ks) kind = go (new_with ks kind) (is_gt (text_cmp k.name kind.name))
+new_with : (xs : List Integration) (kind : Text) (entries : List Integration) (x : Integration) → Contains entries x → Contains (with_entries xs kind entries) x
+new_with [] kind entries x c = c
+new_with (y ∷ ys) kind entries x c = go (new_with ys kind entries x c) (is_gt (text_cmp y.kind kind))
   where
-    go : Contains (with_kind ks kind) kind → (b : Bool) → Contains (if b then kind ∷ k ∷ ks else k ∷ with_kind ks kind) kind
-    go rest true = (0, omega arith, refl)
+    go : Contains (with_entries ys kind entries) x → (b : Bool) → Contains (if b then entries ++ y ∷ ys else y ∷ with_entries ys kind entries) x
+    go rest true = Contains-append_left entries (y ∷ ys) x c
     go (m, less, same) false = (suc m, omega (arith, less), same)
 
-AllOf : Members → List Kind → Type 0
-AllOf whole ks = (k : Kind) → Contains ks k → IsKindOf whole k
+AllOf : Members → List Integration → Type 0
+AllOf whole xs = (x : Integration) → Contains xs x → IsOfMember whole x
 
-one_only : (whole : Members) (b : Bool) (key : Text) (d : Data) (before one : List Kind) → IsMember key d whole → KindIf b key d before one → AllOf whole before → AllOf whole one
+one_only : (whole : Members) (b : Bool) (key : Text) (d : Data) (before one : List Integration) → IsMember key d whole → KindIf b key d before one → AllOf whole before → AllOf whole one
 unfolding AllOf
 one_only whole false key d before one there from all = rw from all
 one_only whole true key d before one there from all = go (kind_key key) refl from
   where
-    go : (o : Option Text) → kind_key key ≡ o → KindFrom o d before one → (k : Kind) → Contains one k → IsKindOf whole k
-    go None is from k c = all k (rw from at c)
-    go (Some name) is (integrations, has, from) k c =
-        elim (in_with before (record { name = name; integrations = integrations }) k (rw from at c)) [
-          | inl old ↦ all k old
-          | inr same ↦ rw same (record { key = key; list = d; is_member = there; names_kind = is; entries = has })
+    go : (o : Option Text) → kind_key key ≡ o → KindFrom o d before one → (x : Integration) → Contains one x → IsOfMember whole x
+    go None is from x c = all x (rw from at c)
+    go (Some kind) is (entries, has, from) x c =
+        elim (in_with before kind entries x (rw from at c)) [
+          | inl old ↦ all x old
+          | inr new ↦ record { key = key; list = d; kind = kind; entries = entries; is_member = there; names_kind = is; has = has; within = new }
         ]
 
-kinds_only : (side : Bool) (whole ms : Members) (before after : List Kind) → ((key : Text) (d : Data) → IsMember key d ms → IsMember key d whole) → KindsFrom side ms before after → AllOf whole before → AllOf whole after
+kinds_only : (side : Bool) (whole ms : Members) (before after : List Integration) → ((key : Text) (d : Data) → IsMember key d ms → IsMember key d whole) → KindsFrom side ms before after → AllOf whole before → AllOf whole after
 kinds_only side whole no_members before after sub from all = rw from all
 kinds_only side whole (member key d ms) before after sub (one, first, rest) all =
     kinds_only side whole ms one after (λ k e is. sub k e (inr is)) rest (one_only whole (stands side key) key d before one (sub key d (inl (refl, refl))) first all)
 
-one_keeps : (b : Bool) (key : Text) (d : Data) (before one : List Kind) (x : Kind) → KindIf b key d before one → Contains before x → Contains one x
+one_keeps : (b : Bool) (key : Text) (d : Data) (before one : List Integration) (x : Integration) → KindIf b key d before one → Contains before x → Contains one x
 one_keeps false key d before one x from c = rw from c
 one_keeps true key d before one x from c = go (kind_key key) from
   where
     go : (o : Option Text) → KindFrom o d before one → Contains one x
     go None from = rw from c
-    go (Some name) (integrations, has, from) = rw from (kept_with before (record { name = name; integrations = integrations }) x c)
+    go (Some kind) (entries, has, from) = rw from (kept_with before kind entries x c)
 
-kinds_keep : (side : Bool) (ms : Members) (before after : List Kind) (x : Kind) → KindsFrom side ms before after → Contains before x → Contains after x
+kinds_keep : (side : Bool) (ms : Members) (before after : List Integration) (x : Integration) → KindsFrom side ms before after → Contains before x → Contains after x
 kinds_keep side no_members before after x from c = rw from c
 kinds_keep side (member key d ms) before after x (one, first, rest) c = kinds_keep side ms one after x rest (one_keeps (stands side key) key d before one x first c)
 
--- the kind with this name and these entries
-abbrev HasKind : Text → Data → List Kind → Type 0
-HasKind name d ks = (k : Kind) × Contains ks k × (k.name ≡ name) × HasEntries name d k.integrations
+-- the entries of this kind
+abbrev HasKind : Text → Data → List Integration → Type 0
+HasKind kind d xs = (entries : List Integration) × HasEntries kind d entries × ((x : Integration) → Contains entries x → Contains xs x)
 
-named_brings : (d : Data) (before one : List Kind) (name : Text) → KindFrom (Some name) d before one → HasKind name d one
-named_brings d before one name (integrations, has, adds) =
-    (record { name = name; integrations = integrations }, rw adds (new_with before (record { name = name; integrations = integrations })), refl, has)
+named_brings : (d : Data) (before one : List Integration) (kind : Text) → KindFrom (Some kind) d before one → HasKind kind d one
+named_brings d before one kind (entries, has, adds) = (entries, has, λ x c. rw adds (new_with before kind entries x c))
 
-one_brings : (b : Bool) (key : Text) (d : Data) (before one : List Kind) (name : Text) → b ≡ true → kind_key key ≡ Some name → KindIf b key d before one → HasKind name d one
+one_brings : (b : Bool) (key : Text) (d : Data) (before one : List Integration) (name : Text) → b ≡ true → kind_key key ≡ Some name → KindIf b key d before one → HasKind name d one
 one_brings false key d before one name side is from = cc
 one_brings true key d before one name side is from = named_brings d before one name (subst (λ o. KindFrom o d before one) is from)
 
-kinds_all : (side : Bool) (ms : Members) (before after : List Kind) (key : Text) (d : Data) (name : Text) → IsMember key d ms → stands side key ≡ true → kind_key key ≡ Some name → KindsFrom side ms before after → HasKind name d after
+kinds_all : (side : Bool) (ms : Members) (before after : List Integration) (key : Text) (d : Data) (name : Text) → IsMember key d ms → stands side key ≡ true → kind_key key ≡ Some name → KindsFrom side ms before after → HasKind name d after
 kinds_all side no_members before after key d name there on is from = absurd there
 kinds_all side (member k e ms) before after key d name (inr there) on is (one, first, rest) = kinds_all side ms one after key d name there on is rest
 kinds_all side (member k e ms) before after key d name (inl (same_key, same_list)) on is (one, first, rest) =
     let here = subst (λ (l : Text). KindIf (stands side l) l e before one) same_key first in
     let found = subst (λ (v : Data). HasKind name v one) same_list (one_brings (stands side key) key e before one name on is here) in
-    let (kind, there, named, has) = found in
-    (kind, kinds_keep side ms one after kind rest there, named, has)
+    let (entries, has, within) = found in
+    (entries, has, λ x c. kinds_keep side ms one after x rest (within x c))
 
--- ---- integrations among those of their kinds
-
-abbrev all_of : List Kind → List Integration
-all_of ks = flat_map (λ (kind : Kind). kind.integrations) ks
-
-in_all : (ks : List Kind) (k : Kind) (x : Integration) → Contains ks k → Contains k.integrations x → Contains (all_of ks) x
-in_all [] k x (n, lt, is) c = absurd (omega (arith, lt))
-in_all (kind ∷ ks) k x (zero, lt, is) c = Contains-append_left kind.integrations (all_of ks) x (rw is c)
-in_all (kind ∷ ks) k x (suc n, lt, is) c = Contains-append_right kind.integrations (all_of ks) x (in_all ks k x (n, omega (arith, lt), is) c)
-
-of_all : (ks : List Kind) (x : Integration) → Contains (all_of ks) x → (k : Kind) × Contains ks k × Contains k.integrations x
-of_all [] x (n, lt, is) = absurd (omega (arith, lt))
-of_all (kind ∷ ks) x c =
-    elim (Contains-append_cases kind.integrations (all_of ks) x c) [
-      | inl here ↦ (kind, (0, omega arith, refl), here)
-      | inr later ↦
-          let (k, (n, lt, is), there) = of_all ks x later in
-          (k, (suc n, omega (arith, lt), is), there)
-    ]
+-- ---- the entries of a list
 
 entry_of : (kind : Text) (i : ℕ) (ds : Items) (xs : List Integration) (x : Integration) → StatesEach (IsIntegration kind) i ds xs → Contains xs x → (n : ℕ) × (e : Data) × (get_item n ds ≡ Some e) × IsIntegration kind (i + n) e x
 entry_of kind i no_items [] x are (n, lt, is) = absurd (omega (arith, lt))
@@ -274,16 +252,16 @@ entries_not_missing kind (string s) ds e h = h
 entries_not_missing kind (array es) ds e h = h
 entries_not_missing kind (object ms) ds e h = h
 
-stated_by : (d : Data) (ms : Members) (k : Kind) (x : Integration) → as_object d ≡ Some ms → IsKindOf ms k → Contains k.integrations x → StatesIntegration d x
-stated_by d ms k x is_object is c = go is.entries
+stated_by : (d : Data) (ms : Members) (x : Integration) → as_object d ≡ Some ms → IsOfMember ms x → StatesIntegration d x
+stated_by d ms x is_object is = go is.has is.within
   where
-    go : HasEntries k.name is.list k.integrations → StatesIntegration d x
-    go (None, states, none) =
+    go : HasEntries is.kind is.list is.entries → Contains is.entries x → StatesIntegration d x
+    go (None, states, none) c =
         let (n, lt, at) = rw none at c in
         absurd (omega (arith, lt))
-    go (Some xs, states, same) =
-        let (ds, list, are) = entries_there k.name is.list xs states in
-        let (n, e, at, entry) = entry_of k.name 0 ds xs x are (rw same at c) in
+    go (Some xs, states, same) c =
+        let (ds, list, are) = entries_there is.kind is.list xs states in
+        let (n, e, at, entry) = entry_of is.kind 0 ds xs x are (rw same at c) in
         let place : x.place ≡ n = entry.place_is ∙ omega arith in
         record {
           members = ms;
@@ -315,15 +293,15 @@ same_entry kind i e x y h k =
     let sends : x.send_resolved ≡ y.send_resolved = same_Some x.send_resolved y.send_resolved (sym h.sends ∙ ap (λ said. option_or said (default_of kind)) saids ∙ k.sends) in
     λ i. record { kind = kinds i; place = places i; send_resolved = sends i }
 
-found_by : (ks : List Kind) (x : Integration) (list : Data) (ds : Items) (e : Data) → as_array list ≡ Some ds → get_item x.place ds ≡ Some e → IsIntegration x.kind x.place e x → HasKind x.kind list ks → Contains (all_of ks) x
-found_by ks x list ds e is_list at entry (k, there, named, (None, states, none)) = absurd (entries_not_missing x.kind list ds is_list states)
-found_by ks x list ds e is_list at entry (k, there, named, (Some xs, states, same)) =
+found_by : (all : List Integration) (x : Integration) (list : Data) (ds : Items) (e : Data) → as_array list ≡ Some ds → get_item x.place ds ≡ Some e → IsIntegration x.kind x.place e x → HasKind x.kind list all → Contains all x
+found_by all x list ds e is_list at entry (entries, (None, states, none), within) = absurd (entries_not_missing x.kind list ds is_list states)
+found_by all x list ds e is_list at entry (entries, (Some xs, states, same), within) =
     let (es, is, are) = entries_there x.kind list xs states in
     let one : es ≡ ds = same_Some es ds (sym is ∙ is_list) in
     let (y, c, stated) = of_entry x.kind 0 es xs x.place e are (ap (λ items. get_item x.place items) one ∙ at) in
     let place : 0 + x.place ≡ x.place = omega arith in
     let alike : y ≡ x = same_entry x.kind x.place e y x (rw place at stated) entry in
-    in_all ks k x there (rw (same, ← alike) c)
+    within x (rw (same, ← alike) c)
 
 not_the_name : (key name : Text) → kind_key key ≡ Some name → key ≡ codes "name" → ⊥
 unfolding kind_key
@@ -342,27 +320,25 @@ on_a_side key name is = go (text_cmp key (codes "name")) refl
 
 none_of : (whole : Members) → AllOf whole []
 unfolding AllOf
-none_of whole k (n, lt, is) = absurd (omega (arith, lt))
+none_of whole x (n, lt, is) = absurd (omega (arith, lt))
 
-read_receiver : (d : Data) (name : Text) (first all : List Kind) → SideFrom true d [] first → HasAt IsText (codes "name") d name → SideFrom false d first all → IsReceiver d (record { name = name; integrations = all_of all })
+read_receiver : (d : Data) (name : Text) (first all : List Integration) → SideFrom true d [] first → HasAt IsText (codes "name") d name → SideFrom false d first all → IsReceiver d (record { name = name; integrations = all })
 unfolding AllOf
 read_receiver d name first all (ms, is_object, before) has (other, also, after) =
     let same : other ≡ ms = same_Some other ms (sym also ∙ is_object) in
     let later : KindsFrom false ms first all = rw same at after in
-    let kinds : (k : Kind) → Contains all k → IsKindOf ms k = kinds_only false ms ms first all (λ key v is. is) later (kinds_only true ms ms [] first (λ key v is. is) before (none_of ms)) in
+    let of_members : (x : Integration) → Contains all x → IsOfMember ms x = kinds_only false ms ms first all (λ key v is. is) later (kinds_only true ms ms [] first (λ key v is. is) before (none_of ms)) in
     record {
       name = has;
-      only = λ x c.
-          let (k, there, within) = of_all all x c in
-          stated_by d ms k x is_object (kinds k there) within;
+      only = λ x c. stated_by d ms x is_object (of_members x c);
       all = λ x stated.
           let at : stated.members ≡ ms = same_Some stated.members ms (sym stated.object ∙ is_object) in
           let there : IsMember stated.key stated.list ms = rw at at stated.is_member in
           let found : HasKind x.kind stated.list all =
           elim (on_a_side stated.key x.kind stated.names_kind) [
             | inl side ↦
-                let (k, in_first, named, entries) = kinds_all true ms [] first stated.key stated.list x.kind there side stated.names_kind before in
-                (k, kinds_keep false ms first all k later in_first, named, entries)
+                let (entries, of, within) = kinds_all true ms [] first stated.key stated.list x.kind there side stated.names_kind before in
+                (entries, of, λ y c. kinds_keep false ms first all y later (within y c))
             | inr side ↦ kinds_all false ms first all stated.key stated.list x.kind there side stated.names_kind later
           ] in
           found_by all x stated.list stated.entries stated.entry stated.is_list stated.at_place stated.is_entry found;

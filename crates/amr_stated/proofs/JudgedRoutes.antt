@@ -1,45 +1,29 @@
 -- What is read of the routes, and of a whole configuration, states what is there, and a refusal is that of the first fault.
-use Rattle.std.proofs.Common.{◌≡◌, ℕ, zero, suc, ◌+◌, Bool, true, false, ◌||◌, true≢false, List, [], ◌∷◌, ◌++◌, length, Option, Some, None, Ok, Err, refl, sym, ap, subst, ◌∙◌, append_assoc, length-append, codes}
+use Rattle.std.proofs.Common.{◌≡◌, ℕ, zero, suc, ◌+◌, Bool, true, false, ◌||◌, true≢false, List, [], ◌∷◌, ◌++◌, length, Option, Some, None, refl, sym, ap, subst, ◌∙◌, append_assoc, length-append, codes}
 use Rattle.std.specs.Prelude.{unwrap_or}
 use Rattle.std.specs.Option.{option_map_or}
 use Rattle.std.proofs.lemmas.List.{append-nil}
 use Rattle.serde_json.specs.Data.{Data, Items, no_items, item}
 use Rattle.serde_json.specs.Find.{as_array}
 use Rattle.amr_labels.specs.Labels.{Text}
-use Rattle.amr_matchers.specs.Matchers.{Matcher}
 use Rattle.amr_time.specs.SpanRead.{span_of}
-use Rattle.amr_stated.specs.declared.error.Refusal.TheVariants.{BadConfig}
-use Rattle.amr_stated.specs.declared.read_routes.Front.{Front}
-use Rattle.amr_stated.specs.declared.read_routes.Back.{Back}
 use Rattle.amr_stated.specs.declared.route.Route.{Route}
 use Rattle.amr_stated.specs.declared.rule.InhibitRule.{InhibitRule}
 use Rattle.amr_stated.specs.Paths.{under, item_path}
-use Rattle.amr_stated.specs.Members.{◌>>=◌, member_of, optional, or_faulty, text_at, flag_at, items_at, span_at, texts_at, any_item, list_in}
+use Rattle.amr_stated.specs.Members.{member_of, optional, stated, or_faulty, text_at, flag_at, items_at, span_at, texts_at, any_item, list_in}
 use Rattle.amr_stated.specs.ReadIntervals.{names_at}
-use Rattle.amr_stated.specs.Readings.{plain, next, items_in_turn}
-use Rattle.amr_stated.specs.RouteParts.{grouping_stated, front_at, back_at, children_at, is_deeper, is_too_deep}
-use Rattle.amr_stated.specs.ReadRoutes.{route_from, own_into, add_route, child_into, tree_from, routes_at}
+use Rattle.amr_stated.specs.Readings.{give, next, items_in_turn}
+use Rattle.amr_stated.specs.RouteParts.{grouping_stated, children_at, is_deeper, is_too_deep}
+use Rattle.amr_stated.specs.ReadRoutes.{route_at, own_into, add_route, child_into, tree_from, routes_at}
 use Rattle.amr_stated.specs.Walking.{walked_at}
-use Rattle.amr_stated.specs.Table.{IsText, IsFlag, IsDuration, IsListOf, StatesIf, States, StatesOr, HasAt, IsGrouping, IsDefinedName, IsRoute, IsArray, IsTree, Tree, AreTrees, NoMore, OneMore, StatesMatchers, IsRule, StatesWhole}
+use Rattle.amr_stated.specs.Table.{IsText, IsFlag, IsDuration, IsListOf, StatesIf, States, StatesOr, HasAt, IsGrouping, IsDefinedName, IsRoute, IsArray, IsTree, Tree, AreTrees, NoMore, OneMore, IsRule, StatesWhole}
 use Rattle.amr_stated.specs.Faults.{Finding, Fault, text_found, flag_found, object_found, spelled_found, each_found, items_found, list_found, if_there, at, if_there_or, needed_at, match_found, defined_name_found, route_found, global_found, rule_found, receiver_found, interval_list_found, names_under, findings_of}
-use Rattle.amr_stated.proofs.Judged.{Judged, judged_ok, judged_fault, judged_then, judged_map, judged_stated, judged_text, judged_flag, judged_object}
+use Rattle.amr_stated.proofs.Judged.{Judged, by_findings, judged_ok, judged_fault, judged_then, judged_as, judged_map, judged_stated, judged_text, judged_flag, judged_object}
 use Rattle.amr_stated.proofs.JudgedParts.{judged_texts, judged_span, judged_names, judged_timeout, judged_defined, names_under_read}
 use Rattle.amr_stated.proofs.JudgedReceivers.{judged_receivers}
-use Rattle.amr_stated.proofs.JudgedWalks.{JudgedWalk, walk_by, walk_plain, walk_as, walk_next, walk_map, walk_matchers, walk_rules}
+use Rattle.amr_stated.proofs.JudgedMatchers.{walk_matchers, walk_rules}
 
 -- ---- what a route states itself
-
-record IsFront (whole d : Data) (front : Front) : Type 0 where
-  active : StatesOr [] (IsListOf (IsDefinedName whole)) (codes "active_time_intervals") d front.active_time_intervals
-  continues : StatesOr false IsFlag (codes "continue") d front.continues
-  group_by : States IsGrouping (codes "group_by") d front.group_by
-  group_interval : States IsDuration (codes "group_interval") d front.group_interval
-  group_wait : States IsDuration (codes "group_wait") d front.group_wait
-
-record IsBack (whole d : Data) (back : Back) : Type 0 where
-  mute : StatesOr [] (IsListOf (IsDefinedName whole)) (codes "mute_time_intervals") d back.mute_time_intervals
-  receiver : States IsText (codes "receiver") d back.receiver
-  repeat_interval : States IsDuration (codes "repeat_interval") d back.repeat_interval
 
 grouped : (o : Option Data) (names : Option (List Text)) → StatesIf (IsListOf IsText) o names → StatesIf IsGrouping o (grouping_stated names)
 grouped None None h = tt
@@ -47,73 +31,63 @@ grouped None (Some names) h = absurd h
 grouped (Some v) None h = absurd h
 grouped (Some v) (Some names) h = (names, h, refl)
 
-front_found : Data → List ℕ → Data → List Finding
-front_found whole path d =
-    at (list_found (defined_name_found whole)) path (codes "active_time_intervals") d
-    ++ (at flag_found path (codes "continue") d
-    ++ (at (list_found text_found) path (codes "group_by") d
-    ++ (at (spelled_found span_of) path (codes "group_interval") d
-    ++ at (spelled_found span_of) path (codes "group_wait") d)))
-
-judged_front : (whole : Data) (path : List ℕ) (d : Data) → Judged (front_at whole path d) (front_found whole path d) (IsFront whole d)
-unfolding front_at front_found
-judged_front whole path d =
-    judged_then _ _ _ _ _ _ (judged_stated (names_at whole) (list_found (defined_name_found whole)) (IsListOf (IsDefinedName whole)) path (codes "active_time_intervals") d (judged_names whole _)) (λ active has_active.
-    judged_then _ _ _ _ _ _ (judged_stated flag_at flag_found IsFlag path (codes "continue") d (judged_flag _)) (λ continues has_continues.
-    judged_then _ _ _ _ _ _ (judged_stated texts_at (list_found text_found) (IsListOf IsText) path (codes "group_by") d (judged_texts _)) (λ group_by has_group_by.
-    judged_then _ _ _ _ _ _ (judged_stated span_at (spelled_found span_of) IsDuration path (codes "group_interval") d (judged_span _)) (λ group_interval has_interval.
-    judged_map _ _ _ _ _ (judged_stated span_at (spelled_found span_of) IsDuration path (codes "group_wait") d (judged_span _)) (λ group_wait has_wait.
-    record {
-      active = (active, has_active, refl);
-      continues = (continues, has_continues, refl);
-      group_by = grouped (member_of (codes "group_by") d) group_by has_group_by;
-      group_interval = has_interval;
-      group_wait = has_wait;
-    })))))
-
-back_found : Data → List ℕ → Data → List Finding
-back_found whole path d =
-    at (list_found (defined_name_found whole)) path (codes "mute_time_intervals") d
-    ++ (at text_found path (codes "receiver") d
-    ++ at (spelled_found span_of) path (codes "repeat_interval") d)
-
-judged_back : (whole : Data) (path : List ℕ) (d : Data) → Judged (back_at whole path d) (back_found whole path d) (IsBack whole d)
-unfolding back_at back_found
-judged_back whole path d =
-    judged_then _ _ _ _ _ _ (judged_stated (names_at whole) (list_found (defined_name_found whole)) (IsListOf (IsDefinedName whole)) path (codes "mute_time_intervals") d (judged_names whole _)) (λ mute has_mute.
-    judged_then _ _ _ _ _ _ (judged_stated text_at text_found IsText path (codes "receiver") d (judged_text _)) (λ receiver has_receiver.
-    judged_map _ _ _ _ _ (judged_stated span_at (spelled_found span_of) IsDuration path (codes "repeat_interval") d (judged_span _)) (λ repeat_interval has_repeat.
-    record { mute = (mute, has_mute, refl); receiver = has_receiver; repeat_interval = has_repeat })))
-
 -- a route added to those before it
 abbrev AddsRoute : Data → Option ℕ → Data → List Route → List Route → Type 0
 AddsRoute whole parent d before after = (route : Route) × (after ≡ before ++ route ∷ []) × (route.parent ≡ parent) × IsRoute whole d route
 
 own_found : Data → List ℕ → Data → List Finding
-own_found whole path d = object_found path d ++ (front_found whole path d ++ (match_found (codes "match") (codes "match_re") (codes "matchers") path d ++ back_found whole path d))
+own_found whole path d =
+    object_found path d
+    ++ (at (list_found (defined_name_found whole)) path (codes "active_time_intervals") d
+    ++ (at flag_found path (codes "continue") d
+    ++ (at (list_found text_found) path (codes "group_by") d
+    ++ (at (spelled_found span_of) path (codes "group_interval") d
+    ++ (at (spelled_found span_of) path (codes "group_wait") d
+    ++ (match_found (codes "match") (codes "match_re") (codes "matchers") path d
+    ++ (at (list_found (defined_name_found whole)) path (codes "mute_time_intervals") d
+    ++ (at text_found path (codes "receiver") d
+    ++ at (spelled_found span_of) path (codes "repeat_interval") d))))))))
 
-is_route : (whole : Data) (parent : Option ℕ) (d : Data) (front : Front) (matchers : List Matcher) (back : Back) → IsFront whole d front → StatesMatchers (codes "match") (codes "match_re") (codes "matchers") d matchers → IsBack whole d back → IsRoute whole d (route_from parent front matchers back)
-is_route whole parent d front matchers back has_front has_matchers has_back =
-    record {
-      receiver = has_back.receiver;
-      group_by = has_front.group_by;
-      group_wait = has_front.group_wait;
-      group_interval = has_front.group_interval;
-      repeat_interval = has_back.repeat_interval;
-      continues = has_front.continues;
-      matchers = has_matchers;
-      active_time_intervals = has_front.active;
-      mute_time_intervals = has_back.mute;
-    }
+abbrev IsRouteOf : Data → Option ℕ → Data → Route → Type 0
+IsRouteOf whole parent d route = (route.parent ≡ parent) × IsRoute whole d route
 
-walk_own : (whole : Data) (path : List ℕ) (parent : Option ℕ) (d : Data) (routes : List Route) → JudgedWalk (own_into whole path parent d routes) (own_found whole path d) (AddsRoute whole parent d routes)
-unfolding own_into own_found
+walk_stated_names : (whole : Data) (path : List ℕ) (key : Text) (d : Data) → Judged (stated (names_at whole) path key d) (at (list_found (defined_name_found whole)) path key d) (States (IsListOf (IsDefinedName whole)) key d)
+walk_stated_names whole path key d = judged_stated (names_at whole) (list_found (defined_name_found whole)) (IsListOf (IsDefinedName whole)) path key d (judged_names whole _)
+
+walk_stated_span : (path : List ℕ) (key : Text) (d : Data) → Judged (stated span_at path key d) (at (spelled_found span_of) path key d) (States IsDuration key d)
+walk_stated_span path key d = judged_stated span_at (spelled_found span_of) IsDuration path key d (judged_span _)
+
+walk_one : (whole : Data) (path : List ℕ) (parent : Option ℕ) (d : Data) → Judged (route_at whole path parent d) (own_found whole path d) (IsRouteOf whole parent d)
+unfolding route_at own_found
+walk_one whole path parent d =
+    judged_then _ _ _ _ _ _ (judged_object path d) (λ members is_object.
+    judged_then _ _ _ _ _ _ (walk_stated_names whole path (codes "active_time_intervals") d) (λ active has_active.
+    judged_then _ _ _ _ _ _ ((judged_stated flag_at flag_found IsFlag path (codes "continue") d (judged_flag _))) (λ continues has_continues.
+    judged_then _ _ _ _ _ _ ((judged_stated texts_at (list_found text_found) (IsListOf IsText) path (codes "group_by") d (judged_texts _))) (λ group_by has_group_by.
+    judged_then _ _ _ _ _ _ (walk_stated_span path (codes "group_interval") d) (λ group_interval has_interval.
+    judged_then _ _ _ _ _ _ (walk_stated_span path (codes "group_wait") d) (λ group_wait has_wait.
+    judged_then _ _ _ _ _ _ (walk_matchers path (codes "match") (codes "match_re") (codes "matchers") d) (λ matchers has_matchers.
+    judged_then _ _ _ _ _ _ (walk_stated_names whole path (codes "mute_time_intervals") d) (λ mute has_mute.
+    judged_then _ _ _ _ _ _ ((judged_stated text_at text_found IsText path (codes "receiver") d (judged_text _))) (λ receiver has_receiver.
+    judged_map _ _ _ _ _ (walk_stated_span path (codes "repeat_interval") d) (λ repeat_interval has_repeat. (
+      refl,
+      record {
+        receiver = has_receiver;
+        group_by = grouped (member_of (codes "group_by") d) group_by has_group_by;
+        group_wait = has_wait;
+        group_interval = has_interval;
+        repeat_interval = has_repeat;
+        continues = (continues, has_continues, refl);
+        matchers = has_matchers;
+        active_time_intervals = (active, has_active, refl);
+        mute_time_intervals = (mute, has_mute, refl);
+      },
+    )))))))))))
+
+walk_own : (whole : Data) (path : List ℕ) (parent : Option ℕ) (d : Data) (routes : List Route) → Judged (own_into whole path parent d routes) (own_found whole path d) (AddsRoute whole parent d routes)
+unfolding own_into
 walk_own whole path parent d routes =
-    walk_next _ _ _ _ _ _ (walk_plain _ _ _ (judged_object path d)) (λ members is_object.
-    walk_next _ _ _ _ _ _ (walk_plain _ _ _ (judged_front whole path d)) (λ front has_front.
-    walk_next _ _ _ _ _ _ (walk_matchers path (codes "match") (codes "match_re") (codes "matchers") d) (λ matchers has_matchers.
-    walk_map _ _ _ _ _ (walk_plain _ _ _ (judged_back whole path d)) (λ back has_back.
-    (route_from parent front matchers back, refl, refl, is_route whole parent d front matchers back has_front has_matchers has_back)))))
+    judged_map _ _ _ _ _ (walk_one whole path parent d) (λ route (of, is). (route, refl, of, is))
 
 -- ---- routes below routes
 
@@ -137,34 +111,33 @@ neither_second true b e = absurd (true≢false e)
 neither_second false b e = e
 
 abbrev JudgesTree : Data → ℕ → Type 0
-JudgesTree whole left = (path : List ℕ) (parent : Option ℕ) (d : Data) (routes : List Route) → is_deeper left d ≡ false → JudgedWalk (add_route whole left path parent d routes) (route_found whole left path d) (AddsTree whole parent d routes)
+JudgesTree whole left = (path : List ℕ) (parent : Option ℕ) (d : Data) (routes : List Route) → is_deeper left d ≡ false → Judged (add_route whole left path parent d routes) (route_found whole left path d) (AddsTree whole parent d routes)
 
-walk_trees : (whole : Data) (left : ℕ) (path : List ℕ) (parent i : ℕ) (ds : Items) (routes : List Route) → JudgesTree whole left → any_item (is_deeper left) ds ≡ false → JudgedWalk (items_in_turn (child_into whole left path parent) i ds routes) (each_found (route_found whole left) (under path (codes "routes")) i ds) (AddsTrees whole parent ds routes)
-walk_trees whole left path parent i no_items routes judges shallow = walk_plain (Ok routes) [] _ (judged_ok routes _ ([], sym (append-nil routes), NoMore (length routes) parent))
+walk_trees : (whole : Data) (left : ℕ) (path : List ℕ) (parent i : ℕ) (ds : Items) (routes : List Route) → JudgesTree whole left → any_item (is_deeper left) ds ≡ false → Judged (items_in_turn (child_into whole left path parent) i ds routes) (each_found (route_found whole left) (under path (codes "routes")) i ds) (AddsTrees whole parent ds routes)
+walk_trees whole left path parent i no_items routes judges shallow = judged_ok routes _ ([], sym (append-nil routes), NoMore (length routes) parent)
 walk_trees whole left path parent i (item d ds) routes judges shallow =
-    walk_next (child_into whole left path parent i d routes) (items_in_turn (child_into whole left path parent) (i + 1) ds) (route_found whole left (item_path (under path (codes "routes")) i) d) (each_found (route_found whole left) (under path (codes "routes")) (i + 1) ds) (AddsTree whole (Some parent) d routes) (AddsTrees whole parent (item d ds) routes) (judges (item_path (under path (codes "routes")) i) (Some parent) d routes (neither_first _ _ shallow)) (λ one adds.
-    walk_as (items_in_turn (child_into whole left path parent) (i + 1) ds one) (each_found (route_found whole left) (under path (codes "routes")) (i + 1) ds) (AddsTrees whole parent ds one) (AddsTrees whole parent (item d ds) routes) (walk_trees whole left path parent (i + 1) ds one judges (neither_second (is_deeper left d) _ shallow)) (λ after rest. adds_tree whole parent d ds routes one after adds rest))
+    judged_then (child_into whole left path parent i d routes) (items_in_turn (child_into whole left path parent) (i + 1) ds) (route_found whole left (item_path (under path (codes "routes")) i) d) (each_found (route_found whole left) (under path (codes "routes")) (i + 1) ds) (AddsTree whole (Some parent) d routes) (AddsTrees whole parent (item d ds) routes) (judges (item_path (under path (codes "routes")) i) (Some parent) d routes (neither_first _ _ shallow)) (λ one adds.
+    judged_as (items_in_turn (child_into whole left path parent) (i + 1) ds one) (each_found (route_found whole left) (under path (codes "routes")) (i + 1) ds) (AddsTrees whole parent ds one) (AddsTrees whole parent (item d ds) routes) (walk_trees whole left path parent (i + 1) ds one judges (neither_second (is_deeper left d) _ shallow)) (λ after rest. adds_tree whole parent d ds routes one after adds rest))
 
 -- the routes of a list that may be absent
 abbrev AddsBelow : Data → ℕ → Option Data → List Route → List Route → Type 0
 AddsBelow whole parent o before after = (children : Items) × (found : Option Items) × StatesIf IsArray o found × (children ≡ unwrap_or found no_items) × (trees : List Route) × (after ≡ before ++ trees) × AreTrees whole (length before) parent children trees
 
-walk_below : (whole : Data) (left : ℕ) (path : List ℕ) (parent : ℕ) (d : Data) (own : List Route) → JudgesTree whole left → any_item (is_deeper left) (list_in (member_of (codes "routes") d)) ≡ false → JudgedWalk (next (plain (children_at path d)) (λ children. items_in_turn (child_into whole left path parent) 0 children own)) (at (list_found (route_found whole left)) path (codes "routes") d) (AddsBelow whole parent (member_of (codes "routes") d) own)
-unfolding children_at
+walk_below : (whole : Data) (left : ℕ) (path : List ℕ) (parent : ℕ) (d : Data) (own : List Route) → JudgesTree whole left → any_item (is_deeper left) (list_in (member_of (codes "routes") d)) ≡ false → Judged (next (children_at path d) (λ children. items_in_turn (child_into whole left path parent) 0 children own)) (at (list_found (route_found whole left)) path (codes "routes") d) (AddsBelow whole parent (member_of (codes "routes") d) own)
+unfolding children_at next
 walk_below whole left path parent d own judges shallow = go (member_of (codes "routes") d) shallow
   where
-    list : (v : Data) (o : Option Items) → as_array v ≡ o → any_item (is_deeper left) (unwrap_or o no_items) ≡ false → JudgedWalk (next (plain ((or_faulty (under path (codes "routes")) o >>= λ x. Ok (Some x)) >>= λ found. Ok (unwrap_or found no_items))) (λ children. items_in_turn (child_into whole left path parent) 0 children own)) (items_found (route_found whole left) (under path (codes "routes")) o) (AddsBelow whole parent (Some v) own)
-    list v None is shallow = walk_next (plain (Err (BadConfig (under path (codes "routes"))))) (λ children. items_in_turn (child_into whole left path parent) 0 children own) (Fault (under path (codes "routes")) ∷ []) [] (λ ds. ⊥) _ (walk_plain (Err (BadConfig (under path (codes "routes")))) (Fault (under path (codes "routes")) ∷ []) (λ ds. ⊥) (judged_fault (under path (codes "routes")) _)) (λ ds no. absurd no)
-    list v (Some ds) is shallow = walk_next (plain (Ok ds)) (λ children. items_in_turn (child_into whole left path parent) 0 children own) [] (each_found (route_found whole left) (under path (codes "routes")) 0 ds) (λ es. es ≡ ds) _ (walk_plain (Ok ds) [] _ (judged_ok ds _ refl)) (λ es same.
-        walk_as (items_in_turn (child_into whole left path parent) 0 es own) (each_found (route_found whole left) (under path (codes "routes")) 0 ds) (AddsTrees whole parent ds own) _ (rw same (walk_trees whole left path parent 0 ds own judges shallow)) (λ after (trees, adds, are). (ds, Some ds, is, refl, trees, adds, are)))
+    list : (v : Data) (o : Option Items) → as_array v ≡ o → any_item (is_deeper left) (unwrap_or o no_items) ≡ false → Judged (next (next (next (or_faulty (under path (codes "routes")) o) (λ x. give (Some x))) (λ found. give (unwrap_or found no_items))) (λ children. items_in_turn (child_into whole left path parent) 0 children own)) (items_found (route_found whole left) (under path (codes "routes")) o) (AddsBelow whole parent (Some v) own)
+    list v None is shallow = judged_fault (under path (codes "routes")) _
+    list v (Some ds) is shallow =
+        judged_as (items_in_turn (child_into whole left path parent) 0 ds own) (each_found (route_found whole left) (under path (codes "routes")) 0 ds) (AddsTrees whole parent ds own) _ (walk_trees whole left path parent 0 ds own judges shallow) (λ after (trees, adds, are). (ds, Some ds, is, refl, trees, adds, are))
 
-    go : (o : Option Data) → any_item (is_deeper left) (list_in o) ≡ false → JudgedWalk (next (plain (optional (items_at (under path (codes "routes"))) o >>= λ found. Ok (unwrap_or found no_items))) (λ children. items_in_turn (child_into whole left path parent) 0 children own)) (if_there (list_found (route_found whole left) (under path (codes "routes"))) o) (AddsBelow whole parent o own)
-    go None shallow = walk_next (plain (Ok no_items)) (λ children. items_in_turn (child_into whole left path parent) 0 children own) [] [] (λ es. es ≡ no_items) _ (walk_plain (Ok no_items) [] _ (judged_ok no_items _ refl)) (λ es same.
-        rw same (walk_plain (Ok own) [] _ (judged_ok own _ (no_items, None, tt, refl, [], sym (append-nil own), NoMore (length own) parent))))
+    go : (o : Option Data) → any_item (is_deeper left) (list_in o) ≡ false → Judged (next (next (optional (items_at (under path (codes "routes"))) o) (λ found. give (unwrap_or found no_items))) (λ children. items_in_turn (child_into whole left path parent) 0 children own)) (if_there (list_found (route_found whole left) (under path (codes "routes"))) o) (AddsBelow whole parent o own)
+    go None shallow = judged_ok own _ (no_items, None, tt, refl, [], sym (append-nil own), NoMore (length own) parent)
     go (Some v) shallow = list v (as_array v) refl shallow
 
 -- the members of a route, one after another
-flattened : (object a b c d e match m r i rest : List Finding) → (object ++ ((a ++ (b ++ (c ++ (d ++ e)))) ++ (match ++ (m ++ (r ++ i))))) ++ rest ≡ object ++ (a ++ (b ++ (c ++ (d ++ (e ++ (match ++ (m ++ (r ++ (i ++ rest)))))))))
+flattened : (object a b c d e match m r i rest : List Finding) → (object ++ (a ++ (b ++ (c ++ (d ++ (e ++ (match ++ (m ++ (r ++ i))))))))) ++ rest ≡ object ++ (a ++ (b ++ (c ++ (d ++ (e ++ (match ++ (m ++ (r ++ (i ++ rest)))))))))
 flattened object a b c d e match m r i rest = simp append_assoc refl
 
 route_grows : (whole : Data) (parent : Option ℕ) (d : Data) (routes own after : List Route) → AddsRoute whole parent d routes own → AddsBelow whole (length routes) (member_of (codes "routes") d) own after → AddsTree whole parent d routes after
@@ -173,7 +146,7 @@ route_grows whole parent d routes own after (route, adds, of, is) (children, fou
     (route ∷ trees, rest ∙ ap (λ l. l ++ trees) adds ∙ append_assoc routes (route ∷ []) trees, Tree (length routes) parent d route children trees is of (found, states, same) (subst (λ n. AreTrees whole n (length routes) children trees) long are))
 
 found_in_order : (whole : Data) (left : ℕ) (path : List ℕ) (d : Data) → own_found whole path d ++ at (list_found (route_found whole left)) path (codes "routes") d ≡ route_found whole (suc left) path d
-unfolding own_found front_found back_found route_found
+unfolding own_found route_found
 found_in_order whole left path d =
     flattened (object_found path d)
     (at (list_found (defined_name_found whole)) path (codes "active_time_intervals") d)
@@ -191,16 +164,16 @@ walk_route : (whole : Data) (left : ℕ) → JudgesTree whole left
 unfolding add_route is_deeper
 walk_route whole zero path parent d routes shallow = absurd (true≢false shallow)
 walk_route whole (suc left) path parent d routes shallow =
-    walk_by _ (own_found whole path d ++ at (list_found (route_found whole left)) path (codes "routes") d) _ _ (found_in_order whole left path d)
-    (walk_next (own_into whole path parent d routes) _ (own_found whole path d) (at (list_found (route_found whole left)) path (codes "routes") d) (AddsRoute whole parent d routes) _ (walk_own whole path parent d routes) (λ own adds.
-    walk_as _ _ _ _ (walk_below whole left path (length routes) d own (walk_route whole left) shallow) (λ after below. route_grows whole parent d routes own after adds below)))
+    by_findings _ (own_found whole path d ++ at (list_found (route_found whole left)) path (codes "routes") d) _ _ (found_in_order whole left path d)
+    (judged_then (own_into whole path parent d routes) _ (own_found whole path d) (at (list_found (route_found whole left)) path (codes "routes") d) (AddsRoute whole parent d routes) _ (walk_own whole path parent d routes) (λ own adds.
+    judged_as _ _ _ _ (walk_below whole left path (length routes) d own (walk_route whole left) shallow) (λ after below. route_grows whole parent d routes own after adds below)))
 
-walk_tree : (whole : Data) (o : Option Data) → option_map_or (is_deeper 32) o false ≡ false → JudgedWalk (tree_from whole o) (if_there_or (Fault (codes "route") ∷ []) (route_found whole 32 (codes "route")) o) (λ routes. (v : Data) × (o ≡ Some v) × IsTree whole 0 None v routes)
-walk_tree whole None shallow = walk_plain (Err (BadConfig (codes "route"))) (Fault (codes "route") ∷ []) _ (judged_fault (codes "route") _)
+walk_tree : (whole : Data) (o : Option Data) → option_map_or (is_deeper 32) o false ≡ false → Judged (tree_from whole o) (if_there_or (Fault (codes "route") ∷ []) (route_found whole 32 (codes "route")) o) (λ routes. (v : Data) × (o ≡ Some v) × IsTree whole 0 None v routes)
+walk_tree whole None shallow = judged_fault (codes "route") _
 walk_tree whole (Some route) shallow =
-    walk_as _ _ _ _ (walk_route whole 32 (codes "route") None route [] shallow) (λ routes (tree, same, is). (route, refl, rw same is))
+    judged_as _ _ _ _ (walk_route whole 32 (codes "route") None route [] shallow) (λ routes (tree, same, is). (route, refl, rw same is))
 
-walk_routes : (d : Data) → is_too_deep d ≡ false → JudgedWalk (routes_at d) (needed_at (route_found d 32) [] (codes "route") d) (HasAt (IsTree d 0 None) (codes "route") d)
+walk_routes : (d : Data) → is_too_deep d ≡ false → Judged (routes_at d) (needed_at (route_found d 32) [] (codes "route") d) (HasAt (IsTree d 0 None) (codes "route") d)
 unfolding routes_at is_too_deep
 walk_routes d shallow = walk_tree d (member_of (codes "route") d) shallow
 
@@ -222,16 +195,16 @@ whole_in_order : (d : Data) → whole_found d ≡ findings_of d
 unfolding whole_found findings_of
 whole_in_order d = append_assoc (object_found [] d) (at global_found [] (codes "global") d) _
 
-walk_whole : (d : Data) → is_too_deep d ≡ false → JudgedWalk (walked_at d) (whole_found d) (StatesWhole d)
+walk_whole : (d : Data) → is_too_deep d ≡ false → Judged (walked_at d) (whole_found d) (StatesWhole d)
 unfolding walked_at whole_found
 walk_whole d shallow =
-    walk_next _ _ _ _ _ _ (walk_plain _ _ _ (judged_timeout d)) (λ timeout has_timeout.
-    walk_next _ _ _ _ _ _ (walk_rules d) (λ rules has_rules.
-    walk_next _ _ _ _ _ _ (walk_plain _ _ _ (judged_defined (codes "mute_time_intervals") d [])) (λ mute (of_mute, same_mute, has_mute).
-    walk_next _ _ _ _ _ _ (walk_plain _ _ _ (judged_receivers d)) (λ receivers has_receivers.
-    walk_next _ _ _ _ _ _ (walk_routes d shallow) (λ routes has_routes.
-    walk_by _ _ _ _ (ap (λ names. if_there (λ v. interval_list_found names (codes "time_intervals") (as_array v)) (member_of (codes "time_intervals") d)) (sym (names_under_read (codes "mute_time_intervals") d mute (rw same_mute has_mute))))
-    (walk_map _ _ _ _ _ (walk_plain _ _ _ (judged_defined (codes "time_intervals") d mute)) (λ named (of_named, same_named, has_named).
+    judged_then _ _ _ _ _ _ (judged_timeout d) (λ timeout has_timeout.
+    judged_then _ _ _ _ _ _ (walk_rules d) (λ rules has_rules.
+    judged_then _ _ _ _ _ _ ((judged_defined (codes "mute_time_intervals") d [])) (λ mute (of_mute, same_mute, has_mute).
+    judged_then _ _ _ _ _ _ (judged_receivers d) (λ receivers has_receivers.
+    judged_then _ _ _ _ _ _ (walk_routes d shallow) (λ routes has_routes.
+    by_findings _ _ _ _ (ap (λ names. if_there (λ v. interval_list_found names (codes "time_intervals") (as_array v)) (member_of (codes "time_intervals") d)) (sym (names_under_read (codes "mute_time_intervals") d mute (rw same_mute has_mute))))
+    (judged_map _ _ _ _ _ ((judged_defined (codes "time_intervals") d mute)) (λ named (of_named, same_named, has_named).
     record {
       resolve_timeout = has_timeout;
       rules = has_rules;
@@ -240,5 +213,5 @@ walk_whole d shallow =
       routes = has_routes;
     })))))))
 
-pub walked_judged : (d : Data) → is_too_deep d ≡ false → JudgedWalk (walked_at d) (findings_of d) (StatesWhole d)
-walked_judged d shallow = walk_by _ _ _ _ (whole_in_order d) (walk_whole d shallow)
+pub walked_judged : (d : Data) → is_too_deep d ≡ false → Judged (walked_at d) (findings_of d) (StatesWhole d)
+walked_judged d shallow = by_findings _ _ _ _ (whole_in_order d) (walk_whole d shallow)

@@ -4,8 +4,8 @@ pub mod Judged
 pub mod JudgedParts
 pub mod JudgedReceivers
 pub mod JudgedRoutes
-pub mod JudgedWalks
-pub mod KindPlacing
+pub mod JudgedMatchers
+pub mod EntryPlacing
 pub mod Levels
 pub mod Names
 pub mod PatternsMet

@@ -1,13 +1,12 @@
 -- A pattern of a text is among those that the walk meets there.
-use Rattle.std.proofs.Common.{◌≡◌, ℕ, Bool, true, false, cond, List, [], ◌∷◌, ◌++◌, map, Err, refl, inr, arith}
+use Rattle.std.proofs.Common.{◌≡◌, ℕ, Bool, true, false, cond, List, [], ◌∷◌, ◌++◌, map, refl, inr, arith}
 use Rattle.std.specs.List.{Contains, filter}
 use Rattle.std.proofs.lemmas.List.Elements.{Contains-append_right}
 use Rattle.amr_matchers.specs.Matchers.{Matcher, takes_pattern}
 use Rattle.amr_matchers.specs.MatcherRefusals.{OneMayBeRefused}
-use Rattle.amr_stated.specs.declared.error.Refusal.TheVariants.{BadConfig}
 use Rattle.amr_stated.specs.declared.error.ConfigError.{ConfigError}
 use Rattle.amr_stated.specs.declared.error.ConfigError.TheVariants.{Memory, Refused}
-use Rattle.amr_stated.specs.Answers.{Fails, Stops}
+use Rattle.amr_stated.specs.Answers.{IsFault, Stops}
 use Rattle.amr_stated.specs.Readings.{patterns_in, matchers_met, MayGive}
 
 still_met : {X Y : Type 0} (b : Bool) (f : X → Y) (x : X) (xs : List X) (y : Y) → Contains (map f xs) y → Contains (map f (cond b (x ∷ xs) xs)) y
@@ -20,8 +19,7 @@ is_met path (m ∷ before) after refused takes =
     still_met (takes_pattern m.operator) (λ (m : Matcher). (path, m.value)) m (filter (λ (m : Matcher). takes_pattern m.operator) (before ++ refused ∷ after)) (path, refused.value) (is_met path before after refused takes)
 
 -- a text with a pattern that may be refused may be a faulty place
-pub stops_refused : (e : ConfigError) (path : List ℕ) (matchers : List Matcher) → OneMayBeRefused matchers → Fails {Y = ℕ} e (Err (BadConfig path)) → Stops e (MayGive (matchers_met path matchers))
+pub stops_refused : (e : ConfigError) (path : List ℕ) (matchers : List Matcher) → OneMayBeRefused matchers → IsFault e path → Stops e (MayGive (matchers_met path matchers))
 stops_refused Memory path matchers one h = tt
 stops_refused (Refused r) path matchers (before, after, refused, is, (takes, may)) h =
-    let same : r ≡ BadConfig path = cc in
-    inr (path, refused.value, rw is (is_met path before after refused takes), may, same)
+    inr (path, refused.value, rw is (is_met path before after refused takes), may, h)

@@ -9,15 +9,15 @@ use Rattle.amr_stated.specs.declared.error.Refusal.{Refusal}
 use Rattle.amr_stated.specs.declared.route.Route.{Route}
 use Rattle.amr_stated.specs.declared.stated.Stated.{Stated}
 use Rattle.amr_stated.specs.Paths.{under, item_path}
-use Rattle.amr_stated.specs.Members.{member_of, members_at}
-use Rattle.amr_stated.specs.ReadIntervals.{intervals_at}
-use Rattle.amr_stated.specs.Readings.{Reading, plain, next, value_after, items_in_turn}
+use Rattle.amr_stated.specs.Members.{member_of, stated, members_at, text_at, flag_at, span_at, texts_at}
+use Rattle.amr_stated.specs.ReadIntervals.{intervals_at, names_at}
+use Rattle.amr_stated.specs.Readings.{Reading, next, value_after, items_in_turn}
 use Rattle.amr_stated.specs.Timeout.{timeout_at}
 use Rattle.amr_stated.specs.ReadMatchers.{matchers_at}
 use Rattle.amr_stated.specs.ReadReceivers.{receivers_at}
 use Rattle.amr_stated.specs.ReadRules.{rules_at}
-use Rattle.amr_stated.specs.RouteParts.{front_at, back_at, children_at}
-use Rattle.amr_stated.specs.ReadRoutes.{own_into, add_route, child_into, tree_from, routes_at, route_from}
+use Rattle.amr_stated.specs.RouteParts.{children_at}
+use Rattle.amr_stated.specs.ReadRoutes.{route_at, own_into, add_route, child_into, tree_from, routes_at}
 use Rattle.amr_stated.specs.Walking.{walked_at}
 
 abbrev pub AreFirst : List Route → Type 0
@@ -53,14 +53,26 @@ first_push routes route first below n parent e =
       | inr (k, same) ↦ omega (arith, k, below parent (ap (λ o. option_map_or (λ (r : Route). r.parent) o None) (sym same) ∙ e))
     ]
 
+route_parent : (whole : Data) (path : List ℕ) (parent : Option ℕ) (d : Data) (route : Route) → (route_at whole path parent d).value ≡ Ok route → route.parent ≡ parent
+unfolding route_at
+route_parent whole path parent d route e =
+    let object = bind_ok (members_at path d) _ route e in
+    let active = bind_ok (stated (names_at whole) path (codes "active_time_intervals") d) _ route object.2 in
+    let continues = bind_ok (stated flag_at path (codes "continue") d) _ route active.2 in
+    let group_by = bind_ok (stated texts_at path (codes "group_by") d) _ route continues.2 in
+    let group_interval = bind_ok (stated span_at path (codes "group_interval") d) _ route group_by.2 in
+    let group_wait = bind_ok (stated span_at path (codes "group_wait") d) _ route group_interval.2 in
+    let matchers = bind_ok (matchers_at path (codes "match") (codes "match_re") (codes "matchers") d) _ route group_wait.2 in
+    let mute = bind_ok (stated (names_at whole) path (codes "mute_time_intervals") d) _ route matchers.2 in
+    let receiver = bind_ok (stated text_at path (codes "receiver") d) _ route mute.2 in
+    let repeat_interval = bind_ok (stated span_at path (codes "repeat_interval") d) _ route receiver.2 in
+    sym (ap (λ (r : Route). r.parent) (ok_same _ route repeat_interval.2))
+
 pub own_adds : (whole : Data) (path : List ℕ) (parent : Option ℕ) (d : Data) (routes own : List Route) → (own_into whole path parent d routes).value ≡ Ok own → (route : Route) × (route.parent ≡ parent) × (own ≡ routes ++ route ∷ [])
 unfolding own_into
 own_adds whole path parent d routes own e =
-    let a = bind_ok (plain (members_at path d)) _ own e in
-    let b = bind_ok (plain (front_at whole path d)) _ own a.2 in
-    let m = bind_ok (matchers_at path (codes "match") (codes "match_re") (codes "matchers") d) _ own b.2 in
-    let c = bind_ok (plain (back_at whole path d)) _ own m.2 in
-    (route_from parent b.0 m.0 c.0, refl, sym (ok_same _ own c.2))
+    let read = bind_ok (route_at whole path parent d) _ own e in
+    (read.0, route_parent whole path parent d read.0 read.1, sym (ok_same _ own read.2))
 
 record Keeps (before after : List Route) : Type 0 where
   first : AreFirst after
@@ -83,7 +95,7 @@ unfolding add_route
 route_keeps whole zero path parent d routes after e first below = cc
 route_keeps whole (suc left) path parent d routes after e first below =
     let a = bind_ok (own_into whole path parent d routes) _ after e in
-    let b = bind_ok (plain (children_at path d)) _ after a.2 in
+    let b = bind_ok (children_at path d) _ after a.2 in
     let own = own_adds whole path parent d routes a.0 a.1 in
     let grown : length a.0 ≡ length routes + 1 = ap length own.2 ∙ length_push routes own.0 in
     let own_first : AreFirst a.0 = rw own.2 (first_push routes own.0 first (λ p s. below p (sym own.1 ∙ s))) in
@@ -106,11 +118,11 @@ routes_first d routes e =
 pub walked_first : (d : Data) (stated : Stated) → (walked_at d).value ≡ Ok stated → AreFirst stated.routes
 unfolding walked_at
 walked_first d stated e =
-    let timeout = bind_ok (plain (timeout_at d)) _ stated e in
+    let timeout = bind_ok (timeout_at d) _ stated e in
     let rules = bind_ok (rules_at d) _ stated timeout.2 in
-    let mute = bind_ok (plain (intervals_at (codes "mute_time_intervals") d [])) _ stated rules.2 in
-    let receivers = bind_ok (plain (receivers_at d)) _ stated mute.2 in
+    let mute = bind_ok (intervals_at (codes "mute_time_intervals") d []) _ stated rules.2 in
+    let receivers = bind_ok (receivers_at d) _ stated mute.2 in
     let routes = bind_ok (routes_at d) _ stated receivers.2 in
-    let named = bind_ok (plain (intervals_at (codes "time_intervals") d mute.0)) _ stated routes.2 in
+    let named = bind_ok (intervals_at (codes "time_intervals") d mute.0) _ stated routes.2 in
     let same = ok_same _ stated named.2 in
     rw (← same) (routes_first d routes.0 routes.1)

@@ -1,23 +1,30 @@
 -- What a reader answers, beside what reading gives.
-use Rattle.std.specs.Prelude.{◌≡◌, Result, Ok, Err}
+use Rattle.std.specs.Prelude.{◌≡◌, ℕ, List, Result, Ok, Err}
 use Rattle.amr_stated.specs.declared.error.Refusal.{Refusal}
+use Rattle.amr_stated.specs.declared.error.Refusal.TheVariants.{BadConfig}
 use Rattle.amr_stated.specs.declared.error.ConfigError.{ConfigError}
 use Rattle.amr_stated.specs.declared.error.ConfigError.TheVariants.{Memory, Refused}
-use Rattle.amr_stated.specs.Readings.{Reading, MayGive}
+use Rattle.amr_stated.specs.Readings.{Reading, plain, give, MayGive}
 
 -- an error of want of memory says nothing
-abbrev pub Fails : {Y : Type 0} → ConfigError → Result Y Refusal → Type 0
-Fails Memory read = Unit {0}
-Fails (Refused refusal) read = read ≡ Err refusal
+abbrev pub IsFault : ConfigError → List ℕ → Type 0
+IsFault Memory path = Unit {0}
+IsFault (Refused refusal) path = refusal ≡ BadConfig path
 
-abbrev pub Gives : {X Y : Type 0} → (X → Y) → Result X ConfigError → Result Y Refusal → Type 0
-Gives view (Ok x) read = read ≡ Ok (view x)
-Gives view (Err e) read = Fails e read
+-- ---- parts without patterns
+
+abbrev pub Fails : {Y : Type 0} → ConfigError → Reading Y → Type 0
+Fails Memory reading = Unit {0}
+Fails (Refused refusal) reading = reading ≡ plain (Err refusal)
+
+abbrev pub Gives : {X Y : Type 0} → (X → Y) → Result X ConfigError → Reading Y → Type 0
+Gives view (Ok x) reading = reading ≡ give (view x)
+Gives view (Err e) reading = Fails e reading
 
 -- the same of a function that changes what it is lent: on `Ok` it is what reading gives
-abbrev pub Changes : {X Y : Type 0} → (X → Y) → Result (Unit {0}) ConfigError → X → Result Y Refusal → Type 0
-Changes view (Ok u) new read = read ≡ Ok (view new)
-Changes view (Err e) new read = Fails e read
+abbrev pub Changes : {X Y : Type 0} → (X → Y) → Result (Unit {0}) ConfigError → X → Reading Y → Type 0
+Changes view (Ok u) new reading = reading ≡ give (view new)
+Changes view (Err e) new reading = Fails e reading
 
 -- ---- where the walk may meet patterns
 

@@ -1,32 +1,27 @@
 -- The inhibition rules of a configuration, by the walk through their members in the order of the keys.
-use Rattle.std.specs.Prelude.{ℕ, List, [], ◌∷◌, ◌++◌, Option, Some, None, Ok, codes, unwrap_or}
+use Rattle.std.specs.Prelude.{ℕ, List, [], ◌∷◌, ◌++◌, codes, unwrap_or}
 use Rattle.serde_json.specs.Data.{Data}
 use Rattle.amr_stated.specs.declared.rule.InhibitRule.{InhibitRule}
 use Rattle.amr_stated.specs.Paths.{item_path}
-use Rattle.amr_stated.specs.Members.{member_of, stated, items_at, members_at, texts_at}
-use Rattle.amr_stated.specs.Readings.{Reading, plain, ◌>>=◌, items_in_turn}
+use Rattle.amr_stated.specs.Members.{stated, items_at, members_at, texts_at}
+use Rattle.amr_stated.specs.Readings.{Reading, give, ◌>>=◌, items_in_turn}
 use Rattle.amr_stated.specs.ReadMatchers.{matchers_at}
 
 unfoldable pub rule_at : List ℕ → Data → Reading InhibitRule
 rule_at path d = do
-  whole ← plain (members_at path d)
-  equal ← plain (stated texts_at path (codes "equal") d)
+  whole ← members_at path d
+  equal ← stated texts_at path (codes "equal") d
   source ← matchers_at path (codes "source_match") (codes "source_match_re") (codes "source_matchers") d
   target ← matchers_at path (codes "target_match") (codes "target_match_re") (codes "target_matchers") d
-  plain (Ok (record { source = source; target = target; equal = unwrap_or equal [] }))
+  give (record { source = source; target = target; equal = unwrap_or equal [] })
 
 -- a rule, after those before it
 unfoldable pub rule_into : List ℕ → ℕ → Data → List InhibitRule → Reading (List InhibitRule)
-rule_into path i d rules = rule_at (item_path path i) d >>= λ rule. plain (Ok (rules ++ rule ∷ []))
+rule_into path i d rules = rule_at (item_path path i) d >>= λ rule. give (rules ++ rule ∷ [])
 
 unfoldable pub rules_list : List ℕ → Data → Reading (List InhibitRule)
-rules_list path d = plain (items_at path d) >>= λ ds. items_in_turn (rule_into path) 0 ds []
+rules_list path d = items_at path d >>= λ ds. items_in_turn (rule_into path) 0 ds []
 
--- rules that may be absent
-abbrev pub rules_from : List ℕ → Option Data → Reading (List InhibitRule)
-rules_from path None = plain (Ok [])
-rules_from path (Some d) = rules_list path d
-
--- the rules of a whole configuration
+-- the rules of a whole configuration, which may be absent
 unfoldable pub rules_at : Data → Reading (List InhibitRule)
-rules_at d = rules_from (codes "inhibit_rules") (member_of (codes "inhibit_rules") d)
+rules_at d = stated rules_list [] (codes "inhibit_rules") d >>= λ found. give (unwrap_or found [])

@@ -18,6 +18,13 @@ pub record Reading (A : Type 0) : Type 0 where
 abbrev pub plain : {A : Type 0} → Result A Refusal → Reading A
 plain read = record { value = read; patterns = [] }
 
+abbrev pub give : {A : Type 0} → A → Reading A
+give x = plain (Ok x)
+
+-- a fault at a place
+abbrev pub faulty : {A : Type 0} → List ℕ → Reading A
+faulty path = plain (Err (BadConfig path))
+
 abbrev pub patterns_in : List ℕ → List Matcher → List (List ℕ × Text)
 patterns_in path matchers = map (λ matcher. (path, matcher.value)) (filter (λ matcher. takes_pattern matcher.operator) matchers)
 
@@ -43,17 +50,17 @@ part >>= rest = next part rest
 
 -- a member that may be absent, taken into what the ones before gave
 abbrev pub if_present : {A : Type 0} → (Data → A → Reading A) → Option Data → A → Reading A
-if_present f None a = plain (Ok a)
+if_present f None a = give a
 if_present f (Some d) a = f d a
 
 -- each item, from the i-th on, taken into what the ones before gave
 abbrev pub items_in_turn : {A : Type 0} → (ℕ → Data → A → Reading A) → ℕ → Items → A → Reading A
-items_in_turn f i no_items a = plain (Ok a)
+items_in_turn f i no_items a = give a
 items_in_turn f i (item d ds) a = f i d a >>= items_in_turn f (i + 1) ds
 
 -- each member, in the order of keys, taken into what the ones before gave
 abbrev pub members_in_turn : {A : Type 0} → (List ℕ → Data → A → Reading A) → Members → A → Reading A
-members_in_turn f no_members a = plain (Ok a)
+members_in_turn f no_members a = give a
 members_in_turn f (member k d ms) a = f k d a >>= members_in_turn f ms
 
 -- a pattern among these that `regex` may refuse makes its place faulty

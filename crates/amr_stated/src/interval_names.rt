@@ -1,4 +1,6 @@
 //! The names by which routes take time intervals, read from a value.
+#![tactic(auto, unfolding(crate::specs::Readings::next))]
+
 ghost use Rattle.std.specs.Prelude.{◌≡◌};
 ghost use Rattle.serde_json.specs.View.{view, items_view};
 ghost use Rattle.amr_stated.specs.Paths.{place_path};
@@ -30,7 +32,7 @@ pub(crate) fn names_member(
     }
 }
 
-#[tactic(auto, unfolding(crate::specs::ReadIntervals::names_at))]
+#[tactic(auto, unfolding(crate::specs::ReadIntervals::names_at, crate::specs::Readings::next))]
 fn names(
     alloc: Global,
     whole: &Value,
@@ -48,7 +50,7 @@ fn names(
     Ok(names)
 }
 
-#[tactic(auto, unfolding(crate::specs::ReadIntervals::name_into))]
+#[tactic(auto, unfolding(crate::specs::ReadIntervals::name_into, crate::specs::Readings::next))]
 fn add_name(
     alloc: Global,
     whole: &Value,

@@ -1,4 +1,6 @@
 //! Members and items of a value, by their shapes.
+#![tactic(auto, unfolding(crate::specs::Readings::next))]
+
 ghost use Rattle.std.specs.Prelude.{◌≡◌, ℕ, Bool, List, option_map};
 ghost use Rattle.std.specs.Ordering.{eq_by_cmp};
 ghost use Rattle.amr_labels.specs.Labels.{text_cmp};
@@ -69,7 +71,7 @@ pub(crate) fn items<'v>(
     }
 }
 
-#[tactic(auto, unfolding(crate::specs::Members::span_at))]
+#[tactic(auto, unfolding(crate::specs::Members::span_at, crate::specs::Readings::next))]
 fn span(alloc: Global, place: &Place, value: &Value) -> Result<Span, ConfigError>
     ensures { Gives (λ n. n) result (span_at (place_path place.now) (view value.now)) }
 {
@@ -79,7 +81,7 @@ fn span(alloc: Global, place: &Place, value: &Value) -> Result<Span, ConfigError
     }
 }
 
-#[tactic(auto, unfolding(crate::specs::Members::text_into))]
+#[tactic(auto, unfolding(crate::specs::Members::text_into, crate::specs::Readings::next))]
 fn text_item(
     alloc: Global,
     place: &Place,
@@ -95,7 +97,7 @@ fn text_item(
     Ok(())
 }
 
-#[tactic(auto, unfolding(crate::specs::Members::texts_at))]
+#[tactic(auto, unfolding(crate::specs::Members::texts_at, crate::specs::Readings::next))]
 fn texts(alloc: Global, place: &Place, value: &Value) -> Result<Listing<Text>, ConfigError>
     ensures { Gives (λ ts. ts) result (texts_at (place_path place.now) (view value.now)) }
 {

@@ -1,8 +1,7 @@
 //! Places in a value.
-ghost use Rattle.std.specs.Prelude.{◌≡◌, ℕ, [], Err, OnOk, string_bytes};
-ghost use Rattle.amr_stated.specs.declared.error.Refusal.TheVariants.{BadConfig};
+ghost use Rattle.std.specs.Prelude.{◌≡◌, [], OnOk, string_bytes};
 ghost use Rattle.amr_stated.specs.Paths.{place_path};
-ghost use Rattle.amr_stated.specs.Answers.{Fails};
+ghost use Rattle.amr_stated.specs.Answers.{IsFault};
 
 use crate::error::{ConfigError, Refusal};
 use amr_labels::Text;
@@ -39,7 +38,7 @@ impl Place<'_> {
 
     /// That the value here has the wrong shape.
     pub(crate) fn faulty(&self, alloc: Global) -> ConfigError
-        ensures { Fails {Y = ℕ} result (Err (BadConfig (place_path self.now))) }
+        ensures { IsFault result (place_path self.now) }
     {
         let mut path = String::new(alloc);
         if self.write(&mut path).is_err() {

@@ -1,8 +1,9 @@
 //! What a value states, read from it.
-ghost use Rattle.std.specs.Prelude.{◌≡◌, codes};
+ghost use Rattle.std.specs.Prelude.{◌≡◌, [], codes};
 ghost use Rattle.serde_json.specs.View.{view};
 ghost use Rattle.amr_stated.specs.Answers.{Gives, Reads};
-ghost use Rattle.amr_stated.specs.Members.{optional, member_of};
+ghost use Rattle.amr_stated.specs.Members.{stated};
+ghost use Rattle.amr_stated.specs.Paths.{place_path};
 ghost use Rattle.amr_stated.specs.Timeout.{timeout_in, timeout_stated, timeout_at};
 ghost use Rattle.amr_stated.specs.Walking.{walked_at};
 
@@ -18,23 +19,25 @@ use amr_time::Span;
 use serde_json::Value;
 use std::alloc::Global;
 
-#[tactic(auto, unfolding(crate::specs::Timeout::timeout_in))]
-fn timeout(alloc: Global, value: &Value) -> Result<Option<Span>, ConfigError>
-    ensures { Gives (λ o. o) result (timeout_in (view value.now)) }
+#[tactic(auto, unfolding(crate::specs::Timeout::timeout_in, crate::specs::Readings::next))]
+fn timeout(alloc: Global, place: &Place, value: &Value) -> Result<Option<Span>, ConfigError>
+    ensures { Gives (λ o. o) result (timeout_in (place_path place.now) (view value.now)) }
 {
-    let here = Place::Member(&Place::Top, "global");
     if !value.is_object() {
-        return Err(here.faulty(alloc));
+        return Err(place.faulty(alloc));
     }
-    span_member(alloc, &here, value, "resolve_timeout")
+    span_member(alloc, place, value, "resolve_timeout")
 }
 
+#[tactic(auto, unfolding(crate::specs::Readings::next))]
 fn timeout_member(alloc: Global, value: &Value) -> Result<Option<Option<Span>>, ConfigError>
-    ensures { Gives (λ o. o) result
-        (optional timeout_in (member_of (codes "global") (view value.now))) }
+    ensures { Gives (λ o. o) result (stated timeout_in [] (codes "global") (view value.now)) }
 {
     match member(value, "global") {
-        Some(found) => Ok(Some(timeout(alloc, found)?)),
+        Some(found) => {
+            let here = Place::Member(&Place::Top, "global");
+            Ok(Some(timeout(alloc, &here, found)?))
+        }
         None => Ok(None),
     }
 }
@@ -50,7 +53,7 @@ fn stated_timeout(timeout: Option<Option<Span>>) -> Span
     }
 }
 
-#[tactic(auto, unfolding(crate::specs::Timeout::timeout_at))]
+#[tactic(auto, unfolding(crate::specs::Timeout::timeout_at, crate::specs::Readings::next))]
 fn read_timeout(alloc: Global, value: &Value) -> Result<Span, ConfigError>
     ensures { Gives (λ span. span) result (timeout_at (view value.now)) }
 {

@@ -1,4 +1,6 @@
 //! Time intervals, read from a value.
+#![tactic(auto, unfolding(crate::specs::Readings::next))]
+
 ghost use Rattle.std.specs.Prelude.{◌≡◌, [], Some, codes};
 ghost use Rattle.std.specs.List.{list_any};
 ghost use Rattle.std.specs.Ordering.{eq_by_cmp};
@@ -9,7 +11,7 @@ ghost use Rattle.amr_stated.specs.Paths.{place_path};
 ghost use Rattle.amr_stated.specs.declared.read_intervals.Field.TheVariants.{Months, Years};
 ghost use Rattle.amr_stated.specs.Answers.{Gives, Changes};
 ghost use Rattle.amr_stated.specs.Members.{stated};
-ghost use Rattle.amr_stated.specs.ReadIntervals.{range_in, day_range_in, range_into, ranges_at, time_of, time_range_at, time_range_into, times_at, location_at, interval_fields_at, interval_member_at, interval_member_into, interval_members_at, is_taken as taken_of, new_name_at, interval_at, interval_into, intervals_from, intervals_at};
+ghost use Rattle.amr_stated.specs.ReadIntervals.{range_in, day_range_in, range_into, ranges_at, time_of, time_range_at, time_range_into, times_at, location_at, interval_member_at, interval_member_into, interval_members_at, is_taken as taken_of, new_name_at, interval_at, interval_into, intervals_from, intervals_at};
 
 use crate::error::ConfigError;
 use crate::interval::NamedInterval;
@@ -34,7 +36,7 @@ pub(crate) fn read_mute_time_intervals(
 }
 
 /// Adds the intervals that the list under a key of a whole configuration defines.
-#[tactic(auto, unfolding(crate::specs::ReadIntervals::intervals_at))]
+#[tactic(auto, unfolding(crate::specs::ReadIntervals::intervals_at, crate::specs::Readings::next))]
 pub(crate) fn read_intervals(
     alloc: Global,
     value: &Value,
@@ -66,7 +68,7 @@ fn with_intervals(
     Ok(intervals)
 }
 
-#[tactic(auto, unfolding(crate::specs::ReadIntervals::interval_into))]
+#[tactic(auto, unfolding(crate::specs::ReadIntervals::interval_into, crate::specs::Readings::next))]
 fn add_interval(
     alloc: Global,
     place: &Place,
@@ -83,7 +85,7 @@ fn add_interval(
     Ok(())
 }
 
-#[tactic(auto, unfolding(crate::specs::ReadIntervals::interval_at))]
+#[tactic(auto, unfolding(crate::specs::ReadIntervals::interval_at, crate::specs::Readings::next))]
 fn interval(
     alloc: Global,
     place: &Place,
@@ -113,7 +115,7 @@ fn interval(
 }
 
 /// A text that no interval before it has as its name.
-#[tactic(auto, unfolding(crate::specs::ReadIntervals::new_name_at))]
+#[tactic(auto, unfolding(crate::specs::ReadIntervals::new_name_at, crate::specs::Readings::next))]
 fn new_name(
     alloc: Global,
     place: &Place,
@@ -138,7 +140,7 @@ fn is_taken(name: &str, intervals: &[NamedInterval]) -> bool
         .any(|interval| same(interval.name.as_str(), name))
 }
 
-#[tactic(auto, unfolding(crate::specs::ReadIntervals::interval_members_at))]
+#[tactic(auto, unfolding(crate::specs::ReadIntervals::interval_members_at, crate::specs::Readings::next))]
 fn interval_members(
     alloc: Global,
     place: &Place,
@@ -155,7 +157,7 @@ fn interval_members(
     Ok(members)
 }
 
-#[tactic(auto, unfolding(crate::specs::ReadIntervals::interval_member_into))]
+#[tactic(auto, unfolding(crate::specs::ReadIntervals::interval_member_into, crate::specs::Readings::next))]
 fn add_interval_member(
     alloc: Global,
     place: &Place,
@@ -171,7 +173,7 @@ fn add_interval_member(
     Ok(())
 }
 
-#[tactic(auto, unfolding(crate::specs::ReadIntervals::interval_member_at))]
+#[tactic(auto, unfolding(crate::specs::ReadIntervals::interval_member_at, crate::specs::Readings::next))]
 fn interval_member(
     alloc: Global,
     place: &Place,
@@ -182,16 +184,6 @@ fn interval_member(
     if !value.is_object() {
         return Err(place.faulty(alloc));
     }
-    interval_fields(alloc, place, value)
-}
-
-fn interval_fields(
-    alloc: Global,
-    place: &Place,
-    value: &Value,
-) -> Result<IntervalMember, ConfigError>
-    ensures { Gives (λ m. m) result (interval_fields_at (place_path place.now) (view value.now)) }
-{
     let days_of_month = days_member(alloc, place, value, "days_of_month")?;
     let _location = location_member(alloc, place, value, "location")?;
     let months = ranges_member(alloc, Field::Months, place, value, "months")?;
@@ -223,7 +215,7 @@ fn location_member(
 }
 
 /// That the location is `UTC`, in which moments are read.
-#[tactic(auto, unfolding(crate::specs::ReadIntervals::location_at))]
+#[tactic(auto, unfolding(crate::specs::ReadIntervals::location_at, crate::specs::Readings::next))]
 fn location(alloc: Global, place: &Place, value: &Value) -> Result<bool, ConfigError>
     ensures { Gives (λ b. b) result (location_at (place_path place.now) (view value.now)) }
 {
@@ -299,7 +291,7 @@ fn ranges_member(
     }
 }
 
-#[tactic(auto, unfolding(crate::specs::ReadIntervals::ranges_at))]
+#[tactic(auto, unfolding(crate::specs::ReadIntervals::ranges_at, crate::specs::Readings::next))]
 fn ranges(
     alloc: Global,
     field: Field,
@@ -317,7 +309,7 @@ fn ranges(
     Ok(ranges)
 }
 
-#[tactic(auto, unfolding(crate::specs::ReadIntervals::range_into))]
+#[tactic(auto, unfolding(crate::specs::ReadIntervals::range_into, crate::specs::Readings::next))]
 fn add_range(
     alloc: Global,
     field: Field,
@@ -353,7 +345,7 @@ fn days_member(
     }
 }
 
-#[tactic(auto, unfolding(crate::specs::ReadIntervals::ranges_at))]
+#[tactic(auto, unfolding(crate::specs::ReadIntervals::ranges_at, crate::specs::Readings::next))]
 fn day_ranges(alloc: Global, place: &Place, value: &Value) -> Result<Listing<DayRange>, ConfigError>
     ensures { Gives (λ rs. rs) result
         (ranges_at day_range_in (place_path place.now) (view value.now)) }
@@ -366,7 +358,7 @@ fn day_ranges(alloc: Global, place: &Place, value: &Value) -> Result<Listing<Day
     Ok(ranges)
 }
 
-#[tactic(auto, unfolding(crate::specs::ReadIntervals::range_into))]
+#[tactic(auto, unfolding(crate::specs::ReadIntervals::range_into, crate::specs::Readings::next))]
 fn add_day_range(
     alloc: Global,
     place: &Place,
@@ -401,7 +393,7 @@ fn times_member(
     }
 }
 
-#[tactic(auto, unfolding(crate::specs::ReadIntervals::times_at))]
+#[tactic(auto, unfolding(crate::specs::ReadIntervals::times_at, crate::specs::Readings::next))]
 fn times(alloc: Global, place: &Place, value: &Value) -> Result<Listing<TimeRange>, ConfigError>
     ensures { Gives (λ rs. rs) result (times_at (place_path place.now) (view value.now)) }
 {
@@ -413,7 +405,7 @@ fn times(alloc: Global, place: &Place, value: &Value) -> Result<Listing<TimeRang
     Ok(ranges)
 }
 
-#[tactic(auto, unfolding(crate::specs::ReadIntervals::time_range_into))]
+#[tactic(auto, unfolding(crate::specs::ReadIntervals::time_range_into, crate::specs::Readings::next))]
 fn add_time_range(
     alloc: Global,
     place: &Place,
@@ -429,7 +421,7 @@ fn add_time_range(
     Ok(())
 }
 
-#[tactic(auto, unfolding(crate::specs::ReadIntervals::time_range_at))]
+#[tactic(auto, unfolding(crate::specs::ReadIntervals::time_range_at, crate::specs::Readings::next))]
 fn time_range(alloc: Global, place: &Place, value: &Value) -> Result<TimeRange, ConfigError>
     ensures { Gives (λ r. r) result (time_range_at (place_path place.now) (view value.now)) }
 {
@@ -453,7 +445,7 @@ fn time_range(alloc: Global, place: &Place, value: &Value) -> Result<TimeRange, 
     }
 }
 
-#[tactic(auto, unfolding(crate::specs::ReadIntervals::time_of))]
+#[tactic(auto, unfolding(crate::specs::ReadIntervals::time_of, crate::specs::Readings::next))]
 fn start_time(alloc: Global, place: &Place, value: &Value) -> Result<u32, ConfigError>
     ensures { Gives (λ n. n) result (time_of time_at (place_path place.now) (view value.now)) }
 {
@@ -463,7 +455,7 @@ fn start_time(alloc: Global, place: &Place, value: &Value) -> Result<u32, Config
     }
 }
 
-#[tactic(auto, unfolding(crate::specs::ReadIntervals::time_of))]
+#[tactic(auto, unfolding(crate::specs::ReadIntervals::time_of, crate::specs::Readings::next))]
 fn end_time(alloc: Global, place: &Place, value: &Value) -> Result<u32, ConfigError>
     ensures { Gives (λ n. n) result (time_of end_time_at (place_path place.now) (view value.now)) }
 {

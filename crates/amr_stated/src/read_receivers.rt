@@ -1,10 +1,9 @@
 //! Receivers, read from a value.
-ghost use Rattle.std.specs.Prelude.{◌≡◌, ◌≤◌, ◌++◌, length, option_map, OnOk, IfOk};
-ghost use Rattle.std.specs.List.{flat_map};
+ghost use Rattle.std.specs.Prelude.{◌≡◌, ◌≤◌, length, option_map, OnOk};
 ghost use Rattle.serde_json.specs.View.{view};
 ghost use Rattle.amr_stated.specs.Paths.{place_path};
 ghost use Rattle.amr_stated.specs.Answers.{Gives, Changes};
-ghost use Rattle.amr_stated.specs.ReadReceivers.{is_sender as sender_of, is_keeper as keeper_of, default_of, entry_into, entries_at, stands as stands_of, kind_key as key_of, stated_entries as stated_of, with_kind, kind_place, kind_into, kinds_at, name_at, receiver_at, receiver_into, receivers_list, receivers_at};
+ghost use Rattle.amr_stated.specs.ReadReceivers.{is_sender as sender_of, is_keeper as keeper_of, default_of, entry_into, entries_at, stands as stands_of, kind_key as key_of, stated_entries as stated_of, with_entries, place_after, kind_into, kinds_at, name_at, receiver_at, receiver_into, receivers_list, receivers_at};
 
 use crate::error::ConfigError;
 use crate::members::{flag_member, items, member, same, text};
@@ -14,13 +13,6 @@ use amr_labels::{Listing, Text};
 use serde_json::Value;
 use std::alloc::{AllocError, Global};
 use std::cmp::Ordering;
-
-/// The integrations of one kind at a receiver.
-#[derive(Drop)]
-struct Kind {
-    name: Text,
-    integrations: Listing<Integration>,
-}
 
 /// Whether entries of the kind send resolved alerts by default (`send_resolved` of Alertmanager's configuration).
 #[tactic(auto, unfolding(crate::specs::ReadReceivers::is_sender))]
@@ -56,17 +48,17 @@ fn default(kind: &str) -> Option<bool>
     None
 }
 
-#[tactic(auto, unfolding(crate::specs::ReadReceivers::entry_into))]
+#[tactic(auto, unfolding(crate::specs::ReadReceivers::entry_into, crate::specs::Readings::next))]
 fn add_entry(
     alloc: Global,
     kind: &Text,
     place: &Place,
     index: usize,
     value: &Value,
-    entries: &mut Listing<Integration>,
+    entries: &mut Vec<Integration>,
 ) -> Result<(), ConfigError>
-    ensures { Changes (λ es. es) result entries.new
-        (entry_into kind.now (place_path place.now) index (view value.now) entries.old) }
+    ensures { Changes (λ es. es.items) result entries.new
+        (entry_into kind.now (place_path place.now) index (view value.now) entries.old.items) }
 {
     let here = Place::Item(place, index);
     if !value.is_object() {
@@ -84,18 +76,18 @@ fn add_entry(
     Ok(())
 }
 
-#[tactic(auto, unfolding(crate::specs::ReadReceivers::entries_at))]
+#[tactic(auto, unfolding(crate::specs::ReadReceivers::entries_at, crate::specs::Readings::next))]
 fn entries(
     alloc: Global,
     kind: &Text,
     place: &Place,
     value: &Value,
-) -> Result<Listing<Integration>, ConfigError>
-    ensures { Gives (λ es. es) result
+) -> Result<Vec<Integration>, ConfigError>
+    ensures { Gives (λ es. es.items) result
         (entries_at kind.now (place_path place.now) (view value.now)) }
 {
     let items = items(alloc, place, value)?;
-    let mut entries = Listing::new(alloc);
+    let mut entries = Vec::new(alloc);
     for (index, item) in items.iter().enumerate() {
         add_entry(alloc, kind, place, index, item, &mut entries)?;
     }
@@ -122,90 +114,101 @@ fn kind_key(key: &str) -> Option<&str>
     key.strip_suffix("_configs")
 }
 
-#[tactic(auto, unfolding(crate::specs::ReadReceivers::stated_entries))]
+#[tactic(auto, unfolding(crate::specs::ReadReceivers::stated_entries, crate::specs::Readings::next))]
 fn stated_entries(
     alloc: Global,
     kind: &Text,
     place: &Place,
     value: &Value,
-) -> Result<Listing<Integration>, ConfigError>
-    ensures { Gives (λ es. es) result (stated_of kind.now (place_path place.now) (view value.now)) }
+) -> Result<Vec<Integration>, ConfigError>
+    ensures { Gives (λ es. es.items) result
+        (stated_of kind.now (place_path place.now) (view value.now)) }
 {
     match value {
-        Value::Null => Ok(Listing::new(alloc)),
+        Value::Null => Ok(Vec::new(alloc)),
         _ => entries(alloc, kind, place, value),
     }
 }
 
-/// The place of a kind among kinds in order: before the first that is greater.
-fn place_of(kinds: &[Kind], name: &Text) -> usize
-    ensures value { result ≡ kind_place kinds.now name.now }
-    ensures bound { result ≤ length kinds.now }
+/// The place of the first integration of a greater kind.
+fn place_of(integrations: &[Integration], kind: &Text) -> usize
+    ensures value { result ≡ place_after integrations.now kind.now }
+    ensures bound { result ≤ length integrations.now }
 {
-    for (place, kind) in kinds.iter().enumerate() {
-        if kind.name.cmp(name) == Ordering::Greater {
+    for (place, integration) in integrations.iter().enumerate() {
+        if integration.kind.cmp(kind) == Ordering::Greater {
             return place;
         }
     }
-    kinds.len()
+    integrations.len()
 }
 
-fn insert_kind(kinds: &mut Vec<Kind>, kind: Kind) -> Result<(), AllocError>
-    ensures { OnOk result (kinds.new.items ≡ with_kind kinds.old.items kind) }
+/// Inserts the integrations of a kind before those of greater kinds.
+fn insert_entries(
+    integrations: &mut Vec<Integration>,
+    kind: &Text,
+    entries: Vec<Integration>,
+) -> Result<(), AllocError>
+    ensures { OnOk result
+        (integrations.new.items ≡ with_entries integrations.old.items kind.now entries.items) }
 {
-    let place = place_of(kinds.as_slice(), &kind.name);
-    kinds.insert(place, kind)?;
+    let mut entries = entries;
+    let place = place_of(integrations.as_slice(), kind);
+    let mut later = integrations.split_off(place)?;
+    integrations.append(&mut entries)?;
+    integrations.append(&mut later)?;
     Ok(())
 }
 
-#[tactic(auto, unfolding(crate::specs::ReadReceivers::kind_into))]
+#[tactic(auto, unfolding(crate::specs::ReadReceivers::kind_into, crate::specs::Readings::next))]
 fn add_kind(
     alloc: Global,
     before: bool,
     place: &Place,
     key: &str,
     value: &Value,
-    kinds: &mut Vec<Kind>,
+    integrations: &mut Vec<Integration>,
 ) -> Result<(), ConfigError>
-    ensures { Changes (λ ks. ks.items) result kinds.new
-        (kind_into before (place_path place.now) key.now (view value.now) kinds.old.items) }
+    ensures { Changes (λ is. is.items) result integrations.new
+        (kind_into before (place_path place.now) key.now (view value.now)
+        integrations.old.items) }
 {
     if !stands(before, key) {
         return Ok(());
     }
     match kind_key(key) {
-        Some(name) => {
-            let name = Text::from_str(alloc, name)?;
-            let integrations = stated_entries(alloc, &name, &Place::Member(place, key), value)?;
-            insert_kind(kinds, Kind { name, integrations })?;
+        Some(kind) => {
+            let kind = Text::from_str(alloc, kind)?;
+            let entries = stated_entries(alloc, &kind, &Place::Member(place, key), value)?;
+            insert_entries(integrations, &kind, entries)?;
             Ok(())
         }
         None => Ok(()),
     }
 }
 
-/// Adds the kinds whose keys stand on that side of `name`.
-#[tactic(auto, unfolding(crate::specs::ReadReceivers::kinds_at))]
+/// Adds the integrations of the kinds whose keys stand on that side of `name`.
+#[tactic(auto, unfolding(crate::specs::ReadReceivers::kinds_at, crate::specs::Readings::next))]
 fn add_kinds(
     alloc: Global,
     before: bool,
     place: &Place,
     value: &Value,
-    kinds: &mut Vec<Kind>,
+    integrations: &mut Vec<Integration>,
 ) -> Result<(), ConfigError>
-    ensures { Changes (λ ks. ks.items) result kinds.new
-        (kinds_at before (place_path place.now) (view value.now) kinds.old.items) }
+    ensures { Changes (λ is. is.items) result integrations.new
+        (kinds_at before (place_path place.now) (view value.now) integrations.old.items) }
 {
     let Some(members) = value.as_object() else {
         return Err(place.faulty(alloc));
     };
     for (key, value) in members {
-        add_kind(alloc, before, place, key.as_str(), value, kinds)?;
+        add_kind(alloc, before, place, key.as_str(), value, integrations)?;
     }
     Ok(())
 }
 
-#[tactic(auto, unfolding(crate::specs::ReadReceivers::name_at))]
+#[tactic(auto, unfolding(crate::specs::ReadReceivers::name_at, crate::specs::Readings::next))]
 fn name<'v>(alloc: Global, place: &Place, value: &'v Value) -> Result<&'v str, ConfigError>
     ensures { Gives (λ s. s.now) result (name_at (place_path place.now) (view value.now)) }
 {
@@ -216,43 +219,25 @@ fn name<'v>(alloc: Global, place: &Place, value: &'v Value) -> Result<&'v str, C
     Ok(text)
 }
 
-fn add_all(all: &mut Listing<Integration>, integrations: &[Integration]) -> Result<(), AllocError>
-    ensures { OnOk result (all.new ≡ all.old ++ integrations.now) }
-{
-    for integration in integrations {
-        all.push(integration.clone()?)?;
-    }
-    Ok(())
-}
-
-/// The integrations of all kinds.
-fn joined(alloc: Global, kinds: &[Kind]) -> Result<Listing<Integration>, AllocError>
-    ensures { IfOk result (λ all. all ≡ flat_map (λ kind. kind.integrations) kinds.now) }
-{
-    let mut all = Listing::new(alloc);
-    for kind in kinds {
-        add_all(&mut all, kind.integrations.as_slice())?;
-    }
-    Ok(all)
-}
-
-#[tactic(auto, unfolding(crate::specs::ReadReceivers::receiver_at))]
+#[tactic(auto, unfolding(crate::specs::ReadReceivers::receiver_at, crate::specs::Readings::next))]
 fn read_receiver(alloc: Global, place: &Place, value: &Value) -> Result<Receiver, ConfigError>
     ensures { Gives (λ r. r) result (receiver_at (place_path place.now) (view value.now)) }
 {
-    let mut kinds = Vec::new(alloc);
-    add_kinds(alloc, true, place, value, &mut kinds)?;
+    let mut integrations = Vec::new(alloc);
+    add_kinds(alloc, true, place, value, &mut integrations)?;
     let here = Place::Member(place, "name");
     let Some(found) = member(value, "name") else {
         return Err(here.faulty(alloc));
     };
     let name = Text::from_str(alloc, name(alloc, &here, found)?)?;
-    add_kinds(alloc, false, place, value, &mut kinds)?;
-    let integrations = joined(alloc, kinds.as_slice())?;
-    Ok(Receiver { name, integrations })
+    add_kinds(alloc, false, place, value, &mut integrations)?;
+    Ok(Receiver {
+        name,
+        integrations: Listing::from_vec(integrations),
+    })
 }
 
-#[tactic(auto, unfolding(crate::specs::ReadReceivers::receiver_into))]
+#[tactic(auto, unfolding(crate::specs::ReadReceivers::receiver_into, crate::specs::Readings::next))]
 fn add_receiver(
     alloc: Global,
     place: &Place,
@@ -268,7 +253,7 @@ fn add_receiver(
     Ok(())
 }
 
-#[tactic(auto, unfolding(crate::specs::ReadReceivers::receivers_list))]
+#[tactic(auto, unfolding(crate::specs::ReadReceivers::receivers_list, crate::specs::Readings::next))]
 fn receivers(alloc: Global, place: &Place, value: &Value) -> Result<Listing<Receiver>, ConfigError>
     ensures { Gives (λ rs. rs) result (receivers_list (place_path place.now) (view value.now)) }
 {
@@ -281,7 +266,7 @@ fn receivers(alloc: Global, place: &Place, value: &Value) -> Result<Listing<Rece
 }
 
 /// The receivers of a whole configuration.
-#[tactic(auto, unfolding(crate::specs::ReadReceivers::receivers_at))]
+#[tactic(auto, unfolding(crate::specs::ReadReceivers::receivers_at, crate::specs::Readings::next))]
 pub(crate) fn read_receivers(alloc: Global, value: &Value) -> Result<Listing<Receiver>, ConfigError>
     ensures { Gives (λ rs. rs) result (receivers_at (view value.now)) }
 {

@@ -3,8 +3,8 @@ ghost use Rattle.std.specs.Prelude.{◌≡◌};
 ghost use Rattle.serde_json.specs.View.{view, items_view};
 ghost use Rattle.amr_stated.specs.Paths.{place_path, under};
 ghost use Rattle.amr_stated.specs.Answers.{Gives, Reads, ReadsInto};
-ghost use Rattle.amr_stated.specs.RouteParts.{is_all as all_of, grouping_of, grouping_stated, front_at, back_at, children_at, is_deeper as deeper_of, is_too_deep as too_deep_of};
-ghost use Rattle.amr_stated.specs.ReadRoutes.{own_into, add_route, routes_at};
+ghost use Rattle.amr_stated.specs.RouteParts.{is_all as all_of, grouping_of, grouping_stated, children_at, is_deeper as deeper_of, is_too_deep as too_deep_of};
+ghost use Rattle.amr_stated.specs.ReadRoutes.{route_at, own_into, add_route, routes_at};
 
 use crate::error::{ConfigError, Refusal};
 use crate::interval_names::names_member;
@@ -16,24 +16,6 @@ use amr_labels::{Listing, Text};
 use amr_time::Span;
 use serde_json::Value;
 use std::alloc::Global;
-
-/// What the members of a route up to `group_wait` state.
-#[derive(Drop)]
-struct Front {
-    active_time_intervals: Listing<Text>,
-    continues: bool,
-    group_by: Option<Grouping>,
-    group_interval: Option<Span>,
-    group_wait: Option<Span>,
-}
-
-/// What the members of a route from `mute_time_intervals` on state.
-#[derive(Drop)]
-struct Back {
-    mute_time_intervals: Listing<Text>,
-    receiver: Option<Text>,
-    repeat_interval: Option<Span>,
-}
 
 /// Whether the names are `...` alone.
 #[tactic(auto, using(crate::proofs::Names::not_alone, crate::proofs::Names::alone))]
@@ -66,47 +48,41 @@ fn stated_grouping(names: Option<Listing<Text>>) -> Option<Grouping>
     }
 }
 
-#[tactic(auto, unfolding(crate::specs::RouteParts::front_at))]
-fn read_front(
+/// Reads what a route states itself, by its keys in byte order.
+#[tactic(auto, unfolding(crate::specs::ReadRoutes::route_at, crate::specs::Readings::next))]
+fn read_route(
     alloc: Global,
     whole: &Value,
     place: &Place,
+    parent: Option<usize>,
     value: &Value,
-) -> Result<Front, ConfigError>
-    ensures { Gives (λ front. front) result
-        (front_at (view whole.now) (place_path place.now) (view value.now)) }
+) -> Result<Route, ConfigError>
+    ensures { Reads (λ route. route) result
+        (route_at (view whole.now) (place_path place.now) parent (view value.now)) }
 {
+    if !value.is_object() {
+        return Err(place.faulty(alloc));
+    }
     let active = names_member(alloc, whole, place, value, "active_time_intervals")?;
     let continues = flag_member(alloc, place, value, "continue")?;
     let group_by = texts_member(alloc, place, value, "group_by")?;
     let group_interval = span_member(alloc, place, value, "group_interval")?;
     let group_wait = span_member(alloc, place, value, "group_wait")?;
-    Ok(Front {
-        active_time_intervals: active.unwrap_or(Listing::new(alloc)),
-        continues: continues.unwrap_or(false),
-        group_by: stated_grouping(group_by),
-        group_interval,
-        group_wait,
-    })
-}
-
-#[tactic(auto, unfolding(crate::specs::RouteParts::back_at))]
-fn read_back(
-    alloc: Global,
-    whole: &Value,
-    place: &Place,
-    value: &Value,
-) -> Result<Back, ConfigError>
-    ensures { Gives (λ back. back) result
-        (back_at (view whole.now) (place_path place.now) (view value.now)) }
-{
+    let matchers = read_matchers(alloc, place, "match", "match_re", "matchers", value)?;
     let mute = names_member(alloc, whole, place, value, "mute_time_intervals")?;
     let receiver = text_member(alloc, place, value, "receiver")?;
     let repeat_interval = span_member(alloc, place, value, "repeat_interval")?;
-    Ok(Back {
-        mute_time_intervals: mute.unwrap_or(Listing::new(alloc)),
+    Ok(Route {
+        parent,
+        matchers,
+        continues: continues.unwrap_or(false),
         receiver,
+        group_by: stated_grouping(group_by),
+        group_wait,
+        group_interval,
         repeat_interval,
+        active_time_intervals: active.unwrap_or(Listing::new(alloc)),
+        mute_time_intervals: mute.unwrap_or(Listing::new(alloc)),
     })
 }
 
@@ -123,29 +99,13 @@ fn add_own(
     ensures { ReadsInto (λ rs. rs) result routes.new
         (own_into (view whole.now) (place_path place.now) parent (view value.now) routes.old) }
 {
-    if !value.is_object() {
-        return Err(place.faulty(alloc));
-    }
-    let front = read_front(alloc, whole, place, value)?;
-    let matchers = read_matchers(alloc, place, "match", "match_re", "matchers", value)?;
-    let back = read_back(alloc, whole, place, value)?;
-    routes.push(Route {
-        parent,
-        matchers,
-        continues: front.continues,
-        receiver: back.receiver,
-        group_by: front.group_by,
-        group_wait: front.group_wait,
-        group_interval: front.group_interval,
-        repeat_interval: back.repeat_interval,
-        active_time_intervals: front.active_time_intervals,
-        mute_time_intervals: back.mute_time_intervals,
-    })?;
+    let route = read_route(alloc, whole, place, parent, value)?;
+    routes.push(route)?;
     Ok(())
 }
 
 /// The routes below a route.
-#[tactic(auto, unfolding(crate::specs::RouteParts::children_at))]
+#[tactic(auto, unfolding(crate::specs::RouteParts::children_at, crate::specs::Readings::next))]
 fn children<'v>(alloc: Global, place: &Place, value: &'v Value) -> Result<&'v [Value], ConfigError>
     ensures { Gives (λ s. items_view s.now) result
         (children_at (place_path place.now) (view value.now)) }
@@ -223,7 +183,7 @@ pub fn is_too_deep(value: &Value) -> bool
 }
 
 /// The routes of a whole configuration, parents first.
-#[tactic(auto, unfolding(crate::specs::ReadRoutes::routes_at))]
+#[tactic(auto, unfolding(crate::specs::ReadRoutes::routes_at, crate::specs::Readings::next))]
 pub(crate) fn read_routes(alloc: Global, value: &Value) -> Result<Listing<Route>, ConfigError>
     ensures { Reads (λ rs. rs) result (routes_at (view value.now)) }
 {

@@ -1,6 +1,6 @@
 use Rattle.std.proofs.lemmas.Result.{err_from_is_err_and}
 use Rattle.amr_stated.specs.ReadMatchers.{stated_into}
-use Rattle.amr_stated.proofs.Readings.{stops_first, stops_later, stops_plain}
+use Rattle.amr_stated.proofs.Readings.{stops_first, stops_past, stops_plain}
 use Rattle.amr_stated.proofs.read_matchers.add_stated.Goals as goal
 
 pub returns-in_err-value : goal.returns-in_err-value
@@ -13,4 +13,4 @@ pub returns-in_err-made : goal.returns-in_err-made
 unfolding stated_into
 returns-in_err-made c =
     let p = err_from_is_err_and c.from_residual-in_err-made.result c.from_residual-in_err-made.ensures.1 in
-    rw (p.1, p.2) (stops_later _ _ _ _ c.in_ok-value.ensures (stops_first _ _ _ c.in_err-made.ensures))
+    rw (p.1, p.2) (stops_past _ _ _ _ c.in_ok-value.ensures (stops_first _ _ _ c.in_err-made.ensures))

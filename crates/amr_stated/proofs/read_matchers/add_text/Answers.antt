@@ -1,6 +1,6 @@
 use Rattle.std.proofs.lemmas.Result.{err_from_is_err_and}
 use Rattle.amr_stated.specs.ReadMatchers.{spelled_into}
-use Rattle.amr_stated.proofs.Readings.{stops_first, stops_later, stops_plain}
+use Rattle.amr_stated.proofs.Readings.{stops_first, stops_past, stops_plain}
 use Rattle.amr_stated.proofs.read_matchers.add_text.Goals as goal
 
 pub returns-in_err-text : goal.returns-in_err-text
@@ -13,4 +13,4 @@ pub returns-in_err-more : goal.returns-in_err-more
 unfolding spelled_into
 returns-in_err-more c =
     let p = err_from_is_err_and c.from_residual-in_err-more.result c.from_residual-in_err-more.ensures.1 in
-    rw (p.1, p.2) (stops_later _ _ _ _ c.in_ok-text.ensures (stops_first _ _ _ c.in_err-more.ensures))
+    rw (p.1, p.2) (stops_past _ _ _ _ c.in_ok-text.ensures (stops_first _ _ _ c.in_err-more.ensures))

@@ -2,7 +2,7 @@ use Rattle.std.proofs.lemmas.Result.{err_from_is_err_and}
 use Rattle.amr_stated.specs.Paths.{place_path}
 use Rattle.amr_stated.specs.ReadMatchers.{spelled_into, texts_into}
 use Rattle.amr_stated.proofs.Readings.{stops_first, stops_plain}
-use Rattle.amr_stated.proofs.Turns.{ends_past, ends_itself, item_ends, item_stops}
+use Rattle.amr_stated.proofs.Turns.{ends_after, ends_itself, item_ends, item_stops}
 use Rattle.amr_stated.proofs.read_matchers.add_texts.Goals as goal
 
 pub returns-in_err-items : goal.returns-in_err-items
@@ -13,7 +13,7 @@ returns-in_err-items c =
 
 pub loop-index-init : goal.loop-index-init
 unfolding texts_into
-loop-index-init c = ends_past _ _ _ _ c.in_ok-items.ensures (ends_itself _)
+loop-index-init c = ends_after _ _ _ _ c.in_ok-items.ensures (ends_itself _)
 
 pub loop-index-preserved : goal.loop-index-preserved
 loop-index-preserved c =

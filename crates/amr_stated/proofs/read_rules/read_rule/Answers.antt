@@ -1,7 +1,7 @@
 use Rattle.std.proofs.lemmas.Result.{err_from_is_err_and}
 use Rattle.std.proofs.Common.{sym, ◌∙◌}
 use Rattle.amr_stated.specs.ReadRules.{rule_at}
-use Rattle.amr_stated.proofs.Readings.{stops_first, stops_later, stops_plain, no_object, past_object}
+use Rattle.amr_stated.proofs.Readings.{stops_first, stops_later, stops_past, stops_plain, no_object, past_object}
 use Rattle.amr_stated.proofs.read_rules.read_rule.Goals as goal
 
 pub returns-then-not-is_object : goal.returns-then-not-is_object
@@ -21,11 +21,11 @@ unfolding rule_at
 returns-in_err-source c =
     let p = err_from_is_err_and c.from_residual-in_err-source.result c.from_residual-in_err-source.ensures.1 in
     rw (p.1, p.2) (past_object _ _ _ _ (sym c.is_object.ensures ∙ c.if-not-is_object.false)
-    (stops_later _ _ _ _ c.in_ok-equal.ensures (stops_first _ _ _ c.in_err-source.ensures)))
+    (stops_past _ _ _ _ c.in_ok-equal.ensures (stops_first _ _ _ c.in_err-source.ensures)))
 
 pub returns-in_err-target : goal.returns-in_err-target
 unfolding rule_at
 returns-in_err-target c =
     let p = err_from_is_err_and c.from_residual-in_err-target.result c.from_residual-in_err-target.ensures.1 in
     rw (p.1, p.2) (past_object _ _ _ _ (sym c.is_object.ensures ∙ c.if-not-is_object.false)
-    (stops_later _ _ _ _ c.in_ok-equal.ensures (stops_later _ _ _ _ c.in_ok-source.ensures (stops_first _ _ _ c.in_err-target.ensures))))
+    (stops_past _ _ _ _ c.in_ok-equal.ensures (stops_later _ _ _ _ c.in_ok-source.ensures (stops_first _ _ _ c.in_err-target.ensures))))

@@ -1,11 +1,13 @@
 use Rattle.std.proofs.Common.{refl}
+use Rattle.amr_stated.specs.Readings.{next}
 use Rattle.amr_stated.specs.ReadRules.{rules_at}
+use Rattle.amr_stated.proofs.Readings.{reads_stated}
 use Rattle.amr_stated.proofs.read_rules.read_rules.Goals as goal
 
 pub returns-in-Some : goal.returns-in-Some
 unfolding rules_at
-returns-in-Some c = rw (← c.in-Some.ensures) c.rules.ensures
+returns-in-Some c = rw (← c.in-Some.ensures) (reads_stated _ _ _ c.rules.ensures)
 
 pub returns-in-None : goal.returns-in-None
-unfolding rules_at
+unfolding rules_at next
 returns-in-None c = rw (← c.in-None.ensures, c.new.ensures) refl
