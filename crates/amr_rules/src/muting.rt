@@ -1,14 +1,16 @@
 //! What mutes an alert: inhibition rules with their sources, and silences.
-ghost use Rattle.std.specs.Prelude.{◌≡◌, true, IfOk, is_some};
+ghost use Rattle.std.specs.Prelude.{◌≡◌, true, false, map, option_map, IfOk, IfSome, is_some};
 ghost use Rattle.std.specs.Option.{option_copied};
-ghost use Rattle.std.specs.Ordering.{eq_by_cmp, nat_cmp};
-ghost use Rattle.amr_labels.specs.Labels.{text_cmp, label_set_cmp, value_of};
+ghost use Rattle.std.specs.Ordering.{nat_cmp};
+ghost use Rattle.std.specs.Map.Iter.{deref_pair};
+ghost use Rattle.amr_labels.specs.Labels.{is_empty};
 ghost use Rattle.amr_matchers.specs.Matchers.{all_hold};
 ghost use Rattle.amr_tables.specs.Numbered.{shown};
 ghost use Rattle.amr_config.specs.Config.{Config};
-ghost use Rattle.amr_rules.specs.Muting.{agree_on, rule_mutes, inhibits, is_inhibited, inhibitor_by, inhibition_from, silences_labels, is_silenced, silencer_of};
+ghost use Rattle.amr_rules.specs.Muting.{agree_on, sharing, first_label, first_source, rule_mutes, inhibits, is_inhibited, inhibitor_by, inhibition_from, silences_labels, is_silenced, silencer_of};
 
 use crate::alert::Alert;
+use crate::alert_store::{AlertStore, has_value};
 use crate::silence::Silence;
 use amr_events::SilenceId;
 use amr_labels::{Labels, Text};
@@ -16,22 +18,14 @@ use amr_stated::InhibitRule;
 use amr_tables::Keyed;
 use amr_time::Moment;
 use std::alloc::{AllocError, Global};
-use std::cmp::Ordering;
-
-/// Whether the label has one value in both sets, an absent label being empty.
-fn agree_at(name: &Text, a: &Labels, b: &Labels) -> bool
-    ensures { result ≡ eq_by_cmp text_cmp (value_of a.now name.now) (value_of b.now name.now) }
-{
-    let ours = a.value_of(name.as_str());
-    let theirs = b.value_of(name.as_str());
-    ours.cmp(theirs) == Ordering::Equal
-}
 
 /// Whether each of these labels has one value in both sets.
 fn agree_on(names: &[Text], a: &Labels, b: &Labels) -> bool
     ensures { result ≡ agree_on names.now a.now b.now }
 {
-    names.iter().all(|name| agree_at(name, a, b))
+    names
+        .iter()
+        .all(|name| has_value(a, name, b.value_of(name.as_str())))
 }
 
 /// Returns whether a rule lets a source mute a target on which its target matchers hold. Labels that match both sides are
@@ -82,38 +76,71 @@ fn inhibits(
 }
 
 /// Returns the least label set of a stored alert that mutes a target by a rule.
-fn inhibitor_by<'a>(
+fn inhibitor_by<'a, A: AlertStore>(
     alloc: Global,
     now: Moment,
     target: &Labels,
-    alerts: &'a Keyed<Labels, Alert>,
+    alerts: &'a A,
     rule: &InhibitRule,
 ) -> Result<Option<&'a Labels>, AllocError>
     ensures { IfOk result (λ found. option_copied found
-        ≡ inhibitor_by now target.now (shown label_set_cmp alerts.now) rule.now) }
+        ≡ inhibitor_by now target.now (A.alerts alerts.now) rule.now) }
 {
     if !rule.target.matches_all(alloc, target)? {
         return Ok(None);
     }
     let is_source = rule.source.matches_all(alloc, target)?;
-    first_source(alloc, now, target, is_source, alerts, rule)
+    let stored = possible_sources(alloc, target, alerts, rule)?;
+    first_source(alloc, now, target, is_source, &stored, rule)
 }
 
-/// Returns the least label set of a stored alert that mutes a target on which the rule's target matchers hold.
+/// Lists the stored alerts that may mute a target by a rule. A source has to agree with the target on the rule's labels, so those that
+/// have another value at one of them are left out.
+fn possible_sources<'a, A: AlertStore>(
+    alloc: Global,
+    target: &Labels,
+    alerts: &'a A,
+    rule: &InhibitRule,
+) -> Result<Vec<(&'a Labels, &'a Alert)>, AllocError>
+    ensures { IfOk result (λ found. map deref_pair found.items
+        ≡ sharing (first_label rule.now.equal target.now) (A.alerts alerts.now)) }
+{
+    match first_label(rule.equal.as_slice(), target) {
+        Some((name, value)) => alerts.with_pair(alloc, name, value),
+        None => alerts.all(alloc),
+    }
+}
+
+/// Returns the first of these labels that has a value in a label set, with the value.
+fn first_label<'a>(names: &'a [Text], labels: &'a Labels) -> Option<(&'a Text, &'a Text)>
+    ensures label { option_map deref_pair result ≡ first_label names.now labels.now }
+    ensures value { IfSome result (λ label. is_empty label.1.now ≡ false) }
+{
+    for name in names {
+        if let Some(value) = labels.get(name.as_str()) {
+            if !value.is_empty() {
+                return Some((name, value));
+            }
+        }
+    }
+    None
+}
+
+/// Returns the labels of the first of these alerts that mutes a target on which the rule's target matchers hold.
 fn first_source<'a>(
     alloc: Global,
     now: Moment,
     target: &Labels,
     is_source: bool,
-    alerts: &'a Keyed<Labels, Alert>,
+    stored: &[(&'a Labels, &'a Alert)],
     rule: &InhibitRule,
 ) -> Result<Option<&'a Labels>, AllocError>
     requires target { all_hold rule.now.target target.now ≡ true }
     requires source { is_source ≡ all_hold rule.now.source target.now }
     ensures { IfOk result (λ found. option_copied found
-        ≡ inhibitor_by now target.now (shown label_set_cmp alerts.now) rule.now) }
+        ≡ first_source now rule.now target.now (map deref_pair stored.now)) }
 {
-    for (source, alert) in alerts.iter() {
+    for &(source, alert) in stored {
         if inhibits(alloc, now, rule, source, alert, target, is_source)? {
             return Ok(Some(source));
         }
@@ -123,18 +150,18 @@ fn first_source<'a>(
 
 /// What inhibits labels at a moment: the place of the least rule by which a stored alert mutes them, and the least
 /// label set of such an alert. None where nothing does (inhibition rules of Alertmanager's configuration).
-pub fn inhibited_by(
+pub fn inhibited_by<A: AlertStore>(
     alloc: Global,
     rules: &[InhibitRule],
-    alerts: &Keyed<Labels, Alert>,
+    alerts: &A,
     now: Moment,
     target: &Labels,
 ) -> Result<Option<(usize, Labels)>, AllocError>
     ensures named { IfOk result (λ found. found
-        ≡ inhibition_from 0 now target.now (shown label_set_cmp alerts.now) rules.now) }
+        ≡ inhibition_from 0 now target.now (A.alerts alerts.now) rules.now) }
     ensures exactly { IfOk result (λ found.
         (config : Config) → config.rules ≡ rules.now
-        → is_inhibited config (shown label_set_cmp alerts.now) now target.now ≡ is_some found) }
+        → is_inhibited config (A.alerts alerts.now) now target.now ≡ is_some found) }
 {
     for (place, rule) in rules.iter().enumerate() {
         if let Some(source) = inhibitor_by(alloc, now, target, alerts, rule)? {

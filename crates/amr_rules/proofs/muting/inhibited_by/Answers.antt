@@ -1,21 +1,20 @@
 use Rattle.std.proofs.Common.{◌≡◌, Some, None, ℕ, Option, rules, arith, is_some, sym, ap, ◌∙◌}
 use Rattle.std.proofs.lemmas.Grind.{common_steps}
-use Rattle.amr_labels.specs.Labels.{LabelSet, label_set_cmp}
-use Rattle.amr_tables.specs.Numbered.{shown}
+use Rattle.amr_labels.specs.Labels.{LabelSet}
 use Rattle.amr_rules.specs.Muting.{inhibition_from}
 use Rattle.amr_rules.proofs.MutingLaws.{is_inhibited-named}
 use Rattle.amr_rules.proofs.muting.inhibited_by.Goals as goal
 
 pub returns-in-Some-clause-exactly : goal.returns-in-Some-clause-exactly
-returns-in-Some-clause-exactly c = λ config same.
-    let named : Some (c.loop-place.place, c.in_ok-clone.field-0) ≡ inhibition_from 0 c.args.now c.args.target.now (shown label_set_cmp c.args.alerts.now) c.args.rules.now =
+returns-in-Some-clause-exactly g c = λ config same.
+    let named : Some (c.loop-place.place, c.in_ok-clone.field-0) ≡ inhibition_from 0 c.args.now c.args.target.now (g.A.AlertStore.alerts c.args.alerts.now) c.args.rules.now =
     first_of (search rules, grind (arith, common_steps)) in
-    is_inhibited-named config (shown label_set_cmp c.args.alerts.now) c.args.now c.args.target.now
-    ∙ ap (λ rules. is_some (inhibition_from 0 c.args.now c.args.target.now (shown label_set_cmp c.args.alerts.now) rules)) same ∙ ap is_some (sym named)
+    is_inhibited-named config (g.A.AlertStore.alerts c.args.alerts.now) c.args.now c.args.target.now
+    ∙ ap (λ rules. is_some (inhibition_from 0 c.args.now c.args.target.now (g.A.AlertStore.alerts c.args.alerts.now) rules)) same ∙ ap is_some (sym named)
 
 pub returns-clause-exactly : goal.returns-clause-exactly
-returns-clause-exactly c = λ config same.
-    let named : ◌≡◌ {A = Option (ℕ × LabelSet)} None (inhibition_from 0 c.args.now c.args.target.now (shown label_set_cmp c.args.alerts.now) c.args.rules.now) =
+returns-clause-exactly g c = λ config same.
+    let named : ◌≡◌ {A = Option (ℕ × LabelSet)} None (inhibition_from 0 c.args.now c.args.target.now (g.A.AlertStore.alerts c.args.alerts.now) c.args.rules.now) =
     first_of (search rules, grind (arith, common_steps)) in
-    is_inhibited-named config (shown label_set_cmp c.args.alerts.now) c.args.now c.args.target.now
-    ∙ ap (λ rules. is_some (inhibition_from 0 c.args.now c.args.target.now (shown label_set_cmp c.args.alerts.now) rules)) same ∙ ap is_some (sym named)
+    is_inhibited-named config (g.A.AlertStore.alerts c.args.alerts.now) c.args.now c.args.target.now
+    ∙ ap (λ rules. is_some (inhibition_from 0 c.args.now c.args.target.now (g.A.AlertStore.alerts c.args.alerts.now) rules)) same ∙ ap is_some (sym named)

@@ -1,12 +1,25 @@
-use Rattle.std.proofs.Common.{◌≡◌, false, rules, arith}
+use Rattle.std.proofs.Common.{◌≡◌, false, IfOk, map, rules, arith, subst, ap, ◌∙◌}
 use Rattle.std.proofs.lemmas.Grind.{common_steps}
-use Rattle.amr_labels.specs.Labels.{label_set_cmp}
+use Rattle.std.specs.Option.{option_copied}
+use Rattle.std.specs.Map.Iter.{deref_pair}
 use Rattle.amr_matchers.specs.Matchers.{all_hold}
-use Rattle.amr_tables.specs.Numbered.{shown}
+use Rattle.amr_rules.specs.Muting.{first_source, inhibitor_by}
 use Rattle.amr_rules.proofs.MutingLaws.{no_source}
+use Rattle.amr_rules.proofs.Searching.{inhibitor_by-sharing}
 use Rattle.amr_rules.proofs.muting.inhibitor_by.Goals as goal
 
 pub returns-then-not-branch : goal.returns-then-not-branch
-returns-then-not-branch c =
+returns-then-not-branch g c =
     let unmatched : all_hold c.args.rule.now.target c.args.target.now ≡ false = first_of (search rules, grind (arith, common_steps)) in
-    no_source c.args.now c.args.target.now (shown label_set_cmp c.args.alerts.now) c.args.rule.now unmatched
+    no_source c.args.now c.args.target.now (g.A.AlertStore.alerts c.args.alerts.now) c.args.rule.now unmatched
+
+pub returns : goal.returns
+returns g c =
+    let now = c.args.now in
+    let rule = c.args.rule.now in
+    let target = c.args.target.now in
+    let alerts = g.A.AlertStore.alerts c.args.alerts.now in
+    let same : first_source now rule target (map deref_pair c.deref.result.now) ≡ inhibitor_by now target alerts rule =
+    ap (λ items. first_source now rule target (map deref_pair items)) c.deref.ensures.value
+    ∙ ap (first_source now rule target) c.in_ok-stored.ensures ∙ inhibitor_by-sharing now target alerts rule in
+    subst (λ source. IfOk c.first_source.result (λ found. option_copied found ≡ source)) same c.first_source.ensures
