@@ -4,3 +4,4 @@ pub mod Placed
 pub mod Undoing
 pub mod Soundness
 pub mod Emptied
+pub mod Pairing

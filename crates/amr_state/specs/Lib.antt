@@ -6,3 +6,4 @@ pub mod Steps
 pub mod Seen
 pub mod Records
 pub mod Kept
+pub mod LabelPairs
