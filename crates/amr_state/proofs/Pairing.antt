@@ -15,8 +15,8 @@ use Rattle.std.specs.BTreeSet.{insert_key}
 use Rattle.std.proofs.lemmas.Bool.{true≢false}
 use Rattle.std.proofs.lemmas.Map.Steps.{list_any_congr}
 use Rattle.std.proofs.lemmas.Map.Views.{tells_apart}
-use Rattle.amr_labels.specs.Map.{Map, get, set, entries, empty, get-set, get-empty, get-entries, get_tied, entries-sorted}
-use Rattle.amr_labels.specs.Labels.{Text, text_cmp, is_empty, value_of, LabelSet, label_set_cmp, label_set_cmp_total, label_set_cmp-IsAntisymmetric}
+use Rattle.amr_labels.specs.Map.{get, set, entries, empty, get-set, get-empty, get-entries, entries-sorted}
+use Rattle.amr_labels.specs.Labels.{Text, text_cmp, is_empty, LabelSet, label_set_cmp, label_set_cmp_total, label_set_cmp-IsAntisymmetric}
 use Rattle.amr_rules.specs.declared.alert.Alert.{Alert}
 use Rattle.amr_rules.specs.Muting.{Alerts, has_value, with_pair}
 use Rattle.amr_tables.specs.InParts.{items_of}

@@ -1,4 +1,4 @@
-use Rattle.std.proofs.Common.{IsTrue, sym, ap, subst}
+use Rattle.std.proofs.Common.{IsTrue, sym, subst}
 use Rattle.amr_labels.specs.Labels.{LabelSet, label_set_cmp}
 use Rattle.amr_rules.specs.declared.alert.Alert.{Alert}
 use Rattle.amr_tables.specs.Numbered.{Numbered, has_place}

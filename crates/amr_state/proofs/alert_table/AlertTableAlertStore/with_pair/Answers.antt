@@ -17,7 +17,7 @@ loop-paired-init c =
     let value = c.args.value.now in
     let pair : LabelPair = record { name = c.in_ok-clone.field-0; value = c.in_ok-clone-2.field-0 } in
     let some : is_empty pair.value ≡ false = ap is_empty c.in_ok-clone-2.ensures.cases ∙ c.requires in
-    let all : c.into_iter-paired-iterator.result.rest.items ≡ c.in_ok-paired-items.paired-items.items = c.into_iter-paired-iterator.ensures.into_iter_gives in
+    let all : c.into_iter-paired-iterator.result.rest.items ≡ c.in_ok-paired-items.paired-items.items = c.into_iter-paired-iterator.ensures.into_iter_gives.0 in
     ap (λ (found : List (Bor LabelSet × Bor Alert)). map deref_pair found ++ filter_map (stored_at (shown label_set_cmp c.args.self.now)) (values_of c.into_iter-paired-iterator.result.rest.items)) c.new-found.ensures.items
     ∙ ap (λ (v : Numbered LabelSet Alert). filter_map (stored_at (shown label_set_cmp v)) (values_of c.into_iter-paired-iterator.result.rest.items)) (sym c.self.view_is)
     ∙ ap (filter_map (stored_at (shown label_set_cmp t.alerts))) (ap values_of all ∙ c.in_ok-paired-items.ensures)
