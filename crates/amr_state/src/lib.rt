@@ -1,8 +1,10 @@
 //! The state of an Alertmanager: each kind of change of it, alerts in groups, what is due, and what is seen of it.
 #![tactic(auto)]
 
+mod alert_table;
 mod displaced;
 mod due;
+mod label_pair;
 mod members;
 mod membership;
 mod note;
@@ -14,6 +16,7 @@ mod tables;
 mod timetable;
 pub mod views;
 
+pub use alert_table::AlertTable;
 pub use displaced::Displaced;
 pub use due::{Due, Kind, next_due};
 pub use members::{Member, members_of};

@@ -13,6 +13,7 @@ ghost use Rattle.amr_state.specs.State.{start, members, spot_cmp, log_key_cmp};
 ghost use Rattle.amr_state.specs.Dues.{due_cmp, dues};
 ghost use Rattle.amr_state.specs.Kept.{GrownBy, undone};
 
+use crate::alert_table::AlertTable;
 use crate::displaced::Displaced;
 use crate::due::Due;
 use crate::members::Member;
@@ -192,7 +193,7 @@ impl Store {
     }
 
     /// The stored alerts, under their labels.
-    pub fn alerts(&self) -> &Keyed<Labels, Alert>
+    pub fn alerts(&self) -> &AlertTable
         ensures { shown label_set_cmp result.now ≡ self.now.state.alerts }
     {
         self.tables.timetable.alerts()

@@ -9,6 +9,7 @@ ghost use Rattle.amr_state.specs.State.{spot_cmp};
 ghost use Rattle.amr_state.specs.Dues.{due_cmp, dues_of};
 ghost use Rattle.amr_state.specs.Timed.{put_at, moved, CanMove, CanMoveGroup, group_moved, removal_of_alert, alert_moment, group_moments};
 
+use crate::alert_table::AlertTable;
 use crate::due::{Due, Kind, alert_removal, group_removal};
 use crate::note::Clock;
 use crate::spot::{Spot, TimedGroup};
@@ -22,7 +23,7 @@ use std::marker::Model;
 /// The stored alerts and the timers of groups. The queue follows each change of them.
 #[derive(Drop)]
 pub(crate) struct Timetable {
-    alerts: Keyed<Labels, Alert>,
+    alerts: AlertTable,
     clocks: Keyed<Spot, Clock>,
     queue: Queue<Due>,
 }
@@ -50,14 +51,14 @@ impl Timetable {
         ensures clocks_entered { NoneEntered spot_cmp result.clocks }
     {
         Timetable {
-            alerts: Keyed::new(alloc),
+            alerts: AlertTable::new(alloc),
             clocks: Keyed::new(alloc),
             queue: Queue::new(alloc),
         }
     }
 
     /// The stored alerts, under their labels.
-    pub(crate) fn alerts(&self) -> &Keyed<Labels, Alert>
+    pub(crate) fn alerts(&self) -> &AlertTable
         ensures { result.now ≡ self.now.alerts }
     {
         &self.alerts
@@ -118,7 +119,7 @@ impl Timetable {
         make_room(&mut self.queue, self.alerts.has_place(labels), 1)?;
         let old = moment_at(&self.alerts, labels);
         let new = alert_moment(&alert);
-        let entry = change(&mut self.alerts, journal, labels, alert)?;
+        let entry = self.alerts.change(journal, labels, alert)?;
         move_due(&mut self.queue, due, old, new);
         Ok(entry)
     }
@@ -163,7 +164,7 @@ impl Timetable {
     {
         let old = moment_at(&self.alerts, &labels);
         let new = alert_moment(&alert);
-        put_back(&mut self.alerts, &labels, alert);
+        self.alerts.put_back(&labels, alert);
         move_due(&mut self.queue, alert_due(labels), old, new);
     }
 
@@ -224,7 +225,7 @@ pub(crate) fn make_room<D: Ord + Drop>(
 }
 
 /// Returns when the alert that is stored under some labels is removed.
-fn moment_at(alerts: &Keyed<Labels, Alert>, labels: &Labels) -> Option<u128>
+fn moment_at(alerts: &AlertTable, labels: &Labels) -> Option<u128>
     ensures { result ≡ alert_moment (map.get (shown label_set_cmp alerts.now) labels.now) }
 {
     match alerts.get(labels) {

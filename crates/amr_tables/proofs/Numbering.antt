@@ -345,6 +345,15 @@ module _ {K V : Type 0} {R : K → K → Ordering} (o : IsTotalOrder R) where
   unfolding has_place
   placed-added t k q n = ap is_some (find-put R o q k n t.numbers) ∙ some_either (eq_by_cmp R q k) n (find R q t.numbers)
 
+  -- a key that has a place gets no other
+  pub placed_again : (t : Numbered K V) (k q : K) → IsTrue (has_place R t k) → has_place R t q ≡ (eq_by_cmp R q k || has_place R t q)
+  unfolding has_place
+  placed_again t k q at =
+      elim (eq_by_cmp R q k) as (λ b. eq_by_cmp R q k ≡ b → is_some (find R q t.numbers) ≡ (b || is_some (find R q t.numbers))) [
+        | true ↦ λ b. ap is_some (sym (find_tied R o q k (is_equal _ (holds b)) t.numbers)) ∙ at
+        | false ↦ λ b. refl
+      ] refl
+
 some_of : {A : Type 0} (f : A → Bool) (o : Option A) → option_map_or f o false ≡ true → IsTrue (is_some o)
 some_of f None e = cc
 some_of f (Some x) e = refl

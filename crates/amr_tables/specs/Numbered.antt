@@ -53,6 +53,10 @@ module _ {K V : Type 0} where
     abbrev pub KeepsPlaces : Numbered K V → Numbered K V → Type 0
     KeepsPlaces old changed = (key : K) → IsTrue (has_place old key) → IsTrue (has_place changed key)
 
+    -- the key has a place, and each that had one before
+    abbrev pub GetsPlace : Numbered K V → Numbered K V → K → Type 0
+    GetsPlace old changed key = (other : K) → has_place changed other ≡ (eq_by_cmp R other key || has_place old other)
+
     -- the same keys have places
     abbrev pub SamePlaces : Numbered K V → Numbered K V → Type 0
     SamePlaces old changed = (key : K) → has_place changed key ≡ has_place old key

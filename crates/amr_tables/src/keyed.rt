@@ -3,7 +3,7 @@ ghost use Rattle.std.specs.Prelude.{◌≡◌, [], IsTrue, Option, is_some, fals
 ghost use Rattle.std.specs.Option.{option_copied};
 ghost use Rattle.std.specs.FinMap.{IsAntisymmetric};
 ghost use Rattle.amr_labels.specs.Map as map;
-ghost use Rattle.amr_tables.specs.Numbered.{shown, has_place, is_entered, entry_of, Enters, KeepsPlaces, SamePlaces, SameEntered, NoneEntered, IsUnchanged, GrowsBy, HasPlaces, places_for};
+ghost use Rattle.amr_tables.specs.Numbered.{shown, has_place, is_entered, entry_of, Enters, KeepsPlaces, GetsPlace, SamePlaces, SameEntered, NoneEntered, IsUnchanged, GrowsBy, HasPlaces, places_for};
 
 use crate::entries::Entries;
 use crate::journal::Journal;
@@ -96,6 +96,8 @@ impl<K: Key + Drop, V: Drop> Keyed<K, V> {
         ensures shown { shown K.cmp self.new ≡ shown K.cmp self.old }
         ensures entered { SameEntered K.cmp self.old self.new }
         ensures keys { GrowsBy K.cmp (places_for K.cmp self.old key) self.old self.new }
+        ensures no_other { OnOk result (GetsPlace K.cmp self.old self.new key) }
+        ensures err { OnErr result (SamePlaces K.cmp self.old self.new) }
     {
         if self.numbers.contains_key(&key) {
             return Ok(());
@@ -175,6 +177,8 @@ pub fn change<K: Key + Exact + Drop, V: Drop, E>(
     ensures keys { GrowsBy K.cmp (places_for K.cmp table.old key.now) table.old table.new }
     ensures enough { OnOk result (HasPlaces K.cmp table.new) }
     ensures places { KeepsPlaces K.cmp table.old table.new }
+    ensures no_new { IsTrue (has_place K.cmp table.old key.now)
+        → SamePlaces K.cmp table.old table.new }
     ensures room { IfOk result (λ entry. IsTrue (is_some entry) → 0 < journal.new.entry_room) }
     ensures closed { journal.new.closed ≡ journal.old.closed }
     ensures current { journal.new.current ≡ journal.old.current }
@@ -199,6 +203,8 @@ fn make_room<K: Key + Exact + Drop, V: Drop, E>(
     ensures key { IfOk result (λ copy. copy ≡ key.now) }
     ensures made { OnOk result (IsTrue (has_place K.cmp table.new key.now)) }
     ensures places { KeepsPlaces K.cmp table.old table.new }
+    ensures no_new { IsTrue (has_place K.cmp table.old key.now)
+        → SamePlaces K.cmp table.old table.new }
     ensures same { IsUnchanged K.cmp table.old table.new }
     ensures keys { GrowsBy K.cmp (places_for K.cmp table.old key.now) table.old table.new }
     ensures room { OnOk result (0 < journal.new.entry_room) }

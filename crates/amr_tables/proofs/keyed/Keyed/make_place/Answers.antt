@@ -1,9 +1,11 @@
 use Rattle.std.proofs.Common.{◌≡◌, ◌<◌, None, length, sym, ap, subst, ◌∙◌, arith, is_some, IsTrue}
+use Rattle.std.specs.Prelude.{◌||◌, Result, Ok, Err, OnErr}
+use Rattle.std.specs.Ordering.{eq_by_cmp}
 use Rattle.std.specs.FinMap.{find, put}
 use Rattle.std.proofs.lemmas.Bool.Decides.{nat_tests}
 use Rattle.amr_labels.proofs.Trees.{lookup_is, put_is}
-use Rattle.amr_tables.specs.Numbered.{Numbered, IsNumbering, shown, has_place, is_entered, GrowsBy, places_for}
-use Rattle.amr_tables.proofs.Numbering.{HasRoom, grown_table, added_table, none_of, grown_by_one}
+use Rattle.amr_tables.specs.Numbered.{Numbered, IsNumbering, shown, has_place, is_entered, SamePlaces, GrowsBy, places_for}
+use Rattle.amr_tables.proofs.Numbering.{HasRoom, grown_table, added_table, none_of, grown_by_one, placed_again, placed-added}
 use Rattle.amr_tables.proofs.keyed.Keyed.make_place.Goals as goal
 
 pub returns-then-contains_key-clause-made : goal.returns-then-contains_key-clause-made
@@ -261,3 +263,42 @@ returns-clause-keys g c =
     let none : find R c.args.key t.numbers ≡ None = none_of _ (ap is_some (lookup_is R t.numbers c.args.key) ∙ sym c.contains_key.ensures ∙ c.if-contains_key.false) in
     let is : c.insert.new.self.entries ≡ put R c.args.key c.len-number.result t.numbers = c.in_ok-insert.ensures.entries ∙ put_is R t.numbers c.args.key c.len-number.result in
     subst (λ v. GrowsBy R (places_for R v c.args.key) v u) c.self.view_is (grown_by_one R g.met.K.Ord.total t u c.args.key c.len-number.result c.self.invariant none is)
+
+pub returns-then-contains_key-clause-no_other : goal.returns-then-contains_key-clause-no_other
+unfolding has_place
+returns-then-contains_key-clause-no_other g c = λ other.
+    let R = g.K.Ord.cmp in
+    placed_again g.met.K.Ord.total c.args.self.now c.args.key other
+    (ap (λ v. has_place R v c.args.key) (sym c.self.view_is)
+    ∙ ap is_some (lookup_is R c.self.inside.numbers.entries c.args.key) ∙ sym c.contains_key.ensures ∙ c.if-contains_key.true)
+
+pub returns-clause-no_other : goal.returns-clause-no_other
+unfolding has_place
+returns-clause-no_other g c = λ other.
+    let R = g.K.Ord.cmp in
+    let t : Numbered g.row.K.Denot g.row.V.Denot = record { numbers = c.self.inside.numbers.entries; cells = c.make_place.new.self; marks = c.add_place.new.self } in
+    let is : c.insert.new.self.entries ≡ put R c.args.key c.len-number.result t.numbers = c.in_ok-insert.ensures.entries ∙ put_is R t.numbers c.args.key c.len-number.result in
+    ap (λ n. has_place R (record t { numbers = n }) other) is
+    ∙ placed-added g.met.K.Ord.total t c.args.key other c.len-number.result
+    ∙ ap (λ v. eq_by_cmp R other c.args.key || has_place R v other) c.self.view_is
+
+on_err_of : {T E : Type 0} (r : Result T E) (P : Type 0) → P → OnErr r P
+on_err_of (Ok x) P p = tt
+on_err_of (Err e) P p = p
+
+pub returns-in_err-make_place-clause-err : goal.returns-in_err-make_place-clause-err
+unfolding has_place
+returns-in_err-make_place-clause-err g c =
+    let R = g.K.Ord.cmp in
+    let t : Numbered g.row.K.Denot g.row.V.Denot = record { numbers = c.self.inside.numbers.entries; cells = c.make_place.new.self; marks = c.add_place.new.self } in
+    let same : SamePlaces R c.args.self.now t = λ other. ap (λ v. has_place R v other) c.self.view_is in
+    on_err_of _ _ same
+
+pub returns-in_err-insert-clause-err : goal.returns-in_err-insert-clause-err
+unfolding has_place
+returns-in_err-insert-clause-err g c =
+    let R = g.K.Ord.cmp in
+    let t : Numbered g.row.K.Denot g.row.V.Denot = record { numbers = c.insert.new.self.entries; cells = c.make_place.new.self; marks = c.add_place.new.self } in
+    let kept : c.insert.new.self.entries ≡ c.self.inside.numbers.entries = c.in_err-insert.ensures.err in
+    let same : SamePlaces R c.args.self.now t = λ other. ap (λ n. is_some (find R other n)) kept ∙ ap (λ v. has_place R v other) c.self.view_is in
+    on_err_of _ _ same

@@ -1,0 +1,188 @@
+//! The stored alerts under their labels, with an index of their label sets by label.
+ghost use Rattle.std.specs.Prelude.{◌≡◌, ◌≤◌, ◌<◌, [], IsTrue, is_some, length, OnOk, OnErr, IfOk};
+ghost use Rattle.std.specs.Option.{option_copied};
+ghost use Rattle.amr_labels.specs.Labels.{label_set_cmp};
+ghost use Rattle.amr_labels.specs.Map as map;
+ghost use Rattle.amr_tables.specs.Numbered.{shown, has_place, entry_of, Enters, GrowsBy, KeepsPlaces, SamePlaces, SameEntered, NoneEntered, IsUnchanged, HasPlaces, places_for};
+ghost use Rattle.amr_state.specs.LabelPairs.{all_put, CanPutAll};
+
+use crate::label_pair::{LabelPair, PairedLabels, pairs_of};
+use amr_labels::{Labels, Text};
+use amr_rules::{Alert, AlertStore};
+use amr_tables::{Entries, Journal, Keyed, Queue, change};
+use std::alloc::{AllocError, Global};
+use std::marker::Model;
+
+/// The stored alerts under their labels. The index lists each label set that has a place, under each of its labels; since a place is never
+/// lost, nothing leaves the index.
+#[derive(Drop)]
+pub struct AlertTable {
+    alloc: Global,
+    alerts: Keyed<Labels, Alert>,
+    index: Queue<PairedLabels>,
+}
+
+impl Model for AlertTable {
+    ghost use Rattle.std.specs.Coded.{codes};
+    ghost use Rattle.amr_labels.specs.Map as map;
+    ghost use Rattle.amr_labels.specs.Labels.{LabelSet};
+    ghost use Rattle.amr_rules.specs.declared.alert.Alert.{Alert};
+    ghost use Rattle.amr_tables.specs.Numbered.{Numbered};
+    ghost use Rattle.amr_state.specs.LabelPairs.{IsIndexed};
+
+    ghost Value = { Numbered LabelSet Alert };
+
+    ghost coded = { Prim.hlevel (codes, map.code) };
+
+    ghost view = { λ t. t.alerts };
+
+    ghost invariant = { λ t. IsIndexed t.alerts t.index.dues };
+}
+
+impl AlertTable {
+    /// The table without an alert.
+    pub(crate) fn new(alloc: Global) -> AlertTable
+        ensures shown { shown label_set_cmp result ≡ map.empty }
+        ensures entered { NoneEntered label_set_cmp result }
+        ensures keys { result.numbers ≡ [] }
+        ensures enough { HasPlaces label_set_cmp result }
+    {
+        AlertTable {
+            alloc,
+            alerts: Keyed::new(alloc),
+            index: Queue::new(alloc),
+        }
+    }
+
+    /// Returns the alert with these labels.
+    pub fn get(&self, labels: &Labels) -> Option<&Alert>
+        ensures { option_copied result ≡ map.get (shown label_set_cmp self.now) labels.now }
+    {
+        self.alerts.get(labels)
+    }
+
+    /// Returns the alerts with their labels, in the order of the labels.
+    pub fn iter(&self) -> Entries<'_, Labels, Alert>
+        ensures { result ≡ map.entries (shown label_set_cmp self.now) }
+    {
+        self.alerts.iter()
+    }
+
+    /// Returns whether these labels have a place.
+    pub(crate) fn has_place(&self, labels: &Labels) -> bool
+        ensures { result ≡ has_place label_set_cmp self.now labels.now }
+    {
+        self.alerts.has_place(labels)
+    }
+
+    /// Takes back that places are entered, of all. It takes no memory.
+    pub(crate) fn clear_entered(&mut self)
+        ensures entered { NoneEntered label_set_cmp self.new }
+        ensures shown { shown label_set_cmp self.new ≡ shown label_set_cmp self.old }
+        ensures places { SamePlaces label_set_cmp self.old self.new }
+        ensures keys { self.new.numbers ≡ self.old.numbers }
+    {
+        self.alerts.clear_entered();
+    }
+
+    /// Puts an alert, or none, under its labels, whose place is made and entered if need be. Returns what the open record has to take
+    /// up, for which there is room then.
+    pub(crate) fn change<E>(
+        &mut self,
+        journal: &mut Journal<E>,
+        labels: &Labels,
+        alert: Option<Alert>,
+    ) -> Result<Option<(Labels, Option<Alert>)>, AllocError>
+        ensures entry { IfOk result (λ entry. entry ≡ entry_of label_set_cmp self.old labels.now) }
+        ensures shown { OnOk result (shown label_set_cmp self.new
+            ≡ map.set (shown label_set_cmp self.old) labels.now alert) }
+        ensures entered { OnOk result (Enters label_set_cmp self.old self.new labels.now) }
+        ensures made { OnOk result (IsTrue (has_place label_set_cmp self.new labels.now)) }
+        ensures err { OnErr result (IsUnchanged label_set_cmp self.old self.new) }
+        ensures keys { GrowsBy label_set_cmp
+            (places_for label_set_cmp self.old labels.now) self.old self.new }
+        ensures enough { OnOk result (HasPlaces label_set_cmp self.new) }
+        ensures places { KeepsPlaces label_set_cmp self.old self.new }
+        ensures room { IfOk result (λ entry. IsTrue (is_some entry) → 0 < journal.new.entry_room) }
+        ensures closed { journal.new.closed ≡ journal.old.closed }
+        ensures current { journal.new.current ≡ journal.old.current }
+        ensures record_room { journal.new.record_room ≡ journal.old.record_room }
+    {
+        self.make_place(labels)?;
+        change(&mut self.alerts, journal, labels, alert)
+    }
+
+    /// Puts an alert, or none, back under its labels, and drops what is there. It takes no memory.
+    pub(crate) fn put_back(&mut self, labels: &Labels, alert: Option<Alert>)
+        requires { IsTrue (has_place label_set_cmp self.old labels.now) }
+        ensures shown { shown label_set_cmp self.new
+            ≡ map.set (shown label_set_cmp self.old) labels.now alert }
+        ensures places { SamePlaces label_set_cmp self.old self.new }
+        ensures entered { SameEntered label_set_cmp self.old self.new }
+        ensures keys { self.new.numbers ≡ self.old.numbers }
+        ensures enough { HasPlaces label_set_cmp self.new }
+    {
+        drop(self.alerts.displace(labels, alert));
+    }
+
+    /// Makes a place for an alert with these labels, and lists them in the index, unless they have one.
+    fn make_place(&mut self, labels: &Labels) -> Result<(), AllocError>
+        ensures made { OnOk result (IsTrue (has_place label_set_cmp self.new labels.now)) }
+        ensures shown { shown label_set_cmp self.new ≡ shown label_set_cmp self.old }
+        ensures entered { SameEntered label_set_cmp self.old self.new }
+        ensures places { KeepsPlaces label_set_cmp self.old self.new }
+        ensures keys { GrowsBy label_set_cmp
+            (places_for label_set_cmp self.old labels.now) self.old self.new }
+    {
+        if self.alerts.has_place(labels) {
+            return Ok(());
+        }
+        let pairs = pairs_of(self.alloc, labels)?;
+        self.index.reserve(pairs.len())?;
+        self.alerts.make_place(labels.clone()?)?;
+        put_all(&mut self.index, pairs);
+        Ok(())
+    }
+}
+
+impl AlertStore for AlertTable {
+    ghost alerts = { shown label_set_cmp };
+
+    fn all(&self, alloc: Global) -> Result<Vec<(&Labels, &Alert)>, AllocError> {
+        let mut found = Vec::new(alloc);
+        for stored in self.iter() {
+            found.push(stored)?;
+        }
+        Ok(found)
+    }
+
+    fn with_pair(
+        &self,
+        alloc: Global,
+        name: &Text,
+        value: &Text,
+    ) -> Result<Vec<(&Labels, &Alert)>, AllocError> {
+        let pair = LabelPair {
+            name: name.clone()?,
+            value: value.clone()?,
+        };
+        let mut found = Vec::new(alloc);
+        for paired in self.index.part(&pair)? {
+            if let Some(alert) = self.alerts.get(&paired.labels) {
+                found.push((&paired.labels, alert))?;
+            }
+        }
+        Ok(found)
+    }
+}
+
+/// Puts the label sets into the index, which has none of them and room for all. It takes no memory.
+fn put_all(index: &mut Queue<PairedLabels>, pairs: Vec<PairedLabels>)
+    requires room { length pairs.items ≤ index.old.room }
+    requires absent { CanPutAll index.old.dues pairs.items }
+    ensures { index.new.dues ≡ all_put index.old.dues pairs.items }
+{
+    for paired in pairs {
+        index.put(paired);
+    }
+}

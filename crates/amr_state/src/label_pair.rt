@@ -1,0 +1,54 @@
+//! The labels of stored alerts, as the index of label sets lists them.
+ghost use Rattle.std.specs.Prelude.{◌≡◌, IfOk};
+ghost use Rattle.amr_state.specs.LabelPairs.{pairs_of};
+
+use amr_labels::{Labels, Text};
+use amr_tables::InParts;
+use std::alloc::{AllocError, Global};
+use std::cmp::Ordering;
+
+/// The name of a label and its value.
+#[derive(PartialEq, Eq, PartialOrd, Ord, Drop)]
+pub(crate) struct LabelPair {
+    pub name: Text,
+    pub value: Text,
+}
+
+/// A label set under one of its labels.
+#[derive(PartialEq, Eq, PartialOrd, Ord, Drop)]
+pub(crate) struct PairedLabels {
+    pub pair: LabelPair,
+    pub labels: Labels,
+}
+
+/// Label sets that have a label in common are a part.
+impl InParts for PairedLabels {
+    ghost use Rattle.amr_state.specs.LabelPairs.{pair_cmp, paired_in_parts};
+
+    type Part = LabelPair;
+
+    ghost part_cmp = { λ paired pair. pair_cmp paired.pair pair };
+
+    ghost in_parts = { paired_in_parts };
+
+    fn part_cmp(&self, pair: &LabelPair) -> Ordering {
+        self.pair.cmp(pair)
+    }
+}
+
+/// Returns a label set under each of its labels, by name.
+pub(crate) fn pairs_of(alloc: Global, labels: &Labels) -> Result<Vec<PairedLabels>, AllocError>
+    ensures { IfOk result (λ pairs. pairs.items ≡ pairs_of labels.now) }
+{
+    let mut pairs = Vec::new(alloc);
+    for (name, value) in labels.entries() {
+        pairs.push(PairedLabels {
+            pair: LabelPair {
+                name: name.clone()?,
+                value: value.clone()?,
+            },
+            labels: labels.clone()?,
+        })?;
+    }
+    Ok(pairs)
+}
