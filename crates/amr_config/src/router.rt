@@ -1,5 +1,6 @@
-//! A configuration that remembers the groups of each label set it has seen. The state of a replay holds it in place of the configuration, so
-//! that what was worked out travels with the configuration through a reload and back. What it remembers is no part of what contracts see.
+//! A configuration that remembers the groups of each label set it has seen. The state of a replay
+//! holds it in place of the configuration, so that what was worked out travels with the
+//! configuration through a reload and back. Contracts see nothing of what it remembers.
 ghost use Rattle.std.specs.Prelude.{◌≡◌, IfOk};
 ghost use Rattle.amr_config.specs.Groups.{groups_of, group_at};
 
@@ -55,7 +56,8 @@ impl Router {
         &self.config
     }
 
-    /// Returns the groups that take an alert with these labels, by route. Routes are asked once for each label set.
+    /// Returns the groups that take an alert with these labels, by route. It asks the routes once
+    /// for each label set.
     pub fn groups_of(&mut self, labels: &Labels) -> Result<Shared<Listing<RouteGroup>>, AllocError>
         ensures groups { IfOk result (λ groups. groups ≡ groups_of self.old labels.now) }
         ensures same { self.new ≡ self.old }

@@ -116,7 +116,8 @@ impl Session {
         ensures entries { (event : _) → slice_get self.now.events index ≡ Some event →
             HasEntries (state_at self.now.config self.now.events index) event result }
         ensures refused { (event : _) (reason : _) → slice_get self.now.events index ≡ Some event →
-            outcome_of (state_at self.now.config self.now.events index) event ≡ Refused reason → result ≡ 0 }
+            outcome_of (state_at self.now.config self.now.events index) event ≡ Refused reason →
+            result ≡ 0 }
     {
         self.engine.record_len(index)
     }

@@ -21,7 +21,8 @@ pub trait AlertStore {
     fn all(&self, alloc: Global) -> Result<Vec<(&Labels, &Alert)>, AllocError>
         ensures { IfOk result (λ found. map deref_pair found.items ≡ entries (alerts self.now)) };
 
-    /// Lists the stored alerts whose label of this name has this value, with their labels and in the order of the labels.
+    /// Lists the stored alerts whose label of this name has this value, with their labels and in
+    /// the order of the labels.
     fn with_pair(
         &self,
         alloc: Global,
