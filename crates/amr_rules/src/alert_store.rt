@@ -2,13 +2,11 @@
 ghost use Rattle.std.specs.Prelude.{◌≡◌, IfOk, false, map};
 ghost use Rattle.std.specs.Map.Iter.{deref_pair};
 ghost use Rattle.amr_labels.specs.Map.{entries};
-ghost use Rattle.amr_labels.specs.Labels.{label_set_cmp, is_empty};
-ghost use Rattle.amr_tables.specs.Numbered.{shown};
+ghost use Rattle.amr_labels.specs.Labels.{is_empty};
 ghost use Rattle.amr_rules.specs.Muting.{Alerts, with_pair, has_value};
 
 use crate::alert::Alert;
 use amr_labels::{Labels, Text};
-use amr_tables::Keyed;
 use std::alloc::{AllocError, Global};
 use std::cmp::Ordering;
 
@@ -32,33 +30,6 @@ pub trait AlertStore {
         requires { is_empty value.now ≡ false }
         ensures { IfOk result (λ found. map deref_pair found.items
             ≡ with_pair name.now value.now (alerts self.now)) };
-}
-
-impl AlertStore for Keyed<Labels, Alert> {
-    ghost alerts = { shown label_set_cmp };
-
-    fn all(&self, alloc: Global) -> Result<Vec<(&Labels, &Alert)>, AllocError> {
-        let mut found = Vec::new(alloc);
-        for stored in self.iter() {
-            found.push(stored)?;
-        }
-        Ok(found)
-    }
-
-    fn with_pair(
-        &self,
-        alloc: Global,
-        name: &Text,
-        value: &Text,
-    ) -> Result<Vec<(&Labels, &Alert)>, AllocError> {
-        let mut found = Vec::new(alloc);
-        for (labels, alert) in self.iter() {
-            if has_value(labels, name, value.as_str()) {
-                found.push((labels, alert))?;
-            }
-        }
-        Ok(found)
-    }
 }
 
 /// Returns whether a label has a value, an absent label being empty.
