@@ -1,4 +1,5 @@
-//! Inhibition rules, read from a value.
+//! Reads the inhibition rules of a configuration (`inhibit_rules` of Alertmanager's configuration
+//! reference). `read.rt` calls `read_rules`.
 ghost use Rattle.std.specs.Prelude.{◌≡◌};
 ghost use Rattle.serde_json.specs.View.{view};
 ghost use Rattle.amr_stated.specs.Paths.{place_path};
@@ -73,7 +74,7 @@ fn rules(alloc: Global, place: &Place, value: &Value) -> Result<Listing<InhibitR
     Ok(rules)
 }
 
-/// The rules of a whole configuration.
+/// Reads the inhibition rules of a whole configuration; none if the member is absent.
 #[tactic(auto, unfolding(crate::specs::ReadRules::rules_at))]
 pub(crate) fn read_rules(alloc: Global, value: &Value) -> Result<Listing<InhibitRule>, ConfigError>
     ensures { Reads (λ rules. rules) result (rules_at (view value.now)) }
