@@ -76,6 +76,7 @@ pub(crate) fn items<'v>(
     }
 }
 
+/// Reads a duration, as Alertmanager writes it, such as `1h30m`.
 #[tactic(auto, unfolding(crate::specs::Members::span_at, crate::specs::Readings::next))]
 fn span(alloc: Global, place: &Place, value: &Value) -> Result<Span, ConfigError>
     ensures { Gives (λ n. n) result (span_at (place_path place.now) (view value.now)) }
@@ -86,6 +87,7 @@ fn span(alloc: Global, place: &Place, value: &Value) -> Result<Span, ConfigError
     }
 }
 
+/// Appends the text at an index of a list.
 #[tactic(auto, unfolding(crate::specs::Members::text_into, crate::specs::Readings::next))]
 fn text_item(
     alloc: Global,
@@ -102,6 +104,7 @@ fn text_item(
     Ok(())
 }
 
+/// Reads a list of texts.
 #[tactic(auto, unfolding(crate::specs::Members::texts_at, crate::specs::Readings::next))]
 fn texts(alloc: Global, place: &Place, value: &Value) -> Result<Listing<Text>, ConfigError>
     ensures { Gives (λ ts. ts) result (texts_at (place_path place.now) (view value.now)) }

@@ -15,6 +15,7 @@ use amr_labels::Listing;
 use serde_json::Value;
 use std::alloc::Global;
 
+/// Reads an inhibition rule, by its keys in byte order.
 #[tactic(auto, unfolding(crate::specs::ReadRules::rule_at, crate::specs::Readings::next))]
 fn read_rule(alloc: Global, place: &Place, value: &Value) -> Result<InhibitRule, ConfigError>
     ensures { Reads (λ rule. rule) result (rule_at (place_path place.now) (view value.now)) }
@@ -46,6 +47,7 @@ fn read_rule(alloc: Global, place: &Place, value: &Value) -> Result<InhibitRule,
     })
 }
 
+/// Appends the rule at an index of a list.
 #[tactic(auto, unfolding(crate::specs::ReadRules::rule_into, crate::specs::Readings::next))]
 fn add_rule(
     alloc: Global,
@@ -62,6 +64,7 @@ fn add_rule(
     Ok(())
 }
 
+/// Reads a list of inhibition rules.
 #[tactic(auto, unfolding(crate::specs::ReadRules::rules_list, crate::specs::Readings::next))]
 fn rules(alloc: Global, place: &Place, value: &Value) -> Result<Listing<InhibitRule>, ConfigError>
     ensures { Reads (λ rules. rules) result (rules_list (place_path place.now) (view value.now)) }

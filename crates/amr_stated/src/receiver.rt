@@ -1,5 +1,5 @@
-//! Receivers and their integrations. The engine flushes to integrations, and `read_receivers.rt`
-//! reads them.
+//! Receivers and their integrations. `read_receivers.rt` reads them, and a flush notifies
+//! integrations.
 ghost use Rattle.std.specs.Prelude.{◌≡◌};
 
 use amr_labels::{Exact, Listing, Text};
