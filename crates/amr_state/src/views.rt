@@ -1,5 +1,6 @@
 //! Copies of what the state holds, in the order in which the program lists it: alerts, silences,
-//! groups and the notification log. The session's listing commands call them; they change nothing.
+//! groups and the notification log. The listing commands call them, and a change of the
+//! configuration reads the alerts. They change nothing.
 ghost use Rattle.std.specs.Prelude.{◌≡◌, IfOk, map};
 ghost use Rattle.amr_labels.specs.Map.{entries};
 ghost use Rattle.amr_state.specs.State.{members};

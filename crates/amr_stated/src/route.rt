@@ -30,7 +30,7 @@ impl Exact for Grouping {
     ghost exact = { λ x y same. same };
 }
 
-/// A route with what it states itself; `None` is inherited from the parent.
+/// A route with what it states itself. It inherits each setting that is `None` from its parent.
 ///
 /// Routes are in a list in preorder, the root first. `parent` is the index of the parent in that
 /// list, and `None` for the root.
