@@ -1,4 +1,4 @@
--- What is due, and what is next.
+-- Pending timers: when alerts and groups are removed and groups flushed, and which timer is first.
 use Rattle.std.specs.Prelude.{◌≡◌, ℕ, zero, suc, List, [], ◌∷◌, ◌++◌, Option, Some, None, if◌then◌else◌, nat_le, ◌-◌, ◌*◌, map, option_map, max}
 use Rattle.std.specs.List.{filter_map}
 use Rattle.std.specs.declared.cmp.Ordering.{Ordering}
@@ -20,18 +20,19 @@ use Rattle.amr_state.specs.declared.due.Kind.TheVariants.{AlertRemoval, GroupRem
 use Rattle.amr_state.specs.declared.spot.Spot.{Spot}
 use Rattle.amr_state.specs.State.{State, spot_at, spot_cmp, spot_cmp-IsAntisymmetric}
 
+-- the rank of a kind among the timers of one moment
 abbrev pub kind_place : Kind → ℕ
 kind_place AlertRemoval = 0
 kind_place GroupRemoval = 1
 kind_place GroupFlush = 2
 
--- by moment, kind, route and labels
+-- timers are ordered by moment, kind, route and labels
 abbrev pub due_cmp : Due → Due → Ordering
 due_cmp a b =
     ordering_then (nat_cmp a.moment b.moment) (ordering_then (nat_cmp (kind_place a.kind) (kind_place b.kind))
     (ordering_then (nat_cmp a.route b.route) (label_set_cmp a.labels b.labels)))
 
--- what is due of whom: by kind, route and labels
+-- timers without their moments, by kind, route and labels
 abbrev pub place_cmp : Due → Due → Ordering
 place_cmp a b = ordering_then (nat_cmp (kind_place a.kind) (kind_place b.kind)) (ordering_then (nat_cmp a.route b.route) (label_set_cmp a.labels b.labels))
 
@@ -59,7 +60,7 @@ kind_at_its_place GroupFlush = refl
 abbrev due_parts : Due → Moment × (ℕ × Spot)
 due_parts due = (due.moment, (kind_place due.kind, spot_at due.route due.labels))
 
--- dues that compare alike are the same
+-- timers that compare equal are the same
 pub due_cmp-IsAntisymmetric : IsAntisymmetric due_cmp
 due_cmp-IsAntisymmetric a b tie =
     let parts : due_parts a ≡ due_parts b =
@@ -69,7 +70,8 @@ due_cmp-IsAntisymmetric a b tie =
     sym (kind_at_its_place a.kind) ∙ ap (λ (x : Moment × (ℕ × Spot)). kind_at x.1.0) parts ∙ kind_at_its_place b.kind in
     λ i. record { moment = (parts i).0; kind = kinds i; route = (parts i).1.1.route; labels = (parts i).1.1.labels }
 
--- a stored alert is removed at the first multiple of half an hour that is after its last post and not before its end
+-- a stored alert is removed at the first multiple of half an hour that is after its last post and
+-- not before its end
 abbrev pub alert_removal_at : Alert → Moment
 alert_removal_at alert = next_multiple_of (max alert.last_post (alert.ends_at - 1)) (30 * minute)
 
@@ -81,7 +83,7 @@ alert_removal_of alert = record {
   labels = alert.0;
 }
 
--- a group is removed at the first multiple of half a minute after it became empty
+-- an empty group is removed at the first multiple of half a minute after it became empty
 abbrev pub group_removal_at : Clock → Option Moment
 group_removal_at clock = option_map (λ since. next_multiple_of since (30 * second)) clock.empty_since
 
@@ -89,30 +91,32 @@ abbrev pub group_removal_of : Spot × Clock → Option Due
 group_removal_of group =
     option_map (λ since. record { moment = next_multiple_of since (30 * second); kind = GroupRemoval; route = group.0.route; labels = group.0.labels }) group.1.empty_since
 
+-- a group is flushed when its timer says
 abbrev pub flush_of : Spot × Clock → Due
 flush_of group = record { moment = group.1.next_flush; kind = GroupFlush; route = group.0.route; labels = group.0.labels }
 
 abbrev pub dues_of : Alerts → Map spot_cmp Clock → List Due
 dues_of alerts clocks = map alert_removal_of (entries alerts) ++ filter_map group_removal_of (entries clocks) ++ map flush_of (entries clocks)
 
--- all that is due, at whatever moment
+-- all pending timers, at whatever moment
 unfoldable pub dues : State → List Due
 dues s = dues_of s.alerts s.clocks
 
--- the lesser of two, where there may be no second
+-- the earlier of a timer and another, if there is another
 abbrev pub lesser_due : Due → Option Due → Due
 lesser_due due None = due
 lesser_due due (Some other) = if is_gt (due_cmp due other) then other else due
 
--- the least of a list
+-- the first timer of a list
 abbrev pub least_due : List Due → Option Due
 least_due [] = None
 least_due (due ∷ rest) = Some (lesser_due due (least_due rest))
 
+-- the timer, if it is at or before the moment
 abbrev pub due_by : Moment → Option Due → Option Due
 due_by at None = None
 due_by at (Some due) = if nat_le due.moment at then Some due else None
 
--- the least that is due at or before the moment
+-- the first pending timer at or before the moment
 unfoldable pub next_due : Moment → State → Option Due
 next_due at s = due_by at (least_due (dues s))

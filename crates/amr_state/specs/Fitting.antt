@@ -1,4 +1,4 @@
--- The members that are put back have the groups that the configuration of that time gives them.
+-- Undoing puts each member back into the group that the configuration of that time gives it.
 use Rattle.std.specs.Prelude.{◌≡◌, Bool, true, false, List, [], ◌∷◌, if◌then◌else◌}
 use Rattle.std.specs.List.{list_any}
 use Rattle.amr_labels.specs.Map.{empty}
@@ -7,17 +7,20 @@ use Rattle.amr_state.specs.declared.displaced.Displaced.TheVariants.{WasConfig, 
 use Rattle.amr_state.specs.State.{State, spot_of, group_spot}
 use Rattle.amr_state.specs.Records.{put_back}
 
--- a configuration is put back while no group has a member, and a member with the group that the configuration in force gives it
+-- a configuration is put back while no group has members, and a member into the group that the
+-- configuration in force gives it
 abbrev pub FitsOne : State → Displaced → Type 0
 FitsOne s (WasConfig config) = s.placements ≡ empty
 FitsOne s (WasPlacement member alert) = member.group ≡ group_spot s.config (spot_of member)
 FitsOne s _ = Unit {0}
 
--- so it is with each entry when those after it are put back
+-- each entry of a record fits the state in which it is put back, which is after the entries behind
+-- it
 unfoldable pub Fits : List Displaced → State → Type 0
 Fits [] s = Unit {0}
 Fits (first ∷ rest) s = Fits rest s × FitsOne (put_back rest s) first
 
+-- whether the entry is of the configuration
 abbrev pub is_config : Displaced → Bool
 is_config (WasConfig config) = true
 is_config _ = false

@@ -1,4 +1,4 @@
--- The stored alerts by the labels that they have.
+-- The index of stored alerts by label.
 use Rattle.std.specs.Prelude.{◌≡◌, Bool, false, ◌&&◌, List, [], ◌∷◌, IsTrue, is_some, map}
 use Rattle.std.specs.Option.{option_map_or}
 use Rattle.std.specs.List.{fold}
@@ -18,11 +18,11 @@ use Rattle.amr_tables.specs.Queued.{has}
 use Rattle.amr_state.specs.declared.label_pair.LabelPair.{LabelPair}
 use Rattle.amr_state.specs.declared.label_pair.PairedLabels.{PairedLabels}
 
--- by name and value
+-- labels are ordered by name, then by value
 abbrev pub pair_cmp : LabelPair → LabelPair → Ordering
 pair_cmp a b = ordering_then (text_cmp a.name b.name) (text_cmp a.value b.value)
 
--- by label, and then by label set
+-- index entries are ordered by label, then by label set
 abbrev pub paired_cmp : PairedLabels → PairedLabels → Ordering
 paired_cmp a b = ordering_then (pair_cmp a.pair b.pair) (label_set_cmp a.labels b.labels)
 
@@ -32,14 +32,15 @@ pair_cmp_total = then_total (on_total (λ (p : LabelPair). p.name) nat_list_cmp_
 pub paired_cmp_total : IsTotalOrder paired_cmp
 paired_cmp_total = then_total (on_total (λ (p : PairedLabels). p.pair) pair_cmp_total) (on_total (λ (p : PairedLabels). p.labels) label_set_cmp_total)
 
--- label sets that have a label in common are next to each other
+-- label sets that share a label are next to each other
 pub paired_in_parts : IsInParts paired_cmp (λ (p : PairedLabels) pair. pair_cmp p.pair pair)
 paired_in_parts = IsInParts-by_first pair_cmp_total (λ (p : PairedLabels). p.pair) (λ a b. label_set_cmp a.labels b.labels)
 
+-- the index entry of a label set under one of its labels
 abbrev pub paired : LabelSet → Text × Text → PairedLabels
 paired labels label = record { pair = record { name = label.0; value = label.1 }; labels = labels }
 
--- the label set under each of its labels
+-- the index entries of a label set, one for each of its labels
 abbrev pub pairs_of : LabelSet → List PairedLabels
 pairs_of labels = map (paired labels) (entries labels)
 
@@ -47,17 +48,18 @@ pairs_of labels = map (paired labels) (entries labels)
 abbrev pub has_label : LabelSet → LabelPair → Bool
 has_label labels pair = option_map_or (λ value. eq_by_cmp text_cmp pair.value value) (get labels pair.name) false
 
--- The index lists each label set that has a place, under each of its labels, and no other. A stored alert has a place.
+-- The index lists each label set that has a place, under each of its labels, and nothing else. Each
+-- stored alert has a place.
 pub record IsIndexed (alerts : Numbered LabelSet Alert) (index : List PairedLabels) : Type 0 where
   pub sorted : IsStrictlySortedBy paired_cmp index
   pub exact : (p : PairedLabels) → has paired_cmp index p ≡ (has_place label_set_cmp alerts p.labels && has_label p.labels p.pair)
   pub stored : (labels : LabelSet) → IsTrue (is_some (get (shown label_set_cmp alerts) labels)) → IsTrue (has_place label_set_cmp alerts labels)
 
--- the index with these pairs, too
+-- the index with these entries added
 abbrev pub all_put : List PairedLabels → List PairedLabels → List PairedLabels
 all_put = fold (insert_key paired_cmp)
 
--- none of the pairs is in the index when it is put there
+-- no entry is in the index yet when it is added
 abbrev pub CanPutAll : List PairedLabels → List PairedLabels → Type 0
 CanPutAll index [] = Unit {0}
 CanPutAll index (p ∷ pairs) = (has paired_cmp index p ≡ false) × CanPutAll (insert_key paired_cmp index p) pairs

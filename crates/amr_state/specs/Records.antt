@@ -1,4 +1,4 @@
--- The records of events: what each displaced, and how it is put back.
+-- Records of events: what each event displaced, and how an event is undone.
 use Rattle.std.specs.Prelude.{◌≤◌, ◌⊎◌, ℕ, Bool, true, false, List, [], ◌∷◌, take, length}
 use Rattle.std.specs.List.{list_any}
 use Rattle.std.specs.Ordering.{nat_cmp, eq_by_cmp}
@@ -8,7 +8,7 @@ use Rattle.amr_state.specs.declared.displaced.Displaced.{Displaced}
 use Rattle.amr_state.specs.declared.displaced.Displaced.TheVariants.{WasMoment, WasConfig, WasAlert, WasSilence, WasPlacement, WasClock, WasLogged, WasNotes}
 use Rattle.amr_state.specs.State.{State, spot_of, spot_cmp, log_key_cmp}
 
--- the place has this value
+-- the state with the entry's value at its place
 abbrev pub put_back_one : State → Displaced → State
 put_back_one s (WasMoment moment) = record s { moment = moment }
 put_back_one s (WasConfig config) = record s { config = config }
@@ -19,12 +19,12 @@ put_back_one s (WasClock group clock) = record s { clocks = set s.clocks group c
 put_back_one s (WasLogged key entry) = record s { log = set s.log key entry }
 put_back_one s (WasNotes count) = record s { notes = take count s.notes }
 
--- a record is put back from its last entry to its first
+-- a record is undone from its last entry to its first
 unfoldable pub put_back : List Displaced → State → State
 put_back [] s = s
 put_back (first ∷ rest) s = put_back_one (put_back rest s) first
 
--- the same place with the value that it has now; of the notifications, how many there are
+-- the same place with its present value; for the notifications, their present number
 abbrev pub present : State → Displaced → Displaced
 present s (WasMoment moment) = WasMoment s.moment
 present s (WasConfig config) = WasConfig s.config
@@ -51,22 +51,22 @@ same_place _ _ = false
 unfoldable pub has_entry : List Displaced → Displaced → Bool
 has_entry entries place = list_any (same_place place) entries
 
--- a change of one place, other than the notifications
+-- the entry is of another place than the notifications
 abbrev pub IsNoNote : Displaced → Type 0
 IsNoNote (WasNotes count) = ⊥
 IsNoNote _ = Unit {0}
 
--- an entry with at most this many notifications
+-- the entry is of the notifications, made when there were at most n
 abbrev pub IsNotesWithin : ℕ → Displaced → Type 0
 IsNotesWithin n (WasNotes count) = count ≤ n
 IsNotesWithin n _ = ⊥
 
--- a record has an entry for the notifications, made when there were at most this many
+-- the record has an entry for the notifications, made when there were at most n
 unfoldable pub NotesEntered : List Displaced → ℕ → Type 0
 NotesEntered [] n = ⊥
 NotesEntered (first ∷ rest) n = IsNotesWithin n first ⊎ NotesEntered rest n
 
--- the state before records, the oldest first, by the state after them
+-- the state before the records, the oldest first, given the state after them
 unfoldable pub before_all : List (List Displaced) → State → State
 before_all [] s = s
 before_all (first ∷ rest) s = put_back first (before_all rest s)

@@ -1,4 +1,4 @@
--- The configuration with the members of all groups, and the index of them by group.
+-- The configuration in force with the members of all groups, and the index of members by group.
 use Rattle.std.specs.Prelude.{◌≡◌, ◌≤◌, ◌+◌, ◌<◌, ℕ, Bool, true, false, List, length, map, Option, option_map}
 use Rattle.std.specs.List.{filter}
 use Rattle.std.specs.declared.cmp.Ordering.{Ordering}
@@ -19,7 +19,7 @@ use Rattle.amr_state.specs.declared.spot.Spot.{Spot}
 use Rattle.amr_state.specs.declared.membership.Membership.{Membership}
 use Rattle.amr_state.specs.State.{spot_of, spot_cmp, spot_cmp_total, spot_cmp-IsAntisymmetric, group_spot}
 
--- by group and labels
+-- memberships are ordered by group, then by labels
 abbrev pub membership_cmp : Membership → Membership → Ordering
 membership_cmp a b = ordering_then (spot_cmp a.group b.group) (label_set_cmp a.labels b.labels)
 
@@ -32,14 +32,15 @@ membership_cmp-IsAntisymmetric a b tie =
     ap (λ (p : Spot × LabelSet). record { group = p.0; labels = p.1 })
     (exact_pairs spot_cmp label_set_cmp spot_cmp-IsAntisymmetric label_set_cmp-IsAntisymmetric (a.group, a.labels) (b.group, b.labels) tie)
 
--- the membership of an alert that is placed on a route
+-- the membership of a label set on a route: its group, and its labels
 abbrev pub membership_of : Config → Spot → Membership
 membership_of config spot = record { group = group_spot config spot; labels = spot.labels }
 
--- the membership of the same alert in a group that is given
+-- the membership of the same label set in a given group
 abbrev pub in_group : Spot → Spot → Membership
 in_group group spot = record { group = group; labels = spot.labels }
 
+-- the memberships of all members
 abbrev pub memberships : Config → Map spot_cmp Alert → List Membership
 memberships config placements = map (membership_of config) (keys placements)
 
@@ -48,7 +49,7 @@ abbrev pub members_among : Config → Map spot_cmp Alert → Spot → List (Labe
 members_among config placements group =
     map (λ placement. (placement.0.labels, placement.1)) (filter (λ placement. eq_by_cmp spot_cmp (group_spot config placement.0) group) (entries placements))
 
--- the labels of a member with its alert, if there is one
+-- the labels of a member with its alert, if it has one
 abbrev pub with_alert : Map spot_cmp Alert → Membership → Option (LabelSet × Alert)
 with_alert placements member = option_map (λ alert. (member.labels, alert)) (get placements (spot_of member))
 
@@ -56,24 +57,26 @@ pub record Rostered : Type 0 where
   pub config : Config
   pub placements : Numbered Spot Alert
 
--- The index is the sorted list of the memberships. What is in it and what it has room for is enough for one of each place.
+-- The index is the sorted list of the memberships. Its items and its spare room together are enough
+-- for one membership of each place.
 pub record IsIndexed (config : Config) (placements : Numbered Spot Alert) (index : Queued Membership) : Type 0 where
   pub dues : index.dues ≡ in_order membership_cmp (memberships config (shown spot_cmp placements))
   pub room : length placements.numbers ≤ index.room + length index.dues
   pub places : HasPlaces spot_cmp placements
 
--- what a change of a placement enters into the open record: the membership with the alert that is there, unless the place is entered already
+-- the entry for a change of a member: the membership with its present alert, unless the place is
+-- entered already
 abbrev pub member_entry_of : Config → Numbered Spot Alert → Spot → Option (Membership × Option Alert)
 member_entry_of config placements spot = option_map (λ entry. (membership_of config entry.0, entry.1)) (entry_of spot_cmp placements spot)
 
--- the list after a member came, left, or did neither
+-- the index after a member came, left, or did neither
 abbrev pub enrolled : List Membership → Membership → Bool → Bool → List Membership
 enrolled index member false true = insert_key membership_cmp index member
 enrolled index member true false = without membership_cmp index member
 enrolled index member false false = index
 enrolled index member true true = index
 
--- whether the member was there is known, and there is room for it if it comes
+-- `was` says whether the member is in the index, and there is room for it if it comes
 pub record CanEnrol (index : List Membership) (spare : ℕ) (member : Membership) (was is : Bool) : Type 0 where
   pub there : has membership_cmp index member ≡ was
   pub room : was ≡ false → is ≡ true → 0 < spare

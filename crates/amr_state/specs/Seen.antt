@@ -1,4 +1,4 @@
--- What is listed of the state.
+-- What the program lists of the state.
 use Rattle.std.specs.Prelude.{List, map}
 use Rattle.amr_labels.specs.Map.{entries}
 use Rattle.amr_state.specs.declared.note.Clock.{Clock}
@@ -6,7 +6,7 @@ use Rattle.amr_state.specs.declared.spot.Spot.{Spot}
 use Rattle.amr_state.specs.declared.views.Group.{Group}
 use Rattle.amr_state.specs.State.{State, members}
 
--- a group with its clock and the label sets of its members
+-- a group with its timer and the label sets of its members
 abbrev pub group_seen : State → Spot × Clock → Group
 group_seen s group = record {
   route = group.0.route;

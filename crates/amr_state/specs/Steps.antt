@@ -1,4 +1,5 @@
--- A state, the states before the events that led to it, and the records of these events.
+-- A state with the states before each of the events that led to it, and the records of these
+-- events.
 use Rattle.std.specs.Prelude.{List}
 use Rattle.amr_state.specs.declared.displaced.Displaced.{Displaced}
 use Rattle.amr_state.specs.State.{State}

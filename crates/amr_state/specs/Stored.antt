@@ -1,4 +1,4 @@
--- What the tables and the journal of a store show.
+-- What the tables and the journal of a store mean as a state with its records.
 use Rattle.std.specs.Prelude.{◌≡◌, ◌≤◌, ◌++◌, ℕ, Bool, false, List, IsTrue, length}
 use Rattle.std.specs.List.{AllByRecursion, flat_map}
 use Rattle.std.specs.Ordering.{nat_cmp}
@@ -16,6 +16,7 @@ use Rattle.amr_state.specs.Fitting.{Fits, since_config}
 use Rattle.amr_state.specs.Kept.{Kept}
 use Rattle.amr_state.specs.declared.store.Store.TheInside.{Inside}
 
+-- the state that the tables show
 abbrev pub state_of : Inside → State
 state_of store = record {
   moment = store.moment;
@@ -28,6 +29,7 @@ state_of store = record {
   notes = store.notes.items;
 }
 
+-- the state and the records
 abbrev pub kept_of : Inside → Kept
 kept_of store = record {
   state = state_of store;
@@ -36,7 +38,7 @@ kept_of store = record {
   room = store.journal.record_room;
 }
 
--- an entry can be put back: its place is there
+-- an entry can be put back: its place exists
 abbrev pub IsSound : Tables → Displaced → Type 0
 IsSound tables (WasMoment moment) = moment ≤ latest_read
 IsSound tables (WasConfig config) = Unit {0}
@@ -50,7 +52,8 @@ IsSound tables (WasNotes count) = Unit {0}
 abbrev pub AreSound : Tables → List Displaced → Type 0
 AreSound tables = AllByRecursion (IsSound tables)
 
--- whether an entry's place is marked as entered in the open record, after its last entry of the configuration
+-- whether the entry's place is marked: the open record has an entry for it since the last change of
+-- the configuration
 abbrev pub is_marked_at : Tables → Displaced → Bool
 is_marked_at tables (WasMoment moment) = tables.is_moment_entered
 is_marked_at tables (WasConfig config) = false
@@ -65,7 +68,7 @@ is_marked_at tables (WasNotes count) = tables.are_notes_entered
 abbrev pub IsUnmarked : Tables → Type 0
 IsUnmarked tables = (place : Displaced) → is_marked_at tables place ≡ false
 
--- places are never lost
+-- the second tables have all places of the first
 pub record MorePlaces (a b : Tables) : Type 0 where
   pub alerts : (k : LabelSet) → IsTrue (has_place label_set_cmp a.timetable.alerts k) → IsTrue (has_place label_set_cmp b.timetable.alerts k)
   pub silences : (k : ℕ) → IsTrue (has_place nat_cmp a.silences k) → IsTrue (has_place nat_cmp b.silences k)
@@ -73,7 +76,7 @@ pub record MorePlaces (a b : Tables) : Type 0 where
   pub clocks : (k : Spot) → IsTrue (has_place spot_cmp a.timetable.clocks k) → IsTrue (has_place spot_cmp b.timetable.clocks k)
   pub log : (k : LogKey) → IsTrue (has_place log_key_cmp a.log k) → IsTrue (has_place log_key_cmp b.log k)
 
--- the same values
+-- both tables have the same values
 pub record SameValues (a b : Tables) : Type 0 where
   pub config : b.roster.config ≡ a.roster.config
   pub alerts : shown label_set_cmp b.timetable.alerts ≡ shown label_set_cmp a.timetable.alerts
@@ -86,7 +89,9 @@ pub record SameValues (a b : Tables) : Type 0 where
 abbrev pub entries_of : Inside → List Displaced
 entries_of store = flat_map (λ closed. closed) store.journal.closed ++ store.journal.current
 
--- every record can be put back, with members in the groups of the configuration of that time, and each place that is marked has an entry in the open record after the last one of the configuration
+-- Every record can be undone, each member goes back into its group under the configuration of that
+-- time, and each marked place has an entry in the open record since its last change of the
+-- configuration.
 pub record IsKept (store : Inside) : Type 0 where
   pub moment : store.moment ≤ latest_read
   pub current : AreSound store.tables store.journal.current

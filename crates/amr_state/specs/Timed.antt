@@ -1,4 +1,4 @@
--- The stored alerts and the timers of groups, and the queue of what is due of them.
+-- The stored alerts and the group timers, with the queue of pending timers.
 use Rattle.std.specs.Prelude.{◌≡◌, ◌≤◌, ◌+◌, ◌*◌, ℕ, Bool, true, false, List, length, Option, Some, None, option_map, IfSome}
 use Rattle.std.specs.Option.{option_and_then}
 use Rattle.std.specs.Ordering.{nat_cmp, eq_by_cmp}
@@ -20,16 +20,17 @@ pub record Timed : Type 0 where
   pub alerts : Numbered LabelSet Alert
   pub clocks : Numbered Spot Clock
 
--- The queue is the sorted list of what is due. What is in it and what it has room for is enough for a due of each alert's place and two of each group's.
+-- The queue is the sorted list of pending timers. Its timers and its spare room together are enough
+-- for one timer of each alert's place and two of each group's.
 pub record IsTimed (alerts : Numbered LabelSet Alert) (clocks : Numbered Spot Clock) (queue : Queued Due) : Type 0 where
   pub dues : queue.dues ≡ in_order due_cmp (dues_of (shown label_set_cmp alerts) (shown spot_cmp clocks))
   pub room : length alerts.numbers + 2 * length clocks.numbers ≤ queue.room + length queue.dues
   pub alert_places : HasPlaces label_set_cmp alerts
   pub clock_places : HasPlaces spot_cmp clocks
 
--- ---- a due at another moment
+-- ---- a timer at another moment
 
--- whether two dues are of the same kind, and of the same alert or group
+-- whether two timers are of the same kind, and of the same alert or group
 abbrev pub is_same : Due → Due → Bool
 is_same = eq_by_cmp place_cmp
 
@@ -37,22 +38,25 @@ abbrev pub is_at : Moment → Option Moment → Bool
 is_at moment None = false
 is_at moment (Some other) = eq_by_cmp nat_cmp moment other
 
+-- the timer at a moment
 abbrev pub due_at : Due → Moment → Due
 due_at due moment = record due { moment = moment }
 
+-- the list without the timer at its old moment, if it has one
 abbrev pub taken_at : List Due → Due → Option Moment → List Due
 taken_at dues due None = dues
 taken_at dues due (Some moment) = without due_cmp dues (due_at due moment)
 
+-- the list with the timer at its new moment, if it has one
 abbrev pub put_at : List Due → Due → Option Moment → List Due
 put_at dues due None = dues
 put_at dues due (Some moment) = insert_key due_cmp dues (due_at due moment)
 
--- the due isn't at the one moment, but at the other
+-- the list with the timer moved from the old moment to the new one
 abbrev pub moved : List Due → Due → Option Moment → Option Moment → List Due
 moved dues due old new = put_at (taken_at dues due old) due new
 
--- the due is at the one moment, and can be put at the other
+-- the timer is in the list at the old moment, and not yet at the new one, for which there is room
 pub record CanMove (dues : List Due) (spare : ℕ) (due : Due) (old new : Option Moment) : Type 0 where
   pub room : count_of new ≤ spare + count_of old
   pub there : IfSome old (λ moment. has due_cmp dues (due_at due moment) ≡ true)
@@ -67,20 +71,23 @@ removal_of_group group = record { moment = 0; kind = GroupRemoval; route = group
 abbrev pub flush_of_group : Spot → Due
 flush_of_group group = record { moment = 0; kind = GroupFlush; route = group.route; labels = group.labels }
 
+-- when an alert is removed
 abbrev pub alert_moment : Option Alert → Option Moment
 alert_moment = option_map alert_removal_at
 
+-- when a group is flushed and removed
 abbrev pub group_moments : Option Clock → GroupMoments
 group_moments clock = record { flush = option_map (λ clock. clock.next_flush) clock; removal = option_and_then group_removal_at clock }
 
--- the list with the flush of the group at its other moment
+-- the list with the group's flush moved
 abbrev pub flush_moved : List Due → Spot → GroupMoments → GroupMoments → List Due
 flush_moved dues group old new = moved dues (flush_of_group group) old.flush new.flush
 
--- so with its removal, too
+-- the list with the group's flush and removal moved
 abbrev pub group_moved : List Due → Spot → GroupMoments → GroupMoments → List Due
 group_moved dues group old new = moved (flush_moved dues group old new) (removal_of_group group) old.removal new.removal
 
+-- the flush can be moved, and after it the removal
 pub record CanMoveGroup (dues : List Due) (spare : ℕ) (group : Spot) (old new : GroupMoments) : Type 0 where
   pub flush : CanMove dues spare (flush_of_group group) old.flush new.flush
   pub removal : (left : ℕ) → left + length (flush_moved dues group old new) ≡ spare + length dues → CanMove (flush_moved dues group old new) left (removal_of_group group) old.removal new.removal

@@ -1,4 +1,6 @@
-//! The stored alerts under their labels, with an index of their label sets by label.
+//! The stored alerts by label set, with an index of the label sets by label. `timetable.rt` changes
+//! the table; inhibition asks it for the alerts that have a given label. It neither merges alerts
+//! nor decides when one is removed.
 ghost use Rattle.std.specs.Prelude.{◌≡◌, ◌≤◌, ◌<◌, [], IsTrue, is_some, length, OnOk, OnErr, IfOk};
 ghost use Rattle.std.specs.Option.{option_copied};
 ghost use Rattle.amr_labels.specs.Labels.{label_set_cmp};
@@ -13,8 +15,8 @@ use amr_tables::{Entries, Journal, Keyed, Queue, change};
 use std::alloc::{AllocError, Global};
 use std::marker::Model;
 
-/// The stored alerts under their labels. The index lists each label set that has a place, under each of its labels; since a place is never
-/// lost, nothing leaves the index.
+/// The stored alerts by label set. The index lists each label set that has a place, under each of
+/// its labels. A place is never lost, so nothing leaves the index.
 #[derive(Drop)]
 pub struct AlertTable {
     alloc: Global,
@@ -40,7 +42,7 @@ impl Model for AlertTable {
 }
 
 impl AlertTable {
-    /// The table without an alert.
+    /// Builds a table without alerts.
     pub(crate) fn new(alloc: Global) -> AlertTable
         ensures shown { shown label_set_cmp result ≡ map.empty }
         ensures entered { NoneEntered label_set_cmp result }
@@ -68,14 +70,15 @@ impl AlertTable {
         self.alerts.iter()
     }
 
-    /// Returns whether these labels have a place.
+    /// Returns whether this label set has a place.
     pub(crate) fn has_place(&self, labels: &Labels) -> bool
         ensures { result ≡ has_place label_set_cmp self.now labels.now }
     {
         self.alerts.has_place(labels)
     }
 
-    /// Takes back that places are entered, of all. It takes no memory.
+    /// Clears the marks of all places, so that the open record takes their next change again. It
+    /// takes no memory.
     pub(crate) fn clear_entered(&mut self)
         ensures entered { NoneEntered label_set_cmp self.new }
         ensures shown { shown label_set_cmp self.new ≡ shown label_set_cmp self.old }
@@ -85,8 +88,9 @@ impl AlertTable {
         self.alerts.clear_entered();
     }
 
-    /// Puts an alert, or none, under its labels, whose place is made and entered if need be. Returns what the open record has to take
-    /// up, for which there is room then.
+    /// Sets or removes the alert with these labels. It makes a place for it and marks the place as
+    /// entered, if need be. Returns the entry that the open record needs, and leaves room for it
+    /// there. If memory runs out, no alert changes.
     pub(crate) fn change<E>(
         &mut self,
         journal: &mut Journal<E>,
@@ -112,7 +116,8 @@ impl AlertTable {
         change(&mut self.alerts, journal, labels, alert)
     }
 
-    /// Puts an alert, or none, back under its labels, and drops what is there. It takes no memory.
+    /// Restores the alert with these labels, or its absence, and drops the present one. It takes no
+    /// memory.
     pub(crate) fn put_back(&mut self, labels: &Labels, alert: Option<Alert>)
         requires { IsTrue (has_place label_set_cmp self.old labels.now) }
         ensures shown { shown label_set_cmp self.new
@@ -125,7 +130,7 @@ impl AlertTable {
         drop(self.alerts.displace(labels, alert));
     }
 
-    /// Makes a place for an alert with these labels, and lists them in the index, unless they have one.
+    /// Makes a place for this label set and lists it in the index, unless it has one.
     fn make_place(&mut self, labels: &Labels) -> Result<(), AllocError>
         ensures made { OnOk result (IsTrue (has_place label_set_cmp self.new labels.now)) }
         ensures shown { shown label_set_cmp self.new ≡ shown label_set_cmp self.old }
@@ -176,7 +181,8 @@ impl AlertStore for AlertTable {
     }
 }
 
-/// Puts the label sets into the index, which has none of them and room for all. It takes no memory.
+/// Adds label sets to the index, which has room for all of them and none of them yet. It takes no
+/// memory.
 fn put_all(index: &mut Queue<PairedLabels>, pairs: Vec<PairedLabels>)
     requires room { length pairs.items ≤ index.old.room }
     requires absent { CanPutAll index.old.dues pairs.items }

@@ -1,4 +1,5 @@
-//! What an event displaces: a place of the state, with the value that it had.
+//! An entry of a record: a place of the state and the value that an event displaced there. `Store`
+//! writes the entries, and puts them back when an event is undone.
 use crate::membership::Membership;
 use crate::note::{Clock, LogKey};
 use crate::spot::TimedGroup;
@@ -8,12 +9,12 @@ use amr_labels::Labels;
 use amr_rules::{Alert, LogEntry, Silence};
 use amr_time::Moment;
 
-/// A place of the state with a value, or with none where the place may be empty.
+/// A place of the state with its former value; `None` if the place was empty.
 #[derive(Drop)]
 pub enum Displaced {
-    /// The clock.
+    /// The moment of the clock.
     WasMoment(Moment),
-    /// The configuration in force, with what it remembers.
+    /// The configuration in force, with the groups it has worked out so far.
     WasConfig(Router),
     /// The stored alert with these labels.
     WasAlert(Labels, Option<Alert>),
@@ -25,6 +26,6 @@ pub enum Displaced {
     WasClock(TimedGroup, Option<Clock>),
     /// The entry of the notification log under this key.
     WasLogged(LogKey, Option<LogEntry>),
-    /// The notifications so far: how many there were.
+    /// The number of notifications before the event.
     WasNotes(usize),
 }

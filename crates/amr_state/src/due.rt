@@ -1,4 +1,6 @@
-//! What is due, and what is next.
+//! Pending timers: when a stored alert or an empty group is removed and when a group is flushed,
+//! and which timer fires first. `moves.rt` of the engine asks for the next one and fires it;
+//! nothing is changed here.
 ghost use Rattle.std.specs.Prelude.{◌≡◌, ◌≤◌, ℕ, IfOk, IfSome};
 ghost use Rattle.amr_time.specs.Time.{latest_read};
 ghost use Rattle.amr_state.specs.Dues.{kind_place, next_due, alert_removal_at, group_removal_at};
@@ -11,7 +13,7 @@ use amr_time::{Moment, Span, next_multiple};
 use std::alloc::AllocError;
 use std::cmp::Ordering;
 
-/// What may be due, in the order in which it is made at one moment.
+/// The kinds of timers, in the order in which those of one moment fire.
 #[derive(Clone, Copy)]
 pub enum Kind {
     AlertRemoval,
@@ -19,19 +21,20 @@ pub enum Kind {
     GroupFlush,
 }
 
-/// Something that is due.
+/// A pending timer.
 #[derive(Drop)]
 pub struct Due {
-    /// In nanoseconds since 1970.
+    /// When it fires, in nanoseconds since 1970.
     pub moment: u128,
+    /// What it does when it fires.
     pub kind: Kind,
-    /// The group's route; 0 for the removal of an alert.
+    /// The route of the group, by its number in preorder; 0 for the removal of an alert.
     pub route: usize,
-    /// The labels of the alert or of the group.
+    /// The labels of the alert, or the group labels.
     pub labels: Labels,
 }
 
-/// The least that is due at or before a moment.
+/// Returns the first pending timer at or before a moment, or `None` if no timer is pending then.
 #[tactic(auto, using(crate::proofs::Least::first_in_order), unfolding(crate::specs::Dues::next_due))]
 pub fn next_due(store: &Store, at: Moment) -> Result<Option<Due>, AllocError>
     ensures due { IfOk result (λ due. due ≡ next_due at store.now.state) }
@@ -54,7 +57,7 @@ pub fn next_due(store: &Store, at: Moment) -> Result<Option<Due>, AllocError>
     }
 }
 
-/// Returns the kind's place among those of one moment.
+/// Returns the rank of a kind among the timers of one moment.
 fn kind_place(kind: Kind) -> u8
     ensures { result ≡ kind_place kind }
 {
@@ -65,7 +68,9 @@ fn kind_place(kind: Kind) -> u8
     }
 }
 
-/// Returns when a stored alert is removed: at the first multiple of half an hour that is after its last post and not before its end.
+/// Returns when a stored alert is removed, in nanoseconds since 1970: at the first multiple of 30
+/// minutes, the interval of Alertmanager's alert garbage collection, that is after its last post
+/// and not before its end.
 pub(crate) fn alert_removal(alert: &Alert) -> u128
     ensures { result ≡ alert_removal_at alert.now }
 {
@@ -74,7 +79,9 @@ pub(crate) fn alert_removal(alert: &Alert) -> u128
     next_multiple(after, Span::from_minutes(30))
 }
 
-/// Returns when a group that is empty is removed: at the first multiple of half a minute after it became so.
+/// Returns when an empty group is removed, in nanoseconds since 1970: at the first multiple of 30
+/// seconds, the interval of the dispatcher's maintenance, after it became empty. Returns `None` if
+/// the group has members.
 pub(crate) fn group_removal(clock: &Clock) -> Option<u128>
     ensures { result ≡ group_removal_at clock.now }
 {
@@ -105,7 +112,7 @@ impl Eq for Due {
     ghost laws = { Prim.search (comparing, rules, due_cmp_total) };
 }
 
-/// By moment, kind, route and labels.
+/// Timers are ordered by moment, kind, route and labels.
 impl Ord for Due {
     ghost use Rattle.std.specs.Cmp.Rules.{comparing};
     ghost use Rattle.std.proofs.Common.{rules};

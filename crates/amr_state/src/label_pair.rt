@@ -1,4 +1,5 @@
-//! The labels of stored alerts, as the index of label sets lists them.
+//! The entries of the index of stored alerts: a label, and a label set that has it.
+//! `alert_table.rt` keeps the index; inhibition looks up the label sets that have one label.
 ghost use Rattle.std.specs.Prelude.{◌≡◌, IfOk};
 ghost use Rattle.amr_state.specs.LabelPairs.{pairs_of};
 
@@ -7,21 +8,21 @@ use amr_tables::InParts;
 use std::alloc::{AllocError, Global};
 use std::cmp::Ordering;
 
-/// The name of a label and its value.
+/// A label: its name and its value.
 #[derive(PartialEq, Eq, PartialOrd, Ord, Drop)]
 pub(crate) struct LabelPair {
     pub name: Text,
     pub value: Text,
 }
 
-/// A label set under one of its labels.
+/// A label set, listed under one of its labels.
 #[derive(PartialEq, Eq, PartialOrd, Ord, Drop)]
 pub(crate) struct PairedLabels {
     pub pair: LabelPair,
     pub labels: Labels,
 }
 
-/// Label sets that have a label in common are a part.
+/// The label sets that share a label are a part of the index.
 impl InParts for PairedLabels {
     ghost use Rattle.amr_state.specs.LabelPairs.{pair_cmp, paired_in_parts};
 
@@ -36,7 +37,7 @@ impl InParts for PairedLabels {
     }
 }
 
-/// Returns a label set under each of its labels, by name.
+/// Returns the index entries of a label set: one for each of its labels, by name.
 pub(crate) fn pairs_of(alloc: Global, labels: &Labels) -> Result<Vec<PairedLabels>, AllocError>
     ensures { IfOk result (λ pairs. pairs.items ≡ pairs_of labels.now) }
 {

@@ -1,4 +1,6 @@
-//! The state of an Alertmanager: each kind of change of it, alerts in groups, what is due, and what is seen of it.
+//! The state of the replayed Alertmanager: stored alerts, groups and their members, silences, the
+//! notification log and the notifications, with the journal that undoes events. The engine changes
+//! it through `Store` and lists it through `views`. No rule about what an event does is here.
 #![tactic(auto)]
 
 mod alert_table;

@@ -1,4 +1,4 @@
-//! The members of a group.
+//! The members of a group. A flush and the listing of groups read them.
 ghost use Rattle.std.specs.Prelude.{◌≡◌, IfOk};
 ghost use Rattle.amr_state.specs.State.{members};
 
@@ -8,10 +8,10 @@ use amr_labels::Labels;
 use amr_rules::Alert;
 use std::alloc::AllocError;
 
-/// A member of a group: the copy of an alert with its labels.
+/// A member of a group: its labels, and the group's copy of the alert.
 pub type Member = (Labels, Alert);
 
-/// The members of a group, by labels.
+/// Returns the members of a group, by labels.
 pub fn members_of(store: &Store, group: &Spot) -> Result<Vec<Member>, AllocError>
     ensures { IfOk result (λ found. found.items ≡ members store.now.state group.now) }
 {

@@ -1,4 +1,5 @@
-//! A member of a group, without its alert.
+//! The entries of the index of members: which label set is in which group. `roster.rt` keeps the
+//! index; the alerts themselves are in its table.
 ghost use Rattle.std.specs.Prelude.{◌≡◌};
 
 use crate::spot::Spot;
@@ -6,7 +7,7 @@ use amr_labels::Labels;
 use amr_tables::InParts;
 use std::cmp::Ordering;
 
-/// A member of a group. Memberships are ordered by group, then by labels.
+/// A label set in a group. Memberships are ordered by group, then by labels.
 #[derive(PartialEq, Eq, PartialOrd, Ord, Drop)]
 pub struct Membership {
     pub group: Spot,
@@ -14,7 +15,7 @@ pub struct Membership {
     pub labels: Labels,
 }
 
-/// Memberships are in parts by group.
+/// The memberships of one group are a part of the index.
 impl InParts for Membership {
     ghost use Rattle.amr_labels.specs.Labels.{label_set_cmp};
     ghost use Rattle.amr_tables.specs.InParts.{IsInParts-by_first};

@@ -1,4 +1,6 @@
-//! What the state holds beside alerts: clocks of groups, keys of the notification log, notes.
+//! What the state holds besides alerts and silences: group timers, the keys of the notification
+//! log, and notifications. The engine makes them, `Store` keeps them, and they are printed as they
+//! are.
 ghost use Rattle.std.specs.Prelude.{◌≡◌};
 ghost use Rattle.std.proofs.Common.{rules};
 ghost use Rattle.amr_state.specs.State.{log_key_cmp_integration, log_key_cmp_group};
@@ -10,12 +12,14 @@ use amr_time::Moment;
 use std::alloc::AllocError;
 use std::cmp::Ordering;
 
-/// The clock of a group.
+/// A group timer. A group exists as long as it has one.
 #[derive(Clone, Copy)]
 pub struct Clock {
+    /// When the group is flushed next.
     pub next_flush: Moment,
+    /// Whether the group has been flushed.
     pub flushed: bool,
-    /// Since when the group has no member.
+    /// Since when the group has no members; `None` if it has some.
     pub empty_since: Option<Moment>,
 }
 
@@ -23,15 +27,20 @@ impl Exact for Clock {
     ghost exact = { λ x y same. Prim.search rules };
 }
 
-/// What an entry of the notification log is kept under.
+/// The key of an entry of the notification log. Alertmanager's log has one entry for each
+/// integration of a receiver and each group key; the group key is made of the matchers on the way
+/// to the route, and the group labels.
 #[derive(Drop)]
 pub struct LogKey {
+    /// The name of the receiver.
     pub receiver: Text,
-    /// The integration's kind, as `webhook`.
+    /// The integration's name, such as `webhook`.
     pub kind: Text,
+    /// The integration's index among those of its name at the receiver, from 0.
     pub place: usize,
+    /// The group labels.
     pub group: Labels,
-    /// The sorted matchers of each route from the root down to the group's.
+    /// The sorted matchers of each route, from the root to the group's route.
     pub path: Listing<Matchers>,
 }
 
@@ -93,7 +102,7 @@ impl Ord for LogKey {
 }
 
 impl LogKey {
-    /// Compares two keys of one receiver: by integration, then by group and path.
+    /// Compares two keys of one receiver by integration, then by group and path.
     fn cmp_integration(&self, other: &LogKey) -> Ordering
         ensures { result ≡ log_key_cmp_integration self.now other.now }
     {
@@ -104,7 +113,7 @@ impl LogKey {
         })
     }
 
-    /// Compares two keys of one integration: by group, then by path.
+    /// Compares two keys of one integration by group, then by path.
     fn cmp_group(&self, other: &LogKey) -> Ordering
         ensures { result ≡ log_key_cmp_group self.now other.now }
     {
@@ -140,7 +149,7 @@ impl Exact for LogKey {
     ghost exact = { λ x y same. same };
 }
 
-/// What a note tells of an alert that fires.
+/// What a notification says about a firing alert.
 #[derive(Drop)]
 pub struct FiringAlert {
     pub labels: Labels,
@@ -148,7 +157,7 @@ pub struct FiringAlert {
     pub annotations: TextMap,
 }
 
-/// What a note tells of an alert that is resolved.
+/// What a notification says about a resolved alert.
 #[derive(Drop)]
 pub struct ResolvedAlert {
     pub labels: Labels,
@@ -157,14 +166,17 @@ pub struct ResolvedAlert {
     pub annotations: TextMap,
 }
 
-/// A notification.
+/// A notification to one integration about one group.
 #[derive(Drop)]
 pub struct Note {
+    /// When it was sent.
     pub at: Moment,
+    /// The route of the group, by its number in preorder.
     pub route: usize,
+    /// The integration and the group, as the notification log names them.
     pub key: LogKey,
-    /// By labels.
+    /// The firing alerts, by labels.
     pub firing: Listing<FiringAlert>,
-    /// By labels; empty where the integration isn't told of resolved alerts.
+    /// The resolved alerts, by labels; empty if the integration doesn't send resolved alerts.
     pub resolved: Listing<ResolvedAlert>,
 }

@@ -1,4 +1,6 @@
-//! Alerts in groups: placing them.
+//! Inserts alerts into their groups, as Alertmanager's dispatcher does: an alert goes to one group
+//! on each route that takes it. A post and a change of the configuration call `place`. It sets
+//! group timers, but flushes nothing.
 ghost use Rattle.std.specs.Prelude.{◌≡◌, ◌+◌, ◌*◌, ◌≤◌, length, OnOk, IfOk, nat_lt};
 ghost use Rattle.amr_config.specs.Routing.{chosen};
 ghost use Rattle.amr_config.specs.Groups.{group_at};
@@ -15,14 +17,16 @@ use amr_rules::Alert;
 use amr_time::{Moment, Span};
 use std::alloc::{AllocError, Global};
 
-/// Whether a wait that began with the alert is over before now.
+/// Returns whether `group_wait`, counted from the alert's start, is over before now.
 fn has_waited(starts_at: Moment, wait: Span, now: Moment) -> bool
     ensures { result ≡ nat_lt (starts_at + wait) now }
 {
     starts_at.nanoseconds() + (wait.nanoseconds() as u128) < now.nanoseconds()
 }
 
-/// The clock that a group has after an alert is put there.
+/// Returns the group timer after an alert is inserted. A new group is flushed first after
+/// `group_wait`. If the alert's own wait is over, a group that was never flushed is flushed now, as
+/// in Alertmanager's dispatcher.
 fn clock_with(now: Moment, wait: Span, alert: &Alert, clock: Option<Clock>) -> Clock
     requires { now ≤ latest_read }
     ensures { result ≡ clock_with now wait alert.now clock }
@@ -40,7 +44,7 @@ fn clock_with(now: Moment, wait: Span, alert: &Alert, clock: Option<Clock>) -> C
     }
 }
 
-/// The group of an alert that is placed on a route.
+/// Returns the group of an alert on a route.
 pub fn group_spot(
     alloc: Global,
     config: &Config,
@@ -53,7 +57,7 @@ pub fn group_spot(
     Ok(Spot { route, labels })
 }
 
-/// Inserts an alert into a group, as a member of it.
+/// Inserts an alert into a group, and sets the group timer.
 fn place_on(
     store: &mut Store,
     group: &RouteGroup,

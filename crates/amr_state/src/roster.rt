@@ -1,4 +1,6 @@
-//! The configuration with the members of all groups, and the index of the members by group.
+//! The configuration in force with the members of all groups, and an index of the members by group.
+//! `Store` changes it. The group of a member depends on the configuration, so both are kept
+//! together.
 ghost use Rattle.std.specs.Prelude.{◌≡◌, ◌<◌, ◌+◌, ◌++◌, [], IsTrue, is_some, option_map, length, OnOk, OnErr, IfOk};
 ghost use Rattle.amr_labels.specs.Map as map;
 ghost use Rattle.amr_config.specs.Groups.{groups_of};
@@ -21,7 +23,8 @@ use std::alloc::{AllocError, Global};
 use std::marker::Model;
 use std::mem;
 
-/// The configuration with the members of all groups. The index of the members follows each change of them.
+/// The configuration in force and the members of all groups. Every change of a member updates the
+/// index.
 #[derive(Drop)]
 pub(crate) struct Roster {
     alloc: Global,
@@ -45,7 +48,7 @@ impl Model for Roster {
 }
 
 impl Roster {
-    /// Returns a roster without members.
+    /// Builds a roster without members.
     pub(crate) fn new(alloc: Global, config: Config) -> Roster
         ensures config { result.config ≡ config }
         ensures shown { shown spot_cmp result.placements ≡ map.empty }
@@ -66,7 +69,7 @@ impl Roster {
         self.config.config()
     }
 
-    /// Returns the groups that take an alert with these labels, by route.
+    /// Returns the group of this label set on each route that takes it, by route.
     pub(crate) fn groups_of(
         &mut self,
         labels: &Labels,
@@ -77,14 +80,15 @@ impl Roster {
         self.config.groups_of(labels)
     }
 
-    /// Returns the members of all groups, under their routes and labels.
+    /// Returns the members of all groups, by route and labels.
     pub(crate) fn placements(&self) -> &Keyed<Spot, Alert>
         ensures { result.now ≡ self.now.placements }
     {
         &self.placements
     }
 
-    /// Returns the members of a group, by labels. It passes over those of other groups.
+    /// Returns the members of a group, by labels. Its time doesn't grow with the number of members
+    /// of other groups, apart from a logarithm.
     pub(crate) fn members_of(&self, group: &Spot) -> Result<Vec<Member>, AllocError>
         ensures { IfOk result (λ found. found.items
             ≡ members_among self.now.config (shown spot_cmp self.now.placements) group.now) }
@@ -93,7 +97,8 @@ impl Roster {
         with_alerts(self.alloc, &self.placements, members.as_slice())
     }
 
-    /// Takes back that places are entered, of all. It takes no memory.
+    /// Clears the marks of all places, so that the open record takes their next change again. It
+    /// takes no memory.
     pub(crate) fn clear_entered(&mut self)
         ensures shown { shown spot_cmp self.new.placements ≡ shown spot_cmp self.old.placements }
         ensures places { SamePlaces spot_cmp self.old.placements self.new.placements }
@@ -103,7 +108,8 @@ impl Roster {
         self.placements.clear_entered();
     }
 
-    /// Puts a member, or none, under its route and labels. Returns what the open record has to take up.
+    /// Sets or removes the member with these labels on this route. Returns the entry that the open
+    /// record needs, and leaves room for it there.
     pub(crate) fn change_member<E>(
         &mut self,
         journal: &mut Journal<E>,
@@ -138,7 +144,7 @@ impl Roster {
         Ok(member_entry(group, entry))
     }
 
-    /// Puts a member, or none, back into its group. It takes no memory.
+    /// Restores a member of its group, or its absence. It takes no memory.
     pub(crate) fn put_back_member(&mut self, member: Membership, alert: Option<Alert>)
         requires place { IsTrue (has_place spot_cmp self.old.placements (spot_of member)) }
         requires group { member.group ≡ group_spot self.old.config (spot_of member) }
@@ -162,7 +168,8 @@ impl Roster {
         enrol(&mut self.index, member, was, is);
     }
 
-    /// Puts another configuration in force while there are no members, and returns the one before. It takes no memory.
+    /// Replaces the configuration, while no group has members, and returns the one before. It takes
+    /// no memory.
     pub(crate) fn replace_config(&mut self, config: Router) -> Router
         requires { shown spot_cmp self.old.placements ≡ map.empty }
         ensures before { result ≡ self.old.config }
@@ -173,7 +180,7 @@ impl Roster {
     }
 }
 
-/// Returns members with copies of their labels and alerts.
+/// Returns copies of the labels and alerts of memberships.
 fn with_alerts(
     alloc: Global,
     placements: &Keyed<Spot, Alert>,
@@ -189,7 +196,7 @@ fn with_alerts(
     Ok(found)
 }
 
-/// Appends copies of a member's labels and alert, if it has one.
+/// Appends a copy of a member's labels and alert, if it has an alert.
 fn push_member(
     found: &mut Vec<Member>,
     placements: &Keyed<Spot, Alert>,
@@ -208,7 +215,7 @@ fn push_member(
     Ok(())
 }
 
-/// Returns an entry of a place as one of a member of the group.
+/// Turns the entry of a place into the entry of a member of the group.
 fn member_entry(
     group: Spot,
     entry: Option<(Spot, Option<Alert>)>,
@@ -223,7 +230,7 @@ fn member_entry(
     Some((member, alert))
 }
 
-/// Returns whether an alert is placed there.
+/// Returns whether this label set is a member on this route.
 fn is_placed(placements: &Keyed<Spot, Alert>, spot: &Spot) -> bool
     ensures { result ≡ is_some (map.get (shown spot_cmp placements.now) spot.now) }
 {
@@ -233,7 +240,8 @@ fn is_placed(placements: &Keyed<Spot, Alert>, spot: &Spot) -> bool
     }
 }
 
-/// Puts a member into the index or takes it out, by whether it was there and is now. It takes no memory.
+/// Adds the member to the index if it is new, or removes it if it is gone. `was` and `is` say
+/// whether it was and is a member. It takes no memory.
 fn enrol(index: &mut Queue<Membership>, member: Membership, was: bool, is: bool)
     requires { CanEnrol index.old.dues index.old.room member was is }
     ensures dues { index.new.dues ≡ enrolled index.old.dues member was is }

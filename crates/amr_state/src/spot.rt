@@ -1,4 +1,4 @@
-//! A route with a label set.
+//! Routes with label sets: the keys of the tables of members and of group timers.
 
 ghost use Rattle.std.specs.Prelude.{◌≡◌, IfOk};
 
@@ -7,12 +7,12 @@ use amr_tables::Key;
 use std::alloc::AllocError;
 use std::marker::Model;
 
-/// An alert that is placed on a route, or a group: a route with a label set.
+/// A route with a label set: an alert on a route, or a group's key.
 #[derive(PartialEq, Eq, PartialOrd, Ord, Drop)]
 pub struct Spot {
-    /// The route's number in preorder.
+    /// The number of the route in preorder; the root is 0.
     pub route: usize,
-    /// The labels of the alert, or those of the group.
+    /// The labels of the alert, or the group labels.
     pub labels: Labels,
 }
 
@@ -37,7 +37,9 @@ impl Exact for Spot {
     ghost exact = { λ x y same. same };
 }
 
-/// A group with its labels once more, for as many dues as a group has. Contracts see the group.
+/// A group's key with a second copy of its labels. Undoing an event puts both timers of a group,
+/// its flush and its removal, back into the queue without taking memory, so the copy is made
+/// beforehand. Contracts see the key only.
 #[derive(Drop)]
 pub struct TimedGroup {
     spot: Spot,
@@ -56,7 +58,7 @@ impl Model for TimedGroup {
 }
 
 impl TimedGroup {
-    /// Copies a group.
+    /// Copies a group's key.
     pub(crate) fn of(group: &Spot) -> Result<TimedGroup, AllocError>
         ensures { IfOk result (λ copy. copy ≡ group.now) }
     {
@@ -67,14 +69,14 @@ impl TimedGroup {
         })
     }
 
-    /// Returns the group.
+    /// Returns the group's key.
     pub(crate) fn spot(&self) -> &Spot
         ensures { result.now ≡ self.now }
     {
         &self.spot
     }
 
-    /// Returns the group, and its labels once more.
+    /// Returns the group's key and the second copy of its labels.
     pub(crate) fn into_parts(self) -> (Spot, Labels)
         ensures { result ≡ (self, self.labels) }
     {

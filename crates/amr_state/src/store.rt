@@ -1,4 +1,6 @@
-//! The state in tables of places, and the journal of what the events displaced in them.
+//! The state of the replayed instance and its journal. The engine changes the state only through
+//! `Store`, which enters what each change displaces into the open record, so that an event can be
+//! undone. It decides nothing about alerts, groups or silences.
 ghost use Rattle.std.specs.Prelude.{◌≡◌, ◌≤◌, ◌<◌, ◌+◌, ◌++◌, ◌∷◌, ◌==◌, [], Option, Some, None, length, OnOk, IfOk};
 ghost use Rattle.std.specs.Prelude.{option_map, slice_get};
 ghost use Rattle.std.specs.Ordering.{nat_cmp};
@@ -31,10 +33,11 @@ use amr_time::Moment;
 use std::alloc::{AllocError, Global};
 use std::marker::Model;
 
-/// The state of the replayed instance. What a change displaces is entered into the open record of the journal, so that the event
-/// can be undone without memory. A place is entered in a record once: what a later change displaces there is made by the same event.
-/// After a change of the configuration places are entered again, so that each member is put back under the configuration that gave it
-/// its group.
+/// The state of the replayed instance. Each change enters the value that it displaces into the open
+/// record of the journal, so that the event can be undone without taking memory. A record has one
+/// entry for each place: a later change there displaces a value that the same event made. After a
+/// change of the configuration, places are entered again, so that each member is put back under the
+/// configuration that gave it its group.
 #[derive(Drop)]
 pub struct Store {
     alloc: Global,
@@ -62,7 +65,7 @@ impl Model for Store {
 }
 
 impl Store {
-    /// The state at the start, without a record.
+    /// Builds the state before the first event, with an empty journal.
     pub fn new(alloc: Global, config: Config) -> Store
         ensures state { result.state ≡ start config }
         ensures current { result.current ≡ [] }
@@ -86,7 +89,7 @@ impl Store {
 
     // ---- the journal
 
-    /// Makes room for one more record.
+    /// Makes room in the journal for one more record.
     pub fn begin(&mut self) -> Result<(), AllocError>
         ensures room { OnOk result (0 < self.new.room) }
         ensures state { self.new.state ≡ self.old.state }
@@ -96,7 +99,7 @@ impl Store {
         self.journal.reserve(0)
     }
 
-    /// Closes the open record. It takes no memory.
+    /// Closes the open record at the end of an event. It takes no memory.
     pub fn close(&mut self)
         requires { 0 < self.old.room }
         ensures state { self.new.state ≡ self.old.state }
@@ -107,7 +110,7 @@ impl Store {
         self.tables.clear_entered();
     }
 
-    /// Opens the last record again.
+    /// Opens the last record again, to undo its event.
     pub fn reopen(&mut self)
         requires some { 0 < length self.old.records }
         requires empty { self.old.current ≡ [] }
@@ -118,7 +121,7 @@ impl Store {
         self.tables.clear_entered();
     }
 
-    /// Puts the last entry of the open record back. It takes no memory.
+    /// Undoes the last entry of the open record. It takes no memory.
     pub fn undo_entry(&mut self)
         requires { 0 < length self.old.current }
         ensures kept { undone self.new ≡ undone self.old }
@@ -137,7 +140,7 @@ impl Store {
         }
     }
 
-    /// Puts the whole open record back. It takes no memory.
+    /// Undoes all entries of the open record. It takes no memory.
     pub fn undo_open(&mut self)
         ensures { self.new ≡ undone self.old }
     {
@@ -146,7 +149,7 @@ impl Store {
         }
     }
 
-    /// Drops all records.
+    /// Drops all records, so that no event can be undone.
     pub fn forget(&mut self)
         ensures state { self.new.state ≡ self.old.state }
         ensures current { self.new.current ≡ self.old.current }
@@ -155,14 +158,14 @@ impl Store {
         self.journal.forget();
     }
 
-    /// Returns how many records there are.
+    /// Returns the number of closed records.
     pub fn records(&self) -> usize
         ensures { result ≡ length self.now.records }
     {
         self.journal.len()
     }
 
-    /// Returns how many entries the record number `index` has, from 0.
+    /// Returns the number of entries of the record number `index`, from 0.
     pub fn record_len(&self, index: usize) -> usize
         requires { index < length self.now.records }
         ensures { option_map length (slice_get self.now.records index) ≡ Some result }
@@ -172,12 +175,12 @@ impl Store {
 
     // ---- the state
 
-    /// The allocator.
+    /// Returns the allocator.
     pub fn alloc(&self) -> Global {
         self.alloc
     }
 
-    /// The clock: the moment of the last event that was accepted.
+    /// Returns the moment of the clock, which is that of the last accepted event.
     pub fn moment(&self) -> Moment
         ensures value { result ≡ self.now.state.moment }
         ensures bound { self.now.state.moment ≤ latest_read }
@@ -185,28 +188,28 @@ impl Store {
         self.moment
     }
 
-    /// The configuration in force.
+    /// Returns the configuration in force.
     pub fn config(&self) -> &Config
         ensures { result.now ≡ self.now.state.config }
     {
         self.tables.roster.config()
     }
 
-    /// The stored alerts, under their labels.
+    /// Returns the stored alerts, by labels.
     pub fn alerts(&self) -> &AlertTable
         ensures { shown label_set_cmp result.now ≡ self.now.state.alerts }
     {
         self.tables.timetable.alerts()
     }
 
-    /// The silences, under their ids.
+    /// Returns the silences, by id.
     pub fn silences(&self) -> &Keyed<SilenceId, Silence>
         ensures { shown nat_cmp result.now ≡ self.now.state.silences }
     {
         &self.tables.silences
     }
 
-    /// The members of all groups, under their routes and labels.
+    /// Returns the members of all groups, by route and labels.
     pub(crate) fn placements(&self) -> &Keyed<Spot, Alert>
         ensures { shown spot_cmp result.now ≡ self.now.state.placements }
     {
@@ -221,21 +224,21 @@ impl Store {
         self.tables.roster.members_of(group)
     }
 
-    /// The timers of the groups.
+    /// Returns the group timers, by group.
     pub fn clocks(&self) -> &Keyed<Spot, Clock>
         ensures { shown spot_cmp result.now ≡ self.now.state.clocks }
     {
         self.tables.timetable.clocks()
     }
 
-    /// The notification log.
+    /// Returns the notification log.
     pub fn log(&self) -> &Keyed<LogKey, LogEntry>
         ensures { shown log_key_cmp result.now ≡ self.now.state.log }
     {
         &self.tables.log
     }
 
-    /// The queue of what is due.
+    /// Returns the queue of pending timers.
     #[tactic(auto, unfolding(crate::specs::Dues::dues))]
     pub fn queue(&self) -> &Queue<Due>
         ensures { result.now.dues ≡ in_order due_cmp (dues self.now.state) }
@@ -243,14 +246,15 @@ impl Store {
         self.tables.timetable.queue()
     }
 
-    /// All notifications so far, in order.
+    /// Returns all notifications so far, in order.
     pub fn notes(&self) -> &[Shared<Note>]
         ensures { result.now ≡ self.now.state.notes }
     {
         self.notes.as_slice()
     }
 
-    /// Returns the groups that take an alert with these labels, by route. They are worked out once for each label set and configuration.
+    /// Returns the group of this label set on each route that takes it, by route. It computes them
+    /// once for each label set and configuration.
     pub fn groups_of(&mut self, labels: &Labels) -> Result<Shared<Listing<RouteGroup>>, AllocError>
         ensures groups { IfOk result (λ groups. groups
             ≡ groups_of self.old.state.config labels.now) }
@@ -298,7 +302,7 @@ impl Store {
         self.set_alert(labels, None)
     }
 
-    /// Adds a copy of an alert to a group.
+    /// Sets the copy of an alert that its group on this route holds.
     pub(crate) fn place_copy(&mut self, spot: &Spot, alert: Alert) -> Result<(), AllocError>
         ensures ok { OnOk result (self.new.state
             ≡ record self.old.state
@@ -309,7 +313,7 @@ impl Store {
         self.set_placement(spot, Some(alert))
     }
 
-    /// Removes an alert from its group.
+    /// Removes an alert from its group on this route.
     pub fn remove_copy(&mut self, spot: &Spot) -> Result<(), AllocError>
         ensures ok { OnOk result (self.new.state
             ≡ record self.old.state
@@ -320,7 +324,7 @@ impl Store {
         self.set_placement(spot, None)
     }
 
-    /// Sets a group's timer.
+    /// Sets a group timer, and adds the group if it is new.
     pub fn set_clock(&mut self, group: &Spot, clock: Clock) -> Result<(), AllocError>
         ensures ok { OnOk result (self.new.state
             ≡ record self.old.state { clocks = map.insert self.old.state.clocks group.now clock }) }
@@ -330,7 +334,7 @@ impl Store {
         self.change_clock(group, Some(clock))
     }
 
-    /// Removes a group.
+    /// Removes a group with its timer.
     pub fn remove_clock(&mut self, group: &Spot) -> Result<(), AllocError>
         ensures ok { OnOk result (self.new.state
             ≡ record self.old.state { clocks = map.remove self.old.state.clocks group.now }) }
@@ -350,7 +354,7 @@ impl Store {
         self.set_silence(id, Some(silence))
     }
 
-    /// Puts another configuration in force, and removes all groups and their members.
+    /// Replaces the configuration, and removes all groups and their members.
     pub fn replace_config(&mut self, config: Config) -> Result<(), AllocError>
         ensures ok { OnOk result (self.new.state
             ≡ record self.old.state
@@ -364,7 +368,7 @@ impl Store {
         self.change_config(config)
     }
 
-    /// Writes an entry of the notification log.
+    /// Sets an entry of the notification log.
     pub fn write_log(&mut self, key: &LogKey, entry: LogEntry) -> Result<(), AllocError>
         ensures ok { OnOk result (self.new.state
             ≡ record self.old.state { log = map.insert self.old.state.log key.now entry }) }
@@ -396,16 +400,16 @@ impl Store {
         Ok(())
     }
 
-    // ---- what the changes share
+    // ---- shared by the changes
 
-    /// Returns whether the open record has no entry.
+    /// Returns whether the open record is empty.
     fn is_current_empty(&self) -> bool
         ensures { result ≡ (length self.now.current == 0) }
     {
         self.journal.is_current_empty()
     }
 
-    /// Puts a stored alert, or none, under its labels.
+    /// Sets or removes a stored alert, and enters the former one into the open record.
     fn set_alert(&mut self, labels: &Labels, alert: Option<Alert>) -> Result<(), AllocError>
         ensures ok { OnOk result (self.new.state
             ≡ record self.old.state { alerts = map.set self.old.state.alerts labels.now alert }) }
@@ -422,7 +426,7 @@ impl Store {
         Ok(())
     }
 
-    /// Puts a silence, or none, under its id.
+    /// Sets or removes a silence, and enters the former one into the open record.
     fn set_silence(&mut self, id: SilenceId, silence: Option<Silence>) -> Result<(), AllocError>
         ensures ok { OnOk result (self.new.state
             ≡ record self.old.state { silences = map.set self.old.state.silences id silence }) }
@@ -436,7 +440,8 @@ impl Store {
         Ok(())
     }
 
-    /// Puts a member, or none, under its route and labels.
+    /// Sets or removes the member with these labels on this route, and enters the former one into
+    /// the open record.
     fn set_placement(&mut self, spot: &Spot, alert: Option<Alert>) -> Result<(), AllocError>
         ensures ok { OnOk result (self.new.state
             ≡ record self.old.state
@@ -454,7 +459,7 @@ impl Store {
         Ok(())
     }
 
-    /// Puts a group's timer, or none.
+    /// Sets or removes a group timer, and enters the former one into the open record.
     fn change_clock(&mut self, group: &Spot, clock: Option<Clock>) -> Result<(), AllocError>
         ensures ok { OnOk result (self.new.state
             ≡ record self.old.state { clocks = map.set self.old.state.clocks group.now clock }) }
@@ -486,7 +491,7 @@ impl Store {
         Ok(())
     }
 
-    /// Removes all groups.
+    /// Removes all groups with their timers.
     fn clear_clocks(&mut self) -> Result<(), AllocError>
         ensures ok { OnOk result (self.new.state ≡ record self.old.state { clocks = map.empty }) }
         ensures kept { undone self.new ≡ undone self.old }
@@ -499,8 +504,8 @@ impl Store {
         Ok(())
     }
 
-    /// Puts another configuration in force, while no group has a member. Changes after it are entered again, also of places that have
-    /// an entry already.
+    /// Replaces the configuration while no group has members. It clears the marks of all places, so
+    /// that later changes are entered again.
     fn change_config(&mut self, config: Config) -> Result<(), AllocError>
         requires { self.old.state.placements ≡ map.empty }
         ensures ok { OnOk result (self.new.state ≡ record self.old.state { config = config }) }
@@ -518,7 +523,7 @@ impl Store {
     }
 }
 
-/// Returns the keys that have a value.
+/// Returns the keys of a table that have a value.
 fn keys_of<V: Drop>(alloc: Global, table: &Keyed<Spot, V>) -> Result<Vec<Spot>, AllocError>
     ensures { IfOk result (λ found. found.items ≡ map.keys (shown spot_cmp table.now)) }
 {

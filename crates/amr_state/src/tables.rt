@@ -1,4 +1,5 @@
-//! The tables of the state.
+//! The tables of the state, with the marks of what the open record has entries for. `Store` owns
+//! them.
 ghost use Rattle.amr_state.specs.Stored.{SameValues, MorePlaces, IsUnmarked};
 
 use crate::note::LogKey;
@@ -8,8 +9,9 @@ use amr_events::SilenceId;
 use amr_rules::{LogEntry, Silence};
 use amr_tables::Keyed;
 
-/// The places of the state that are in tables. Each table marks the places that the open record has an entry for; of the moment and the
-/// notifications, which are in no table, the marks are here too. A configuration is always entered.
+/// The tables of the state. Each table marks the places that the open record has an entry for. The
+/// clock and the notifications are in no table, so their marks are here. The configuration has no
+/// mark: each change of it is entered.
 #[derive(Drop)]
 pub(crate) struct Tables {
     pub(crate) timetable: Timetable,
@@ -21,7 +23,8 @@ pub(crate) struct Tables {
 }
 
 impl Tables {
-    /// Takes the marks of all places away, so that a change of any place is entered again. It takes no memory.
+    /// Clears the marks of all places, so that the open record takes their next change again. It
+    /// takes no memory.
     pub(crate) fn clear_entered(&mut self)
         ensures values { SameValues self.old self.new }
         ensures places { MorePlaces self.old self.new }

@@ -1,4 +1,6 @@
-//! The stored alerts and the timers of groups, with the queue of what is due of them.
+//! The stored alerts and the group timers, with the queue of pending timers. `Store` changes them
+//! here, and the queue follows: the removal of each alert, the flush of each group, and the removal
+//! of each empty group. Nothing is fired here.
 ghost use Rattle.std.specs.Prelude.{None, Some, ◌≡◌, ◌≤◌, ◌<◌, ◌+◌, ◌-◌, IsTrue, is_some, if◌then◌else◌, false, length, OnOk, OnErr, IfOk};
 ghost use Rattle.amr_labels.specs.Labels.{LabelSet, label_set_cmp};
 ghost use Rattle.amr_labels.specs.Map as map;
@@ -20,7 +22,7 @@ use amr_time::Moment;
 use std::alloc::{AllocError, Global};
 use std::marker::Model;
 
-/// The stored alerts and the timers of groups. The queue follows each change of them.
+/// The stored alerts and the group timers. Every change of them updates the queue.
 #[derive(Drop)]
 pub(crate) struct Timetable {
     alerts: AlertTable,
@@ -43,7 +45,7 @@ impl Model for Timetable {
 }
 
 impl Timetable {
-    /// No alert and no group.
+    /// Builds a timetable without alerts and groups.
     pub(crate) fn new(alloc: Global) -> Timetable
         ensures alerts { shown label_set_cmp result.alerts ≡ map.empty }
         ensures clocks { shown spot_cmp result.clocks ≡ map.empty }
@@ -57,21 +59,21 @@ impl Timetable {
         }
     }
 
-    /// The stored alerts, under their labels.
+    /// Returns the stored alerts, by labels.
     pub(crate) fn alerts(&self) -> &AlertTable
         ensures { result.now ≡ self.now.alerts }
     {
         &self.alerts
     }
 
-    /// The timers of the groups.
+    /// Returns the group timers, by group.
     pub(crate) fn clocks(&self) -> &Keyed<Spot, Clock>
         ensures { result.now ≡ self.now.clocks }
     {
         &self.clocks
     }
 
-    /// The queue of what is due.
+    /// Returns the queue of pending timers.
     pub(crate) fn queue(&self) -> &Queue<Due>
         ensures { result.now.dues ≡
             in_order due_cmp
@@ -80,7 +82,8 @@ impl Timetable {
         &self.queue
     }
 
-    /// Takes back that places are entered, of all. It takes no memory.
+    /// Clears the marks of all places, so that the open record takes their next change again. It
+    /// takes no memory.
     pub(crate) fn clear_entered(&mut self)
         ensures alerts { shown label_set_cmp self.new.alerts ≡ shown label_set_cmp self.old.alerts }
         ensures clocks { shown spot_cmp self.new.clocks ≡ shown spot_cmp self.old.clocks }
@@ -93,7 +96,8 @@ impl Timetable {
         self.clocks.clear_entered();
     }
 
-    /// Puts a stored alert, or none, under its labels. Returns what the open record has to take up.
+    /// Sets or removes a stored alert. Returns the entry that the open record needs, and leaves
+    /// room for it there.
     pub(crate) fn change_alert<E>(
         &mut self,
         journal: &mut Journal<E>,
@@ -124,7 +128,8 @@ impl Timetable {
         Ok(entry)
     }
 
-    /// Puts a group's timer, or none. Returns what the open record has to take up.
+    /// Sets or removes a group timer. Returns the entry that the open record needs, and leaves room
+    /// for it there.
     pub(crate) fn change_clock<E>(
         &mut self,
         journal: &mut Journal<E>,
@@ -153,7 +158,7 @@ impl Timetable {
         Ok(entry)
     }
 
-    /// Puts a stored alert, or none, back under its labels. It takes no memory.
+    /// Restores a stored alert, or its absence. It takes no memory.
     pub(crate) fn put_back_alert(&mut self, labels: Labels, alert: Option<Alert>)
         requires { IsTrue (has_place label_set_cmp self.old.alerts labels) }
         ensures shown { shown label_set_cmp self.new.alerts ≡
@@ -168,7 +173,7 @@ impl Timetable {
         move_due(&mut self.queue, alert_due(labels), old, new);
     }
 
-    /// Puts a group's timer, or none, back. It takes no memory.
+    /// Restores a group timer, or its absence. It takes no memory.
     pub(crate) fn put_back_clock(&mut self, group: TimedGroup, clock: Option<Clock>)
         requires { IsTrue (has_place spot_cmp self.old.clocks group) }
         ensures shown { shown spot_cmp self.new.clocks ≡
@@ -179,21 +184,23 @@ impl Timetable {
     {
         let old = moments_at(&self.clocks, group.spot());
         let new = group_moments(&clock);
-        // The prover has to see the type of moments here.
+        // The prover needs to see the type of moments here.
         let _start = Moment::START;
         put_back(&mut self.clocks, group.spot(), clock);
         move_group(&mut self.queue, group, old, new);
     }
 }
 
-/// When a group is flushed and removed, if it is. In nanoseconds since 1970.
+/// When a group is flushed and when it is removed, in nanoseconds since 1970. Both are `None` if
+/// there is no such group; `removal` is also `None` while the group has members.
 #[derive(Clone, Copy)]
 struct GroupMoments {
     flush: Option<u128>,
     removal: Option<u128>,
 }
 
-/// Puts a value, or none, back under a key that has a place, and drops what is there. It takes no memory.
+/// Restores the value of a key that has a place, or its absence, and drops the present value. It
+/// takes no memory.
 pub(crate) fn put_back<K: Key + Drop, V: Drop>(table: &mut Keyed<K, V>, key: &K, value: Option<V>)
     requires { IsTrue (has_place K.cmp table.old key.now) }
     ensures shown { shown K.cmp table.new ≡ map.set (shown K.cmp table.old) key.now value }
@@ -205,7 +212,8 @@ pub(crate) fn put_back<K: Key + Drop, V: Drop>(table: &mut Keyed<K, V>, key: &K,
     drop(table.displace(key, value));
 }
 
-/// Makes room for the dues of a place, unless it is there.
+/// Makes room in a queue for `n` items of a new place. Does nothing if the place exists, since its
+/// room is there.
 pub(crate) fn make_room<D: Ord + Drop>(
     queue: &mut Queue<D>,
     is_there: bool,
@@ -224,7 +232,8 @@ pub(crate) fn make_room<D: Ord + Drop>(
     queue.reserve(room)
 }
 
-/// Returns when the alert that is stored under some labels is removed.
+/// Returns when the stored alert with these labels is removed, in nanoseconds since 1970, or `None`
+/// if there is none.
 fn moment_at(alerts: &AlertTable, labels: &Labels) -> Option<u128>
     ensures { result ≡ alert_moment (map.get (shown label_set_cmp alerts.now) labels.now) }
 {
@@ -234,7 +243,7 @@ fn moment_at(alerts: &AlertTable, labels: &Labels) -> Option<u128>
     }
 }
 
-/// Returns when a stored alert is removed.
+/// Returns when an alert is removed, in nanoseconds since 1970, or `None` without an alert.
 fn alert_moment(alert: &Option<Alert>) -> Option<u128>
     ensures { result ≡ alert_moment alert.now }
 {
@@ -244,7 +253,7 @@ fn alert_moment(alert: &Option<Alert>) -> Option<u128>
     }
 }
 
-/// The removal of an alert, at whatever moment.
+/// Returns the removal timer of an alert. Its moment is still to be set.
 fn alert_due(labels: Labels) -> Due
     ensures { result ≡ removal_of_alert labels }
 {
@@ -256,7 +265,8 @@ fn alert_due(labels: Labels) -> Due
     }
 }
 
-/// Moves a due from a moment, or from none, to another. It takes no memory.
+/// Moves a timer in the queue from one moment to another; `None` means that it isn't in the queue.
+/// It takes no memory.
 fn move_due(queue: &mut Queue<Due>, mut due: Due, old: Option<u128>, new: Option<u128>)
     requires { CanMove queue.old.dues queue.old.room due old new }
     ensures dues { queue.new.dues ≡ moved queue.old.dues due old new }
@@ -272,7 +282,7 @@ fn move_due(queue: &mut Queue<Due>, mut due: Due, old: Option<u128>, new: Option
     }
 }
 
-/// Puts a due at a moment, if there is one. It takes no memory.
+/// Adds a timer to the queue at a moment, if one is given. It takes no memory.
 fn put_due(queue: &mut Queue<Due>, mut due: Due, moment: Option<u128>)
     requires { CanMove queue.old.dues queue.old.room due None moment }
     ensures dues { queue.new.dues ≡ put_at queue.old.dues due moment }
@@ -287,7 +297,7 @@ fn put_due(queue: &mut Queue<Due>, mut due: Due, moment: Option<u128>)
     }
 }
 
-/// Moves the flush and the removal of a group from their moments to others. It takes no memory.
+/// Moves the flush and the removal of a group in the queue. It takes no memory.
 fn move_group(queue: &mut Queue<Due>, group: TimedGroup, old: GroupMoments, new: GroupMoments)
     requires { CanMoveGroup queue.old.dues queue.old.room group old new }
     ensures dues { queue.new.dues ≡ group_moved queue.old.dues group old new }
@@ -311,7 +321,7 @@ fn move_group(queue: &mut Queue<Due>, group: TimedGroup, old: GroupMoments, new:
     move_due(queue, removal, old.removal, new.removal);
 }
 
-/// Returns when a group is flushed and removed.
+/// Returns when a group is flushed and removed, by the group timers.
 fn moments_at(clocks: &Keyed<Spot, Clock>, group: &Spot) -> GroupMoments
     ensures { result ≡ group_moments (map.get (shown spot_cmp clocks.now) group.now) }
 {
@@ -324,7 +334,7 @@ fn moments_at(clocks: &Keyed<Spot, Clock>, group: &Spot) -> GroupMoments
     }
 }
 
-/// Returns when a group with a timer, or with none, is flushed and removed.
+/// Returns when a group with this timer is flushed and removed; never, without a timer.
 fn group_moments(clock: &Option<Clock>) -> GroupMoments
     ensures { result ≡ group_moments clock.now }
 {
@@ -337,7 +347,7 @@ fn group_moments(clock: &Option<Clock>) -> GroupMoments
     }
 }
 
-/// Returns when a group with a timer is flushed and removed.
+/// Returns when a group with this timer is flushed and removed.
 fn timer_moments(clock: &Clock) -> GroupMoments
     ensures { result ≡ group_moments (Some clock.now) }
 {

@@ -1,4 +1,6 @@
-//! What is seen of the state, in the order in which it is listed.
+//! Copies of what the state holds, in the order in which the program lists it: alerts, silences,
+//! groups and the notification log. The listing commands call them, and a change of the
+//! configuration reads the alerts. They change nothing.
 ghost use Rattle.std.specs.Prelude.{◌≡◌, IfOk, map};
 ghost use Rattle.amr_labels.specs.Map.{entries};
 ghost use Rattle.amr_state.specs.State.{members};
@@ -13,24 +15,26 @@ use amr_rules::{Alert, LogEntry, Silence};
 use amr_time::Moment;
 use std::alloc::AllocError;
 
-/// A group, as it is listed.
+/// A group as it is listed.
 #[derive(Drop)]
 pub struct Group {
-    /// The route's number in preorder.
+    /// The number of the route in preorder.
     pub route: usize,
     /// The group labels.
     pub labels: Labels,
+    /// When the group is flushed next.
     pub next_flush: Moment,
+    /// Whether the group has been flushed.
     pub flushed: bool,
-    /// Since when the group has no member.
+    /// Since when the group has no members; `None` if it has some.
     pub empty_since: Option<Moment>,
-    /// The label sets of the members.
+    /// The label sets of the members, in order.
     pub members: Listing<Labels>,
 }
 
 ghost use Rattle.amr_state.specs.Seen.{group_seen, groups_of};
 
-/// The stored alerts, by labels.
+/// Returns the stored alerts, by labels.
 pub fn alerts(store: &Store) -> Result<Vec<(Labels, Alert)>, AllocError>
     ensures { IfOk result (λ found. found.items ≡ entries store.now.state.alerts) }
 {
@@ -41,7 +45,7 @@ pub fn alerts(store: &Store) -> Result<Vec<(Labels, Alert)>, AllocError>
     Ok(found)
 }
 
-/// The silences, by their ids.
+/// Returns the silences, by id.
 pub fn silences(store: &Store) -> Result<Vec<(SilenceId, Silence)>, AllocError>
     ensures { IfOk result (λ found. found.items ≡ entries store.now.state.silences) }
 {
@@ -52,7 +56,7 @@ pub fn silences(store: &Store) -> Result<Vec<(SilenceId, Silence)>, AllocError>
     Ok(found)
 }
 
-/// The entries of the notification log, by their keys.
+/// Returns the entries of the notification log, by key.
 pub fn log(store: &Store) -> Result<Vec<(LogKey, LogEntry)>, AllocError>
     ensures { IfOk result (λ found. found.items ≡ entries store.now.state.log) }
 {
@@ -63,7 +67,7 @@ pub fn log(store: &Store) -> Result<Vec<(LogKey, LogEntry)>, AllocError>
     Ok(found)
 }
 
-/// The label sets of the members of a group.
+/// Returns the label sets of the members of a group.
 fn member_labels(store: &Store, group: &Spot) -> Result<Listing<Labels>, AllocError>
     ensures { IfOk result (λ found. found
         ≡ map (λ member. member.0) (members store.now.state group.now)) }
@@ -76,7 +80,7 @@ fn member_labels(store: &Store, group: &Spot) -> Result<Listing<Labels>, AllocEr
     Ok(found)
 }
 
-/// A group with its members.
+/// Returns a group with its members.
 fn group_at(store: &Store, spot: &Spot, clock: &Clock) -> Result<Group, AllocError>
     ensures { IfOk result (λ group. group ≡ group_seen store.now.state (spot.now, clock.now)) }
 {
@@ -90,7 +94,7 @@ fn group_at(store: &Store, spot: &Spot, clock: &Clock) -> Result<Group, AllocErr
     })
 }
 
-/// The groups, by route and labels.
+/// Returns the groups, by route and labels.
 pub fn groups(store: &Store) -> Result<Vec<Group>, AllocError>
     ensures { IfOk result (λ found. found.items ≡ groups_of store.now.state) }
 {

@@ -1,4 +1,5 @@
--- The faulty places of a configuration's value, in the order of the walk: through members by key in byte order, through lists in order.
+-- The faulty values of a configuration, in the order of reading: members by key in byte order,
+-- lists in order.
 use Rattle.std.specs.Prelude.{ℕ, zero, suc, ◌+◌, List, [], ◌∷◌, ◌++◌, Bool, true, false, not, ◌||◌, map, length, Option, Some, None, option_and_then, is_some, codes, if◌then◌else◌, ◌==◌, nat_lt}
 use Rattle.std.specs.List.{filter, list_any}
 use Rattle.std.specs.Option.{option_map_or}
@@ -18,7 +19,7 @@ use Rattle.amr_stated.specs.Members.{present, member_of}
 use Rattle.amr_stated.specs.ReadIntervals.{range_in, day_range_in, is_defined, is_utc}
 use Rattle.amr_stated.specs.ReadReceivers.{default_of, stands, kind_key}
 
--- what stands at a path: a fault, or a pattern, which `regex` may refuse
+-- what is found at a path: a fault, or a pattern, which `regex` may refuse
 pub data Finding : Type 0 where
   Fault : List ℕ → Finding
   Pattern : List ℕ → Text → Finding
@@ -45,7 +46,7 @@ abbrev pub unless : List ℕ → Bool → List Finding
 unless path true = []
 unless path false = Fault path ∷ []
 
--- a text that is read by the function
+-- a text that the function reads
 abbrev pub spelled_found : {A : Type 0} → (Text → Option A) → List ℕ → Data → List Finding
 spelled_found spelled path d = unless_some path (option_and_then spelled (as_str d))
 
@@ -83,7 +84,7 @@ abbrev pub if_there_or : List Finding → (Data → List Finding) → Option Dat
 if_there_or missing found None = missing
 if_there_or missing found (Some d) = found d
 
--- a member that has to be there
+-- a member that must be present
 abbrev pub needed_at : (List ℕ → Data → List Finding) → List ℕ → Text → Data → List Finding
 needed_at found path key d = if_there_or (Fault (under path key) ∷ []) (found (under path key)) (member_of key d)
 
@@ -96,11 +97,11 @@ abbrev pub matchers_found : List ℕ → Option (List Matcher) → List Finding
 matchers_found path None = Fault path ∷ []
 matchers_found path (Some matchers) = patterns_found path matchers
 
--- a text that spells matchers
+-- a text of matchers
 abbrev pub matcher_text_found : List ℕ → Data → List Finding
 matcher_text_found path d = matchers_found path (option_and_then matchers_of (as_str d))
 
--- the value of a matcher; its name isn't empty
+-- a label's value in a matcher; the label's name must not be empty
 abbrev pub value_found : Operator → Text → List ℕ → Data → List Finding
 value_found operator name path d =
     text_found path d ++ (if length name == 0 then Fault path ∷ [] else option_map_or (λ value. patterns_found path (record { name = name; operator = operator; value = value } ∷ [])) (as_str d) [])
@@ -138,7 +139,7 @@ rule_found path d =
 abbrev pub range_found : {A : Type 0} → (Data → Option A) → List ℕ → Data → List Finding
 range_found reads path d = unless_some path (reads d)
 
--- the start comes before the end, if both are read
+-- the start is before the end, if both can be read
 abbrev pub start_before_end : Option ℕ → Option ℕ → Bool
 start_before_end (Some start) (Some end) = nat_lt start end
 start_before_end (Some start) None = true
@@ -167,7 +168,7 @@ interval_member_found path d =
     ++ (at (list_found (range_found (range_in Weekdays))) path (codes "weekdays") d
     ++ at (list_found (range_found (range_in Years))) path (codes "years") d)))))
 
--- a text that none of these is
+-- a text that is none of these
 abbrev pub new_name_found : List Text → List ℕ → Data → List Finding
 new_name_found taken path d = unless path (option_map_or (λ name. not (list_any (λ other. eq_by_cmp text_cmp other name) taken)) (as_str d) false)
 
@@ -181,7 +182,7 @@ interval_found taken path d =
 abbrev pub name_in : Data → List Text
 name_in d = option_map_or (λ name. name ∷ []) (option_and_then as_str (member_of (codes "name") d)) []
 
--- intervals whose names differ from these and from each other
+-- intervals whose names are none of these and differ from each other
 abbrev pub intervals_found : List Text → List ℕ → ℕ → Items → List Finding
 intervals_found taken path i no_items = []
 intervals_found taken path i (item d ds) = interval_found taken (item_path path i) d ++ intervals_found (taken ++ name_in d) path (i + 1) ds
@@ -196,7 +197,7 @@ interval_list_found taken path (Some ds) = intervals_found taken path 0 ds
 
 -- ---- receivers
 
--- an object that states `send_resolved`, or whose kind has a default
+-- an object that states `send_resolved`, or whose integration has a default
 abbrev pub entry_found : Text → List ℕ → Data → List Finding
 entry_found kind path d =
     object_found path d
@@ -207,7 +208,7 @@ abbrev pub entries_found : List ℕ → Data → Option Text → List Finding
 entries_found path d None = []
 entries_found path d (Some kind) = if_there (list_found (entry_found kind) path) (present (Some d))
 
--- the entries under keys on that side of `name`
+-- the entries under the keys that sort before `name`, or after it
 abbrev pub kinds_found : Bool → List ℕ → Members → List Finding
 kinds_found before path no_members = []
 kinds_found before path (member key d ms) = (if stands before key then entries_found (under path key) d (kind_key key) else []) ++ kinds_found before path ms
@@ -230,7 +231,7 @@ receiver_found path d =
 abbrev pub defined_name_found : Data → List ℕ → Data → List Finding
 defined_name_found whole path d = unless path (option_map_or (is_defined whole) (as_str d) false)
 
--- a route and those below it, down to so many levels
+-- a route and those below it, down to n levels
 unfoldable pub route_found : Data → ℕ → List ℕ → Data → List Finding
 route_found whole zero path d = []
 route_found whole (suc left) path d =

@@ -4,17 +4,17 @@ use Rattle.std.specs.declared.cmp.Ordering.TheVariants.{Less}
 use Rattle.serde_json.specs.Data.{Data, null, boolean, number, string, array, object, Items, no_items, item, Members, no_members, member}
 use Rattle.amr_labels.specs.Labels.{Text, text_cmp}
 
--- the key comes before each of these
+-- the key sorts before each of these
 abbrev pub IsBelow : Text → Members → Type 0
 IsBelow key no_members = Unit {0}
 IsBelow key (member k d ms) = (text_cmp key k ≡ Less) × IsBelow key ms
 
--- each key once, in the order of their bytes
+-- the keys are distinct and in byte order
 abbrev pub AreInOrder : Members → Type 0
 AreInOrder no_members = Unit {0}
 AreInOrder (member key d ms) = IsBelow key ms × AreInOrder ms
 
--- every object in a value has each key once, in the order of their bytes
+-- each object in a value has distinct keys in byte order
 abbrev mutual
   pub HasOrderedKeys : Data → Type 0
   HasOrderedKeys null = Unit {0}

@@ -13,7 +13,7 @@ number_of ZeroInterval = 9
 number_of BadGroupBy = 10
 number_of TooDeep = 11
 
--- the path of a refusal for a shape
+-- the path of a `BadConfig`, and the empty path for the other refusals
 abbrev pub path_in : Refusal → List ℕ
 path_in (BadConfig path) = path
 path_in UnknownReceiver = []

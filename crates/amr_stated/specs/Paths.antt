@@ -1,13 +1,13 @@
--- The way to a place in a value, as a text.
+-- The path of a value, as a text.
 use Rattle.std.specs.Prelude.{ℕ, List, [], ◌∷◌, ◌++◌, decimal}
 use Rattle.amr_stated.specs.declared.place.Place.{Place, Top, Member', Item'}
 
--- keys are joined by a dot
+-- keys are joined by dots
 abbrev pub under : List ℕ → List ℕ → List ℕ
 under [] key = key
 under (c ∷ path) key = (c ∷ path) ++ 46 ∷ key
 
--- places in a list stand in brackets
+-- an index in a list is in brackets
 abbrev pub item_path : List ℕ → ℕ → List ℕ
 item_path path i = path ++ 91 ∷ decimal i ++ 93 ∷ []
 

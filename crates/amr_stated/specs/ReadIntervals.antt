@@ -1,4 +1,4 @@
--- The time intervals that a configuration defines, and the names by which routes take them.
+-- Reading the time intervals of a configuration, and the names by which routes refer to them.
 use Rattle.std.specs.Prelude.{ℕ, List, [], ◌∷◌, ◌++◌, Bool, true, false, ◌||◌, Option, Some, None, codes, if◌then◌else◌, nat_lt, option_and_then, option_map}
 use Rattle.std.specs.List.{list_any}
 use Rattle.std.specs.Option.{option_or, option_map_or}
@@ -33,7 +33,7 @@ range_in Years d = option_or (option_and_then years_at (as_str d)) (option_map s
 abbrev pub day_range_in : Data → Option DayRange
 day_range_in d = option_or (option_and_then days_at (as_str d)) (option_and_then day_numbered (option_and_then as_i64 (as_number d)))
 
--- a range of a list, after those before it
+-- the next range of a list, added to those before it
 unfoldable pub range_into : {A : Type 0} → (Data → Option A) → List ℕ → ℕ → Data → List A → Reading (List A)
 range_into reads path i d ranges = or_faulty (item_path path i) (reads d) >>= λ range. give (ranges ++ range ∷ [])
 
@@ -46,7 +46,7 @@ ranges_at reads path d = items_at path d >>= λ ds. items_in_turn (range_into re
 unfoldable pub time_of : (List ℕ → Option ℕ) → List ℕ → Data → Reading ℕ
 time_of spelled path d = text_at path d >>= λ text. or_faulty path (spelled text)
 
--- the start comes before the end
+-- the start must be before the end
 abbrev pub times_from : List ℕ → ℕ → ℕ → Reading TimeRange
 times_from path start end = if nat_lt start end then give (record { start = start; end = end }) else faulty path
 
@@ -68,7 +68,7 @@ times_at path d = items_at path d >>= λ ds. items_in_turn (time_range_into path
 abbrev pub is_utc : Text → Bool
 is_utc text = eq_by_cmp text_cmp text (codes "UTC")
 
--- `UTC`, since moments are read in UTC
+-- the location must be `UTC`, since moments are read in UTC
 unfoldable pub location_at : List ℕ → Data → Reading Bool
 location_at path d = text_at path d >>= λ text. if is_utc text then give true else faulty path
 
@@ -92,11 +92,11 @@ interval_members_at path d = items_at path d >>= λ ds. items_in_turn (interval_
 abbrev pub is_taken : Text → List NamedInterval → Bool
 is_taken name intervals = list_any (λ interval. eq_by_cmp text_cmp interval.name name) intervals
 
--- a text that no interval before it has as its name
+-- a text that isn't the name of an interval before
 unfoldable pub new_name_at : List NamedInterval → List ℕ → Data → Reading Text
 new_name_at intervals path d = text_at path d >>= λ name. if is_taken name intervals then faulty path else give name
 
--- a named interval, after those before it
+-- a named interval; its name differs from those before it
 unfoldable pub interval_at : List NamedInterval → List ℕ → Data → Reading NamedInterval
 interval_at intervals path d = do
   whole ← members_at path d
@@ -111,25 +111,25 @@ abbrev pub intervals_from : List ℕ → Option Data → List NamedInterval → 
 intervals_from path None intervals = give intervals
 intervals_from path (Some d) intervals = items_at path d >>= λ ds. items_in_turn (interval_into path) 0 ds intervals
 
--- the intervals that a list of a whole configuration defines, after those before them
+-- the intervals under a key of a whole configuration, added to those before them
 unfoldable pub intervals_at : List ℕ → Data → List NamedInterval → Reading (List NamedInterval)
 intervals_at key d intervals = intervals_from key (member_of key d) intervals
 
--- ---- the names at a route
+-- ---- the names in a route
 
 -- an object has the name
 unfoldable pub has_name : Text → Data → Bool
 has_name name d = option_map_or (λ text. eq_by_cmp text_cmp text name) (option_and_then as_str (member_of (codes "name") d)) false
 
--- a list of a whole configuration has an object with the name
+-- the list under a key of the whole configuration has an object with the name
 unfoldable pub defines : List ℕ → Data → Text → Bool
 defines key whole name = any_item (has_name name) (list_in (member_of key whole))
 
--- one of the two lists of intervals has
+-- one of the two lists of intervals has an object with the name
 unfoldable pub is_defined : Data → Text → Bool
 is_defined whole name = defines (codes "mute_time_intervals") whole name || defines (codes "time_intervals") whole name
 
--- a name that the whole configuration defines, after those before it
+-- the next name of a list, which the whole configuration must define, added to those before it
 unfoldable pub name_into : Data → List ℕ → ℕ → Data → List Text → Reading (List Text)
 name_into whole path i d names = text_at (item_path path i) d >>= λ name. if is_defined whole name then give (names ++ name ∷ []) else faulty (item_path path i)
 

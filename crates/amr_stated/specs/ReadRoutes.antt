@@ -1,4 +1,4 @@
--- The routes of a configuration, by the walk through their members in the order of the keys.
+-- Reading the routing tree of a configuration, by key in byte order.
 use Rattle.std.specs.Prelude.{ℕ, zero, suc, List, [], ◌∷◌, ◌++◌, length, Option, Some, None, Err, false, codes, unwrap_or}
 use Rattle.serde_json.specs.Data.{Data}
 use Rattle.amr_stated.specs.declared.error.Refusal.TheVariants.{TooDeep}
@@ -25,11 +25,11 @@ route_at whole path parent d = do
   repeat_interval ← stated span_at path (codes "repeat_interval") d
   give (record { parent = parent; matchers = matchers; continues = unwrap_or continues false; receiver = receiver; group_by = grouping_stated group_by; group_wait = group_wait; group_interval = group_interval; repeat_interval = repeat_interval; active_time_intervals = unwrap_or active []; mute_time_intervals = unwrap_or mute [] })
 
--- the routes so far, and then what this one states itself
+-- a route with what it states itself, added to the routes before it
 unfoldable pub own_into : Data → List ℕ → Option ℕ → Data → List Route → Reading (List Route)
 own_into whole path parent d routes = route_at whole path parent d >>= λ route. give (routes ++ route ∷ [])
 
--- the routes so far, then this one and those below it, at most so many levels
+-- a route and those below it, down to n levels, added to the routes before them
 unfoldable pub add_route : Data → ℕ → List ℕ → Option ℕ → Data → List Route → Reading (List Route)
 add_route whole zero path parent d routes = plain (Err TooDeep)
 add_route whole (suc left) path parent d routes = do
@@ -37,7 +37,7 @@ add_route whole (suc left) path parent d routes = do
   children ← children_at path d
   items_in_turn (λ i e so_far. add_route whole left (item_path (under path (codes "routes")) i) (Some (length routes)) e so_far) 0 children own
 
--- a route below, at its place in the list
+-- a child route, at its index in the list
 abbrev pub child_into : Data → ℕ → List ℕ → ℕ → ℕ → Data → List Route → Reading (List Route)
 child_into whole left path parent = λ i d so_far. add_route whole left (item_path (under path (codes "routes")) i) (Some parent) d so_far
 

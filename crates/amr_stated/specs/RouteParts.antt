@@ -1,4 +1,4 @@
--- What a route states beside its matchers, and the levels of the tree.
+-- What a route states besides its matchers, and the levels of the routing tree.
 use Rattle.std.specs.Prelude.{ℕ, zero, suc, List, [], ◌∷◌, Bool, true, false, Option, Some, None, codes, unwrap_or, if◌then◌else◌}
 use Rattle.std.specs.Option.{option_map_or}
 use Rattle.std.specs.Ordering.{eq_by_cmp}
@@ -15,7 +15,7 @@ is_all [] = false
 is_all (name ∷ []) = eq_by_cmp text_cmp name (codes "...")
 is_all (name ∷ next ∷ names) = false
 
--- `["..."]` stands for all labels
+-- `["..."]` means all labels
 abbrev pub grouping_of : List Text → Grouping
 grouping_of names = if is_all names then AllLabels else Named names
 
@@ -23,17 +23,17 @@ abbrev pub grouping_stated : Option (List Text) → Option Grouping
 grouping_stated None = None
 grouping_stated (Some names) = Some (grouping_of names)
 
--- the list of the routes below, which may be absent
+-- the list of child routes, which may be absent
 unfoldable pub children_at : List ℕ → Data → Reading Items
 children_at path d = stated items_at path (codes "routes") d >>= λ found. give (unwrap_or found no_items)
 
 -- ---- levels
 
--- a route has more levels of routes than are left, itself one
+-- a route has more than n levels, itself included
 unfoldable pub is_deeper : ℕ → Data → Bool
 is_deeper zero d = true
 is_deeper (suc left) d = any_item (is_deeper left) (list_in (member_of (codes "routes") d))
 
--- whether the routes of a whole configuration have more than 32 levels
+-- whether the routing tree has more than 32 levels
 unfoldable pub is_too_deep : Data → Bool
 is_too_deep d = option_map_or (is_deeper 32) (member_of (codes "route") d) false

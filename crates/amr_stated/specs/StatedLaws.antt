@@ -1,4 +1,4 @@
--- What holds of the values that configurations are read from, and of what they state.
+-- Laws of the values that configurations are read from, and of what they state.
 use Rattle.std.specs.Prelude.{◌≡◌, ℕ, List, Some, Ok, true}
 use Rattle.std.specs.List.{list_all}
 use Rattle.serde_json.specs.Data.{Data}
@@ -11,6 +11,6 @@ use Rattle.amr_stated.specs.Walking.{walked_at}
 abbrev pub ReadValuesHaveOrderedKeys : Type 0
 ReadValuesHaveOrderedKeys = (text : List ℕ) (d : Data) → read text ≡ Some d → HasOrderedKeys d
 
--- the integrations of each receiver that is stated go by kind, and then by place
+-- the integrations of each receiver are ordered by name, then by index
 abbrev pub IntegrationsAreInOrder : Type 0
 IntegrationsAreInOrder = (d : Data) (stated : Stated) → HasOrderedKeys d → (walked_at d).value ≡ Ok stated → list_all (λ receiver. are_in_order receiver.integrations) stated.receivers ≡ true

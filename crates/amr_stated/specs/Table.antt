@@ -39,7 +39,7 @@ IsFlag d flag = as_bool d ≡ Some flag
 abbrev pub IsDuration : Data → Span → Type 0
 IsDuration d span = (text : Text) × IsText d text × (span_of text ≡ Some span)
 
--- each of the items, from the i-th on, states what stands at its place in the list
+-- each of the items, from index i on, states the value at its index in the list
 abbrev pub StatesEach : {A : Type 0} → (ℕ → Data → A → Type 0) → ℕ → Items → List A → Type 0
 StatesEach Is i no_items [] = Unit {0}
 StatesEach Is i no_items (x ∷ xs) = ⊥
@@ -51,7 +51,7 @@ IsListOf Is d xs = (ds : Items) × (as_array d ≡ Some ds) × StatesEach (λ i.
 
 -- ---- members
 
--- what the member under a key states, if there is one
+-- what the member under a key states, if it is present
 abbrev pub StatesIf : {A : Type 0} → (Data → A → Type 0) → Option Data → Option A → Type 0
 StatesIf Is None None = Unit {0}
 StatesIf Is None (Some x) = ⊥
@@ -61,17 +61,17 @@ StatesIf Is (Some v) (Some x) = Is v x
 abbrev pub States : {A : Type 0} → (Data → A → Type 0) → Text → Data → Option A → Type 0
 States Is key d x = StatesIf Is (member_of key d) x
 
--- the same with a value that holds where there is no such member
+-- the same with a default for an absent member
 abbrev pub StatesOr : {A : Type 0} → A → (Data → A → Type 0) → Text → Data → A → Type 0
 StatesOr default Is key d x = (found : Option _) × States Is key d found × (x ≡ unwrap_or found default)
 
--- a member that is there
+-- a member that is present
 abbrev pub HasAt : {A : Type 0} → (Data → A → Type 0) → Text → Data → A → Type 0
 HasAt Is key d x = (v : Data) × (member_of key d ≡ Some v) × Is v x
 
 -- ---- matchers
 
--- the matcher of one member of an object, if it is present, before those of the members after it
+-- the matcher of a member of an object, if it is present, followed by those of later members
 abbrev pub MatcherOf : Operator → Text → Option Data → List Matcher → List Matcher → Type 0
 MatcherOf operator name None matchers later = matchers ≡ later
 MatcherOf operator name (Some d) matchers later = (value : Text) × IsText d value × (matchers ≡ record { name = name; operator = operator; value = value } ∷ later)
@@ -87,11 +87,11 @@ IsMatchObject operator d matchers = (ms : Members) × (as_object d ≡ Some ms) 
 abbrev pub IsMatcherText : Data → List Matcher → Type 0
 IsMatcherText d matchers = (text : Text) × IsText d text × (matchers_of text ≡ Some matchers)
 
--- a list of texts, each of which spells matchers
+-- a list of matcher texts
 abbrev pub IsMatcherList : Data → List Matcher → Type 0
 IsMatcherList d matchers = (lists : List (List Matcher)) × IsListOf IsMatcherText d lists × (matchers ≡ flat_map (λ list. list) lists)
 
--- the matchers of values, then those of patterns, then those of the list
+-- the matchers of values, then those of patterns, then those of the list of matcher texts
 pub record StatesMatchers (equal patterns texts : Text) (d : Data) (matchers : List Matcher) : Type 0 where
   pub of_values : List Matcher
   pub of_patterns : List Matcher
@@ -140,7 +140,7 @@ pub record IsInterval (d : Data) (interval : NamedInterval) : Type 0 where
 
 -- ---- receivers
 
--- the i-th entry of a kind
+-- the entry with index i of an integration's list
 pub record IsIntegration (kind : Text) (i : ℕ) (d : Data) (integration : Integration) : Type 0 where
   pub said : Option Bool
   pub kind_is : integration.kind ≡ kind
@@ -151,12 +151,12 @@ pub record IsIntegration (kind : Text) (i : ℕ) (d : Data) (integration : Integ
 abbrev pub AreIntegrations : Text → Data → List Integration → Type 0
 AreIntegrations kind d integrations = (ds : Items) × (as_array d ≡ Some ds) × StatesEach (IsIntegration kind) 0 ds integrations
 
--- one of the members of an object
+-- some member of an object
 abbrev pub IsMember : Text → Data → Members → Type 0
 IsMember key v no_members = ⊥
 IsMember key v (member k d ms) = ((k ≡ key) × (d ≡ v)) ⊎ IsMember key v ms
 
--- an entry of a list under a key that names a kind
+-- an entry of a list whose key names an integration
 pub record StatesIntegration (d : Data) (integration : Integration) : Type 0 where
   pub members : Members
   pub key : Text
@@ -199,7 +199,8 @@ pub record IsRoute (whole d : Data) (route : Route) : Type 0 where
 abbrev pub IsArray : Data → Items → Type 0
 IsArray d ds = as_array d ≡ Some ds
 
--- The route with the number n and those below it, in preorder: the route, then each of the list under its key `routes` with those below it.
+-- The route number n and those below it, in preorder: the route, then each item under its key
+-- `routes` with those below it.
 mutual
   pub data IsTree (whole : Data) : ℕ → Option ℕ → Data → List Route → Type 0 where
     Tree : (n : ℕ) (parent : Option ℕ) (d : Data) (route : Route) (children : Items) (below : List Route) → IsRoute whole d route → route.parent ≡ parent → StatesOr no_items IsArray (codes "routes") d children → AreTrees whole (n + 1) n children below → IsTree whole n parent d (route ∷ below)

@@ -1,4 +1,4 @@
--- The timeout of alerts that are posted without an end.
+-- The timeout of alerts that are posted without an end (`resolve_timeout`).
 use Rattle.std.specs.Prelude.{◌*◌, ℕ, List, [], Option, Some, None, codes}
 use Rattle.serde_json.specs.Data.{Data}
 use Rattle.amr_time.specs.Time.{Span, minute}

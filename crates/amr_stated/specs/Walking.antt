@@ -1,4 +1,4 @@
--- What a configuration's value states, by the walk through its members.
+-- Reading a whole configuration from its value.
 use Rattle.std.specs.Prelude.{[], codes}
 use Rattle.serde_json.specs.Data.{Data}
 use Rattle.amr_stated.specs.declared.stated.Stated.{Stated}
@@ -9,7 +9,7 @@ use Rattle.amr_stated.specs.ReadRules.{rules_at}
 use Rattle.amr_stated.specs.ReadReceivers.{receivers_at}
 use Rattle.amr_stated.specs.ReadRoutes.{routes_at}
 
--- the walk through the members in the order of their keys
+-- the parts of a configuration, by key in byte order
 unfoldable pub walked_at : Data → Reading Stated
 walked_at d = do
   timeout ← timeout_at d

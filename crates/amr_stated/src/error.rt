@@ -1,4 +1,5 @@
-//! Why a value is no configuration.
+//! Why a JSON value is refused as a configuration. The reader and the validation return these
+//! errors; the program prints them with their numbers.
 ghost use Rattle.std.specs.Prelude.{◌≡◌};
 ghost use Rattle.amr_stated.specs.declared.error.ConfigError.TheVariants.{Memory};
 ghost use Rattle.amr_stated.specs.Numbers.{number_of, path_in};
@@ -6,28 +7,29 @@ ghost use Rattle.amr_stated.specs.Numbers.{number_of, path_in};
 use amr_labels::Text;
 use std::alloc::{AllocError, AllocFailed};
 
-/// Why a value is no configuration.
+/// The reason why a value is refused as a configuration.
 #[derive(Debug, Drop)]
 pub enum Refusal {
-    /// A wrong shape, text, duration, matcher, pattern or name of a time interval. The path is that of the first such place: keys joined by `.`, places in a
-    /// list as `[i]` from 0, as in `route.routes[0].group_wait`.
+    /// A value has a wrong shape, or is no valid text, duration, matcher, pattern or name of a time
+    /// interval. The path is that of the first such value: keys are joined by `.`, and an index in
+    /// a list is written `[i]`, from 0, as in `route.routes[0].group_wait`.
     BadConfig { path: Text },
-    /// A route names a receiver that isn't there.
+    /// A route names a receiver that doesn't exist.
     UnknownReceiver,
-    /// Two receivers have one name.
+    /// Two receivers have the same name.
     DuplicateReceiver,
-    /// The root has matchers, `continue` or time intervals, or no receiver.
+    /// The root route has matchers, `continue` or time intervals, or has no receiver.
     RootRoute,
     /// `group_interval` or `repeat_interval` is zero.
     ZeroInterval,
-    /// A name in `group_by` is empty or repeated, or `...` isn't alone.
+    /// `group_by` has an empty name or a name twice, or has `...` beside other names.
     BadGroupBy,
-    /// A route below the 32nd level.
+    /// A route is below the 32nd level.
     TooDeep,
 }
 
 impl Refusal {
-    /// The number under which the refusal is printed.
+    /// Returns the number under which the refusal is printed.
     pub fn number(&self) -> u64
         ensures { result ≡ number_of self.now }
     {
@@ -42,7 +44,7 @@ impl Refusal {
         }
     }
 
-    /// The path of `BadConfig`, and the empty text for the others.
+    /// Returns the path of a `BadConfig`, and the empty text for the other refusals.
     pub fn path(&self) -> &str
         ensures { result.now ≡ path_in self.now }
     {
@@ -53,7 +55,7 @@ impl Refusal {
     }
 }
 
-/// Why no configuration was read.
+/// The error of reading a configuration: the value is refused, or memory ran out.
 #[derive(Debug, Drop)]
 pub enum ConfigError {
     /// An allocation failed.

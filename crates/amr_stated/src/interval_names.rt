@@ -1,4 +1,6 @@
-//! The names by which routes take time intervals, read from a value.
+//! Reads `active_time_intervals` and `mute_time_intervals` of a route: lists of names, each of
+//! which the whole configuration defines. `read_routes.rt` calls `names_member`. The intervals
+//! themselves are read in `read_intervals.rt`.
 #![tactic(auto, unfolding(crate::specs::Readings::next))]
 
 ghost use Rattle.std.specs.Prelude.{◌≡◌};
@@ -15,7 +17,8 @@ use amr_labels::{Listing, Text};
 use serde_json::Value;
 use std::alloc::Global;
 
-/// The names under a key, each of which the whole configuration defines.
+/// Reads the list of names under a key; `None` if there is no such member. Fails with the path of
+/// the first name that the configuration doesn't define.
 pub(crate) fn names_member(
     alloc: Global,
     whole: &Value,
@@ -32,6 +35,7 @@ pub(crate) fn names_member(
     }
 }
 
+/// Reads a list of names, each of which the whole configuration defines.
 #[tactic(auto, unfolding(crate::specs::ReadIntervals::names_at, crate::specs::Readings::next))]
 fn names(
     alloc: Global,
@@ -50,6 +54,7 @@ fn names(
     Ok(names)
 }
 
+/// Appends a name. Fails if the whole configuration doesn't define it.
 #[tactic(auto, unfolding(crate::specs::ReadIntervals::name_into, crate::specs::Readings::next))]
 fn add_name(
     alloc: Global,
@@ -71,7 +76,8 @@ fn add_name(
     Ok(())
 }
 
-/// Whether one of the two lists of time intervals has an object with the name.
+/// Returns whether `mute_time_intervals` or `time_intervals` of the whole configuration defines the
+/// name.
 #[tactic(auto, unfolding(crate::specs::ReadIntervals::is_defined))]
 fn is_defined(whole: &Value, name: &str) -> bool
     ensures { result ≡ defined_of (view whole.now) name.now }
@@ -79,6 +85,7 @@ fn is_defined(whole: &Value, name: &str) -> bool
     defines("mute_time_intervals", whole, name) || defines("time_intervals", whole, name)
 }
 
+/// Returns whether the list under a key of the whole configuration has an object with the name.
 #[tactic(auto, unfolding(crate::specs::ReadIntervals::defines))]
 fn defines(key: &str, whole: &Value, name: &str) -> bool
     ensures { result ≡ defines_of key.now (view whole.now) name.now }
@@ -89,6 +96,7 @@ fn defines(key: &str, whole: &Value, name: &str) -> bool
     }
 }
 
+/// Returns whether one of the items is an object with the name.
 fn any_named(items: &[Value], name: &str) -> bool
     ensures { result ≡ any_item (name_of name.now) (items_view items.now) }
 {
@@ -100,6 +108,7 @@ fn any_named(items: &[Value], name: &str) -> bool
     false
 }
 
+/// Returns whether a value is an object with the name.
 #[tactic(auto, unfolding(crate::specs::ReadIntervals::has_name))]
 fn has_name(value: &Value, name: &str) -> bool
     ensures { result ≡ name_of name.now (view value.now) }

@@ -1,4 +1,6 @@
-//! What the value of a configuration states, read before it is judged.
+//! The reader of configurations: turns a JSON value into the routes, receivers, inhibition rules
+//! and time intervals that it states, in the shapes of Alertmanager's configuration reference. It
+//! neither validates across them nor resolves what routes inherit; `amr_config` does.
 #![tactic(auto)]
 
 mod error;

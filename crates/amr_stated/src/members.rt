@@ -1,4 +1,5 @@
-//! Members and items of a value, by their shapes.
+//! Readers for the members and items of a JSON value, one for each shape. A member that is `null`
+//! counts as absent. The other files of this crate call them.
 #![tactic(auto, unfolding(crate::specs::Readings::next))]
 
 ghost use Rattle.std.specs.Prelude.{◌≡◌, ℕ, Bool, List, option_map};
@@ -17,14 +18,15 @@ use serde_json::Value;
 use std::alloc::Global;
 use std::cmp::Ordering;
 
-/// Whether two texts are the same.
+/// Returns whether two texts are equal.
 pub fn same(text: &str, other: &str) -> bool
     ensures { result ≡ eq_by_cmp text_cmp text.now other.now }
 {
     text.cmp(other) == Ordering::Equal
 }
 
-/// The member of an object that isn't null.
+/// Returns the member of an object under a key, unless it is `null`. Returns `None` for a value
+/// that isn't an object.
 #[tactic(auto, unfolding(crate::specs::Members::member_of))]
 pub(crate) fn member<'v>(value: &'v Value, key: &str) -> Option<&'v Value>
     ensures { option_map (λ v. view v.now) result ≡ member_of key.now (view value.now) }
@@ -35,6 +37,7 @@ pub(crate) fn member<'v>(value: &'v Value, key: &str) -> Option<&'v Value>
     }
 }
 
+/// Returns a value that must be a text.
 pub(crate) fn text<'v>(
     alloc: Global,
     place: &Place,
@@ -48,6 +51,7 @@ pub(crate) fn text<'v>(
     }
 }
 
+/// Returns a value that must be a truth value.
 fn flag(alloc: Global, place: &Place, value: &Value) -> Result<bool, ConfigError>
     ensures { Gives (λ b. b) result (flag_at (place_path place.now) (view value.now)) }
 {
@@ -57,6 +61,7 @@ fn flag(alloc: Global, place: &Place, value: &Value) -> Result<bool, ConfigError
     }
 }
 
+/// Returns the items of a value that must be a list.
 pub(crate) fn items<'v>(
     alloc: Global,
     place: &Place,
@@ -71,6 +76,7 @@ pub(crate) fn items<'v>(
     }
 }
 
+/// Reads a duration, as Alertmanager writes it, such as `1h30m`.
 #[tactic(auto, unfolding(crate::specs::Members::span_at, crate::specs::Readings::next))]
 fn span(alloc: Global, place: &Place, value: &Value) -> Result<Span, ConfigError>
     ensures { Gives (λ n. n) result (span_at (place_path place.now) (view value.now)) }
@@ -81,6 +87,7 @@ fn span(alloc: Global, place: &Place, value: &Value) -> Result<Span, ConfigError
     }
 }
 
+/// Appends the text at an index of a list.
 #[tactic(auto, unfolding(crate::specs::Members::text_into, crate::specs::Readings::next))]
 fn text_item(
     alloc: Global,
@@ -97,6 +104,7 @@ fn text_item(
     Ok(())
 }
 
+/// Reads a list of texts.
 #[tactic(auto, unfolding(crate::specs::Members::texts_at, crate::specs::Readings::next))]
 fn texts(alloc: Global, place: &Place, value: &Value) -> Result<Listing<Text>, ConfigError>
     ensures { Gives (λ ts. ts) result (texts_at (place_path place.now) (view value.now)) }
@@ -109,6 +117,7 @@ fn texts(alloc: Global, place: &Place, value: &Value) -> Result<Listing<Text>, C
     Ok(texts)
 }
 
+/// Reads the truth value under a key; `None` if there is no such member.
 pub(crate) fn flag_member(
     alloc: Global,
     place: &Place,
@@ -124,6 +133,7 @@ pub(crate) fn flag_member(
     }
 }
 
+/// Reads the duration under a key; `None` if there is no such member.
 pub(crate) fn span_member(
     alloc: Global,
     place: &Place,
@@ -139,6 +149,7 @@ pub(crate) fn span_member(
     }
 }
 
+/// Reads the text under a key; `None` if there is no such member.
 pub(crate) fn text_member(
     alloc: Global,
     place: &Place,
@@ -157,6 +168,7 @@ pub(crate) fn text_member(
     }
 }
 
+/// Reads the list of texts under a key; `None` if there is no such member.
 pub(crate) fn texts_member(
     alloc: Global,
     place: &Place,

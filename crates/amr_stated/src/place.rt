@@ -1,4 +1,5 @@
-//! Places in a value.
+//! Paths in a JSON value, and how they are written in errors. A path is written only if it is
+//! needed, so reading a good value takes no memory for paths.
 ghost use Rattle.std.specs.Prelude.{◌≡◌, [], OnOk, string_bytes};
 ghost use Rattle.amr_stated.specs.Paths.{place_path};
 ghost use Rattle.amr_stated.specs.Answers.{IsFault};
@@ -7,7 +8,7 @@ use crate::error::{ConfigError, Refusal};
 use amr_labels::Text;
 use std::alloc::{AllocError, Global};
 
-/// A place in a value: the way to it from the top.
+/// The path of a value, from the top.
 #[derive(Drop)]
 pub(crate) enum Place<'a> {
     Top,
@@ -16,6 +17,7 @@ pub(crate) enum Place<'a> {
 }
 
 impl Place<'_> {
+    /// Appends the path to a text, which is empty at first.
     fn write(&self, out: &mut String) -> Result<(), AllocError>
         requires { string_bytes out.old ≡ [] }
         ensures { OnOk result (string_bytes out.new ≡ place_path self.now) }
@@ -36,7 +38,7 @@ impl Place<'_> {
         }
     }
 
-    /// That the value here has the wrong shape.
+    /// Returns the error that the value at this path is faulty, or that memory ran out.
     pub(crate) fn faulty(&self, alloc: Global) -> ConfigError
         ensures { IsFault result (place_path self.now) }
     {

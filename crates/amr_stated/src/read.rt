@@ -1,4 +1,5 @@
-//! What a value states, read from it.
+//! Reads a whole configuration from its JSON value. `Config::read` of `amr_config` calls `walk`,
+//! and then validates the result. Nothing is inherited or defaulted here, except `resolve_timeout`.
 ghost use Rattle.std.specs.Prelude.{◌≡◌, [], codes};
 ghost use Rattle.serde_json.specs.View.{view};
 ghost use Rattle.amr_stated.specs.Answers.{Gives, Reads};
@@ -19,6 +20,7 @@ use amr_time::Span;
 use serde_json::Value;
 use std::alloc::Global;
 
+/// Reads `resolve_timeout` of the object under `global`.
 #[tactic(auto, unfolding(crate::specs::Timeout::timeout_in, crate::specs::Readings::next))]
 fn timeout(alloc: Global, place: &Place, value: &Value) -> Result<Option<Span>, ConfigError>
     ensures { Gives (λ o. o) result (timeout_in (place_path place.now) (view value.now)) }
@@ -29,6 +31,7 @@ fn timeout(alloc: Global, place: &Place, value: &Value) -> Result<Option<Span>, 
     span_member(alloc, place, value, "resolve_timeout")
 }
 
+/// Reads `resolve_timeout` of `global`; `None` if there is no `global`.
 #[tactic(auto, unfolding(crate::specs::Readings::next))]
 fn timeout_member(alloc: Global, value: &Value) -> Result<Option<Option<Span>>, ConfigError>
     ensures { Gives (λ o. o) result (stated timeout_in [] (codes "global") (view value.now)) }
@@ -42,7 +45,7 @@ fn timeout_member(alloc: Global, value: &Value) -> Result<Option<Option<Span>>, 
     }
 }
 
-/// The timeout that is stated, or 5 minutes.
+/// Returns the stated timeout, or 5 minutes, the default of Alertmanager's `resolve_timeout`.
 fn stated_timeout(timeout: Option<Option<Span>>) -> Span
     ensures { result ≡ timeout_stated timeout }
 {
@@ -53,6 +56,7 @@ fn stated_timeout(timeout: Option<Option<Span>>) -> Span
     }
 }
 
+/// Reads the timeout of a whole configuration, which must be an object.
 #[tactic(auto, unfolding(crate::specs::Timeout::timeout_at, crate::specs::Readings::next))]
 fn read_timeout(alloc: Global, value: &Value) -> Result<Span, ConfigError>
     ensures { Gives (λ span. span) result (timeout_at (view value.now)) }
@@ -64,8 +68,9 @@ fn read_timeout(alloc: Global, value: &Value) -> Result<Span, ConfigError>
     Ok(stated_timeout(timeout))
 }
 
-/// Goes through the members of a configuration by key in byte order, and through lists in order, up to the first faulty place. Each pattern
-/// is built once, as it is met. A route below the 32nd level is refused where the walk comes to it; `is_too_deep` tells it before.
+/// Reads a configuration. It visits members by key in byte order, and lists in order, and fails
+/// with the path of the first faulty value. It builds each pattern once, when it meets it. Callers
+/// check `is_too_deep` first; the depth limit here only bounds the recursion.
 #[tactic(auto, unfolding(crate::specs::Walking::walked_at, crate::specs::Readings::next))]
 pub fn walk(alloc: Global, value: &Value) -> Result<Stated, ConfigError>
     ensures { Reads (λ stated. stated) result (walked_at (view value.now)) }

@@ -1,4 +1,6 @@
-//! Time intervals, read from a value.
+//! Reads the time intervals of a configuration, in the shapes of `time_interval` in Alertmanager's
+//! configuration reference. `read.rt` calls it for `mute_time_intervals`, and then for
+//! `time_intervals`. A location other than `UTC` is refused.
 #![tactic(auto, unfolding(crate::specs::Readings::next))]
 
 ghost use Rattle.std.specs.Prelude.{◌≡◌, [], Some, codes};
@@ -24,7 +26,7 @@ use amr_time::{
 use serde_json::Value;
 use std::alloc::Global;
 
-/// The intervals that `mute_time_intervals` of a whole configuration defines.
+/// Reads the intervals under `mute_time_intervals` of a whole configuration.
 pub(crate) fn read_mute_time_intervals(
     alloc: Global,
     value: &Value,
@@ -35,7 +37,8 @@ pub(crate) fn read_mute_time_intervals(
     read_intervals(alloc, value, "mute_time_intervals", Listing::new(alloc))
 }
 
-/// Adds the intervals that the list under a key of a whole configuration defines.
+/// Appends the intervals under a key of a whole configuration. Fails for a name that an interval
+/// before has, too.
 #[tactic(auto, unfolding(crate::specs::ReadIntervals::intervals_at, crate::specs::Readings::next))]
 pub(crate) fn read_intervals(
     alloc: Global,
@@ -51,6 +54,7 @@ pub(crate) fn read_intervals(
     }
 }
 
+/// Appends the intervals of a list.
 fn with_intervals(
     alloc: Global,
     place: &Place,
@@ -68,6 +72,7 @@ fn with_intervals(
     Ok(intervals)
 }
 
+/// Appends the interval at an index of a list.
 #[tactic(auto, unfolding(crate::specs::ReadIntervals::interval_into, crate::specs::Readings::next))]
 fn add_interval(
     alloc: Global,
@@ -85,6 +90,7 @@ fn add_interval(
     Ok(())
 }
 
+/// Reads an interval: an object with `name` and `time_intervals`.
 #[tactic(auto, unfolding(crate::specs::ReadIntervals::interval_at, crate::specs::Readings::next))]
 fn interval(
     alloc: Global,
@@ -114,7 +120,7 @@ fn interval(
     })
 }
 
-/// A text that no interval before it has as its name.
+/// Reads the name of an interval. Fails if an interval before has it.
 #[tactic(auto, unfolding(crate::specs::ReadIntervals::new_name_at, crate::specs::Readings::next))]
 fn new_name(
     alloc: Global,
@@ -132,6 +138,7 @@ fn new_name(
     Ok(Text::from_str(alloc, name)?)
 }
 
+/// Returns whether an interval has the name.
 fn is_taken(name: &str, intervals: &[NamedInterval]) -> bool
     ensures { result ≡ taken_of name.now intervals.now }
 {
@@ -140,6 +147,7 @@ fn is_taken(name: &str, intervals: &[NamedInterval]) -> bool
         .any(|interval| same(interval.name.as_str(), name))
 }
 
+/// Reads the list under `time_intervals` of an interval.
 #[tactic(auto, unfolding(crate::specs::ReadIntervals::interval_members_at, crate::specs::Readings::next))]
 fn interval_members(
     alloc: Global,
@@ -157,6 +165,7 @@ fn interval_members(
     Ok(members)
 }
 
+/// Appends the item at an index of such a list.
 #[tactic(auto, unfolding(crate::specs::ReadIntervals::interval_member_into, crate::specs::Readings::next))]
 fn add_interval_member(
     alloc: Global,
@@ -173,6 +182,7 @@ fn add_interval_member(
     Ok(())
 }
 
+/// Reads an item of such a list, by its keys in byte order.
 #[tactic(auto, unfolding(crate::specs::ReadIntervals::interval_member_at, crate::specs::Readings::next))]
 fn interval_member(
     alloc: Global,
@@ -199,6 +209,7 @@ fn interval_member(
     })
 }
 
+/// Checks the location under a key; `None` if there is no such member.
 fn location_member(
     alloc: Global,
     place: &Place,
@@ -214,7 +225,7 @@ fn location_member(
     }
 }
 
-/// That the location is `UTC`, in which moments are read.
+/// Checks that a location is `UTC`, since all moments are read in UTC. Returns `true`, or fails.
 #[tactic(auto, unfolding(crate::specs::ReadIntervals::location_at, crate::specs::Readings::next))]
 fn location(alloc: Global, place: &Place, value: &Value) -> Result<bool, ConfigError>
     ensures { Gives (λ b. b) result (location_at (place_path place.now) (view value.now)) }
@@ -227,7 +238,7 @@ fn location(alloc: Global, place: &Place, value: &Value) -> Result<bool, ConfigE
     }
 }
 
-/// The fields of an interval whose ranges are read alike.
+/// The fields of an interval that are lists of plain ranges.
 #[derive(Clone, Copy)]
 enum Field {
     Weekdays,
@@ -236,7 +247,8 @@ enum Field {
 }
 
 impl Field {
-    /// The range that a value stands for.
+    /// Returns the range that a value spells, or `None` if it spells none. A weekday is a text; a
+    /// month or a year is a text or a number.
     fn range(self, value: &Value) -> Option<Range>
         ensures { result ≡ range_in self (view value.now) }
     {
@@ -248,6 +260,7 @@ impl Field {
     }
 }
 
+/// Returns the range of months that a value spells.
 fn months(value: &Value) -> Option<Range>
     ensures { result ≡ range_in Months (view value.now) }
 {
@@ -257,6 +270,7 @@ fn months(value: &Value) -> Option<Range>
     }
 }
 
+/// Returns the range of years that a value spells.
 fn years(value: &Value) -> Option<Range>
     ensures { result ≡ range_in Years (view value.now) }
 {
@@ -266,6 +280,7 @@ fn years(value: &Value) -> Option<Range>
     }
 }
 
+/// Returns the range of days of the month that a value spells.
 fn day_range(value: &Value) -> Option<DayRange>
     ensures { result ≡ day_range_in (view value.now) }
 {
@@ -275,6 +290,7 @@ fn day_range(value: &Value) -> Option<DayRange>
     }
 }
 
+/// Reads the list of ranges under a key; `None` if there is no such member.
 fn ranges_member(
     alloc: Global,
     field: Field,
@@ -291,6 +307,7 @@ fn ranges_member(
     }
 }
 
+/// Reads a list of ranges.
 #[tactic(auto, unfolding(crate::specs::ReadIntervals::ranges_at, crate::specs::Readings::next))]
 fn ranges(
     alloc: Global,
@@ -309,6 +326,7 @@ fn ranges(
     Ok(ranges)
 }
 
+/// Appends the range at an index of a list.
 #[tactic(auto, unfolding(crate::specs::ReadIntervals::range_into, crate::specs::Readings::next))]
 fn add_range(
     alloc: Global,
@@ -330,6 +348,7 @@ fn add_range(
     }
 }
 
+/// Reads the list of days of the month under a key; `None` if there is no such member.
 fn days_member(
     alloc: Global,
     place: &Place,
@@ -345,6 +364,7 @@ fn days_member(
     }
 }
 
+/// Reads a list of ranges of days of the month.
 #[tactic(auto, unfolding(crate::specs::ReadIntervals::ranges_at, crate::specs::Readings::next))]
 fn day_ranges(alloc: Global, place: &Place, value: &Value) -> Result<Listing<DayRange>, ConfigError>
     ensures { Gives (λ rs. rs) result
@@ -358,6 +378,7 @@ fn day_ranges(alloc: Global, place: &Place, value: &Value) -> Result<Listing<Day
     Ok(ranges)
 }
 
+/// Appends the range of days at an index of a list.
 #[tactic(auto, unfolding(crate::specs::ReadIntervals::range_into, crate::specs::Readings::next))]
 fn add_day_range(
     alloc: Global,
@@ -378,6 +399,7 @@ fn add_day_range(
     }
 }
 
+/// Reads the list of time ranges under a key; `None` if there is no such member.
 fn times_member(
     alloc: Global,
     place: &Place,
@@ -393,6 +415,7 @@ fn times_member(
     }
 }
 
+/// Reads a list of time ranges.
 #[tactic(auto, unfolding(crate::specs::ReadIntervals::times_at, crate::specs::Readings::next))]
 fn times(alloc: Global, place: &Place, value: &Value) -> Result<Listing<TimeRange>, ConfigError>
     ensures { Gives (λ rs. rs) result (times_at (place_path place.now) (view value.now)) }
@@ -405,6 +428,7 @@ fn times(alloc: Global, place: &Place, value: &Value) -> Result<Listing<TimeRang
     Ok(ranges)
 }
 
+/// Appends the time range at an index of a list.
 #[tactic(auto, unfolding(crate::specs::ReadIntervals::time_range_into, crate::specs::Readings::next))]
 fn add_time_range(
     alloc: Global,
@@ -421,6 +445,7 @@ fn add_time_range(
     Ok(())
 }
 
+/// Reads a time range: an object with `start_time` and `end_time`, in this order in the day.
 #[tactic(auto, unfolding(crate::specs::ReadIntervals::time_range_at, crate::specs::Readings::next))]
 fn time_range(alloc: Global, place: &Place, value: &Value) -> Result<TimeRange, ConfigError>
     ensures { Gives (λ r. r) result (time_range_at (place_path place.now) (view value.now)) }
@@ -445,6 +470,7 @@ fn time_range(alloc: Global, place: &Place, value: &Value) -> Result<TimeRange, 
     }
 }
 
+/// Reads a time of the day that isn't `24:00`.
 #[tactic(auto, unfolding(crate::specs::ReadIntervals::time_of, crate::specs::Readings::next))]
 fn start_time(alloc: Global, place: &Place, value: &Value) -> Result<u32, ConfigError>
     ensures { Gives (λ n. n) result (time_of time_at (place_path place.now) (view value.now)) }
@@ -455,6 +481,7 @@ fn start_time(alloc: Global, place: &Place, value: &Value) -> Result<u32, Config
     }
 }
 
+/// Reads a time of the day, which may be `24:00`.
 #[tactic(auto, unfolding(crate::specs::ReadIntervals::time_of, crate::specs::Readings::next))]
 fn end_time(alloc: Global, place: &Place, value: &Value) -> Result<u32, ConfigError>
     ensures { Gives (λ n. n) result (time_of end_time_at (place_path place.now) (view value.now)) }

@@ -1,4 +1,6 @@
-//! Lists of matchers, read from a value.
+//! Reads the matchers of a route, or of one side of an inhibition rule, in both forms of
+//! Alertmanager's configuration reference: objects of labels, and lists of matcher texts.
+//! `read_routes.rt` and `read_rules.rt` call `read_matchers`.
 ghost use Rattle.std.specs.Prelude.{◌≡◌, [], ◌∷◌, ◌++◌, OnOk};
 ghost use Rattle.serde_json.specs.View.{view};
 ghost use Rattle.amr_matchers.specs.MatcherReading.{matchers_of};
@@ -14,7 +16,8 @@ use amr_matchers::{Matcher, MatcherError, Matchers, Operator, ParseError};
 use serde_json::Value;
 use std::alloc::{AllocError, Global};
 
-/// The matcher of a name and a value that stand at a place.
+/// Builds the matcher of a label's name and value. Fails for an empty name, or a pattern that isn't
+/// valid.
 #[tactic(auto, unfolding(crate::specs::ReadMatchers::matcher_at))]
 fn matcher(
     alloc: Global,
@@ -38,7 +41,7 @@ fn matcher(
     }
 }
 
-/// Adds the matcher of a value that is there.
+/// Appends the matcher of a label whose value isn't `null`.
 #[tactic(auto, unfolding(crate::specs::ReadMatchers::stated_into, crate::specs::Readings::next))]
 fn add_stated(
     alloc: Global,
@@ -57,6 +60,7 @@ fn add_stated(
     Ok(())
 }
 
+/// Appends the matcher of a member of an object of labels, unless it is `null`.
 #[tactic(auto, unfolding(crate::specs::ReadMatchers::matcher_into, crate::specs::Readings::next))]
 fn add_member(
     alloc: Global,
@@ -83,7 +87,7 @@ fn add_member(
     )
 }
 
-/// Adds the matchers of an object of texts.
+/// Appends the matchers of an object of labels, by name.
 #[tactic(auto, unfolding(crate::specs::ReadMatchers::members_into, crate::specs::Readings::next))]
 fn add_members(
     alloc: Global,
@@ -104,7 +108,7 @@ fn add_members(
     Ok(())
 }
 
-/// Adds the matchers of the object of texts under a key.
+/// Appends the matchers of the object of labels under a key, if there is one.
 #[tactic(auto, unfolding(crate::specs::ReadMatchers::object_into))]
 fn add_object(
     alloc: Global,
@@ -123,7 +127,7 @@ fn add_object(
     }
 }
 
-/// The matchers that a text at a place spells.
+/// Parses the text of matchers at a path.
 fn spelled(alloc: Global, place: &Place, text: &str) -> Result<Matchers, ConfigError>
     ensures { Reads (λ ms. ms) result (spelled_at (place_path place.now) (matchers_of text.now)) }
 {
@@ -135,6 +139,7 @@ fn spelled(alloc: Global, place: &Place, text: &str) -> Result<Matchers, ConfigE
     }
 }
 
+/// Appends copies of matchers.
 fn add_all(matchers: &mut Vec<Matcher>, more: &[Matcher]) -> Result<(), AllocError>
     ensures { OnOk result (matchers.new.items ≡ matchers.old.items ++ more.now) }
 {
@@ -144,6 +149,7 @@ fn add_all(matchers: &mut Vec<Matcher>, more: &[Matcher]) -> Result<(), AllocErr
     Ok(())
 }
 
+/// Appends the matchers of the matcher text at an index of a list.
 #[tactic(auto, unfolding(crate::specs::ReadMatchers::spelled_into, crate::specs::Readings::next))]
 fn add_text(
     alloc: Global,
@@ -162,7 +168,7 @@ fn add_text(
     Ok(())
 }
 
-/// Adds the matchers of a list of texts.
+/// Appends the matchers of a list of matcher texts.
 #[tactic(auto, unfolding(crate::specs::ReadMatchers::texts_into, crate::specs::Readings::next))]
 fn add_texts(
     alloc: Global,
@@ -180,7 +186,7 @@ fn add_texts(
     Ok(())
 }
 
-/// Adds the matchers of the list of texts under a key.
+/// Appends the matchers of the list of matcher texts under a key, if there is one.
 #[tactic(auto, unfolding(crate::specs::ReadMatchers::list_into))]
 fn add_list(
     alloc: Global,
@@ -198,7 +204,8 @@ fn add_list(
     }
 }
 
-/// The matchers under three keys: of values that are equal, of patterns, and of texts of matchers.
+/// Reads the matchers under three keys, in this order: an object of values, an object of patterns,
+/// and a list of matcher texts.
 #[tactic(auto, unfolding(crate::specs::ReadMatchers::matchers_at, crate::specs::Readings::next))]
 pub(crate) fn read_matchers(
     alloc: Global,

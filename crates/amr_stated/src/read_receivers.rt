@@ -1,4 +1,6 @@
-//! Receivers, read from a value.
+//! Reads the receivers of a configuration with their integrations, one for each entry of a list
+//! such as `webhook_configs`. `read.rt` calls `read_receivers`. What an entry sends where is not
+//! read, only whether it sends resolved alerts.
 ghost use Rattle.std.specs.Prelude.{◌≡◌, ◌≤◌, length, option_map, OnOk};
 ghost use Rattle.serde_json.specs.View.{view};
 ghost use Rattle.amr_stated.specs.Paths.{place_path};
@@ -14,7 +16,8 @@ use serde_json::Value;
 use std::alloc::{AllocError, Global};
 use std::cmp::Ordering;
 
-/// Whether entries of the kind send resolved alerts by default (`send_resolved` of Alertmanager's configuration).
+/// Returns whether integrations of this name send resolved alerts by default, as in the defaults of
+/// `send_resolved` in Alertmanager's configuration reference.
 #[tactic(auto, unfolding(crate::specs::ReadReceivers::is_sender))]
 fn is_sender(kind: &str) -> bool
     ensures { result ≡ sender_of kind.now }
@@ -26,7 +29,7 @@ fn is_sender(kind: &str) -> bool
         || same(kind, "pushover")
 }
 
-/// Whether entries of the kind don't send resolved alerts by default.
+/// Returns whether integrations of this name omit resolved alerts by default.
 #[tactic(auto, unfolding(crate::specs::ReadReceivers::is_keeper))]
 fn is_keeper(kind: &str) -> bool
     ensures { result ≡ keeper_of kind.now }
@@ -34,7 +37,8 @@ fn is_keeper(kind: &str) -> bool
     same(kind, "email") || same(kind, "slack")
 }
 
-/// What a kind of integration does with resolved alerts unless its entry says it.
+/// Returns the default of `send_resolved` for an integration's name, or `None` for an unknown name,
+/// whose entries have to state it.
 #[tactic(auto, unfolding(crate::specs::ReadReceivers::default_of))]
 fn default(kind: &str) -> Option<bool>
     ensures { result ≡ default_of kind.now }
@@ -48,6 +52,7 @@ fn default(kind: &str) -> Option<bool>
     None
 }
 
+/// Appends the integration at an index of a list such as `webhook_configs`.
 #[tactic(auto, unfolding(crate::specs::ReadReceivers::entry_into, crate::specs::Readings::next))]
 fn add_entry(
     alloc: Global,
@@ -76,6 +81,7 @@ fn add_entry(
     Ok(())
 }
 
+/// Reads a list such as `webhook_configs`.
 #[tactic(auto, unfolding(crate::specs::ReadReceivers::entries_at, crate::specs::Readings::next))]
 fn entries(
     alloc: Global,
@@ -94,7 +100,7 @@ fn entries(
     Ok(entries)
 }
 
-/// Whether a key stands on that side of `name`.
+/// Returns whether a key sorts before the key `name`, or after it if `before` is false.
 #[tactic(auto, unfolding(crate::specs::ReadReceivers::stands))]
 fn stands(before: bool, key: &str) -> bool
     ensures { result ≡ stands_of before key.now }
@@ -106,7 +112,8 @@ fn stands(before: bool, key: &str) -> bool
     }
 }
 
-/// The kind that a key names.
+/// Returns the integration's name in a key, such as `webhook` in `webhook_configs`, or `None` for
+/// another key.
 #[tactic(auto, unfolding(crate::specs::ReadReceivers::kind_key))]
 fn kind_key(key: &str) -> Option<&str>
     ensures { option_map (λ s. s.now) result ≡ key_of key.now }
@@ -114,6 +121,7 @@ fn kind_key(key: &str) -> Option<&str>
     key.strip_suffix("_configs")
 }
 
+/// Reads such a list, or `null` as an empty one.
 #[tactic(auto, unfolding(crate::specs::ReadReceivers::stated_entries, crate::specs::Readings::next))]
 fn stated_entries(
     alloc: Global,
@@ -130,7 +138,7 @@ fn stated_entries(
     }
 }
 
-/// The place of the first integration of a greater kind.
+/// Returns the index of the first integration with a greater name.
 fn place_of(integrations: &[Integration], kind: &Text) -> usize
     ensures value { result ≡ place_after integrations.now kind.now }
     ensures bound { result ≤ length integrations.now }
@@ -143,7 +151,7 @@ fn place_of(integrations: &[Integration], kind: &Text) -> usize
     integrations.len()
 }
 
-/// Inserts the integrations of a kind before those of greater kinds.
+/// Inserts the integrations of one name before those of greater names.
 fn insert_entries(
     integrations: &mut Vec<Integration>,
     kind: &Text,
@@ -160,6 +168,7 @@ fn insert_entries(
     Ok(())
 }
 
+/// Adds the integrations of a member, if its key names an integration on that side of `name`.
 #[tactic(auto, unfolding(crate::specs::ReadReceivers::kind_into, crate::specs::Readings::next))]
 fn add_kind(
     alloc: Global,
@@ -187,7 +196,8 @@ fn add_kind(
     }
 }
 
-/// Adds the integrations of the kinds whose keys stand on that side of `name`.
+/// Adds the integrations whose keys sort before the key `name`, or after it if `before` is false.
+/// The two sides are read apart, so that the first fault by key order is the one reported.
 #[tactic(auto, unfolding(crate::specs::ReadReceivers::kinds_at, crate::specs::Readings::next))]
 fn add_kinds(
     alloc: Global,
@@ -208,6 +218,7 @@ fn add_kinds(
     Ok(())
 }
 
+/// Returns the name of a receiver. Fails if it is empty.
 #[tactic(auto, unfolding(crate::specs::ReadReceivers::name_at, crate::specs::Readings::next))]
 fn name<'v>(alloc: Global, place: &Place, value: &'v Value) -> Result<&'v str, ConfigError>
     ensures { Gives (λ s. s.now) result (name_at (place_path place.now) (view value.now)) }
@@ -219,6 +230,7 @@ fn name<'v>(alloc: Global, place: &Place, value: &'v Value) -> Result<&'v str, C
     Ok(text)
 }
 
+/// Reads a receiver, by its keys in byte order.
 #[tactic(auto, unfolding(crate::specs::ReadReceivers::receiver_at, crate::specs::Readings::next))]
 fn read_receiver(alloc: Global, place: &Place, value: &Value) -> Result<Receiver, ConfigError>
     ensures { Gives (λ r. r) result (receiver_at (place_path place.now) (view value.now)) }
@@ -237,6 +249,7 @@ fn read_receiver(alloc: Global, place: &Place, value: &Value) -> Result<Receiver
     })
 }
 
+/// Appends the receiver at an index of a list.
 #[tactic(auto, unfolding(crate::specs::ReadReceivers::receiver_into, crate::specs::Readings::next))]
 fn add_receiver(
     alloc: Global,
@@ -253,6 +266,7 @@ fn add_receiver(
     Ok(())
 }
 
+/// Reads a list of receivers.
 #[tactic(auto, unfolding(crate::specs::ReadReceivers::receivers_list, crate::specs::Readings::next))]
 fn receivers(alloc: Global, place: &Place, value: &Value) -> Result<Listing<Receiver>, ConfigError>
     ensures { Gives (λ rs. rs) result (receivers_list (place_path place.now) (view value.now)) }
@@ -265,7 +279,7 @@ fn receivers(alloc: Global, place: &Place, value: &Value) -> Result<Listing<Rece
     Ok(receivers)
 }
 
-/// The receivers of a whole configuration.
+/// Reads the receivers of a whole configuration; none if the member is absent.
 #[tactic(auto, unfolding(crate::specs::ReadReceivers::receivers_at, crate::specs::Readings::next))]
 pub(crate) fn read_receivers(alloc: Global, value: &Value) -> Result<Listing<Receiver>, ConfigError>
     ensures { Gives (λ rs. rs) result (receivers_at (view value.now)) }

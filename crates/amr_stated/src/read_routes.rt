@@ -1,4 +1,6 @@
-//! Routes, read from a value.
+//! Reads the routing tree into a list of routes in preorder. `read.rt` calls `read_routes`, and
+//! callers of `walk` call `is_too_deep` before. A route has only what it states itself;
+//! `amr_config` resolves what it inherits.
 ghost use Rattle.std.specs.Prelude.{◌≡◌};
 ghost use Rattle.serde_json.specs.View.{view, items_view};
 ghost use Rattle.amr_stated.specs.Paths.{place_path, under};
@@ -17,7 +19,7 @@ use amr_time::Span;
 use serde_json::Value;
 use std::alloc::Global;
 
-/// Whether the names are `...` alone.
+/// Returns whether the names are `...` alone, which means all labels in Alertmanager.
 #[tactic(auto, using(crate::proofs::Names::not_alone, crate::proofs::Names::alone))]
 fn is_all(names: &[Text]) -> bool
     ensures { result ≡ all_of names.now }
@@ -28,7 +30,7 @@ fn is_all(names: &[Text]) -> bool
     same(names[0].as_str(), "...")
 }
 
-/// How these names group.
+/// Returns the grouping by these names.
 fn grouping(names: Listing<Text>) -> Grouping
     ensures { result ≡ grouping_of names }
 {
@@ -39,6 +41,7 @@ fn grouping(names: Listing<Text>) -> Grouping
     }
 }
 
+/// Returns the grouping by these names, if `group_by` is present.
 fn stated_grouping(names: Option<Listing<Text>>) -> Option<Grouping>
     ensures { result ≡ grouping_stated names }
 {
@@ -48,7 +51,7 @@ fn stated_grouping(names: Option<Listing<Text>>) -> Option<Grouping>
     }
 }
 
-/// Reads what a route states itself, by its keys in byte order.
+/// Reads what a route states itself, key by key in byte order.
 #[tactic(auto, unfolding(crate::specs::ReadRoutes::route_at, crate::specs::Readings::next))]
 fn read_route(
     alloc: Global,
@@ -86,7 +89,7 @@ fn read_route(
     })
 }
 
-/// Adds what a route states itself.
+/// Appends a route with what it states itself.
 #[tactic(auto, unfolding(crate::specs::ReadRoutes::own_into, crate::specs::Readings::next))]
 fn add_own(
     alloc: Global,
@@ -104,7 +107,7 @@ fn add_own(
     Ok(())
 }
 
-/// The routes below a route.
+/// Returns the items of a route's `routes`; none if the member is absent.
 #[tactic(auto, unfolding(crate::specs::RouteParts::children_at, crate::specs::Readings::next))]
 fn children<'v>(alloc: Global, place: &Place, value: &'v Value) -> Result<&'v [Value], ConfigError>
     ensures { Gives (λ s. items_view s.now) result
@@ -116,7 +119,7 @@ fn children<'v>(alloc: Global, place: &Place, value: &'v Value) -> Result<&'v [V
     }
 }
 
-/// Adds a route and those below it, parents first, down to so many levels.
+/// Appends a route and those below it in preorder, down to `left` levels.
 fn add_route(
     alloc: Global,
     whole: &Value,
@@ -151,7 +154,7 @@ fn add_route(
     Ok(())
 }
 
-/// Whether a route has more levels of routes than are left, itself one.
+/// Returns whether a route has more than `left` levels, itself included.
 #[tactic(auto, unfolding(crate::specs::RouteParts::is_deeper))]
 fn is_deeper(left: u32, value: &Value) -> bool
     ensures { result ≡ deeper_of left (view value.now) }
@@ -171,7 +174,7 @@ fn is_deeper(left: u32, value: &Value) -> bool
     false
 }
 
-/// Whether the routes of a whole configuration have more than 32 levels.
+/// Returns whether the routing tree has more than 32 levels.
 #[tactic(auto, unfolding(crate::specs::RouteParts::is_too_deep))]
 pub fn is_too_deep(value: &Value) -> bool
     ensures { result ≡ too_deep_of (view value.now) }
@@ -182,7 +185,7 @@ pub fn is_too_deep(value: &Value) -> bool
     }
 }
 
-/// The routes of a whole configuration, parents first.
+/// Reads the routing tree of a whole configuration, in preorder.
 #[tactic(auto, unfolding(crate::specs::ReadRoutes::routes_at, crate::specs::Readings::next))]
 pub(crate) fn read_routes(alloc: Global, value: &Value) -> Result<Listing<Route>, ConfigError>
     ensures { Reads (λ rs. rs) result (routes_at (view value.now)) }

@@ -1,4 +1,5 @@
-//! Inhibition rules, read from a value.
+//! Reads the inhibition rules of a configuration (`inhibit_rules` of Alertmanager's configuration
+//! reference). `read.rt` calls `read_rules`.
 ghost use Rattle.std.specs.Prelude.{◌≡◌};
 ghost use Rattle.serde_json.specs.View.{view};
 ghost use Rattle.amr_stated.specs.Paths.{place_path};
@@ -14,6 +15,7 @@ use amr_labels::Listing;
 use serde_json::Value;
 use std::alloc::Global;
 
+/// Reads an inhibition rule, by its keys in byte order.
 #[tactic(auto, unfolding(crate::specs::ReadRules::rule_at, crate::specs::Readings::next))]
 fn read_rule(alloc: Global, place: &Place, value: &Value) -> Result<InhibitRule, ConfigError>
     ensures { Reads (λ rule. rule) result (rule_at (place_path place.now) (view value.now)) }
@@ -45,6 +47,7 @@ fn read_rule(alloc: Global, place: &Place, value: &Value) -> Result<InhibitRule,
     })
 }
 
+/// Appends the rule at an index of a list.
 #[tactic(auto, unfolding(crate::specs::ReadRules::rule_into, crate::specs::Readings::next))]
 fn add_rule(
     alloc: Global,
@@ -61,6 +64,7 @@ fn add_rule(
     Ok(())
 }
 
+/// Reads a list of inhibition rules.
 #[tactic(auto, unfolding(crate::specs::ReadRules::rules_list, crate::specs::Readings::next))]
 fn rules(alloc: Global, place: &Place, value: &Value) -> Result<Listing<InhibitRule>, ConfigError>
     ensures { Reads (λ rules. rules) result (rules_list (place_path place.now) (view value.now)) }
@@ -73,7 +77,7 @@ fn rules(alloc: Global, place: &Place, value: &Value) -> Result<Listing<InhibitR
     Ok(rules)
 }
 
-/// The rules of a whole configuration.
+/// Reads the inhibition rules of a whole configuration; none if the member is absent.
 #[tactic(auto, unfolding(crate::specs::ReadRules::rules_at))]
 pub(crate) fn read_rules(alloc: Global, value: &Value) -> Result<Listing<InhibitRule>, ConfigError>
     ensures { Reads (λ rules. rules) result (rules_at (view value.now)) }

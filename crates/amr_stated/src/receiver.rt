@@ -1,16 +1,18 @@
-//! Receivers and their integrations.
+//! Receivers and their integrations. `read_receivers.rt` reads them, and a flush notifies
+//! integrations.
 ghost use Rattle.std.specs.Prelude.{◌≡◌};
 
 use amr_labels::{Exact, Listing, Text};
 use std::alloc::AllocError;
 
-/// An integration of a receiver, as an entry of its `webhook_configs`.
+/// An integration of a receiver: one entry of a list such as `webhook_configs`.
 #[derive(Debug, Drop)]
 pub struct Integration {
-    /// What stands before `_configs`, as `webhook`.
+    /// The integration's name: the key without `_configs`, such as `webhook`.
     pub kind: Text,
-    /// Counts the entries of one kind at one receiver, from 0.
+    /// The integration's index among those of its name at the receiver, from 0.
     pub place: usize,
+    /// Whether notifications list resolved alerts.
     pub send_resolved: bool,
 }
 
@@ -30,7 +32,7 @@ impl Exact for Integration {
     ghost exact = { λ x y same. same };
 }
 
-/// A receiver with its integrations by kind, and then by place.
+/// A receiver, with its integrations by name and then by index.
 #[derive(Debug, Drop)]
 pub struct Receiver {
     pub name: Text,

@@ -1,4 +1,4 @@
-//! Routes as they are stated.
+//! A route with what it states itself. `amr_config` resolves what it inherits.
 ghost use Rattle.std.specs.Prelude.{◌≡◌};
 
 use amr_labels::{Exact, Listing, Text};
@@ -6,12 +6,12 @@ use amr_matchers::Matchers;
 use amr_time::Span;
 use std::alloc::AllocError;
 
-/// How a route groups alerts (`group_by` of Alertmanager's configuration).
+/// How a route groups alerts, by `group_by` of Alertmanager's configuration.
 #[derive(Debug, Drop)]
 pub enum Grouping {
-    /// By all labels, stated as `["..."]`.
+    /// By all labels; stated as `["..."]`.
     AllLabels,
-    /// By the labels of these names.
+    /// By the labels with these names.
     Named(Listing<Text>),
 }
 
@@ -30,22 +30,25 @@ impl Exact for Grouping {
     ghost exact = { λ x y same. same };
 }
 
-/// A route with what it states itself. What is absent is inherited from the parent.
+/// A route with what it states itself. It inherits each setting that is `None` from its parent.
 ///
-/// Routes stand in a list in preorder; the root is the first. `parent` is the parent's place in that list.
+/// Routes are in a list in preorder, the root first. `parent` is the index of the parent in that
+/// list, and `None` for the root.
 #[derive(Debug, Drop)]
 pub struct Route {
     pub parent: Option<usize>,
-    /// The matchers of `match`, then of `match_re`, then of `matchers`.
+    /// The matchers of `match`, then those of `match_re`, then those of `matchers`.
     pub matchers: Matchers,
+    /// Whether later siblings are tried after this route matched (`continue`).
     pub continues: bool,
     pub receiver: Option<Text>,
     pub group_by: Option<Grouping>,
     pub group_wait: Option<Span>,
     pub group_interval: Option<Span>,
     pub repeat_interval: Option<Span>,
-    /// The names of the time intervals at which the route notifies, or none if it notifies at all times. Children don't inherit them.
+    /// The names of the time intervals in which the route notifies; if empty, it notifies at all
+    /// times. Children don't inherit them.
     pub active_time_intervals: Listing<Text>,
-    /// The names of the time intervals at which the route is muted. Children don't inherit them.
+    /// The names of the time intervals in which the route is muted. Children don't inherit them.
     pub mute_time_intervals: Listing<Text>,
 }

@@ -1,4 +1,5 @@
-//! What a configuration states.
+//! A configuration as its file states it. `walk` returns it, and `amr_config` validates it and
+//! resolves the settings of its routes.
 
 use crate::interval::NamedInterval;
 use crate::receiver::Receiver;
@@ -7,14 +8,16 @@ use crate::rule::InhibitRule;
 use amr_labels::Listing;
 use amr_time::Span;
 
-/// A configuration as it is stated, before it is judged and before anything is inherited.
+/// A configuration as its file states it, neither validated nor with inherited settings.
 #[derive(Debug, Drop)]
 pub struct Stated {
-    /// In preorder.
+    /// The routes in preorder, the root first.
     pub routes: Listing<Route>,
     pub receivers: Listing<Receiver>,
     pub rules: Listing<InhibitRule>,
+    /// How long after a post an alert without an end resolves.
     pub resolve_timeout: Span,
-    /// Those of `mute_time_intervals`, then those of `time_intervals`. No two have one name.
+    /// The intervals of `mute_time_intervals`, then those of `time_intervals`. No two have the same
+    /// name.
     pub time_intervals: Listing<NamedInterval>,
 }

@@ -4,11 +4,12 @@ use Rattle.std.specs.declared.alloc.Global.{Global}
 use Rattle.amr_tables.specs.declared.tree.Node.{Node}
 use Rattle.amr_tables.specs.declared.tree.Node.TheVariants.{Spare, Fork}
 
--- neither height is more than this above the other
+-- the heights differ by at most n
 abbrev pub DifferByAtMost : ℕ → ℕ → ℕ → Type 0
 DifferByAtMost by l r = (l ≤ r + by) × (r ≤ l + by)
 
--- the height of a tree that was made of two sides: that of a fork of them, or one less where they were too far apart
+-- the height of a tree that is joined from two sides: one above the higher side, or equal to it if
+-- the sides were too far apart
 abbrev pub IsHeightOf : ℕ → ℕ → ℕ → Type 0
 IsHeightOf l r height = (max l r ≤ height) × (height ≤ max l r + 1) × (DifferByAtMost 1 l r → height ≡ max l r + 1)
 
@@ -18,7 +19,7 @@ pub record IsLow (height items : ℕ) : Type 0 where
   pub logarithmic : 2 ^ height ≤ (items + 1) * (items + 1)
 
 module _ {D : Type 0} where
-  -- the items in order, and the height that the node stores
+  -- the items in order, and the height that is stored in the node
   abbrev pub node_view : Node D → List D × ℕ
   node_view Spare = ([], 0)
   node_view (Fork l item height r) = (l.0 ++ item ∷ r.0, height)
@@ -27,7 +28,7 @@ module _ {D : Type 0} where
   root_view None = ([], 0)
   root_view (Some node) = node_view node.value
 
-  -- the stored height is right and low, and the sides' heights differ by at most one
+  -- the stored height is right and low enough, and the heights of the sides differ by at most one
   abbrev pub IsBalanced : Node D → Type 0
   IsBalanced Spare = ⊥
   IsBalanced (Fork l item height r) = (height ≡ max l.1 r.1 + 1) × DifferByAtMost 1 l.1 r.1 × IsLow height (length (l.0 ++ item ∷ r.0))

@@ -1,4 +1,4 @@
--- Values under numbered keys.
+-- Tables of values by key, in which each key has a number.
 use Rattle.std.specs.Prelude.{◌≡◌, ℕ, Bool, false, List, Option, None, Some, if◌then◌else◌, is_some, ◌||◌, option_map, ◌<◌, ◌≤◌, ◌+◌, T, IsTrue, length, refl}
 use Rattle.std.specs.Option.{option_map_or}
 use Rattle.std.specs.List.{filter_map}
@@ -10,7 +10,8 @@ use Rattle.amr_labels.specs.Map.{Map, from_sorted, get, len}
 use Rattle.amr_tables.specs.Places.{value_at}
 use Rattle.amr_tables.specs.Marked.{is_marked}
 
--- the number of each key, in the order of the keys; what is at each place; and which places are marked as entered
+-- The number of each key, in the order of the keys, the value at each place, and which places are
+-- marked as entered.
 pub record Numbered (K V : Type 0) : Type 0 where
   pub numbers : List (K × ℕ)
   pub cells : List (Option V)
@@ -24,7 +25,7 @@ numbered_code {K} {V} k v =
     (λ _. refl)
 
 module _ {K V : Type 0} where
-  -- the value of a numbered key with the key, if there is one
+  -- the key with its value, if it has one
   abbrev pub entry_at : List (Option V) → K × ℕ → Option (K × V)
   entry_at cells key = option_map (λ value. (key.0, value)) (value_at cells key.1)
 
@@ -37,15 +38,16 @@ module _ {K V : Type 0} where
     unfoldable pub has_place : Numbered K V → K → Bool
     has_place t key = is_some (number_of t key)
 
-    -- whether the key's place is entered in the open record
+    -- whether the key's place is marked as entered in the open record
     unfoldable pub is_entered : Numbered K V → K → Bool
     is_entered t key = option_map_or (is_marked t.marks) (number_of t key) false
 
-    -- The finite map that the places show.
+    -- the finite map that the table shows
     unfoldable pub shown : Numbered K V → Map R V
     shown t = from_sorted (filter_map (entry_at t.cells) t.numbers)
 
-    -- what a change of the key's value enters into the open record: the key with what is there, unless the place is entered already
+    -- the entry that the open record needs for a change of the key's value: the key with its
+    -- present value, unless its place is marked
     unfoldable pub entry_of : Numbered K V → K → Option (K × Option V)
     entry_of t key = if is_entered t key then None else Some (key, get (shown t) key)
 
@@ -53,7 +55,7 @@ module _ {K V : Type 0} where
     abbrev pub KeepsPlaces : Numbered K V → Numbered K V → Type 0
     KeepsPlaces old changed = (key : K) → IsTrue (has_place old key) → IsTrue (has_place changed key)
 
-    -- the key has a place, and each that had one before
+    -- the key has a place, and so has each key that had one before
     abbrev pub GetsPlace : Numbered K V → Numbered K V → K → Type 0
     GetsPlace old changed key = (other : K) → has_place changed other ≡ (eq_by_cmp R other key || has_place old other)
 
@@ -61,35 +63,36 @@ module _ {K V : Type 0} where
     abbrev pub SamePlaces : Numbered K V → Numbered K V → Type 0
     SamePlaces old changed = (key : K) → has_place changed key ≡ has_place old key
 
-    -- the same places are entered
+    -- the same places are marked
     abbrev pub SameEntered : Numbered K V → Numbered K V → Type 0
     SameEntered old changed = (key : K) → is_entered changed key ≡ is_entered old key
 
-    -- no place is entered
+    -- no place is marked
     abbrev pub NoneEntered : Numbered K V → Type 0
     NoneEntered t = (key : K) → is_entered t key ≡ false
 
-    -- the key's place is entered, and each that was before
+    -- the key's place is marked, and so is each that was marked before
     abbrev pub Enters : Numbered K V → Numbered K V → K → Type 0
     Enters old changed key = (other : K) → is_entered changed other ≡ (eq_by_cmp R other key || is_entered old other)
 
-    -- a change adds at most this many keys, and loses none
+    -- at most n keys are added, and none is lost
     abbrev pub GrowsBy : ℕ → Numbered K V → Numbered K V → Type 0
     GrowsBy n old changed = (length old.numbers ≤ length changed.numbers) × (length changed.numbers ≤ length old.numbers + n)
 
-    -- how many places a change of the key's value makes
+    -- the number of places that a change of the key's value makes
     abbrev pub places_for : Numbered K V → K → ℕ
     places_for t key = if has_place t key then 0 else 1
 
-    -- there are as many keys as values, or more
+    -- there are at least as many keys as values
     abbrev pub HasPlaces : Numbered K V → Type 0
     HasPlaces t = len (shown t) ≤ length t.numbers
 
-    -- the tables show the same, and the same places are entered
+    -- the tables show the same map, and the same places are marked
     abbrev pub IsUnchanged : Numbered K V → Numbered K V → Type 0
     IsUnchanged old changed = (shown changed ≡ shown old) × SameEntered old changed
 
-    -- keys strictly rise, each number has a place, no two keys have one number, and no mark is beside the places
+    -- The keys rise strictly, each number has a place, no two keys share a number, and only places
+    -- are marked.
     pub record IsNumbering (t : Numbered K V) : Type 0 where
       pub sorted : T (is_sorted R t.numbers)
       pub within : (key : K) (n : ℕ) → find R key t.numbers ≡ Some n → n < length t.cells

@@ -1,17 +1,17 @@
--- A tree that is taken apart.
+-- Trees that are split at their roots, or after their first items.
 use Rattle.std.specs.Prelude.{◌≡◌, ℕ, ◌+◌, ◌≤◌, max, List, ◌∷◌, ◌++◌}
 use Rattle.amr_tables.specs.declared.tree.Parts.{Parts}
 use Rattle.amr_tables.specs.declared.tree.First.{First}
 use Rattle.amr_tables.specs.Balanced.{DifferByAtMost}
 
 module _ {D : Type 0} where
-  -- the parts are those of the tree
+  -- the parts make up the tree
   pub record IsPartsOf (tree : List D × ℕ) (parts : Parts D) : Type 0 where
     pub list : tree.0 ≡ parts.left.0 ++ parts.item ∷ parts.right.0
     pub height : tree.1 ≡ max parts.left.1 parts.right.1 + 1
     pub balanced : DifferByAtMost 1 parts.left.1 parts.right.1
 
-  -- the tree is the first item and the rest, which is at most one lower
+  -- the first item and the rest make up the tree, and the rest is lower by at most one
   pub record IsFirstOf (tree : List D × ℕ) (first : First D) : Type 0 where
     pub list : tree.0 ≡ first.item ∷ first.rest.0
     pub not_lower : tree.1 ≤ first.rest.1 + 1

@@ -1,8 +1,9 @@
--- A journal as a list of records.
+-- The journal as lists of records.
 use Rattle.std.specs.Prelude.{ℕ, List, refl}
 use Rattle.std.specs.Coded.{Coded, code_by, coded×, coded_ℕ, coded_list}
 
--- the records of the events that are recorded, the oldest first, the open record, and how many entries and records there is room for
+-- The closed records from the oldest on, the open record, and the number of entries and of records
+-- that there is room for.
 pub record Records (E : Type 0) : Type 0 where
   pub closed : List (List E)
   pub current : List E

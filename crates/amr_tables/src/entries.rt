@@ -1,4 +1,5 @@
-//! The values of a table with their keys, in the order of the keys.
+//! Iterates over the values of a table with their keys, in the order of the keys. `Keyed::iter`
+//! returns it.
 ghost use Rattle.std.specs.Prelude.{◌≡◌, length};
 ghost use Rattle.std.specs.Iterator.{at_most};
 ghost use Rattle.std.specs.Map.Iter.{TakesFirst, deref_pair};
@@ -8,7 +9,7 @@ use crate::table::Table;
 use std::collections::btree_map::Iter;
 use std::marker::Model;
 
-/// Goes over the values of a table, with their keys. Contracts see the list that is left.
+/// An iterator over the values of a table with their keys. Contracts see the pairs that are left.
 #[derive(Drop)]
 pub struct Entries<'a, K, V> {
     pub(crate) numbers: Iter<'a, K, usize>,

@@ -1,4 +1,6 @@
-//! The journal: a record of entries for each event that can be undone, and the open record of the event under way.
+//! The journal: one record for each event that can be undone, with what the event displaced, and
+//! the open record of the event under way. `Store` writes it; the journal doesn't know what its
+//! entries mean.
 ghost use Rattle.std.specs.Prelude.{◌≡◌, ◌+◌, ◌<◌, ◌≤◌, [], ◌∷◌, ◌++◌, length, OnOk, Some, ◌==◌, option_map};
 ghost use Rattle.std.specs.Prelude.{slice_get};
 
@@ -6,7 +8,7 @@ use std::alloc::{AllocError, Global};
 use std::marker::Model;
 use std::mem;
 
-/// The record of an event.
+/// The record of an event: what it displaced, the oldest entry first.
 #[derive(Drop)]
 struct Record<E> {
     entries: Vec<E>,
@@ -23,7 +25,8 @@ impl<E> Model for Record<E> {
     ghost view = { λ r. r.entries.items };
 }
 
-/// Records of entries. Contracts see the records, the open one, and the room that is reserved.
+/// A journal of records. Contracts see the closed records, the open one, and the room that is
+/// reserved.
 #[derive(Drop)]
 pub struct Journal<E> {
     alloc: Global,
@@ -48,7 +51,7 @@ impl<E> Model for Journal<E> {
 }
 
 impl<E> Journal<E> {
-    /// The journal without a record.
+    /// Builds an empty journal.
     pub fn new(alloc: Global) -> Self
         ensures closed { result.closed ≡ [] }
         ensures current { result.current ≡ [] }
@@ -60,7 +63,7 @@ impl<E> Journal<E> {
         }
     }
 
-    /// Makes room for `n` entries more, and for a record.
+    /// Makes room for `n` more entries in the open record, and for one more record.
     pub fn reserve(&mut self, n: usize) -> Result<(), AllocError>
         ensures closed { self.new.closed ≡ self.old.closed }
         ensures current { self.new.current ≡ self.old.current }
@@ -71,7 +74,7 @@ impl<E> Journal<E> {
         self.current.reserve(n)
     }
 
-    /// Makes room for an entry.
+    /// Makes room for one more entry in the open record.
     pub fn reserve_entry(&mut self) -> Result<(), AllocError>
         ensures closed { self.new.closed ≡ self.old.closed }
         ensures current { self.new.current ≡ self.old.current }
@@ -81,7 +84,7 @@ impl<E> Journal<E> {
         self.current.reserve(1)
     }
 
-    /// Enters a displaced value into the open record. It takes no memory.
+    /// Adds an entry to the open record. It takes no memory.
     pub fn push(&mut self, entry: E)
         requires { 0 < self.old.entry_room }
         ensures closed { self.new.closed ≡ self.old.closed }
@@ -92,7 +95,7 @@ impl<E> Journal<E> {
         self.current.push_reserved(entry);
     }
 
-    /// Closes the open record. An empty one is open then. It takes no memory.
+    /// Closes the open record and opens an empty one. It takes no memory.
     pub fn close(&mut self)
         requires { 0 < self.old.record_room }
         ensures closed { self.new.closed ≡ self.old.closed ++ self.old.current ∷ [] }
@@ -102,7 +105,7 @@ impl<E> Journal<E> {
         self.records.push_reserved(Record { entries });
     }
 
-    /// Takes the last entry of the open record.
+    /// Removes the last entry of the open record, and returns it.
     pub fn pop(&mut self) -> E
         requires { 0 < length self.old.current }
         ensures closed { self.new.closed ≡ self.old.closed }
@@ -115,7 +118,7 @@ impl<E> Journal<E> {
         }
     }
 
-    /// Opens the last record again.
+    /// Opens the last closed record again, in place of the empty open one.
     pub fn reopen(&mut self)
     where
         E: Drop,
@@ -142,21 +145,21 @@ impl<E> Journal<E> {
         self.records.clear();
     }
 
-    /// Returns whether the open record has no entry.
+    /// Returns whether the open record is empty.
     pub fn is_current_empty(&self) -> bool
         ensures { result ≡ (length self.now.current == 0) }
     {
         self.current.is_empty()
     }
 
-    /// Returns how many records are closed.
+    /// Returns the number of closed records.
     pub fn len(&self) -> usize
         ensures { result ≡ length self.now.closed }
     {
         self.records.len()
     }
 
-    /// Returns how many entries the closed record number `index` has, from 0.
+    /// Returns the number of entries of the closed record number `index`, from 0.
     pub fn record_len(&self, index: usize) -> usize
         requires { index < length self.now.closed }
         ensures { option_map length (slice_get self.now.closed index) ≡ Some result }

@@ -1,4 +1,6 @@
-//! Values under keys, each at the place of the key's number.
+//! Values by key. Each key has a number, and its value is at the place with that number, so that a
+//! value can be swapped without memory. The state keeps alerts, silences, members, timers and the
+//! notification log in such tables.
 ghost use Rattle.std.specs.Prelude.{◌≡◌, [], IsTrue, Option, is_some, false, OnOk, OnErr, IfOk, ◌<◌};
 ghost use Rattle.std.specs.Option.{option_copied};
 ghost use Rattle.std.specs.FinMap.{IsAntisymmetric};
@@ -15,7 +17,7 @@ use std::alloc::{AllocError, Global};
 use std::collections::BTreeMap;
 use std::marker::Model;
 
-/// A type of keys: two that compare equal are the same value.
+/// A type of keys. Keys that compare equal are the same value.
 pub trait Key: Ord {
     ghost exact: { IsAntisymmetric Self.cmp };
 }
@@ -26,8 +28,9 @@ impl Key for Labels {
     ghost exact = { label_set_cmp-IsAntisymmetric };
 }
 
-/// Values under keys. A key gets the next number, and its place, when it is first seen; both stay. Contracts see the numbers of the keys, in the
-/// order of the keys, and what is at each place; `shown` is the finite map.
+/// A table of values by key. A key gets the next number, and its place, when it is first seen, and
+/// keeps both. Contracts see the numbers of the keys, in the order of the keys, and the value at
+/// each place; `shown` is the finite map that they make.
 #[derive(Drop)]
 pub struct Keyed<K: Key, V> {
     numbers: BTreeMap<K, usize>,
@@ -48,7 +51,7 @@ impl<K: Key, V> Model for Keyed<K, V> {
 }
 
 impl<K: Key + Drop, V: Drop> Keyed<K, V> {
-    /// The table without a key.
+    /// Builds a table without keys.
     pub fn new(alloc: Global) -> Keyed<K, V>
         ensures shown { shown K.cmp result ≡ map.empty }
         ensures entered { NoneEntered K.cmp result }
@@ -62,7 +65,7 @@ impl<K: Key + Drop, V: Drop> Keyed<K, V> {
         }
     }
 
-    /// Returns the value under a key.
+    /// Returns the value of a key.
     pub fn get(&self, key: &K) -> Option<&V>
         ensures { option_copied result ≡ map.get (shown K.cmp self.now) key.now }
     {
@@ -89,7 +92,7 @@ impl<K: Key + Drop, V: Drop> Keyed<K, V> {
         self.numbers.contains_key(key)
     }
 
-    /// Makes a place for a key, without a value, unless it has one.
+    /// Makes an empty place for a key, unless it has one.
     pub fn make_place(&mut self, key: K) -> Result<(), AllocError>
         ensures made { OnOk result (IsTrue (has_place K.cmp self.new key)) }
         ensures places { KeepsPlaces K.cmp self.old self.new }
@@ -109,7 +112,8 @@ impl<K: Key + Drop, V: Drop> Keyed<K, V> {
         Ok(())
     }
 
-    /// Puts a value, or none, under a key that has a place, and returns what was there. It takes no memory.
+    /// Sets or removes the value of a key that has a place, and returns the former one. It takes no
+    /// memory.
     pub fn displace(&mut self, key: &K, value: Option<V>) -> Option<V>
         requires { IsTrue (has_place K.cmp self.old key.now) }
         ensures answer { result ≡ map.get (shown K.cmp self.old) key.now }
@@ -125,7 +129,7 @@ impl<K: Key + Drop, V: Drop> Keyed<K, V> {
         }
     }
 
-    /// Returns whether a key's place is entered.
+    /// Returns whether a key's place is marked as entered in the open record.
     pub fn is_entered(&self, key: &K) -> bool
         ensures { result ≡ is_entered K.cmp self.now key.now }
     {
@@ -135,7 +139,7 @@ impl<K: Key + Drop, V: Drop> Keyed<K, V> {
         }
     }
 
-    /// Marks a key's place as entered.
+    /// Marks a key's place as entered in the open record.
     pub fn enter(&mut self, key: &K)
         requires { IsTrue (has_place K.cmp self.old key.now) }
         ensures entered { Enters K.cmp self.old self.new key.now }
@@ -149,7 +153,7 @@ impl<K: Key + Drop, V: Drop> Keyed<K, V> {
         }
     }
 
-    /// Takes back that places are entered, of all.
+    /// Clears the marks of all places. It takes no memory.
     pub fn clear_entered(&mut self)
         ensures entered { NoneEntered K.cmp self.new }
         ensures shown { shown K.cmp self.new ≡ shown K.cmp self.old }
@@ -160,8 +164,9 @@ impl<K: Key + Drop, V: Drop> Keyed<K, V> {
     }
 }
 
-/// Puts a value, or none, under a key, whose place is made and entered if need be. Returns what the open record has to take up: the key with
-/// what was there, for which there is room then, or nothing if the place was entered before.
+/// Sets or removes the value of a key. It makes a place for the key and marks it as entered, if
+/// need be. Returns the entry that the open record needs, which is the key with its former value,
+/// and leaves room for it there. Returns `None` if the place was marked before.
 pub fn change<K: Key + Exact + Drop, V: Drop, E>(
     table: &mut Keyed<K, V>,
     journal: &mut Journal<E>,
@@ -194,7 +199,8 @@ pub fn change<K: Key + Exact + Drop, V: Drop, E>(
     Ok(Some((copy, was)))
 }
 
-/// Makes a place for a key, and room for its entry in the open record. Returns the key for the entry.
+/// Makes a place for a key, and room for its entry in the open record. Returns a copy of the key
+/// for the entry.
 fn make_room<K: Key + Exact + Drop, V: Drop, E>(
     table: &mut Keyed<K, V>,
     journal: &mut Journal<E>,

@@ -1,14 +1,15 @@
-//! Laws of queues: each function says one, and does nothing.
+//! Laws of queues, for the proofs of other crates. Each function states one law, and does nothing
+//! when it is called.
 ghost use Rattle.amr_tables.specs.Queued.{MembersDecide, InOrderSorts};
 
 use crate::keyed::Key;
 
-/// Two queues with the same dues are the same list.
+/// States that two queues with the same items are the same list.
 pub fn dues_decide_a_queue<D: Key>()
     ensures { MembersDecide D.cmp }
 {}
 
-/// A list that is put in order rises, and has the same dues.
+/// States that putting a list in order keeps its items, and that the result is sorted.
 pub fn order_keeps_dues<D: Ord>()
     ensures { InOrderSorts D.cmp }
 {}

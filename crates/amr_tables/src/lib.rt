@@ -1,4 +1,5 @@
-//! Tables whose places keep their values apart from their keys, the journal of what is displaced in them, and the queue of what is due.
+//! Tables whose places keep values apart from keys, the journal of what is displaced in them, and
+//! sorted queues. The state is made of them. Nothing here knows alerts or groups.
 #![tactic(auto)]
 
 mod entries;

@@ -1,4 +1,5 @@
-//! Marks beside numbered places, all of which are taken away at once.
+//! Marks beside numbered places, which can all be cleared at once. A table marks the places that
+//! the open record has an entry for.
 ghost use Rattle.std.specs.Prelude.{◌≡◌, ◌<◌, [], ◌∷◌, ◌++◌, length, false, true, map, OnOk, OnErr};
 ghost use Rattle.std.specs.Prelude.{slice_set};
 ghost use Rattle.amr_tables.specs.Marked.{is_marked};
@@ -6,7 +7,8 @@ ghost use Rattle.amr_tables.specs.Marked.{is_marked};
 use std::alloc::{AllocError, Global};
 use std::marker::Model;
 
-/// A mark beside each of some numbered places. A place is marked while its stamp is the present one, so that a new stamp takes all marks away.
+/// A mark beside each of some numbered places. A place is marked if its stamp is the current one,
+/// so a new stamp clears all marks without visiting the places.
 #[derive(Drop)]
 pub struct Marks {
     stamps: Vec<u64>,
@@ -27,7 +29,7 @@ impl Model for Marks {
 }
 
 impl Marks {
-    /// No place.
+    /// Builds the marks of no places.
     pub fn new(alloc: Global) -> Marks
         ensures { result ≡ [] }
     {
@@ -37,7 +39,7 @@ impl Marks {
         }
     }
 
-    /// Adds a place without a mark.
+    /// Adds a place that isn't marked.
     pub fn add_place(&mut self) -> Result<(), AllocError>
         ensures ok { OnOk result (self.new ≡ self.old ++ false ∷ []) }
         ensures err { OnErr result (self.new ≡ self.old) }
@@ -62,7 +64,7 @@ impl Marks {
         self.stamps[place] = self.present;
     }
 
-    /// Takes all marks away.
+    /// Clears all marks.
     pub fn clear(&mut self)
         ensures { self.new ≡ map (λ _. false) self.old }
     {

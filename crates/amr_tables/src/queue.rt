@@ -1,4 +1,5 @@
-//! The queue of what is due, in order.
+//! Sorted queues: the pending timers, and the indexes of members and of stored alerts. The memory
+//! of an item is reserved before the item is added, so that undoing an event takes none.
 ghost use Rattle.std.specs.Prelude.{◌≡◌, ◌+◌, ◌<◌, ◌≤◌, [], length, OnOk, slice_get, IfSome, IfOk, max, false, if◌then◌else◌};
 ghost use Rattle.std.specs.Prelude.{vec_len, vec_capacity};
 ghost use Rattle.std.specs.List.Sorted.{IsStrictlySortedBy};
@@ -13,7 +14,8 @@ use std::alloc::{AllocError, Global};
 use std::marker::Model;
 use std::mem;
 
-/// Dues in order. Contracts see the list, and how many dues more there is room for.
+/// A sorted queue. Contracts see the list of its items, and the number of further items that it has
+/// room for.
 #[derive(Drop)]
 pub struct Queue<D: Ord> {
     alloc: Global,
@@ -36,7 +38,7 @@ impl<D: Ord> Model for Queue<D> {
 }
 
 impl<D: Ord + Drop> Queue<D> {
-    /// The queue without a due.
+    /// Builds an empty queue.
     pub fn new(alloc: Global) -> Queue<D>
         ensures dues { result.dues ≡ [] }
         ensures room { result.room ≡ 0 }
@@ -49,14 +51,14 @@ impl<D: Ord + Drop> Queue<D> {
         }
     }
 
-    /// Returns how many dues more there is room for.
+    /// Returns the number of further items that the queue has room for.
     pub fn room(&self) -> usize
         ensures { result ≡ self.now.room }
     {
         self.spares.len()
     }
 
-    /// Returns the first due.
+    /// Returns the first item.
     pub fn first(&self) -> Option<&D>
         ensures first { option_copied result ≡ slice_get self.now.dues 0 }
         ensures least { IfSome result (λ due. IsLeast D.cmp self.now.dues due.now) }
@@ -65,7 +67,7 @@ impl<D: Ord + Drop> Queue<D> {
         self.tree.first()
     }
 
-    /// Makes room for `n` dues beside those that are there.
+    /// Makes room for `n` items beside those in the queue.
     pub fn reserve(&mut self, n: usize) -> Result<(), AllocError>
         ensures room { OnOk result (n ≤ self.new.room) }
         ensures more { self.old.room ≤ self.new.room }
@@ -83,7 +85,7 @@ impl<D: Ord + Drop> Queue<D> {
         fill(self.alloc, &mut self.spares, n)
     }
 
-    /// Puts a due into the queue. It takes no memory.
+    /// Adds an item. It takes no memory.
     pub fn put(&mut self, due: D)
         requires room { 0 < self.old.room }
         requires absent { has D.cmp self.old.dues due ≡ false }
@@ -103,7 +105,7 @@ impl<D: Ord + Drop> Queue<D> {
         }
     }
 
-    /// Takes a due out of the queue, and returns whether it was there. It takes no memory.
+    /// Removes an item, and returns whether it was in the queue. It takes no memory.
     pub fn take(&mut self, due: &D) -> bool
         ensures found { result ≡ has D.cmp self.old.dues due.now }
         ensures dues { self.new.dues ≡ without D.cmp self.old.dues due.now }
@@ -127,8 +129,8 @@ impl<D: Ord + Drop> Queue<D> {
 }
 
 impl<D: InParts> Queue<D> {
-    /// Lists the dues of a part, in order. It passes over the other parts, so the time grows with the number of dues listed and with the
-    /// logarithm of the length of the queue.
+    /// Returns the items of a part, in order. It doesn't visit the other parts, so the time grows
+    /// with the number of items returned and with the logarithm of the queue's length.
     pub fn part(&self, part: &D::Part) -> Result<Vec<&D>, AllocError>
         ensures { IfOk result (λ dues. values_of dues.items
             ≡ items_of D.part_cmp self.now.dues part.now) }
@@ -139,7 +141,7 @@ impl<D: InParts> Queue<D> {
     }
 }
 
-/// Adds spare memory for dues until there is enough for `n`.
+/// Adds spare memory until it is enough for `n` items.
 fn fill<D: Drop>(alloc: Global, spares: &mut Vec<Box<Node<D>>>, n: usize) -> Result<(), AllocError>
     requires { n ≤ vec_capacity spares.old }
     ensures filled { OnOk result (n ≤ vec_len spares.new) }

@@ -1,4 +1,4 @@
-//! The table whose keys are numbers from 0.
+//! The table whose keys are the numbers from 0. `Keyed` keeps its values in one.
 ghost use Rattle.std.specs.Prelude.{◌≡◌, ℕ, ◌+◌, ◌<◌, ◌≤◌, [], length, IsTrue, OnOk, OnErr, max};
 ghost use Rattle.std.specs.Prelude.{nat_lt, slice_set, vec_len, vec_capacity};
 ghost use Rattle.amr_tables.specs.Places.{value_at};
@@ -26,7 +26,7 @@ impl<V> Model for Slots<V> {
 }
 
 impl<V> Slots<V> {
-    /// The table without a place.
+    /// Builds a table without places.
     pub fn new(alloc: Global) -> Self
         ensures { result ≡ [] }
     {
@@ -35,7 +35,7 @@ impl<V> Slots<V> {
         }
     }
 
-    /// Returns how many places there are.
+    /// Returns the number of places.
     pub fn len(&self) -> usize
         ensures { result ≡ length self.now }
     {
@@ -103,7 +103,7 @@ impl<V> Table for Slots<V> {
     }
 }
 
-/// Adds places, for which there is room.
+/// Adds `n` empty places, for which there is room.
 #[tactic(auto, using(crate::specs::Laws::value_at_push))]
 fn add_places<V>(cells: &mut Vec<Option<V>>, n: usize)
     requires { vec_len cells.old + n ≤ vec_capacity cells.old }

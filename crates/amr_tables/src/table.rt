@@ -1,25 +1,29 @@
-//! Tables of places, each with a value or none.
+//! What a table of places promises: a place has a value or none, and what is displaced can be put
+//! back. `Slots` is one.
 ghost use Rattle.std.specs.Prelude.{◌≡◌, Bool, Option, IsTrue, OnOk, OnErr};
 ghost use Rattle.std.specs.Option.{option_copied};
 
 use std::alloc::AllocError;
 
-/// A table of places. A place is made once and never lost; what is at a place is moved in and out, never copied.
+/// A table of places. A place is made once and never lost. Values are moved in and out, never
+/// copied.
 pub trait Table {
+    /// What names a place.
     type Key: Copy + Drop;
 
+    /// What a place can hold.
     type Value;
 
-    /// The value at a key, if there is one.
+    /// The value of a key, if it has one.
     ghost look_at: { Self → Self.Key → Option Self.Value };
 
     /// Whether the key has a place.
     ghost is_placed: { Self → Self.Key → Bool };
 
-    /// The table with another value, or none, at a key.
+    /// The table with another value, or none, for a key.
     ghost displaced: { Self → Self.Key → Option Self.Value → Self };
 
-    /// Returns the value at a key.
+    /// Returns the value of a key.
     fn look(&self, key: Self::Key) -> Option<&Self::Value>
         ensures { option_copied result ≡ look_at self.now key };
 
@@ -27,7 +31,7 @@ pub trait Table {
     fn has_place(&self, key: Self::Key) -> bool
         ensures { result ≡ is_placed self.now key };
 
-    /// Makes a place for the key, without a value, unless it has one.
+    /// Makes an empty place for a key, unless it has one.
     fn make_place(&mut self, key: Self::Key) -> Result<(), AllocError>
         ensures made { OnOk result (IsTrue (is_placed self.new key)) }
         ensures places { (k : Self.Key) → IsTrue (is_placed self.old k)
@@ -35,26 +39,26 @@ pub trait Table {
         ensures values { (k : Self.Key) → look_at self.new k ≡ look_at self.old k }
         ensures err { OnErr result (self.new ≡ self.old) };
 
-    /// Puts a value, or none, at a key, and returns what was there. It takes no memory.
+    /// Sets or removes the value of a key, and returns the former one. It takes no memory.
     fn displace(&mut self, key: Self::Key, value: Option<Self::Value>) -> Option<Self::Value>
         requires { IsTrue (is_placed self.old key) }
         ensures answer { result ≡ look_at self.old key }
         ensures table { self.new ≡ displaced self.old key value };
 
-    /// Displacing what was returned gives back the table as it was.
+    /// Putting the former value back restores the table.
     ghost back: { (t : Self) (k : Self.Key) (v : Option Self.Value) →
         IsTrue (is_placed t k) → displaced (displaced t k v) k (look_at t k) ≡ t };
 
-    /// Displacing loses no place and makes none.
+    /// Setting a value neither loses nor makes a place.
     ghost keeps_places: { (t : Self) (k : Self.Key) (v : Option Self.Value) (j : Self.Key) →
         is_placed (displaced t k v) j ≡ is_placed t j };
 
-    /// The new value is at the key.
+    /// The key has its new value.
     ghost at_key: { (t : Self) (k : Self.Key) (v : Option Self.Value) →
         IsTrue (is_placed t k) → look_at (displaced t k v) k ≡ v };
 }
 
-/// Puts back what was displaced at a key, and drops what is there.
+/// Restores the former value of a key, and drops the present one.
 pub fn put_back<T: Table>(table: &mut T, key: T::Key, value: Option<T::Value>)
 where
     T::Value: Drop,

@@ -1,5 +1,6 @@
-//! A balanced tree: a list that is changed at a place in a number of steps that grows with the logarithm of its length. Calls nest as
-//! deep as the tree is high, and its height is at most about twice that logarithm.
+//! A balanced tree of sorted items. Adding and removing an item takes a number of steps that grows
+//! with the logarithm of the length. Calls nest as deep as the tree is high, at most about twice
+//! that logarithm. `queue.rt` is its only caller.
 ghost use Rattle.std.specs.Prelude.{◌≡◌, ◌+◌, ◌^◌, ◌<◌, ◌≤◌, [], ◌∷◌, ◌++◌, length, max, OnOk, MatchOption, is_some, slice_get, false};
 ghost use Rattle.std.specs.List.Sorted.{IsStrictlySortedBy};
 ghost use Rattle.std.specs.Option.{option_copied};
@@ -15,19 +16,19 @@ use std::cmp::Ordering;
 use std::marker::Model;
 use std::mem;
 
-/// A list in a tree. Contracts see the list and the tree's height.
+/// A sorted list, kept in a tree. Contracts see the list and the tree's height.
 #[cycle(tree)]
 #[derive(Drop)]
 pub(crate) struct Tree<D> {
     root: Option<Box<Node<D>>>,
 }
 
-/// The memory of a fork, and the fork that is kept there.
+/// A node of a tree, or spare memory for one.
 #[cycle(tree)]
 #[derive(Drop)]
 pub(crate) enum Node<D> {
     Spare,
-    /// An item between what is before it and what is after it.
+    /// An item between the items before it and those after it.
     Fork {
         left: Tree<D>,
         item: D,
@@ -57,7 +58,7 @@ impl<D> Model for Tree<D> {
     ghost size_decreases = { λ t h. root_falls t.root };
 }
 
-/// The parts of a tree at its root, and the root's memory.
+/// What a tree has at its root, and the root's memory.
 #[derive(Drop)]
 struct Parts<D> {
     memory: Box<Node<D>>,
@@ -67,14 +68,14 @@ struct Parts<D> {
 }
 
 impl<D: Drop> Tree<D> {
-    /// The empty tree.
+    /// Builds an empty tree.
     pub(crate) fn new() -> Tree<D>
         ensures { result ≡ ([], 0) }
     {
         Tree { root: None }
     }
 
-    /// Returns the height.
+    /// Returns the height of the tree.
     fn height(&self) -> usize
         ensures height { result ≡ self.now.1 }
         ensures low { IsLow self.now.1 (length self.now.0) }
@@ -104,7 +105,7 @@ impl<D: Drop> Tree<D> {
         }
     }
 
-    /// Takes the tree apart at its root, if it has one.
+    /// Splits the tree at its root. Returns `None` for an empty tree.
     fn take_apart(self) -> Option<Parts<D>>
         ensures { MatchOption result (self ≡ ([], 0)) (IsPartsOf self) }
     {
@@ -126,7 +127,7 @@ impl<D: Drop> Tree<D> {
     }
 }
 
-/// Joins two trees around an item, in memory that is at hand.
+/// Joins two trees around an item. It uses the memory that is given.
 fn fork<D: Drop>(mut memory: Box<Node<D>>, left: Tree<D>, item: D, right: Tree<D>) -> Tree<D>
     requires near { DifferByAtMost 1 left.1 right.1 }
     requires fits { length left.0 + length right.0 + 1 < 2 ^ 64 }
@@ -142,7 +143,7 @@ fn fork<D: Drop>(mut memory: Box<Node<D>>, left: Tree<D>, item: D, right: Tree<D
     Tree { root: Some(memory) }
 }
 
-/// Joins two trees around an item, where one may be two higher than the other.
+/// Joins two trees around an item, if their heights differ by at most two.
 fn balance<D: Drop>(memory: Box<Node<D>>, left: Tree<D>, item: D, right: Tree<D>) -> Tree<D>
     requires near { DifferByAtMost 2 left.1 right.1 }
     requires fits { length left.0 + length right.0 + 1 < 2 ^ 64 }
@@ -159,7 +160,7 @@ fn balance<D: Drop>(memory: Box<Node<D>>, left: Tree<D>, item: D, right: Tree<D>
     }
 }
 
-/// Joins two trees around an item, where the left one is two higher.
+/// Joins two trees around an item, if the left one is higher by two.
 fn lean_right<D: Drop>(memory: Box<Node<D>>, left: Tree<D>, item: D, right: Tree<D>) -> Tree<D>
     requires two_higher { left.1 ≡ right.1 + 2 }
     requires fits { length left.0 + length right.0 + 1 < 2 ^ 64 }
@@ -181,7 +182,7 @@ fn lean_right<D: Drop>(memory: Box<Node<D>>, left: Tree<D>, item: D, right: Tree
     fork(inner.memory, first, inner.item, second)
 }
 
-/// Joins two trees around an item, where the right one is two higher.
+/// Joins two trees around an item, if the right one is higher by two.
 fn lean_left<D: Drop>(memory: Box<Node<D>>, left: Tree<D>, item: D, right: Tree<D>) -> Tree<D>
     requires two_higher { right.1 ≡ left.1 + 2 }
     requires fits { length left.0 + length right.0 + 1 < 2 ^ 64 }
@@ -211,7 +212,8 @@ struct First<D> {
     rest: Tree<D>,
 }
 
-/// Lists the items of a part of a tree, in order, after those that are listed. It visits a side of a fork only if that can have such items.
+/// Appends the items of a part to a list, in order. It visits a side of a node only if that side
+/// can have such items.
 pub(crate) fn list_part<'a, D: InParts>(
     tree: &'a Tree<D>,
     part: &D::Part,
@@ -243,7 +245,7 @@ pub(crate) fn list_part<'a, D: InParts>(
     }
 }
 
-/// Puts an item into a tree in order, in memory that is at hand.
+/// Adds an item to a tree, in order. It uses the memory that is given.
 pub(crate) fn put<D: Ord + Drop>(tree: Tree<D>, memory: Box<Node<D>>, item: D) -> Tree<D>
     requires sorted { IsStrictlySortedBy D.cmp tree.0 }
     requires absent { has D.cmp tree.0 item ≡ false }
@@ -264,7 +266,7 @@ pub(crate) fn put<D: Ord + Drop>(tree: Tree<D>, memory: Box<Node<D>>, item: D) -
     }
 }
 
-/// Takes the first item out of a tree, if it has one.
+/// Removes the first item of a tree. Returns `None` for an empty tree.
 fn take_first<D: Drop>(tree: Tree<D>) -> Option<First<D>>
     requires fits { length tree.0 < 2 ^ 64 }
     ensures { MatchOption result (tree ≡ ([], 0)) (IsFirstOf tree) }
@@ -297,14 +299,14 @@ fn join<D: Drop>(left: Tree<D>, right: Tree<D>) -> Tree<D>
     }
 }
 
-/// What is left of a tree, and the memory of what was taken out of it.
+/// A tree without the item that was removed, and the memory of that item, if there was one.
 #[derive(Drop)]
 pub(crate) struct Taken<D> {
     pub(crate) tree: Tree<D>,
     pub(crate) memory: Option<Box<Node<D>>>,
 }
 
-/// Takes an item out of a tree, if it's there.
+/// Removes an item from a tree, if it is there.
 pub(crate) fn take<D: Ord + Drop>(tree: Tree<D>, item: &D) -> Taken<D>
     requires sorted { IsStrictlySortedBy D.cmp tree.0 }
     requires fits { length tree.0 < 2 ^ 64 }
