@@ -52,8 +52,9 @@ fn wind(store: &mut Store, at: Moment, group: &Spot) -> Result<(), AllocError>
     ensures ok { OnOk result (store.new.state
         ≡ set_clock group.now
         (λ clock.
-        record clock
-        { next_flush = at + group_interval_of store.old.state.config group.now.route; flushed = true
+        record clock {
+          next_flush = at + group_interval_of store.old.state.config group.now.route;
+          flushed = true;
         }) store.old.state) }
     ensures kept { undone store.new ≡ undone store.old }
     ensures grown { GrownBy 1 store.old store.new }

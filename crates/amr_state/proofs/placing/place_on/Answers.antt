@@ -13,7 +13,7 @@ returns-clause-ok c =
     let route = c.args.group.now.route in
     let group : Spot = spot_at route c.in_ok-clone.field-0 in
     let grouped : group ≡ group_spot s.config (spot_at route c.args.labels.now) =
-        ap (spot_at route) (c.in_ok-clone.ensures.cases ∙ ap (λ (g : RouteGroup). g.labels) c.requires) in
+    ap (spot_at route) (c.in_ok-clone.ensures.cases ∙ ap (λ (g : RouteGroup). g.labels) c.requires) in
     let same : c.in_ok-clone-2.field-0 ≡ c.args.labels.now = c.in_ok-clone-2.ensures.cases in
     let wait : c.group_wait-wait.result ≡ group_wait_of s.config route = c.group_wait-wait.ensures ∙ ap (λ config. group_wait_of config route) c.config.ensures in
     let found : c.copied-clock.result ≡ get s.clocks group = c.copied-clock.ensures ∙ c.get.ensures ∙ ap (λ m. get m group) c.clocks.ensures in
