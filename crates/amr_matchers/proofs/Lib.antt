@@ -1,4 +1,5 @@
 pub mod Finds
+pub mod Remembered
 pub mod MatcherRuns
 pub mod MatcherKinds
 pub mod MatcherSpelled

@@ -7,6 +7,7 @@ ghost use Rattle.amr_matchers.specs.Patterns.{MayRefuse};
 ghost use Rattle.amr_matchers.specs.declared.pattern.MatcherError.TheVariants.{BadPattern};
 
 use crate::Operator;
+use crate::answers::Answers;
 use crate::pattern::{MatcherError, Pattern};
 use amr_labels::{Shared, Text};
 use std::alloc::{AllocError, Global};
@@ -74,8 +75,8 @@ impl Comparison {
         }
     }
 
-    /// Returns whether a label's value passes the comparison.
-    pub(crate) fn compares(&self, alloc: Global, value: &str) -> Result<bool, AllocError>
+    /// Returns whether a label's value passes the comparison. Only patterns' answers are remembered.
+    pub(crate) fn compares(&self, answers: &mut Answers, value: &str) -> Result<bool, AllocError>
         ensures answer { IfOk result (λ found. found
             ≡ compares (operator_of self.now) (own_value self.now) value.now) }
         ensures plain { takes_pattern (operator_of self.now) ≡ false → IsOk result }
@@ -83,8 +84,8 @@ impl Comparison {
         match self {
             Comparison::Is(own) => Ok(value.cmp(own.as_str()) == Ordering::Equal),
             Comparison::IsNot(own) => Ok(value.cmp(own.as_str()) != Ordering::Equal),
-            Comparison::Matches(pattern) => Ok(pattern.get().matches(alloc, value)?),
-            Comparison::MatchesNot(pattern) => Ok(!pattern.get().matches(alloc, value)?),
+            Comparison::Matches(pattern) => answers.matches(pattern.get(), value),
+            Comparison::MatchesNot(pattern) => Ok(!answers.matches(pattern.get(), value)?),
         }
     }
 }

@@ -2,6 +2,7 @@
 //! silences have matchers. A pattern is built once, when its matcher is read.
 #![tactic(auto)]
 
+mod answers;
 mod comparison;
 pub mod laws;
 mod matcher;
@@ -11,6 +12,7 @@ mod matchers;
 mod parse;
 mod pattern;
 
+pub use answers::Answers;
 pub use matcher::{Matcher, all_match};
 pub use matchers::Matchers;
 pub use parse::ParseError;

@@ -10,6 +10,7 @@ ghost use Rattle.amr_matchers.specs.Patterns.{MayRefuse};
 ghost use Rattle.amr_matchers.specs.declared.pattern.MatcherError.TheVariants.{BadPattern};
 
 use crate::Operator;
+use crate::answers::Answers;
 use crate::comparison::Comparison;
 use crate::pattern::MatcherError;
 use amr_labels::{Exact, Labels, Text};
@@ -79,8 +80,22 @@ impl Matcher {
         ensures answer { IfOk result (λ found. found ≡ holds self.now labels.now) }
         ensures plain { takes_pattern self.now.operator ≡ false → IsOk result }
     {
+        let mut answers = Answers::none(alloc);
+        self.matches_remembered(&mut answers, labels)
+    }
+
+    /// Returns whether the matcher matches the labels. It asks its pattern through the remembered
+    /// answers.
+    pub fn matches_remembered(
+        &self,
+        answers: &mut Answers,
+        labels: &Labels,
+    ) -> Result<bool, AllocError>
+        ensures answer { IfOk result (λ found. found ≡ holds self.now labels.now) }
+        ensures plain { takes_pattern self.now.operator ≡ false → IsOk result }
+    {
         self.comparison
-            .compares(alloc, labels.value_of(self.name.as_str()))
+            .compares(answers, labels.value_of(self.name.as_str()))
     }
 }
 
@@ -88,8 +103,21 @@ impl Matcher {
 pub fn all_match(alloc: Global, matchers: &[Matcher], labels: &Labels) -> Result<bool, AllocError>
     ensures { IfOk result (λ all. all ≡ all_hold matchers.now labels.now) }
 {
+    let mut answers = Answers::none(alloc);
+    all_match_remembered(&mut answers, matchers, labels)
+}
+
+/// Returns whether all matchers match the labels. It asks their patterns through the remembered
+/// answers.
+pub(crate) fn all_match_remembered(
+    answers: &mut Answers,
+    matchers: &[Matcher],
+    labels: &Labels,
+) -> Result<bool, AllocError>
+    ensures { IfOk result (λ all. all ≡ all_hold matchers.now labels.now) }
+{
     for matcher in matchers {
-        if !matcher.matches(alloc, labels)? {
+        if !matcher.matches_remembered(answers, labels)? {
             return Ok(false);
         }
     }

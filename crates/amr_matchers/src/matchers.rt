@@ -7,7 +7,8 @@ ghost use Rattle.std.specs.Cmp.Lexicographic.{slice_cmp, lists_total};
 ghost use Rattle.std.specs.Ordering.{as_partial_cmp, eq_by_cmp};
 ghost use Rattle.amr_matchers.specs.Matchers.{all_hold, matcher_cmp, matcher_cmp_total};
 
-use crate::matcher::{Matcher, all_match};
+use crate::answers::Answers;
+use crate::matcher::{Matcher, all_match, all_match_remembered};
 use amr_labels::{Exact, Labels};
 use std::alloc::{AllocError, Global};
 use std::cmp::Ordering;
@@ -72,6 +73,18 @@ impl Matchers {
         ensures { IfOk result (λ hold. hold ≡ all_hold self.now labels.now) }
     {
         all_match(alloc, self.as_slice(), labels)
+    }
+
+    /// Returns whether all matchers match the labels. It asks their patterns through the remembered
+    /// answers.
+    pub fn matches_all_remembered(
+        &self,
+        answers: &mut Answers,
+        labels: &Labels,
+    ) -> Result<bool, AllocError>
+        ensures { IfOk result (λ hold. hold ≡ all_hold self.now labels.now) }
+    {
+        all_match_remembered(answers, self.as_slice(), labels)
     }
 }
 
