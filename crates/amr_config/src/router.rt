@@ -6,6 +6,7 @@ ghost use Rattle.amr_config.specs.Groups.{groups_of, group_at};
 
 use crate::config::Config;
 use amr_labels::{Labels, Listing, Shared};
+use amr_matchers::Answers;
 use std::alloc::{AllocError, Global};
 use std::collections::BTreeMap;
 use std::marker::Model;
@@ -15,6 +16,8 @@ use std::marker::Model;
 pub struct Router {
     alloc: Global,
     config: Config,
+    /// What the patterns of the matchers answered.
+    answers: Answers,
     known: BTreeMap<Labels, Shared<Listing<RouteGroup>>>,
 }
 
@@ -45,6 +48,7 @@ impl Router {
         Router {
             alloc,
             config,
+            answers: Answers::new(alloc),
             known: BTreeMap::new(alloc),
         }
     }
@@ -73,7 +77,8 @@ impl Router {
         ensures groups { IfOk result (λ groups. groups ≡ groups_of self.old labels.now) }
         ensures same { self.new ≡ self.old }
     {
-        let groups = Shared::new(self.alloc, groups_of(self.alloc, &self.config, labels)?)?;
+        let found = groups_of(self.alloc, &self.config, &mut self.answers, labels)?;
+        let groups = Shared::new(self.alloc, found)?;
         self.known.insert(labels.clone()?, groups.clone()?)?;
         Ok(groups)
     }
@@ -84,12 +89,13 @@ impl Router {
 fn groups_of(
     alloc: Global,
     config: &Config,
+    answers: &mut Answers,
     labels: &Labels,
 ) -> Result<Listing<RouteGroup>, AllocError>
     ensures { IfOk result (λ groups. groups ≡ groups_of config.now labels.now) }
 {
     let mut groups = Listing::new(alloc);
-    for route in &config.routes_of(alloc, labels)? {
+    for route in &config.routes_of_remembered(alloc, answers, labels)? {
         groups.push(group_at(alloc, config, *route, labels)?)?;
     }
     Ok(groups)

@@ -7,6 +7,7 @@ ghost use Rattle.amr_config.specs.Marks.{marks_at, chosen_numbers, is_chosen_mar
 
 use crate::config::Config;
 use amr_labels::Labels;
+use amr_matchers::Answers;
 use std::alloc::{AllocError, Global};
 
 /// What is known of a route when some of the routes after it have been seen.
@@ -42,7 +43,7 @@ impl Mark {
 
 /// Marks the next route, which has a parent.
 fn mark_child(
-    alloc: Global,
+    answers: &mut Answers,
     config: &Config,
     labels: &Labels,
     parent: usize,
@@ -60,7 +61,7 @@ fn mark_child(
         marks.push(Mark::seen(false))?;
         return Ok(());
     }
-    if !settings.matchers.matches_all(alloc, labels)? {
+    if !settings.matchers.matches_all_remembered(answers, labels)? {
         marks.push(Mark::seen(false))?;
         return Ok(());
     }
@@ -75,7 +76,7 @@ fn mark_child(
 
 /// Marks the next route.
 fn mark_next(
-    alloc: Global,
+    answers: &mut Answers,
     config: &Config,
     labels: &Labels,
     marks: &mut Vec<Mark>,
@@ -88,22 +89,27 @@ fn mark_next(
     let settings = config.route(marks.len());
     match settings.parent {
         None => {
-            let is_open = settings.matchers.matches_all(alloc, labels)?;
+            let is_open = settings.matchers.matches_all_remembered(answers, labels)?;
             marks.push(Mark::seen(is_open))?;
             Ok(())
         }
-        Some(parent) => mark_child(alloc, config, labels, parent, marks),
+        Some(parent) => mark_child(answers, config, labels, parent, marks),
     }
 }
 
 /// Returns the marks of all routes.
-fn marks(alloc: Global, config: &Config, labels: &Labels) -> Result<Vec<Mark>, AllocError>
+fn marks(
+    alloc: Global,
+    answers: &mut Answers,
+    config: &Config,
+    labels: &Labels,
+) -> Result<Vec<Mark>, AllocError>
     ensures { IfOk result (λ marks. marks.items
         ≡ marks_at config.now labels.now (length config.now.routes)) }
 {
     let mut marks = Vec::new(alloc);
     for _route in 0..config.route_count() {
-        mark_next(alloc, config, labels, &mut marks)?;
+        mark_next(answers, config, labels, &mut marks)?;
     }
     Ok(marks)
 }
@@ -130,7 +136,21 @@ impl Config {
     pub fn routes_of(&self, alloc: Global, labels: &Labels) -> Result<Vec<usize>, AllocError>
         ensures { IfOk result (λ routes. routes.items ≡ chosen self.now labels.now) }
     {
-        let marks = marks(alloc, self, labels)?;
+        let mut answers = Answers::none(alloc);
+        self.routes_of_remembered(alloc, &mut answers, labels)
+    }
+
+    /// Returns the numbers of the routes that take an alert with these labels, in ascending order.
+    /// It asks the patterns of the matchers through the remembered answers.
+    pub(crate) fn routes_of_remembered(
+        &self,
+        alloc: Global,
+        answers: &mut Answers,
+        labels: &Labels,
+    ) -> Result<Vec<usize>, AllocError>
+        ensures { IfOk result (λ routes. routes.items ≡ chosen self.now labels.now) }
+    {
+        let marks = marks(alloc, answers, self, labels)?;
         chosen_places(alloc, marks.as_slice())
     }
 }

@@ -1,7 +1,7 @@
 use Rattle.std.proofs.Common.{◌∙◌}
 use Rattle.std.proofs.lemmas.Result.{IfOk-weaker}
 use Rattle.amr_config.proofs.Chosen.{chosen_from_marks}
-use Rattle.amr_config.proofs.config.Config.routes_of.Goals as goal
+use Rattle.amr_config.proofs.config.Config.routes_of_remembered.Goals as goal
 
 pub returns : goal.returns
 returns c =
