@@ -153,6 +153,28 @@ impl<K: Key + Drop, V: Drop> Keyed<K, V> {
         }
     }
 
+    /// Sets or removes the value of a key that has a place, and marks the place as entered. Returns
+    /// the former value, and whether the place was marked before. It takes no memory.
+    fn exchange(&mut self, key: &K, value: Option<V>) -> (Option<V>, bool)
+        requires { IsTrue (has_place K.cmp self.old key.now) }
+        ensures answer { result.0 ≡ map.get (shown K.cmp self.old) key.now }
+        ensures was_entered { result.1 ≡ is_entered K.cmp self.old key.now }
+        ensures shown { shown K.cmp self.new ≡ map.set (shown K.cmp self.old) key.now value }
+        ensures places { SamePlaces K.cmp self.old self.new }
+        ensures entered { Enters K.cmp self.old self.new key.now }
+        ensures keys { self.new.numbers ≡ self.old.numbers }
+        ensures enough { HasPlaces K.cmp self.new }
+    {
+        match self.numbers.get(key) {
+            Some(number) => {
+                let was_entered = self.entered.is_marked(*number);
+                self.entered.mark(*number);
+                (self.slots.displace(*number, value), was_entered)
+            }
+            None => unreachable!(),
+        }
+    }
+
     /// Clears the marks of all places. It takes no memory.
     pub fn clear_entered(&mut self)
         ensures entered { NoneEntered K.cmp self.new }
@@ -189,13 +211,11 @@ pub fn change<K: Key + Exact + Drop, V: Drop, E>(
     ensures current { journal.new.current ≡ journal.old.current }
     ensures record_room { journal.new.record_room ≡ journal.old.record_room }
 {
-    if table.is_entered(key) {
-        drop(table.displace(key, value));
+    let copy = make_room(table, journal, key)?;
+    let (was, was_entered) = table.exchange(key, value);
+    if was_entered {
         return Ok(None);
     }
-    let copy = make_room(table, journal, key)?;
-    let was = table.displace(key, value);
-    table.enter(key);
     Ok(Some((copy, was)))
 }
 
