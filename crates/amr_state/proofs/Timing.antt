@@ -13,6 +13,7 @@ use Rattle.std.specs.FinMap.Entries.{below_all}
 use Rattle.std.specs.BTreeSet.{insert_key}
 use Rattle.std.proofs.lemmas.Bool.{true≢false}
 use Rattle.std.proofs.lemmas.List.Folds.{list_any-append}
+use Rattle.std.proofs.lemmas.Map.Views.{tells_apart}
 use Rattle.amr_labels.specs.Labels.{LabelSet, label_set_cmp, label_set_cmp_total, label_set_cmp-IsAntisymmetric}
 use Rattle.amr_labels.specs.Map.{Map, get, set, entries, len, get-set, get-entries, entries-sorted}
 use Rattle.amr_rules.specs.declared.alert.Alert.{Alert}
@@ -165,6 +166,18 @@ is_moved l m p old new sorted was will =
     same_from_members due_cmp due_cmp_total due_cmp-IsAntisymmetric _ _ (sorted_put (taken_at l p old) p new (sorted_taken l p old sorted)) (sorted_in_order due_cmp due_cmp_total m)
     (λ d. has_moved l p old new was d ∙ sym (will d) ∙ sym (has_in_order due_cmp due_cmp_total m d))
 
+kept : (b h : Bool) → (b ≡ true → h ≡ true) → h ≡ (b || (not b && h))
+kept true h there = there refl
+kept false h there = refl
+
+-- a due that stays at its moment leaves the list as it is
+pub stays : (l : List Due) (p : Due) (at : Option Moment) → IsStrictlySortedBy due_cmp l → IfSome at (λ m. has due_cmp l (due_at p m) ≡ true) → l ≡ moved l p at at
+stays l p None sorted there = refl
+stays l p (Some m) sorted there =
+    same_from_members due_cmp due_cmp_total due_cmp-IsAntisymmetric _ _ sorted (sorted_put (taken_at l p (Some m)) p (Some m) (sorted_taken l p (Some m) sorted)) (λ d.
+    kept (is_at d.moment (Some m) && is_same d p) (has due_cmp l d) (λ e. ap (has due_cmp l) (tells_apart due_cmp-IsAntisymmetric d (due_at p m) (split_at d p m ∙ e)) ∙ there)
+    ∙ ap (λ b. (is_at d.moment (Some m) && is_same d p) || b) (sym (has_taken l p (Some m) d)) ∙ sym (has_put (taken_at l p (Some m)) p (Some m) d))
+
 is_there : (l : List Due) (p : Due) (old : Option Moment) → IsDueAt l p old → IfSome old (λ moment. has due_cmp l (due_at p moment) ≡ true)
 is_there l p None was = tt
 is_there l p (Some m) was = was (due_at p m) (same_itself p m) ∙ now_itself m
@@ -185,6 +198,7 @@ has_room l m p None (Some n) spare sorted was will enough =
 
 can_move : (l m : List Due) (p : Due) (old new : Option Moment) (spare : ℕ) → IsStrictlySortedBy due_cmp l → IsDueAt l p old → Replaces l m p new → length m ≤ spare + length l → CanMove l spare p old new
 can_move l m p old new spare sorted was will enough = record {
+  sorted = sorted;
   room = has_room l m p old new spare sorted was will enough;
   there = is_there l p old was;
   absent = is_absent l p old new was;

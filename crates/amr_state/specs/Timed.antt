@@ -2,6 +2,7 @@
 use Rattle.std.specs.Prelude.{◌≡◌, ◌≤◌, ◌+◌, ◌*◌, ℕ, Bool, true, false, List, length, Option, Some, None, option_map, IfSome}
 use Rattle.std.specs.Option.{option_and_then}
 use Rattle.std.specs.Ordering.{nat_cmp, eq_by_cmp}
+use Rattle.std.specs.List.Sorted.{IsStrictlySortedBy}
 use Rattle.std.specs.BTreeSet.{insert_key}
 use Rattle.amr_labels.specs.Labels.{LabelSet, label_set_cmp}
 use Rattle.amr_time.specs.Time.{Moment}
@@ -56,8 +57,10 @@ put_at dues due (Some moment) = insert_key due_cmp dues (due_at due moment)
 abbrev pub moved : List Due → Due → Option Moment → Option Moment → List Due
 moved dues due old new = put_at (taken_at dues due old) due new
 
--- the timer is in the list at the old moment, and not yet at the new one, for which there is room
+-- the list is in order, and has the timer at the old moment, and not yet at the new one, for which
+-- there is room
 pub record CanMove (dues : List Due) (spare : ℕ) (due : Due) (old new : Option Moment) : Type 0 where
+  pub sorted : IsStrictlySortedBy due_cmp dues
   pub room : count_of new ≤ spare + count_of old
   pub there : IfSome old (λ moment. has due_cmp dues (due_at due moment) ≡ true)
   pub absent : IfSome new (λ moment. has due_cmp (taken_at dues due old) (due_at due moment) ≡ false)

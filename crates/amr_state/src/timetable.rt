@@ -266,12 +266,18 @@ fn alert_due(labels: Labels) -> Due
 }
 
 /// Moves a timer in the queue from one moment to another; `None` means that it isn't in the queue.
-/// It takes no memory.
+/// It does nothing if the moment stays, as at most posts of an alert that its group has. It takes
+/// no memory.
 fn move_due(queue: &mut Queue<Due>, mut due: Due, old: Option<u128>, new: Option<u128>)
     requires { CanMove queue.old.dues queue.old.room due old new }
     ensures dues { queue.new.dues ≡ moved queue.old.dues due old new }
     ensures all { queue.new.room + length queue.new.dues ≡ queue.old.room + length queue.old.dues }
 {
+    if let (Some(before), Some(after)) = (old, new) {
+        if before == after {
+            return;
+        }
+    }
     match old {
         None => put_due(queue, due, new),
         Some(moment) => {
