@@ -1,0 +1,41 @@
+//! The sides of the inhibition rules that a label set is on. A pattern costs far more than a look-up,
+//! so `Router` remembers these answers, and `amr_rules` takes them in place of the matchers.
+ghost use Rattle.std.specs.Prelude.{◌≡◌, IfOk};
+ghost use Rattle.amr_config.specs.RuleMatches.{rule_match, rule_matches};
+
+use amr_labels::{Labels, Listing};
+use amr_stated::InhibitRule;
+use std::alloc::{AllocError, Global};
+
+/// Whether a label set matches the source matchers and the target matchers of an inhibition rule.
+#[derive(Clone, Copy, Debug, PartialEq, Eq)]
+pub struct RuleMatch {
+    pub is_source: bool,
+    pub is_target: bool,
+}
+
+/// Works out which sides of each of these inhibition rules a label set is on, in the rules' order.
+#[tactic(auto, unfolding(crate::specs::RuleMatches::rule_matches))]
+pub fn rule_matches(
+    alloc: Global,
+    rules: &[InhibitRule],
+    labels: &Labels,
+) -> Result<Listing<RuleMatch>, AllocError>
+    ensures { IfOk result (λ found. found ≡ rule_matches labels.now rules.now) }
+{
+    let mut found = Listing::new(alloc);
+    for rule in rules {
+        found.push(rule_match(alloc, rule, labels)?)?;
+    }
+    Ok(found)
+}
+
+/// Works out which sides of an inhibition rule a label set is on.
+fn rule_match(alloc: Global, rule: &InhibitRule, labels: &Labels) -> Result<RuleMatch, AllocError>
+    ensures { IfOk result (λ found. found ≡ rule_match labels.now rule.now) }
+{
+    Ok(RuleMatch {
+        is_source: rule.source.matches_all(alloc, labels)?,
+        is_target: rule.target.matches_all(alloc, labels)?,
+    })
+}
