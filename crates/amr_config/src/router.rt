@@ -1,24 +1,36 @@
-//! A configuration that remembers the groups of each label set it has seen. The state of a replay
-//! holds it in place of the configuration, so that what was worked out travels with the
-//! configuration through a reload and back. Contracts see nothing of what it remembers.
+//! A configuration that remembers, of each label set it has seen, the groups and the sides of the
+//! inhibition rules. The state of a replay holds it in place of the configuration, so that what was
+//! worked out travels with the configuration through a reload and back. Contracts see nothing of
+//! what it remembers.
 ghost use Rattle.std.specs.Prelude.{◌≡◌, IfOk};
 ghost use Rattle.amr_config.specs.Groups.{groups_of, group_at};
+ghost use Rattle.amr_config.specs.RuleMatches.{rule_matches};
 
 use crate::config::Config;
+use crate::rule_sides::{RuleMatch, rule_matches, rule_matches_remembered};
 use amr_labels::{Labels, Listing, Shared};
 use amr_matchers::Answers;
 use std::alloc::{AllocError, Global};
 use std::collections::BTreeMap;
 use std::marker::Model;
 
-/// A configuration that remembers the groups of label sets. Contracts see the configuration.
+/// A configuration that remembers what it worked out of label sets. Contracts see the
+/// configuration.
 #[derive(Drop)]
 pub struct Router {
     alloc: Global,
     config: Config,
     /// What the patterns of the matchers answered.
     answers: Answers,
-    known: BTreeMap<Labels, Shared<Listing<RouteGroup>>>,
+    known: BTreeMap<Labels, Known>,
+}
+
+/// What is remembered of a label set: its groups, and the sides of the inhibition rules that it is
+/// on.
+#[derive(Drop)]
+pub(crate) struct Known {
+    pub(crate) groups: Shared<Listing<RouteGroup>>,
+    pub(crate) rules: Shared<Listing<RuleMatch>>,
 }
 
 /// A group of alerts: a route, and the group labels that it keeps of the alerts' labels.
@@ -67,9 +79,30 @@ impl Router {
         ensures same { self.new ≡ self.old }
     {
         match self.known.get(labels) {
-            Some(groups) => groups.clone(),
+            Some(known) => known.groups.clone(),
             None => self.learn(labels),
         }
+    }
+
+    /// Returns which sides of the configuration's inhibition rules these labels are on. It asks no
+    /// matcher if it has been asked for the groups of these labels before.
+    pub fn rule_matches(&self, labels: &Labels) -> Result<Shared<Listing<RuleMatch>>, AllocError>
+        ensures { IfOk result (λ found. found ≡ rule_matches labels.now self.now.rules) }
+    {
+        match self.known.get(labels) {
+            Some(known) => known.rules.clone(),
+            None => self.rule_matches_afresh(labels),
+        }
+    }
+
+    /// Works out which sides of the configuration's inhibition rules these labels are on.
+    fn rule_matches_afresh(&self, labels: &Labels) -> Result<Shared<Listing<RuleMatch>>, AllocError>
+        ensures { IfOk result (λ found. found ≡ rule_matches labels.now self.now.rules) }
+    {
+        Shared::new(
+            self.alloc,
+            rule_matches(self.alloc, self.config.rules(), labels)?,
+        )
     }
 
     /// Works out the groups that take an alert with these labels, and remembers them.
@@ -79,8 +112,24 @@ impl Router {
     {
         let found = groups_of(self.alloc, &self.config, &mut self.answers, labels)?;
         let groups = Shared::new(self.alloc, found)?;
-        self.known.insert(labels.clone()?, groups.clone()?)?;
+        self.remember(labels, groups.clone()?)?;
         Ok(groups)
+    }
+
+    /// Remembers the groups of this label set, and the sides of the inhibition rules that it is on.
+    fn remember(
+        &mut self,
+        labels: &Labels,
+        groups: Shared<Listing<RouteGroup>>,
+    ) -> Result<(), AllocError>
+        requires { groups ≡ groups_of self.old labels.now }
+        ensures { self.new ≡ self.old }
+    {
+        let rules = self.config.rules();
+        let found = rule_matches_remembered(self.alloc, &mut self.answers, rules, labels)?;
+        let rules = Shared::new(self.alloc, found)?;
+        self.known.insert(labels.clone()?, Known { groups, rules })?;
+        Ok(())
     }
 }
 

@@ -1,11 +1,12 @@
 //! The stages of a flush that mute alerts, in the order of Alertmanager's notification pipeline. A
 //! flush drops the members that one of them mutes, and `explain` names the first that does.
 ghost use Rattle.std.specs.Prelude.{◌≡◌, IfOk};
+ghost use Rattle.amr_rules.specs.Muting.{inhibition_from};
 ghost use Rattle.amr_engine.specs.Stages.{taken_away};
 
 use crate::explain::Finding;
 use amr_labels::Labels;
-use amr_rules::{inhibited_by, silenced_by};
+use amr_rules::{inhibited_by_matched, silenced_by};
 use amr_state::Store;
 use amr_time::Moment;
 use std::alloc::AllocError;
@@ -23,7 +24,7 @@ pub(crate) fn taken_away(
 {
     let alloc = store.alloc();
     let config = store.config();
-    if let Some((rule, source)) = inhibited_by(alloc, config.rules(), store.alerts(), at, labels)? {
+    if let Some((rule, source)) = inhibition(store, at, labels)? {
         return Ok(Some(Finding::Inhibited { rule, source }));
     }
     if !config.is_active_at(route, at) {
@@ -36,4 +37,25 @@ pub(crate) fn taken_away(
         Some(id) => Ok(Some(Finding::Silenced { id })),
         None => Ok(None),
     }
+}
+
+/// Returns the inhibition rule that mutes an alert with these labels, and the labels of the alert
+/// by which it does.
+fn inhibition(
+    store: &Store,
+    at: Moment,
+    labels: &Labels,
+) -> Result<Option<(usize, Labels)>, AllocError>
+    ensures { IfOk result (λ found. found ≡ inhibition_from 0 at labels.now
+        store.now.state.alerts store.now.state.config.rules) }
+{
+    let matched = store.rule_matches(labels)?;
+    inhibited_by_matched(
+        store.alloc(),
+        store.config().rules(),
+        matched.get().as_slice(),
+        store.alerts(),
+        at,
+        labels,
+    )
 }

@@ -8,11 +8,13 @@ ghost use Rattle.amr_labels.specs.Labels.{is_empty};
 ghost use Rattle.amr_matchers.specs.Matchers.{all_hold};
 ghost use Rattle.amr_tables.specs.Numbered.{shown};
 ghost use Rattle.amr_config.specs.Config.{Config};
+ghost use Rattle.amr_config.specs.RuleMatches.{rule_match, rule_matches};
 ghost use Rattle.amr_rules.specs.Muting.{agree_on, sharing, first_label, first_source, rule_mutes, inhibits, is_inhibited, inhibitor_by, inhibition_from, silences_labels, is_silenced, silencer_of};
 
 use crate::alert::Alert;
 use crate::alert_store::{AlertStore, has_value};
 use crate::silence::Silence;
+use amr_config::{RuleMatch, rule_matches};
 use amr_events::SilenceId;
 use amr_labels::{Labels, Text};
 use amr_stated::InhibitRule;
@@ -78,24 +80,25 @@ fn inhibits(
     mutes_target(alloc, rule, source, target, is_source)
 }
 
-/// Returns the least label set of a stored alert that mutes a target by a rule. It matches the
-/// target once, and not again for each stored alert.
+/// Returns the least label set of a stored alert that mutes a target by a rule. `side` says which
+/// sides of the rule the target is on, so no matcher is asked for the target.
 fn inhibitor_by<'a, A: AlertStore>(
     alloc: Global,
     now: Moment,
     target: &Labels,
     alerts: &'a A,
     rule: &InhibitRule,
+    side: RuleMatch,
 ) -> Result<Option<&'a Labels>, AllocError>
+    requires { side ≡ rule_match target.now rule.now }
     ensures { IfOk result (λ found. option_copied found
         ≡ inhibitor_by now target.now (A.alerts alerts.now) rule.now) }
 {
-    if !rule.target.matches_all(alloc, target)? {
+    if !side.is_target {
         return Ok(None);
     }
-    let is_source = rule.source.matches_all(alloc, target)?;
     let stored = possible_sources(alloc, target, alerts, rule)?;
-    first_source(alloc, now, target, is_source, &stored, rule)
+    first_source(alloc, now, target, side.is_source, &stored, rule)
 }
 
 /// Lists the stored alerts that may mute a target by a rule. A source has to agree with the target
@@ -169,8 +172,29 @@ pub fn inhibited_by<A: AlertStore>(
         (config : Config) → config.rules ≡ rules.now
         → is_inhibited config (A.alerts alerts.now) now target.now ≡ is_some found) }
 {
+    let matched = rule_matches(alloc, rules, target)?;
+    inhibited_by_matched(alloc, rules, matched.as_slice(), alerts, now, target)
+}
+
+/// Returns what `inhibited_by` returns, given which sides of each rule the labels are on
+/// (`rule_matches` of `amr_config`). It asks no matcher for them.
+pub fn inhibited_by_matched<A: AlertStore>(
+    alloc: Global,
+    rules: &[InhibitRule],
+    matched: &[RuleMatch],
+    alerts: &A,
+    now: Moment,
+    target: &Labels,
+) -> Result<Option<(usize, Labels)>, AllocError>
+    requires { matched.now ≡ rule_matches target.now rules.now }
+    ensures named { IfOk result (λ found. found
+        ≡ inhibition_from 0 now target.now (A.alerts alerts.now) rules.now) }
+    ensures exactly { IfOk result (λ found.
+        (config : Config) → config.rules ≡ rules.now
+        → is_inhibited config (A.alerts alerts.now) now target.now ≡ is_some found) }
+{
     for (place, rule) in rules.iter().enumerate() {
-        if let Some(source) = inhibitor_by(alloc, now, target, alerts, rule)? {
+        if let Some(source) = inhibitor_by(alloc, now, target, alerts, rule, matched[place])? {
             return Ok(Some((place, source.clone()?)));
         }
     }

@@ -4,6 +4,7 @@
 ghost use Rattle.std.specs.Prelude.{◌≡◌, ◌<◌, ◌+◌, ◌++◌, [], IsTrue, is_some, option_map, length, OnOk, OnErr, IfOk};
 ghost use Rattle.amr_labels.specs.Map as map;
 ghost use Rattle.amr_config.specs.Groups.{groups_of};
+ghost use Rattle.amr_config.specs.RuleMatches.{rule_matches};
 ghost use Rattle.amr_tables.specs.Numbered.{shown, has_place, Enters, KeepsPlaces, SamePlaces, SameEntered, NoneEntered, IsUnchanged};
 ghost use Rattle.std.specs.List.{filter_map, cons_option};
 ghost use Rattle.amr_tables.specs.Queued.{values_of};
@@ -15,7 +16,7 @@ use crate::membership::Membership;
 use crate::placing::group_spot;
 use crate::spot::Spot;
 use crate::timetable::{make_room, put_back};
-use amr_config::{Config, RouteGroup, Router};
+use amr_config::{Config, RouteGroup, Router, RuleMatch};
 use amr_labels::{Labels, Listing, Shared};
 use amr_rules::Alert;
 use amr_tables::{Journal, Keyed, Queue, change};
@@ -78,6 +79,16 @@ impl Roster {
         ensures same { self.new ≡ self.old }
     {
         self.config.groups_of(labels)
+    }
+
+    /// Returns which sides of the configuration's inhibition rules this label set is on.
+    pub(crate) fn rule_matches(
+        &self,
+        labels: &Labels,
+    ) -> Result<Shared<Listing<RuleMatch>>, AllocError>
+        ensures { IfOk result (λ found. found ≡ rule_matches labels.now self.now.config.rules) }
+    {
+        self.config.rule_matches(labels)
     }
 
     /// Returns the members of all groups, by route and labels.

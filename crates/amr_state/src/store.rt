@@ -6,6 +6,7 @@ ghost use Rattle.std.specs.Prelude.{option_map, slice_get};
 ghost use Rattle.std.specs.Ordering.{nat_cmp};
 ghost use Rattle.amr_labels.specs.Labels.{label_set_cmp};
 ghost use Rattle.amr_config.specs.Groups.{groups_of};
+ghost use Rattle.amr_config.specs.RuleMatches.{rule_matches};
 ghost use Rattle.amr_labels.specs.Map as map;
 ghost use Rattle.amr_labels.specs.Map.{len};
 ghost use Rattle.amr_tables.specs.Numbered.{shown};
@@ -24,7 +25,7 @@ use crate::roster::Roster;
 use crate::spot::{Spot, TimedGroup};
 use crate::tables::Tables;
 use crate::timetable::Timetable;
-use amr_config::{Config, RouteGroup, Router};
+use amr_config::{Config, RouteGroup, Router, RuleMatch};
 use amr_events::SilenceId;
 use amr_labels::{Labels, Listing, Shared};
 use amr_rules::{Alert, LogEntry, Silence};
@@ -261,6 +262,15 @@ impl Store {
         ensures same { self.new ≡ self.old }
     {
         self.tables.roster.groups_of(labels)
+    }
+
+    /// Returns which sides of the configuration's inhibition rules these labels are on. It asks no
+    /// matcher if the groups of these labels were computed under this configuration.
+    pub fn rule_matches(&self, labels: &Labels) -> Result<Shared<Listing<RuleMatch>>, AllocError>
+        ensures { IfOk result (λ found. found
+            ≡ rule_matches labels.now self.now.state.config.rules) }
+    {
+        self.tables.roster.rule_matches(labels)
     }
 
     // ---- changes

@@ -7,7 +7,7 @@ use Rattle.amr_config.proofs.router.Router.groups_of.Goals as goal
 
 pub returns-in-Some-clause-groups : goal.returns-in-Some-clause-groups
 returns-in-Some-clause-groups c =
-    let at : find label_set_cmp c.args.labels.now c.self.inside.known.entries ≡ Some c.in-Some.groups.now =
+    let at : find label_set_cmp c.args.labels.now c.self.inside.known.entries ≡ Some c.in-Some.known.now =
     lookup_is label_set_cmp c.self.inside.known.entries c.args.labels.now ∙ sym c.get.ensures.value ∙ ap option_copied c.in-Some.is in
-    let known = c.self.invariant c.args.labels.now c.in-Some.groups.now at in
+    let is_known = c.self.invariant c.args.labels.now c.in-Some.known.now at in
     search rules

@@ -3,7 +3,8 @@ use Rattle.std.proofs.lemmas.Grind.{common_steps}
 use Rattle.amr_labels.specs.Labels.{LabelSet}
 use Rattle.amr_rules.specs.Muting.{inhibition_from}
 use Rattle.amr_rules.proofs.MutingLaws.{is_inhibited-named}
-use Rattle.amr_rules.proofs.muting.inhibited_by.Goals as goal
+use Rattle.amr_rules.proofs.Sides.{sides_counted, side_at}
+use Rattle.amr_rules.proofs.muting.inhibited_by_matched.Goals as goal
 
 pub returns-in-Some-clause-exactly : goal.returns-in-Some-clause-exactly
 returns-in-Some-clause-exactly g c = λ config same.
@@ -18,3 +19,11 @@ returns-clause-exactly g c = λ config same.
     first_of (search rules, grind (arith, common_steps)) in
     is_inhibited-named config (g.A.AlertStore.alerts c.args.alerts.now) c.args.now c.args.target.now
     ∙ ap (λ rules. is_some (inhibition_from 0 c.args.now c.args.target.now (g.A.AlertStore.alerts c.args.alerts.now) rules)) same ∙ ap is_some (sym named)
+
+pub bounds-matched-place : goal.bounds-matched-place
+bounds-matched-place g c =
+    omega (arith, c.loop-place-test.true, sides_counted c.args.target.now c.args.rules.now c.args.matched.now c.requires)
+
+pub inhibitor_by-requires : goal.inhibitor_by-requires
+inhibitor_by-requires g c =
+    side_at c.args.target.now c.args.rules.now c.args.matched.now c.loop-place.place c.index-rules-place.result _ c.requires c.loop-place-test.true c.index-rules-place.is

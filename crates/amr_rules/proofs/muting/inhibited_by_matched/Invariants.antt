@@ -1,6 +1,6 @@
 use Rattle.std.proofs.Common.{◌≡◌, drop}
 use Rattle.amr_rules.specs.Muting.{inhibition_from}
-use Rattle.amr_rules.proofs.muting.inhibited_by.Given as goal
+use Rattle.amr_rules.proofs.muting.inhibited_by_matched.Given as goal
 
 -- the rules that are left decide
 abbrev pub invariant-loop-place : goal.invariant-loop-place

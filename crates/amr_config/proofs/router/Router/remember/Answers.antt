@@ -1,0 +1,18 @@
+use Rattle.std.proofs.Common.{◌≡◌, ◌∙◌, ap, sym}
+use Rattle.amr_config.specs.Config.{Config}
+use Rattle.amr_config.specs.Groups.{groups_of}
+use Rattle.amr_config.specs.RuleMatches.{rule_matches}
+use Rattle.amr_config.proofs.Remembered.{known_more}
+use Rattle.amr_config.proofs.router.Router.remember.Goals as goal
+
+pub invariant_of-self-2 : goal.invariant_of-self-2
+invariant_of-self-2 c =
+    let config : Config = c.self.inside.config in
+    let same : config ≡ c.args.self.now = c.self.view_is in
+    let labels : c.args.labels.now ≡ c.in_ok-clone.field-0 = sym c.in_ok-clone.ensures.cases in
+    let groups : c.args.groups ≡ groups_of config c.in_ok-clone.field-0 =
+    c.requires ∙ ap (λ k. groups_of k c.args.labels.now) (sym same) ∙ ap (groups_of config) labels in
+    let rules : c.in_ok-rules.rules ≡ rule_matches c.in_ok-clone.field-0 config.rules =
+    c.in_ok-rules.ensures ∙ c.in_ok-found.ensures ∙ ap (rule_matches c.args.labels.now) c.rules.ensures ∙ ap (λ labels. rule_matches labels config.rules) labels in
+    known_more config c.self.inside.known c.insert.new.self c.in_ok-clone.field-0 (record { groups = c.args.groups; rules = c.in_ok-rules.rules }) c.self.invariant
+    (λ i. record { groups = groups i; rules = rules i }) c.in_ok-insert.ensures.entries

@@ -1,0 +1,60 @@
+//! The sides of the inhibition rules that a label set is on. A pattern costs far more than a look-up,
+//! so `Router` remembers these answers, and `amr_rules` takes them in place of the matchers.
+ghost use Rattle.std.specs.Prelude.{◌≡◌, IfOk};
+ghost use Rattle.amr_config.specs.RuleMatches.{rule_match, rule_matches};
+
+use amr_labels::{Labels, Listing};
+use amr_matchers::Answers;
+use amr_stated::InhibitRule;
+use std::alloc::{AllocError, Global};
+
+/// Whether a label set matches the source matchers and the target matchers of an inhibition rule.
+#[derive(Clone, Copy, Debug, PartialEq, Eq)]
+pub struct RuleMatch {
+    pub is_source: bool,
+    pub is_target: bool,
+}
+
+/// Works out which sides of each of these inhibition rules a label set is on, in the rules' order.
+pub fn rule_matches(
+    alloc: Global,
+    rules: &[InhibitRule],
+    labels: &Labels,
+) -> Result<Listing<RuleMatch>, AllocError>
+    ensures { IfOk result (λ found. found ≡ rule_matches labels.now rules.now) }
+{
+    let mut answers = Answers::none(alloc);
+    rule_matches_remembered(alloc, &mut answers, rules, labels)
+}
+
+/// Works out which sides of each of these inhibition rules a label set is on. It asks the patterns
+/// of the matchers through the remembered answers.
+#[tactic(auto, unfolding(crate::specs::RuleMatches::rule_matches))]
+pub(crate) fn rule_matches_remembered(
+    alloc: Global,
+    answers: &mut Answers,
+    rules: &[InhibitRule],
+    labels: &Labels,
+) -> Result<Listing<RuleMatch>, AllocError>
+    ensures { IfOk result (λ found. found ≡ rule_matches labels.now rules.now) }
+{
+    let mut found = Listing::new(alloc);
+    for rule in rules {
+        found.push(rule_match(answers, rule, labels)?)?;
+    }
+    Ok(found)
+}
+
+/// Works out which sides of an inhibition rule a label set is on.
+fn rule_match(
+    answers: &mut Answers,
+    rule: &InhibitRule,
+    labels: &Labels,
+) -> Result<RuleMatch, AllocError>
+    ensures { IfOk result (λ found. found ≡ rule_match labels.now rule.now) }
+{
+    Ok(RuleMatch {
+        is_source: rule.source.matches_all_remembered(answers, labels)?,
+        is_target: rule.target.matches_all_remembered(answers, labels)?,
+    })
+}
