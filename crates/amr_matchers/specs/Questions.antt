@@ -7,14 +7,14 @@ use Rattle.std.specs.FinMap.{find}
 use Rattle.amr_labels.specs.Labels.{Text, text_cmp}
 use Rattle.amr_matchers.specs.Patterns.{pattern_matches}
 
--- a question is a pattern and a value: does the pattern match the value?
+-- a question is a value and a pattern: does the pattern match the value?
 abbrev pub Question : Type 0
 Question = Text × Text
 
--- by pattern, and then by value
+-- by value, and then by pattern
 abbrev pub question_cmp : Question → Question → Ordering
 question_cmp a b = ordering_then (text_cmp a.0 b.0) (text_cmp a.1 b.1)
 
 -- what is remembered of a question is whether the pattern matches the value
 abbrev pub AreAnswers : BTreeMap Question Bool → Type 0
-AreAnswers kept = (question : Question) (found : Bool) → find question_cmp question kept.entries ≡ Some found → found ≡ pattern_matches question.0 question.1
+AreAnswers kept = (question : Question) (found : Bool) → find question_cmp question kept.entries ≡ Some found → found ≡ pattern_matches question.1 question.0

@@ -12,7 +12,7 @@ use std::marker::Model;
 /// How many answers are remembered at most. When one more comes, all the others are forgotten.
 const MOST_ANSWERS: usize = 262_144;
 
-/// Remembered answers of patterns, by pattern and value. Contracts see nothing of them.
+/// Remembered answers of patterns, by value and pattern. Contracts see nothing of them.
 #[derive(Drop)]
 pub struct Answers {
     alloc: Global,
@@ -71,7 +71,7 @@ impl Answers {
     fn answer(&mut self, pattern: &Pattern, value: &str) -> Result<bool, AllocError>
         ensures { IfOk result (λ found. found ≡ pattern_matches pattern.now value.now) }
     {
-        let question = (pattern.text().clone()?, Text::from_str(self.alloc, value)?);
+        let question = (Text::from_str(self.alloc, value)?, pattern.text().clone()?);
         match self.kept.get(&question) {
             Some(found) => Ok(*found),
             None => self.learn(pattern, question),
@@ -80,10 +80,10 @@ impl Answers {
 
     /// Asks the pattern, and remembers its answer.
     fn learn(&mut self, pattern: &Pattern, question: (Text, Text)) -> Result<bool, AllocError>
-        requires { question.0 ≡ pattern.now }
-        ensures { IfOk result (λ found. found ≡ pattern_matches pattern.now question.1) }
+        requires { question.1 ≡ pattern.now }
+        ensures { IfOk result (λ found. found ≡ pattern_matches pattern.now question.0) }
     {
-        let found = pattern.matches(self.alloc, question.1.as_str())?;
+        let found = pattern.matches(self.alloc, question.0.as_str())?;
         self.make_room();
         self.kept.insert(question, found)?;
         Ok(found)

@@ -9,7 +9,7 @@ use Rattle.amr_matchers.proofs.answers.Answers.answer.Goals as goal
 
 pub returns-in-Some : goal.returns-in-Some
 returns-in-Some c =
-    let question : Question = (c.in_ok-clone.field-0, c.in_ok-from_str.field-0) in
+    let question : Question = (c.in_ok-from_str.field-0, c.in_ok-clone.field-0) in
     let at : find question_cmp question c.self.inside.kept.entries ≡ Some c.in-Some.found.now =
     lookup_is question_cmp c.self.inside.kept.entries question ∙ sym c.get.ensures.value ∙ ap option_copied c.in-Some.is in
     c.self.invariant question c.in-Some.found.now at
