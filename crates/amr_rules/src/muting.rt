@@ -6,9 +6,9 @@ ghost use Rattle.std.specs.Ordering.{nat_cmp};
 ghost use Rattle.std.specs.Map.Iter.{deref_pair};
 ghost use Rattle.amr_labels.specs.Labels.{is_empty};
 ghost use Rattle.amr_matchers.specs.Matchers.{all_hold};
+ghost use Rattle.amr_config.specs.RuleMatches.{rule_match, rule_matches};
 ghost use Rattle.amr_tables.specs.Numbered.{shown};
 ghost use Rattle.amr_config.specs.Config.{Config};
-ghost use Rattle.amr_config.specs.RuleMatches.{rule_match, rule_matches};
 ghost use Rattle.amr_rules.specs.Muting.{agree_on, sharing, first_label, first_source, rule_mutes, inhibits, is_inhibited, inhibitor_by, inhibition_from, silences_labels, is_silenced, silencer_of};
 
 use crate::alert::Alert;
