@@ -89,18 +89,21 @@ fn serve(store: &mut Store, at: Moment, group: &Spot, members: &[Member]) -> Res
     drop_resolved(store, at, group, members)
 }
 
-/// Returns the members that no stage mutes.
+/// Returns the members that no stage mutes. It works out which silences match a member's labels
+/// only if that isn't known.
 fn let_through(
-    store: &Store,
+    store: &mut Store,
     at: Moment,
     route: usize,
     members: &[Member],
 ) -> Result<Vec<Member>, AllocError>
-    ensures { IfOk result (λ through. through.items
-        ≡ let_through store.now.state at route members.now) }
+    ensures through { IfOk result (λ through. through.items
+        ≡ let_through store.old.state at route members.now) }
+    ensures same { store.new ≡ store.old }
 {
     let mut through = Vec::new(store.alloc());
     for (labels, alert) in members {
+        store.learn_silences(at, labels)?;
         if taken_away(store, at, route, labels)?.is_none() {
             through.push((labels.clone()?, alert.clone()?))?;
         }

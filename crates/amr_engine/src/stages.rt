@@ -6,7 +6,7 @@ ghost use Rattle.amr_engine.specs.Stages.{taken_away};
 
 use crate::explain::Finding;
 use amr_labels::Labels;
-use amr_rules::{inhibited_by_matched, silenced_by};
+use amr_rules::inhibited_by_matched;
 use amr_state::Store;
 use amr_time::Moment;
 use std::alloc::AllocError;
@@ -33,7 +33,7 @@ pub(crate) fn taken_away(
     if config.is_muted_at(route, at) {
         return Ok(Some(Finding::TimeMuted));
     }
-    match silenced_by(alloc, store.silences(), at, labels)? {
+    match store.silenced_by(at, labels)? {
         Some(id) => Ok(Some(Finding::Silenced { id })),
         None => Ok(None),
     }

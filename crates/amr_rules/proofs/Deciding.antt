@@ -1,8 +1,7 @@
 -- What is decided of a post of a silence, case by case.
-use Rattle.std.proofs.Common.{◌≡◌, Bool, true, false, not, ◌&&◌, List, Option, Some, None, Err, is_some, is_none, if◌then◌else◌, refl, sym, ap, ◌∙◌, Bor}
+use Rattle.std.proofs.Common.{◌≡◌, Bool, true, false, not, ◌&&◌, Option, Some, None, Err, is_some, is_none, if◌then◌else◌, refl, sym, ap, ◌∙◌, Bor}
 use Rattle.std.specs.Prelude.{ok_or}
 use Rattle.std.specs.Option.{option_copied}
-use Rattle.amr_matchers.specs.Matchers.{Matcher}
 use Rattle.amr_time.specs.Time.{Moment}
 use Rattle.amr_events.specs.declared.event.PostedSilence.{PostedSilence}
 use Rattle.amr_rules.specs.declared.silence.Silence.{Silence}

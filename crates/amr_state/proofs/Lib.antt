@@ -7,3 +7,4 @@ pub mod Fitting
 pub mod Soundness
 pub mod Emptied
 pub mod Pairing
+pub mod SilencesKnown

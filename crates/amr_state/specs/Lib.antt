@@ -9,3 +9,4 @@ pub mod Records
 pub mod Fitting
 pub mod Kept
 pub mod LabelPairs
+pub mod SilencesKnown

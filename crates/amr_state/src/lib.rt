@@ -12,6 +12,7 @@ mod membership;
 mod note;
 mod placing;
 mod roster;
+mod silence_table;
 mod spot;
 mod store;
 mod tables;

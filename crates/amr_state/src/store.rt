@@ -2,7 +2,7 @@
 //! `Store`, which enters what each change displaces into the open record, so that an event can be
 //! undone. It decides nothing about alerts, groups or silences.
 ghost use Rattle.std.specs.Prelude.{◌≡◌, ◌≤◌, ◌<◌, ◌+◌, ◌++◌, ◌∷◌, ◌==◌, [], Option, Some, None, length, OnOk, IfOk};
-ghost use Rattle.std.specs.Prelude.{option_map, slice_get};
+ghost use Rattle.std.specs.Prelude.{is_some, option_map, slice_get};
 ghost use Rattle.std.specs.Ordering.{nat_cmp};
 ghost use Rattle.amr_labels.specs.Labels.{label_set_cmp};
 ghost use Rattle.amr_config.specs.Groups.{groups_of};
@@ -12,6 +12,7 @@ ghost use Rattle.amr_labels.specs.Map.{len};
 ghost use Rattle.amr_tables.specs.Numbered.{shown};
 ghost use Rattle.amr_tables.specs.Queued.{in_order};
 ghost use Rattle.amr_time.specs.Time.{latest_read};
+ghost use Rattle.amr_rules.specs.Muting.{is_silenced, silencer_of};
 ghost use Rattle.amr_state.specs.State.{start, members, spot_cmp, log_key_cmp};
 ghost use Rattle.amr_state.specs.Dues.{due_cmp, dues};
 ghost use Rattle.amr_state.specs.Kept.{GrownBy, undone};
@@ -22,6 +23,7 @@ use crate::due::Due;
 use crate::members::Member;
 use crate::note::{Clock, LogKey, Note};
 use crate::roster::Roster;
+use crate::silence_table::SilenceTable;
 use crate::spot::{Spot, TimedGroup};
 use crate::tables::Tables;
 use crate::timetable::Timetable;
@@ -77,7 +79,7 @@ impl Store {
             moment: Moment::START,
             tables: Tables {
                 timetable: Timetable::new(alloc),
-                silences: Keyed::new(alloc),
+                silences: SilenceTable::new(alloc),
                 roster: Roster::new(alloc, config),
                 log: Keyed::new(alloc),
                 is_moment_entered: false,
@@ -133,7 +135,7 @@ impl Store {
             Displaced::WasMoment(was) => self.moment = was,
             Displaced::WasConfig(was) => drop(self.tables.roster.replace_config(was)),
             Displaced::WasAlert(labels, was) => self.tables.timetable.put_back_alert(labels, was),
-            Displaced::WasSilence(id, was) => drop(self.tables.silences.displace(&id, was)),
+            Displaced::WasSilence(id, was) => self.tables.silences.put_back(&id, was),
             Displaced::WasPlacement(member, was) => self.tables.roster.put_back_member(member, was),
             Displaced::WasClock(group, was) => self.tables.timetable.put_back_clock(group, was),
             Displaced::WasLogged(key, was) => drop(self.tables.log.displace(&key, was)),
@@ -207,7 +209,27 @@ impl Store {
     pub fn silences(&self) -> &Keyed<SilenceId, Silence>
         ensures { shown nat_cmp result.now ≡ self.now.state.silences }
     {
-        &self.tables.silences
+        self.tables.silences.silences()
+    }
+
+    /// Returns the least id of a silence that mutes labels at a moment, or `None` if no silence
+    /// does.
+    pub fn silenced_by(&self, at: Moment, labels: &Labels) -> Result<Option<SilenceId>, AllocError>
+        ensures named { IfOk result (λ found. found
+            ≡ silencer_of at labels.now self.now.state.silences) }
+        ensures exactly { IfOk result (λ found. is_silenced self.now.state.silences at labels.now
+            ≡ is_some found) }
+    {
+        self.tables.silences.silenced_by(at, labels)
+    }
+
+    /// Works out when silences that match labels are active, so that `silenced_by` needn't ask
+    /// their matchers at this moment or later. It does so once for each label set until a silence
+    /// changes.
+    pub fn learn_silences(&mut self, at: Moment, labels: &Labels) -> Result<(), AllocError>
+        ensures same { self.new ≡ self.old }
+    {
+        self.tables.silences.learn(at, labels)
     }
 
     /// Returns the members of all groups, by route and labels.
@@ -443,7 +465,10 @@ impl Store {
         ensures kept { undone self.new ≡ undone self.old }
         ensures grown { GrownBy 1 self.old self.new }
     {
-        let entry = change(&mut self.tables.silences, &mut self.journal, &id, silence)?;
+        let entry = self
+            .tables
+            .silences
+            .change(&mut self.journal, &id, silence)?;
         if let Some((_, was)) = entry {
             self.journal.push(Displaced::WasSilence(id, was));
         }

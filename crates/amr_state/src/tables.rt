@@ -4,9 +4,9 @@ ghost use Rattle.amr_state.specs.Stored.{SameValues, MorePlaces, IsUnmarked};
 
 use crate::note::LogKey;
 use crate::roster::Roster;
+use crate::silence_table::SilenceTable;
 use crate::timetable::Timetable;
-use amr_events::SilenceId;
-use amr_rules::{LogEntry, Silence};
+use amr_rules::LogEntry;
 use amr_tables::Keyed;
 
 /// The tables of the state. Each table marks the places that the open record has an entry for. The
@@ -15,7 +15,7 @@ use amr_tables::Keyed;
 #[derive(Drop)]
 pub(crate) struct Tables {
     pub(crate) timetable: Timetable,
-    pub(crate) silences: Keyed<SilenceId, Silence>,
+    pub(crate) silences: SilenceTable,
     pub(crate) roster: Roster,
     pub(crate) log: Keyed<LogKey, LogEntry>,
     pub(crate) is_moment_entered: bool,

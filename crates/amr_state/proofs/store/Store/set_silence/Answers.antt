@@ -13,7 +13,7 @@ use Rattle.amr_state.proofs.store.Store.set_silence.Goals as goal
 pub invariant_of-self-in-Some : goal.invariant_of-self-in-Some
 invariant_of-self-in-Some c =
     let a = c.self.inside in
-    let t = c.change.new.table in
+    let t = c.change.new.self in
     let b : Inside = record a { tables = record a.tables { silences = t }; journal = c.push.new.self } in
     let e : Displaced = WasSilence c.args.id c.in-Some.was in
     let pushed : c.push.new.self.current ≡ c.change.new.journal.current ++ e ∷ [] = c.push.ensures.current in
@@ -25,7 +25,7 @@ invariant_of-self-in-Some c =
 pub invariant_of-self : goal.invariant_of-self
 invariant_of-self c =
     let a = c.self.inside in
-    let t = c.change.new.table in
+    let t = c.change.new.self in
     let b : Inside = record a { tables = record a.tables { silences = t }; journal = c.change.new.journal } in
     kept_grown a b c.self.invariant (record { alerts = λ k h. h; silences = c.change.ensures.places; placements = λ k h. h; clocks = λ k h. h; log = λ k h. h }) refl c.change.ensures.closed c.change.ensures.current
     (by_place (NoNewMark a.tables b.tables) (λ x h. h) (λ x h. h) (λ k v h. h) (λ q w h. subst IsTrue (c.in_err-entry.ensures.err.1 q) h) (λ k v h. h) (λ k v h. h) (λ k v h. h) (λ x h. h)) refl (fits_alike a b c.change.ensures.closed c.change.ensures.current (refl, refl) c.self.invariant.fits)
@@ -33,7 +33,7 @@ invariant_of-self c =
 pub invariant_of-self-in_default : goal.invariant_of-self-in_default
 invariant_of-self-in_default c =
     let a = c.self.inside in
-    let t = c.change.new.table in
+    let t = c.change.new.self in
     let b : Inside = record a { tables = record a.tables { silences = t }; journal = c.change.new.journal } in
     let marked = entry_of-none nat_cmp a.tables.silences c.args.id (taken _ c.in_default.not-Some ∙ c.in_ok-entry.ensures.entry) in
     kept_grown a b c.self.invariant (record { alerts = λ k h. h; silences = c.change.ensures.places; placements = λ k h. h; clocks = λ k h. h; log = λ k h. h }) refl c.change.ensures.closed c.change.ensures.current
@@ -42,7 +42,7 @@ invariant_of-self-in_default c =
 pub returns-in-Some-clause-kept : goal.returns-in-Some-clause-kept
 returns-in-Some-clause-kept c =
     let a = c.self.inside in
-    let b : Inside = record a { tables = record a.tables { silences = c.change.new.table }; journal = c.push.new.self } in
+    let b : Inside = record a { tables = record a.tables { silences = c.change.new.self }; journal = c.push.new.self } in
     let change : Displaced = WasSilence c.args.id c.args.silence in
     let e : Displaced = WasSilence c.args.id c.in-Some.was in
     let is = entry_of-some nat_cmp a.tables.silences c.args.id _ (sym c.in-Some.is ∙ c.in_ok-entry.ensures.entry) in
@@ -54,7 +54,7 @@ returns-in-Some-clause-kept c =
 pub returns-in_default-clause-kept : goal.returns-in_default-clause-kept
 returns-in_default-clause-kept c =
     let a = c.self.inside in
-    let b : Inside = record a { tables = record a.tables { silences = c.change.new.table }; journal = c.change.new.journal } in
+    let b : Inside = record a { tables = record a.tables { silences = c.change.new.self }; journal = c.change.new.journal } in
     let change : Displaced = WasSilence c.args.id c.args.silence in
     let marked = entry_of-none nat_cmp a.tables.silences c.args.id (taken _ c.in_default.not-Some ∙ c.in_ok-entry.ensures.entry) in
     undone_covered a b change c.self.invariant tt marked (ap (λ m. record (state_of a) { silences = m }) c.in_ok-entry.ensures.shown) c.change.ensures.current c.change.ensures.closed c.change.ensures.record_room

@@ -93,26 +93,26 @@ returns-in-WasAlert-clause-kept c =
     c.in-WasAlert.ensures.current c.in-WasAlert.ensures.closed c.in-WasAlert.ensures.records
     ∙ ap undone c.self.view_is
 
-pub displace-requires : goal.displace-requires
-displace-requires c = c.clear_entered.ensures.places.silences c.in-WasSilence.id (last_is_sound c.self.inside c.pop.new.self.current (WasSilence c.in-WasSilence.id c.in-WasSilence.was) c.self.invariant c.in-WasSilence.ensures.current)
+pub put_back-requires : goal.put_back-requires
+put_back-requires c = c.clear_entered.ensures.places.silences c.in-WasSilence.id (last_is_sound c.self.inside c.pop.new.self.current (WasSilence c.in-WasSilence.id c.in-WasSilence.was) c.self.invariant c.in-WasSilence.ensures.current)
 
 pub invariant_of-self-in-WasSilence : goal.invariant_of-self-in-WasSilence
 invariant_of-self-in-WasSilence c =
     let a = c.self.inside in
     let m = c.clear_entered.new.self in
-    let b : Inside = record a { tables = record m { silences = c.displace.new.self }; journal = c.pop.new.self } in
+    let b : Inside = record a { tables = record m { silences = c.put_back.new.self }; journal = c.pop.new.self } in
     let e : Displaced = WasSilence c.in-WasSilence.id c.in-WasSilence.was in
-    kept_popped a b e c.self.invariant (record { alerts = c.clear_entered.ensures.places.alerts; silences = λ k h. subst IsTrue (sym (c.displace.ensures.places k)) (c.clear_entered.ensures.places.silences k h); placements = c.clear_entered.ensures.places.placements; clocks = c.clear_entered.ensures.places.clocks; log = c.clear_entered.ensures.places.log })
-    (by_place _ (λ x. c.clear_entered.ensures.marks (WasMoment x)) (λ x. c.clear_entered.ensures.marks (WasConfig x)) (λ k v. c.clear_entered.ensures.marks (WasAlert k v)) (λ k v. c.displace.ensures.entered k ∙ c.clear_entered.ensures.marks (WasSilence k v)) (λ k v. c.clear_entered.ensures.marks (WasPlacement k v)) (λ k v. c.clear_entered.ensures.marks (WasClock k v)) (λ k v. c.clear_entered.ensures.marks (WasLogged k v)) (λ x. c.clear_entered.ensures.marks (WasNotes x)))
+    kept_popped a b e c.self.invariant (record { alerts = c.clear_entered.ensures.places.alerts; silences = λ k h. subst IsTrue (sym (c.put_back.ensures.places k)) (c.clear_entered.ensures.places.silences k h); placements = c.clear_entered.ensures.places.placements; clocks = c.clear_entered.ensures.places.clocks; log = c.clear_entered.ensures.places.log })
+    (by_place _ (λ x. c.clear_entered.ensures.marks (WasMoment x)) (λ x. c.clear_entered.ensures.marks (WasConfig x)) (λ k v. c.clear_entered.ensures.marks (WasAlert k v)) (λ k v. c.put_back.ensures.entered k ∙ c.clear_entered.ensures.marks (WasSilence k v)) (λ k v. c.clear_entered.ensures.marks (WasPlacement k v)) (λ k v. c.clear_entered.ensures.marks (WasClock k v)) (λ k v. c.clear_entered.ensures.marks (WasLogged k v)) (λ x. c.clear_entered.ensures.marks (WasNotes x)))
     c.self.invariant.moment c.in-WasSilence.ensures.closed c.in-WasSilence.ensures.current (sym c.clear_entered.ensures.values.config, sym c.clear_entered.ensures.values.placements)
 
 pub returns-in-WasSilence-clause-kept : goal.returns-in-WasSilence-clause-kept
 returns-in-WasSilence-clause-kept c =
     let a = c.self.inside in
     let m = c.clear_entered.new.self in
-    let b : Inside = record a { tables = record m { silences = c.displace.new.self }; journal = c.pop.new.self } in
+    let b : Inside = record a { tables = record m { silences = c.put_back.new.self }; journal = c.pop.new.self } in
     let e : Displaced = WasSilence c.in-WasSilence.id c.in-WasSilence.was in
-    undone_popped a b e (λ i. record (state_of a) { config = c.clear_entered.ensures.values.config i; alerts = c.clear_entered.ensures.values.alerts i; silences = (c.displace.ensures.shown ∙ ap (λ x. map.set x c.in-WasSilence.id c.in-WasSilence.was) c.clear_entered.ensures.values.silences) i; placements = c.clear_entered.ensures.values.placements i; clocks = c.clear_entered.ensures.values.clocks i; log = c.clear_entered.ensures.values.log i })
+    undone_popped a b e (λ i. record (state_of a) { config = c.clear_entered.ensures.values.config i; alerts = c.clear_entered.ensures.values.alerts i; silences = (c.put_back.ensures.shown ∙ ap (λ x. map.set x c.in-WasSilence.id c.in-WasSilence.was) c.clear_entered.ensures.values.silences) i; placements = c.clear_entered.ensures.values.placements i; clocks = c.clear_entered.ensures.values.clocks i; log = c.clear_entered.ensures.values.log i })
     c.in-WasSilence.ensures.current c.in-WasSilence.ensures.closed c.in-WasSilence.ensures.records
     ∙ ap undone c.self.view_is
 
@@ -168,25 +168,25 @@ returns-in-WasClock-clause-kept c =
     c.in-WasClock.ensures.current c.in-WasClock.ensures.closed c.in-WasClock.ensures.records
     ∙ ap undone c.self.view_is
 
-pub displace-requires-in-WasLogged : goal.displace-requires-in-WasLogged
-displace-requires-in-WasLogged c = c.clear_entered.ensures.places.log c.in-WasLogged.key (last_is_sound c.self.inside c.pop.new.self.current (WasLogged c.in-WasLogged.key c.in-WasLogged.was) c.self.invariant c.in-WasLogged.ensures.current)
+pub displace-requires : goal.displace-requires
+displace-requires c = c.clear_entered.ensures.places.log c.in-WasLogged.key (last_is_sound c.self.inside c.pop.new.self.current (WasLogged c.in-WasLogged.key c.in-WasLogged.was) c.self.invariant c.in-WasLogged.ensures.current)
 
 pub invariant_of-self-in-WasLogged : goal.invariant_of-self-in-WasLogged
 invariant_of-self-in-WasLogged c =
     let a = c.self.inside in
     let m = c.clear_entered.new.self in
-    let b : Inside = record a { tables = record m { log = c.displace-in-WasLogged.new.self }; journal = c.pop.new.self } in
+    let b : Inside = record a { tables = record m { log = c.displace.new.self }; journal = c.pop.new.self } in
     let e : Displaced = WasLogged c.in-WasLogged.key c.in-WasLogged.was in
-    kept_popped a b e c.self.invariant (record { alerts = c.clear_entered.ensures.places.alerts; silences = c.clear_entered.ensures.places.silences; placements = c.clear_entered.ensures.places.placements; clocks = c.clear_entered.ensures.places.clocks; log = λ k h. subst IsTrue (sym (c.displace-in-WasLogged.ensures.places k)) (c.clear_entered.ensures.places.log k h) })
-    (by_place _ (λ x. c.clear_entered.ensures.marks (WasMoment x)) (λ x. c.clear_entered.ensures.marks (WasConfig x)) (λ k v. c.clear_entered.ensures.marks (WasAlert k v)) (λ k v. c.clear_entered.ensures.marks (WasSilence k v)) (λ k v. c.clear_entered.ensures.marks (WasPlacement k v)) (λ k v. c.clear_entered.ensures.marks (WasClock k v)) (λ k v. c.displace-in-WasLogged.ensures.entered k ∙ c.clear_entered.ensures.marks (WasLogged k v)) (λ x. c.clear_entered.ensures.marks (WasNotes x)))
+    kept_popped a b e c.self.invariant (record { alerts = c.clear_entered.ensures.places.alerts; silences = c.clear_entered.ensures.places.silences; placements = c.clear_entered.ensures.places.placements; clocks = c.clear_entered.ensures.places.clocks; log = λ k h. subst IsTrue (sym (c.displace.ensures.places k)) (c.clear_entered.ensures.places.log k h) })
+    (by_place _ (λ x. c.clear_entered.ensures.marks (WasMoment x)) (λ x. c.clear_entered.ensures.marks (WasConfig x)) (λ k v. c.clear_entered.ensures.marks (WasAlert k v)) (λ k v. c.clear_entered.ensures.marks (WasSilence k v)) (λ k v. c.clear_entered.ensures.marks (WasPlacement k v)) (λ k v. c.clear_entered.ensures.marks (WasClock k v)) (λ k v. c.displace.ensures.entered k ∙ c.clear_entered.ensures.marks (WasLogged k v)) (λ x. c.clear_entered.ensures.marks (WasNotes x)))
     c.self.invariant.moment c.in-WasLogged.ensures.closed c.in-WasLogged.ensures.current (sym c.clear_entered.ensures.values.config, sym c.clear_entered.ensures.values.placements)
 
 pub returns-in-WasLogged-clause-kept : goal.returns-in-WasLogged-clause-kept
 returns-in-WasLogged-clause-kept c =
     let a = c.self.inside in
     let m = c.clear_entered.new.self in
-    let b : Inside = record a { tables = record m { log = c.displace-in-WasLogged.new.self }; journal = c.pop.new.self } in
+    let b : Inside = record a { tables = record m { log = c.displace.new.self }; journal = c.pop.new.self } in
     let e : Displaced = WasLogged c.in-WasLogged.key c.in-WasLogged.was in
-    undone_popped a b e (λ i. record (state_of a) { config = c.clear_entered.ensures.values.config i; alerts = c.clear_entered.ensures.values.alerts i; silences = c.clear_entered.ensures.values.silences i; placements = c.clear_entered.ensures.values.placements i; clocks = c.clear_entered.ensures.values.clocks i; log = (c.displace-in-WasLogged.ensures.shown ∙ ap (λ x. map.set x c.in-WasLogged.key c.in-WasLogged.was) c.clear_entered.ensures.values.log) i })
+    undone_popped a b e (λ i. record (state_of a) { config = c.clear_entered.ensures.values.config i; alerts = c.clear_entered.ensures.values.alerts i; silences = c.clear_entered.ensures.values.silences i; placements = c.clear_entered.ensures.values.placements i; clocks = c.clear_entered.ensures.values.clocks i; log = (c.displace.ensures.shown ∙ ap (λ x. map.set x c.in-WasLogged.key c.in-WasLogged.was) c.clear_entered.ensures.values.log) i })
     c.in-WasLogged.ensures.current c.in-WasLogged.ensures.closed c.in-WasLogged.ensures.records
     ∙ ap undone c.self.view_is

@@ -1,0 +1,91 @@
+//! The silences that match one label set, worked out once for all moments from one on. The state
+//! remembers them, so that a flush doesn't ask the matchers of every silence again.
+ghost use Rattle.std.specs.Prelude.{◌≡◌, ◌≤◌, IfOk};
+ghost use Rattle.std.specs.Ordering.{nat_cmp};
+ghost use Rattle.amr_labels.specs.Labels.{LabelSet};
+ghost use Rattle.amr_tables.specs.Numbered.{shown};
+ghost use Rattle.amr_time.specs.Time.{Moment};
+ghost use Rattle.amr_rules.specs.Muting.{silencer_of};
+ghost use Rattle.amr_rules.specs.Silences.{Silences};
+
+use crate::silence::Silence;
+use amr_events::SilenceId;
+use amr_labels::{Labels, Listing};
+use amr_tables::Keyed;
+use amr_time::Moment;
+use std::alloc::{AllocError, Global};
+
+/// When a silence is active.
+#[derive(Clone, Copy)]
+pub struct SilencePeriod {
+    pub id: SilenceId,
+    pub starts_at: Moment,
+    /// The end of the silence. It is expired from this moment on.
+    pub ends_at: Moment,
+}
+
+ghost use Rattle.amr_rules.specs.SilencePeriods.{may_silence, covers, silence_periods, silenced_in};
+
+impl SilencePeriod {
+    /// Returns whether the silence is active at a moment.
+    fn covers(&self, moment: Moment) -> bool
+        ensures { result ≡ covers moment self.now }
+    {
+        self.starts_at <= moment && moment < self.ends_at
+    }
+}
+
+/// Lists the silences that match labels and aren't expired at a moment, with their periods, in the
+/// order of their ids.
+pub fn silence_periods(
+    alloc: Global,
+    silences: &Keyed<SilenceId, Silence>,
+    from: Moment,
+    labels: &Labels,
+) -> Result<Listing<SilencePeriod>, AllocError>
+    ensures { IfOk result (λ periods. periods
+        ≡ silence_periods from labels.now (shown nat_cmp silences.now)) }
+{
+    let mut periods = Listing::new(alloc);
+    for (id, silence) in silences.iter() {
+        if may_silence(alloc, from, silence, labels)? {
+            periods.push(SilencePeriod {
+                id: *id,
+                starts_at: silence.starts_at,
+                ends_at: silence.ends_at,
+            })?;
+        }
+    }
+    Ok(periods)
+}
+
+/// Returns whether a silence matches labels and isn't expired at a moment.
+fn may_silence(
+    alloc: Global,
+    from: Moment,
+    silence: &Silence,
+    labels: &Labels,
+) -> Result<bool, AllocError>
+    ensures { IfOk result (λ may. may ≡ may_silence from labels.now silence.now) }
+{
+    if silence.is_expired_at(from) {
+        return Ok(false);
+    }
+    silence.matchers.matches_all(alloc, labels)
+}
+
+/// Returns the id of the first of these periods that a moment is in. That is the silence that mutes
+/// the labels for which `silence_periods` listed them, at this moment or before.
+pub fn silenced_in(now: Moment, periods: &[SilencePeriod]) -> Option<SilenceId>
+    ensures first { result ≡ silenced_in now periods.now }
+    ensures silencer { (from : Moment) (labels : LabelSet) (silences : Silences) → from ≤ now
+        → periods.now ≡ silence_periods from labels silences
+        → result ≡ silencer_of now labels silences }
+{
+    for period in periods {
+        if period.covers(now) {
+            return Some(period.id);
+        }
+    }
+    None
+}

@@ -1,0 +1,173 @@
+//! The silences by id, with what is known of the label sets that flushes asked about: the periods
+//! of the silences that match them. `store.rt` changes the table and asks it which silence mutes.
+ghost use Rattle.std.specs.Prelude.{◌≡◌, ◌<◌, IsTrue, [], is_some, OnOk, OnErr, IfOk, IfSome};
+ghost use Rattle.std.specs.Ordering.{nat_cmp};
+ghost use Rattle.amr_labels.specs.Map as map;
+ghost use Rattle.amr_rules.specs.Muting.{is_silenced, silencer_of};
+ghost use Rattle.amr_rules.specs.SilencePeriods.{silenced_in};
+ghost use Rattle.amr_tables.specs.Numbered.{shown, has_place, entry_of, Enters, GrowsBy, KeepsPlaces, SamePlaces, SameEntered, NoneEntered, IsUnchanged, HasPlaces, places_for};
+
+use amr_events::SilenceId;
+use amr_labels::{Labels, Listing};
+use amr_rules::{Silence, SilencePeriod, silence_periods, silenced_by, silenced_in};
+use amr_tables::{Journal, Keyed, change};
+use amr_time::Moment;
+use std::alloc::{AllocError, Global};
+use std::collections::BTreeMap;
+use std::marker::Model;
+
+/// The silences by id. It remembers of label sets when silences that match them are active, and
+/// forgets all of that if a silence changes.
+#[derive(Drop)]
+pub(crate) struct SilenceTable {
+    alloc: Global,
+    silences: Keyed<SilenceId, Silence>,
+    known: BTreeMap<Labels, KnownPeriods>,
+}
+
+/// When silences that match a label set are active, from a moment on.
+#[derive(Drop)]
+pub(crate) struct KnownPeriods {
+    /// The moment from which on the periods are complete. Silences that were expired by then are
+    /// left out.
+    pub(crate) from: Moment,
+    pub(crate) periods: Listing<SilencePeriod>,
+}
+
+impl Model for SilenceTable {
+    ghost use Rattle.std.specs.Prelude.{ℕ};
+    ghost use Rattle.std.specs.Coded.{codes};
+    ghost use Rattle.amr_labels.specs.Map as map;
+    ghost use Rattle.amr_rules.specs.declared.silence.Silence.{Silence};
+    ghost use Rattle.amr_tables.specs.Numbered.{Numbered};
+    ghost use Rattle.amr_state.specs.SilencesKnown.{AreKnown};
+
+    ghost Value = { Numbered ℕ Silence };
+
+    ghost coded = { Prim.hlevel (codes, map.code) };
+
+    ghost view = { λ t. t.silences };
+
+    ghost invariant = { λ t. AreKnown t.silences t.known };
+}
+
+impl SilenceTable {
+    /// Builds a table without silences.
+    pub(crate) fn new(alloc: Global) -> SilenceTable
+        ensures shown { shown nat_cmp result ≡ map.empty }
+        ensures entered { NoneEntered nat_cmp result }
+        ensures keys { result.numbers ≡ [] }
+        ensures enough { HasPlaces nat_cmp result }
+    {
+        SilenceTable {
+            alloc,
+            silences: Keyed::new(alloc),
+            known: BTreeMap::new(alloc),
+        }
+    }
+
+    /// Returns the silences by id.
+    pub(crate) fn silences(&self) -> &Keyed<SilenceId, Silence>
+        ensures { result.now ≡ self.now }
+    {
+        &self.silences
+    }
+
+    /// Returns the least id of a silence that mutes labels at a moment, or `None` if no silence
+    /// does. It asks the silences' matchers only for labels of which it knows nothing.
+    pub(crate) fn silenced_by(
+        &self,
+        at: Moment,
+        labels: &Labels,
+    ) -> Result<Option<SilenceId>, AllocError>
+        ensures named { IfOk result (λ found. found
+            ≡ silencer_of at labels.now (shown nat_cmp self.now)) }
+        ensures exactly { IfOk result (λ found. is_silenced (shown nat_cmp self.now) at labels.now
+            ≡ is_some found) }
+    {
+        match self.periods(at, labels) {
+            Some(periods) => Ok(silenced_in(at, periods)),
+            None => silenced_by(self.alloc, &self.silences, at, labels),
+        }
+    }
+
+    /// Works out when silences that match labels are active from a moment on, and remembers it.
+    /// Does nothing if that is known, or if no silence is stored.
+    pub(crate) fn learn(&mut self, at: Moment, labels: &Labels) -> Result<(), AllocError>
+        ensures { self.new ≡ self.old }
+    {
+        if self.silences.iter().next().is_none() || self.periods(at, labels).is_some() {
+            return Ok(());
+        }
+        let periods = silence_periods(self.alloc, &self.silences, at, labels)?;
+        let known = KnownPeriods { from: at, periods };
+        self.known.insert(labels.clone()?, known)?;
+        Ok(())
+    }
+
+    /// Returns what is known of labels, if it reaches back to a moment: when the silences that
+    /// match them are active.
+    fn periods(&self, at: Moment, labels: &Labels) -> Option<&[SilencePeriod]>
+        ensures { IfSome result (λ periods. silenced_in at periods.now
+            ≡ silencer_of at labels.now (shown nat_cmp self.now)) }
+    {
+        let known = self.known.get(labels)?;
+        if at < known.from {
+            return None;
+        }
+        Some(known.periods.as_slice())
+    }
+
+    /// Clears the marks of all places, so that the open record takes their next change again. It
+    /// takes no memory.
+    pub(crate) fn clear_entered(&mut self)
+        ensures entered { NoneEntered nat_cmp self.new }
+        ensures shown { shown nat_cmp self.new ≡ shown nat_cmp self.old }
+        ensures places { SamePlaces nat_cmp self.old self.new }
+        ensures keys { self.new.numbers ≡ self.old.numbers }
+    {
+        self.silences.clear_entered();
+    }
+
+    /// Sets or removes the silence with this id. It makes a place for it and marks the place as
+    /// entered, if need be. Returns the entry that the open record needs, and leaves room for it
+    /// there. If memory runs out, no silence changes.
+    pub(crate) fn change<E>(
+        &mut self,
+        journal: &mut Journal<E>,
+        id: &SilenceId,
+        silence: Option<Silence>,
+    ) -> Result<Option<(SilenceId, Option<Silence>)>, AllocError>
+        ensures entry { IfOk result (λ entry. entry ≡ entry_of nat_cmp self.old id.now) }
+        ensures shown { OnOk result (shown nat_cmp self.new
+            ≡ map.set (shown nat_cmp self.old) id.now silence) }
+        ensures entered { OnOk result (Enters nat_cmp self.old self.new id.now) }
+        ensures made { OnOk result (IsTrue (has_place nat_cmp self.new id.now)) }
+        ensures err { OnErr result (IsUnchanged nat_cmp self.old self.new) }
+        ensures keys { GrowsBy nat_cmp
+            (places_for nat_cmp self.old id.now) self.old self.new }
+        ensures enough { OnOk result (HasPlaces nat_cmp self.new) }
+        ensures places { KeepsPlaces nat_cmp self.old self.new }
+        ensures room { IfOk result (λ entry. IsTrue (is_some entry) → 0 < journal.new.entry_room) }
+        ensures closed { journal.new.closed ≡ journal.old.closed }
+        ensures current { journal.new.current ≡ journal.old.current }
+        ensures record_room { journal.new.record_room ≡ journal.old.record_room }
+    {
+        self.known.clear();
+        change(&mut self.silences, journal, id, silence)
+    }
+
+    /// Restores the silence with this id, or its absence, and drops the present one. It takes no
+    /// memory.
+    pub(crate) fn put_back(&mut self, id: &SilenceId, silence: Option<Silence>)
+        requires { IsTrue (has_place nat_cmp self.old id.now) }
+        ensures shown { shown nat_cmp self.new ≡ map.set (shown nat_cmp self.old) id.now silence }
+        ensures places { SamePlaces nat_cmp self.old self.new }
+        ensures entered { SameEntered nat_cmp self.old self.new }
+        ensures keys { self.new.numbers ≡ self.old.numbers }
+        ensures enough { HasPlaces nat_cmp self.new }
+    {
+        self.known.clear();
+        drop(self.silences.displace(id, silence));
+    }
+}
