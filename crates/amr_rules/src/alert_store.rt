@@ -30,6 +30,10 @@ pub trait AlertStore {
         requires { is_empty value.now ≡ false }
         ensures { IfOk result (λ found. map deref_pair found.items
             ≡ with_pair name.now value.now (alerts self.now)) };
+
+    /// Returns about how many alerts `with_pair` looks at. Inhibition asks by the label with the
+    /// least count. That decides only how long it takes, so no contract depends on the count.
+    fn count_with_pair(&self, name: &Text, value: &Text) -> usize;
 }
 
 /// Returns whether a label has a value, an absent label being empty.

@@ -1,15 +1,15 @@
 //! Muting: inhibition rules and silences. The stages of a flush and `explain` call `inhibited_by`
 //! and `silenced_by`; both return what mutes, so that an explanation can name it.
-ghost use Rattle.std.specs.Prelude.{◌≡◌, true, false, map, option_map, IfOk, IfSome, is_some};
+ghost use Rattle.std.specs.Prelude.{◌≡◌, true, map, not, IfOk, IfSome, is_some};
 ghost use Rattle.std.specs.Option.{option_copied};
 ghost use Rattle.std.specs.Ordering.{nat_cmp};
 ghost use Rattle.std.specs.Map.Iter.{deref_pair};
-ghost use Rattle.amr_labels.specs.Labels.{is_empty};
+ghost use Rattle.amr_labels.specs.Labels.{is_empty, value_of};
 ghost use Rattle.amr_matchers.specs.Matchers.{all_hold};
 ghost use Rattle.amr_config.specs.RuleMatches.{rule_match, rule_matches};
 ghost use Rattle.amr_tables.specs.Numbered.{shown};
 ghost use Rattle.amr_config.specs.Config.{Config};
-ghost use Rattle.amr_rules.specs.Muting.{agree_on, sharing, first_label, first_source, rule_mutes, inhibits, is_inhibited, inhibitor_by, inhibition_from, silences_labels, is_silenced, silencer_of};
+ghost use Rattle.amr_rules.specs.Muting.{agree_on, first_source, has_some_label, SharesLabel, ListsSources, rule_mutes, inhibits, is_inhibited, inhibitor_by, inhibition_from, silences_labels, is_silenced, silencer_of};
 
 use crate::alert::Alert;
 use crate::alert_store::{AlertStore, has_value};
@@ -102,35 +102,56 @@ fn inhibitor_by<'a, A: AlertStore>(
 }
 
 /// Lists the stored alerts that may mute a target by a rule. A source has to agree with the target
-/// on the labels in `equal`, so those that have another value at the first of them are left out.
+/// on the labels in `equal`, so only those that share the rarest of them are listed.
 fn possible_sources<'a, A: AlertStore>(
     alloc: Global,
     target: &Labels,
     alerts: &'a A,
     rule: &InhibitRule,
 ) -> Result<Vec<(&'a Labels, &'a Alert)>, AllocError>
-    ensures { IfOk result (λ found. map deref_pair found.items
-        ≡ sharing (first_label rule.now.equal target.now) (A.alerts alerts.now)) }
+    ensures { IfOk result (λ found. ListsSources rule.now target.now (A.alerts alerts.now)
+        (map deref_pair found.items)) }
 {
-    match first_label(rule.equal.as_slice(), target) {
+    match rarest_label(rule.equal.as_slice(), target, alerts) {
         Some((name, value)) => alerts.with_pair(alloc, name, value),
         None => alerts.all(alloc),
     }
 }
 
-/// Returns the first of these labels that has a value in a label set, with the value.
-fn first_label<'a>(names: &'a [Text], labels: &'a Labels) -> Option<(&'a Text, &'a Text)>
-    ensures label { option_map deref_pair result ≡ first_label names.now labels.now }
-    ensures value { IfSome result (λ label. is_empty label.1.now ≡ false) }
+/// Returns the label that the fewest alerts have, among those of these names that have a value in a
+/// label set. The count of alerts is not part of the contract.
+fn rarest_label<'a, A: AlertStore>(
+    names: &'a [Text],
+    labels: &'a Labels,
+    alerts: &A,
+) -> Option<(&'a Text, &'a Text)>
+    ensures shared { IfSome result (λ label. SharesLabel names.now labels.now (deref_pair label)) }
+    ensures some { is_some result ≡ has_some_label names.now labels.now }
 {
+    let mut rarest = None;
+    let mut fewest = usize::MAX;
     for name in names {
-        if let Some(value) = labels.get(name.as_str()) {
-            if !value.is_empty() {
-                return Some((name, value));
-            }
+        let Some(value) = filled_value(labels, name) else {
+            continue;
+        };
+        let count = alerts.count_with_pair(name, value);
+        if rarest.is_none() || count < fewest {
+            rarest = Some((name, value));
+            fewest = count;
         }
     }
-    None
+    rarest
+}
+
+/// Returns the value of a label, unless it is empty.
+fn filled_value<'a>(labels: &'a Labels, name: &Text) -> Option<&'a Text>
+    ensures value { IfSome result (λ value. value.now ≡ value_of labels.now name.now) }
+    ensures filled { is_some result ≡ not (is_empty (value_of labels.now name.now)) }
+{
+    match labels.get(name.as_str()) {
+        Some(value) if !value.is_empty() => Some(value),
+        _ => None,
+    }
 }
 
 /// Returns the labels of the first of these alerts that mutes a target that the rule's target

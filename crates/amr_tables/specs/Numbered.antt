@@ -29,6 +29,10 @@ module _ {K V : Type 0} where
   abbrev pub entry_at : List (Option V) → K × ℕ → Option (K × V)
   entry_at cells key = option_map (λ value. (key.0, value)) (value_at cells key.1)
 
+  -- the number that the next new key gets
+  abbrev pub next_number : Numbered K V → ℕ
+  next_number t = length t.cells
+
   module _ (R : K → K → Ordering) where
     -- the number of a key
     abbrev pub number_of : Numbered K V → K → Option ℕ
@@ -58,6 +62,14 @@ module _ {K V : Type 0} where
     -- the key has a place, and so has each key that had one before
     abbrev pub GetsPlace : Numbered K V → Numbered K V → K → Type 0
     GetsPlace old changed key = (other : K) → has_place changed other ≡ (eq_by_cmp R other key || has_place old other)
+
+    -- the key gets this number, and each other key keeps its own
+    abbrev pub GetsNumber : Numbered K V → Numbered K V → K → ℕ → Type 0
+    GetsNumber old changed key n = (other : K) → number_of changed other ≡ (if eq_by_cmp R other key then Some n else number_of old other)
+
+    -- the value is that of the key with this number
+    abbrev pub IsValueOf : Numbered K V → ℕ → Option V → Type 0
+    IsValueOf t n value = (key : K) → number_of t key ≡ Some n → value ≡ get (shown t) key
 
     -- the same keys have places
     abbrev pub SamePlaces : Numbered K V → Numbered K V → Type 0

@@ -5,7 +5,8 @@ ghost use Rattle.std.specs.Prelude.{◌≡◌, [], IsTrue, Option, is_some, fals
 ghost use Rattle.std.specs.Option.{option_copied};
 ghost use Rattle.std.specs.FinMap.{IsAntisymmetric};
 ghost use Rattle.amr_labels.specs.Map as map;
-ghost use Rattle.amr_tables.specs.Numbered.{shown, has_place, is_entered, entry_of, Enters, KeepsPlaces, GetsPlace, SamePlaces, SameEntered, NoneEntered, IsUnchanged, GrowsBy, HasPlaces, places_for};
+ghost use Rattle.amr_tables.specs.Places.{value_at};
+ghost use Rattle.amr_tables.specs.Numbered.{shown, has_place, is_entered, entry_of, next_number, Enters, KeepsPlaces, GetsPlace, GetsNumber, IsValueOf, SamePlaces, SameEntered, NoneEntered, IsUnchanged, GrowsBy, HasPlaces, places_for};
 
 use crate::entries::Entries;
 use crate::journal::Journal;
@@ -92,6 +93,21 @@ impl<K: Key + Drop, V: Drop> Keyed<K, V> {
         self.numbers.contains_key(key)
     }
 
+    /// Returns the number that the next new key gets.
+    pub fn next_number(&self) -> usize
+        ensures { result ≡ next_number self.now }
+    {
+        self.slots.len()
+    }
+
+    /// Returns the value at a place. It compares no keys, so it is faster than `get`.
+    pub fn at(&self, number: usize) -> Option<&V>
+        ensures place { option_copied result ≡ value_at self.now.cells number }
+        ensures key { IsValueOf K.cmp self.now number (option_copied result) }
+    {
+        self.slots.look(number)
+    }
+
     /// Makes an empty place for a key, unless it has one.
     pub fn make_place(&mut self, key: K) -> Result<(), AllocError>
         ensures made { OnOk result (IsTrue (has_place K.cmp self.new key)) }
@@ -100,7 +116,12 @@ impl<K: Key + Drop, V: Drop> Keyed<K, V> {
         ensures entered { SameEntered K.cmp self.old self.new }
         ensures keys { GrowsBy K.cmp (places_for K.cmp self.old key) self.old self.new }
         ensures no_other { OnOk result (GetsPlace K.cmp self.old self.new key) }
+        ensures numbers { IsTrue (has_place K.cmp self.old key)
+            → self.new.numbers ≡ self.old.numbers }
+        ensures number { OnOk result (has_place K.cmp self.old key ≡ false
+            → GetsNumber K.cmp self.old self.new key (next_number self.old)) }
         ensures err { OnErr result (SamePlaces K.cmp self.old self.new) }
+        ensures kept { OnErr result (self.new.numbers ≡ self.old.numbers) }
     {
         if self.numbers.contains_key(&key) {
             return Ok(());
@@ -206,6 +227,8 @@ pub fn change<K: Key + Exact + Drop, V: Drop, E>(
     ensures places { KeepsPlaces K.cmp table.old table.new }
     ensures no_new { IsTrue (has_place K.cmp table.old key.now)
         → SamePlaces K.cmp table.old table.new }
+    ensures numbers { IsTrue (has_place K.cmp table.old key.now)
+        → table.new.numbers ≡ table.old.numbers }
     ensures room { IfOk result (λ entry. IsTrue (is_some entry) → 0 < journal.new.entry_room) }
     ensures closed { journal.new.closed ≡ journal.old.closed }
     ensures current { journal.new.current ≡ journal.old.current }
@@ -231,6 +254,8 @@ fn make_room<K: Key + Exact + Drop, V: Drop, E>(
     ensures places { KeepsPlaces K.cmp table.old table.new }
     ensures no_new { IsTrue (has_place K.cmp table.old key.now)
         → SamePlaces K.cmp table.old table.new }
+    ensures numbers { IsTrue (has_place K.cmp table.old key.now)
+        → table.new.numbers ≡ table.old.numbers }
     ensures same { IsUnchanged K.cmp table.old table.new }
     ensures keys { GrowsBy K.cmp (places_for K.cmp table.old key.now) table.old table.new }
     ensures room { OnOk result (0 < journal.new.entry_room) }

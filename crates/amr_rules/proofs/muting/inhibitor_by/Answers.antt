@@ -3,9 +3,8 @@ use Rattle.std.proofs.lemmas.Grind.{common_steps}
 use Rattle.std.specs.Option.{option_copied}
 use Rattle.std.specs.Map.Iter.{deref_pair}
 use Rattle.amr_matchers.specs.Matchers.{all_hold}
-use Rattle.amr_rules.specs.Muting.{first_source, inhibitor_by}
+use Rattle.amr_rules.specs.Muting.{first_source, inhibitor_by, ListsSources}
 use Rattle.amr_rules.proofs.MutingLaws.{no_source}
-use Rattle.amr_rules.proofs.Searching.{inhibitor_by-sharing}
 use Rattle.amr_rules.proofs.muting.inhibitor_by.Goals as goal
 
 pub returns-then-not-side : goal.returns-then-not-side
@@ -19,7 +18,7 @@ returns g c =
     let rule = c.args.rule.now in
     let target = c.args.target.now in
     let alerts = g.A.AlertStore.alerts c.args.alerts.now in
+    let listed : ListsSources rule target alerts (map deref_pair c.in_ok-stored.stored.items) = c.in_ok-stored.ensures in
     let same : first_source now rule target (map deref_pair c.deref.result.now) ≡ inhibitor_by now target alerts rule =
-    ap (λ items. first_source now rule target (map deref_pair items)) c.deref.ensures.value
-    ∙ ap (first_source now rule target) c.in_ok-stored.ensures ∙ inhibitor_by-sharing now target alerts rule in
+    ap (λ items. first_source now rule target (map deref_pair items)) c.deref.ensures.value ∙ listed now in
     subst (λ source. IfOk c.first_source.result (λ found. option_copied found ≡ source)) same c.first_source.ensures

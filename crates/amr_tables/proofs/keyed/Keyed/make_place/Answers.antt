@@ -1,10 +1,11 @@
-use Rattle.std.proofs.Common.{◌≡◌, ◌<◌, None, length, sym, ap, subst, ◌∙◌, arith, is_some, IsTrue}
-use Rattle.std.specs.Prelude.{◌||◌, Result, Ok, Err, OnErr}
+use Rattle.std.proofs.Common.{◌≡◌, ◌<◌, true, false, None, Some, length, sym, ap, subst, ◌∙◌, arith, is_some, IsTrue}
+use Rattle.std.specs.Prelude.{◌||◌, if◌then◌else◌, Result, Ok, Err, OnErr}
 use Rattle.std.specs.Ordering.{eq_by_cmp}
 use Rattle.std.specs.FinMap.{find, put}
+use Rattle.std.specs.FinMap.Entries.{find-put}
 use Rattle.std.proofs.lemmas.Bool.Decides.{nat_tests}
 use Rattle.amr_labels.proofs.Trees.{lookup_is, put_is}
-use Rattle.amr_tables.specs.Numbered.{Numbered, IsNumbering, shown, has_place, is_entered, SamePlaces, GrowsBy, places_for}
+use Rattle.amr_tables.specs.Numbered.{Numbered, IsNumbering, shown, has_place, is_entered, number_of, SamePlaces, GrowsBy, places_for}
 use Rattle.amr_tables.proofs.Numbering.{HasRoom, grown_table, added_table, none_of, grown_by_one, placed_again, placed-added}
 use Rattle.amr_tables.proofs.keyed.Keyed.make_place.Goals as goal
 
@@ -302,3 +303,30 @@ returns-in_err-insert-clause-err g c =
     let kept : c.insert.new.self.entries ≡ c.self.inside.numbers.entries = c.in_err-insert.ensures.err in
     let same : SamePlaces R c.args.self.now t = λ other. ap (λ n. is_some (find R other n)) kept ∙ ap (λ v. has_place R v other) c.self.view_is in
     on_err_of _ _ same
+
+pub returns-then-contains_key-clause-number : goal.returns-then-contains_key-clause-number
+unfolding has_place
+returns-then-contains_key-clause-number g c = λ none other.
+    let R = g.K.Ord.cmp in
+    let some = ap (λ v. has_place R v c.args.key) (sym c.self.view_is)
+    ∙ ap is_some (lookup_is R c.self.inside.numbers.entries c.args.key) ∙ sym c.contains_key.ensures ∙ c.if-contains_key.true in
+    let no : false ≡ true = sym none ∙ some in
+    absurd (cc)
+
+pub returns-clause-numbers : goal.returns-clause-numbers
+unfolding has_place
+returns-clause-numbers g c = λ some.
+    let R = g.K.Ord.cmp in
+    let none = ap (λ v. has_place R v c.args.key) (sym c.self.view_is)
+    ∙ ap is_some (lookup_is R c.self.inside.numbers.entries c.args.key) ∙ sym c.contains_key.ensures ∙ c.if-contains_key.false in
+    let no : false ≡ true = sym none ∙ some in
+    absurd (cc)
+
+pub returns-clause-number : goal.returns-clause-number
+returns-clause-number g c = λ none other.
+    let R = g.K.Ord.cmp in
+    let t : Numbered g.row.K.Denot g.row.V.Denot = record { numbers = c.self.inside.numbers.entries; cells = c.self.inside.slots; marks = c.self.inside.entered } in
+    let is : c.insert.new.self.entries ≡ put R c.args.key (length t.cells) t.numbers =
+    c.in_ok-insert.ensures.entries ∙ put_is R t.numbers c.args.key c.len-number.result ∙ ap (λ n. put R c.args.key n t.numbers) c.len-number.ensures in
+    ap (find R other) is ∙ find-put R g.met.K.Ord.total other c.args.key (length t.cells) t.numbers
+    ∙ ap (λ v. if eq_by_cmp R other c.args.key then Some (length v.cells) else number_of R v other) c.self.view_is
