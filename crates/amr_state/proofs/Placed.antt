@@ -1,7 +1,7 @@
 -- An alert that is placed on a route: first its copy, then the clock of its group.
 use Rattle.std.specs.Prelude.{◌≡◌, ℕ, zero, suc, List, [], ◌∷◌, Result, Ok, Err}
 use Rattle.std.specs.Result.{OnOk}
-use Rattle.std.specs.Prelude.{Some, map, length, slice_get, option_map}
+use Rattle.std.specs.Prelude.{Some, map, length, slice_get}
 use Rattle.std.proofs.Common.{ap, sym, refl, ◌∙◌}
 use Rattle.amr_labels.specs.Map.{get, insert}
 use Rattle.amr_labels.specs.Labels.{LabelSet}

@@ -1,9 +1,8 @@
-use Rattle.std.proofs.Common.{◌≡◌, ◌∙◌, sym, ap, refl, map, length, slice_get, option_map, Some, arith}
+use Rattle.std.proofs.Common.{◌≡◌, ◌∙◌, sym, ap, map, length, slice_get, Some, arith}
 use Rattle.std.specs.Prelude.{◌<◌}
 use Rattle.std.specs.List.{fold}
 use Rattle.std.proofs.lemmas.Option.{slice_get-get_or}
-use Rattle.amr_config.specs.Routing.{chosen}
-use Rattle.amr_config.specs.Groups.{groups_of, group_at}
+use Rattle.amr_config.specs.Groups.{groups_of}
 use Rattle.amr_config.specs.declared.router.RouteGroup.{RouteGroup}
 use Rattle.amr_state.specs.State.{place_on, place}
 use Rattle.amr_state.specs.Kept.{Kept, undone}

@@ -1,4 +1,4 @@
-use Rattle.std.proofs.Common.{◌≡◌, ◌*◌, ◌+◌, drop, map, length}
+use Rattle.std.proofs.Common.{◌≡◌, ◌*◌, drop, map, length}
 use Rattle.std.specs.List.{fold}
 use Rattle.amr_config.specs.Groups.{groups_of}
 use Rattle.amr_config.specs.Routing.{chosen}
