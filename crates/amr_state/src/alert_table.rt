@@ -16,8 +16,8 @@ use amr_tables::{Entries, Journal, Keyed, Queue, change};
 use std::alloc::{AllocError, Global};
 use std::marker::Model;
 
-/// The stored alerts by label set. The index lists each label set that has a place, with its number,
-/// under each of its labels. A place is never lost, so nothing leaves the index.
+/// The stored alerts by label set. The index lists each label set that has a place, with the number
+/// of the place, under each of its labels. A place is never lost, so nothing leaves the index.
 #[derive(Drop)]
 pub struct AlertTable {
     alloc: Global,

@@ -27,7 +27,8 @@ impl LabelCounts {
         }
     }
 
-    /// Counts a label set under each of its labels. If memory runs out, some of them aren't counted.
+    /// Counts a label set under each of its labels. If memory runs out, some of them may be left
+    /// out.
     pub(crate) fn add(&mut self, alloc: Global, labels: &Labels) -> Result<(), AllocError> {
         for (name, value) in labels.entries() {
             let values = self
