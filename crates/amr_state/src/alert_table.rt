@@ -8,6 +8,7 @@ ghost use Rattle.amr_labels.specs.Map as map;
 ghost use Rattle.amr_tables.specs.Numbered.{shown, has_place, entry_of, Enters, GrowsBy, KeepsPlaces, SamePlaces, SameEntered, NoneEntered, IsUnchanged, HasPlaces, places_for};
 ghost use Rattle.amr_state.specs.LabelPairs.{all_put, CanPutAll};
 
+use crate::label_counts::LabelCounts;
 use crate::label_pair::{LabelPair, PairedLabels, pairs_of};
 use amr_labels::{Labels, Text};
 use amr_rules::{Alert, AlertStore};
@@ -15,13 +16,14 @@ use amr_tables::{Entries, Journal, Keyed, Queue, change};
 use std::alloc::{AllocError, Global};
 use std::marker::Model;
 
-/// The stored alerts by label set. The index lists each label set that has a place, under each of
-/// its labels. A place is never lost, so nothing leaves the index.
+/// The stored alerts by label set. The index lists each label set that has a place, with the number
+/// of the place, under each of its labels. A place is never lost, so nothing leaves the index.
 #[derive(Drop)]
 pub struct AlertTable {
     alloc: Global,
     alerts: Keyed<Labels, Alert>,
     index: Queue<PairedLabels>,
+    counts: LabelCounts,
 }
 
 impl Model for AlertTable {
@@ -30,7 +32,7 @@ impl Model for AlertTable {
     ghost use Rattle.amr_labels.specs.Labels.{LabelSet};
     ghost use Rattle.amr_rules.specs.declared.alert.Alert.{Alert};
     ghost use Rattle.amr_tables.specs.Numbered.{Numbered};
-    ghost use Rattle.amr_state.specs.LabelPairs.{IsIndexed};
+    ghost use Rattle.amr_state.specs.LabelPairs.{ListsLabelSets};
 
     ghost Value = { Numbered LabelSet Alert };
 
@@ -38,7 +40,7 @@ impl Model for AlertTable {
 
     ghost view = { λ t. t.alerts };
 
-    ghost invariant = { λ t. IsIndexed t.alerts t.index.dues };
+    ghost invariant = { λ t. ListsLabelSets t.alerts t.index.dues };
 }
 
 impl AlertTable {
@@ -53,6 +55,7 @@ impl AlertTable {
             alloc,
             alerts: Keyed::new(alloc),
             index: Queue::new(alloc),
+            counts: LabelCounts::new(alloc),
         }
     }
 
@@ -142,8 +145,9 @@ impl AlertTable {
         if self.alerts.has_place(labels) {
             return Ok(());
         }
-        let pairs = pairs_of(self.alloc, labels)?;
+        let pairs = pairs_of(self.alloc, labels, self.alerts.next_number())?;
         self.index.reserve(pairs.len())?;
+        self.counts.add(self.alloc, labels)?;
         self.alerts.make_place(labels.clone()?)?;
         put_all(&mut self.index, pairs);
         Ok(())
@@ -173,11 +177,15 @@ impl AlertStore for AlertTable {
         };
         let mut found = Vec::new(alloc);
         for paired in self.index.part(&pair)? {
-            if let Some(alert) = self.alerts.get(&paired.labels) {
+            if let Some(alert) = self.alerts.at(paired.number) {
                 found.push((&paired.labels, alert))?;
             }
         }
         Ok(found)
+    }
+
+    fn count_with_pair(&self, name: &Text, value: &Text) -> usize {
+        self.counts.count(name, value)
     }
 }
 

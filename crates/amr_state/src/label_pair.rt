@@ -15,11 +15,12 @@ pub(crate) struct LabelPair {
     pub value: Text,
 }
 
-/// A label set, listed under one of its labels.
+/// A label set with the number of its place, listed under one of its labels.
 #[derive(PartialEq, Eq, PartialOrd, Ord, Drop)]
 pub(crate) struct PairedLabels {
     pub pair: LabelPair,
     pub labels: Labels,
+    pub number: usize,
 }
 
 /// The label sets that share a label are a part of the index.
@@ -37,9 +38,13 @@ impl InParts for PairedLabels {
     }
 }
 
-/// Returns the index entries of a label set: one for each of its labels, by name.
-pub(crate) fn pairs_of(alloc: Global, labels: &Labels) -> Result<Vec<PairedLabels>, AllocError>
-    ensures { IfOk result (λ pairs. pairs.items ≡ pairs_of labels.now) }
+/// Returns the index entries of a label set with this number: one for each of its labels, by name.
+pub(crate) fn pairs_of(
+    alloc: Global,
+    labels: &Labels,
+    number: usize,
+) -> Result<Vec<PairedLabels>, AllocError>
+    ensures { IfOk result (λ pairs. pairs.items ≡ pairs_of number labels.now) }
 {
     let mut pairs = Vec::new(alloc);
     for (name, value) in labels.entries() {
@@ -49,6 +54,7 @@ pub(crate) fn pairs_of(alloc: Global, labels: &Labels) -> Result<Vec<PairedLabel
                 value: value.clone()?,
             },
             labels: labels.clone()?,
+            number,
         })?;
     }
     Ok(pairs)

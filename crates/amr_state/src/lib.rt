@@ -6,6 +6,7 @@
 mod alert_table;
 mod displaced;
 mod due;
+mod label_counts;
 mod label_pair;
 mod members;
 mod membership;

@@ -9,7 +9,7 @@ pub invariant_of-self : goal.invariant_of-self
 invariant_of-self g c =
     let t = c.self.inside in
     let placed = subst (λ (v : Numbered LabelSet Alert). IsTrue (has_place label_set_cmp v c.args.labels.now)) (sym c.self.view_is) c.in_ok-make_place.ensures.made in
-    index_changed t.alerts t.index.dues c.self.invariant c.change.result c.change.new.table c.args.labels.now c.args.alert (c.change.ensures.no_new placed) placed c.change.ensures.shown c.change.ensures.err
+    index_changed t.alerts t.index.dues c.self.invariant c.change.result c.change.new.table c.args.labels.now c.args.alert (c.change.ensures.numbers placed) placed c.change.ensures.shown c.change.ensures.err
 
 pub returns-clause-entry : goal.returns-clause-entry
 returns-clause-entry g c =

@@ -9,4 +9,4 @@ pub invariant_of-self : goal.invariant_of-self
 invariant_of-self c =
     let t = c.self.inside in
     let placed = subst (λ (v : Numbered LabelSet Alert). IsTrue (has_place label_set_cmp v c.args.labels.now)) (sym c.self.view_is) c.requires in
-    index_put t.alerts t.index.dues c.self.invariant c.displace.new.self c.args.labels.now c.args.alert c.displace.ensures.places placed c.displace.ensures.shown
+    index_put t.alerts t.index.dues c.self.invariant c.displace.new.self c.args.labels.now c.args.alert c.displace.ensures.keys placed c.displace.ensures.shown
