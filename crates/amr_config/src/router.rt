@@ -125,12 +125,25 @@ impl Router {
         requires { groups ≡ groups_of self.old labels.now }
         ensures { self.new ≡ self.old }
     {
-        let rules = self.config.rules();
-        let found = rule_matches_remembered(self.alloc, &mut self.answers, rules, labels)?;
-        let rules = Shared::new(self.alloc, found)?;
+        let rules = sides_of(self.alloc, &self.config, &mut self.answers, labels)?;
         self.known.insert(labels.clone()?, Known { groups, rules })?;
         Ok(())
     }
+}
+
+/// Works out which sides of the configuration's inhibition rules these labels are on.
+fn sides_of(
+    alloc: Global,
+    config: &Config,
+    answers: &mut Answers,
+    labels: &Labels,
+) -> Result<Shared<Listing<RuleMatch>>, AllocError>
+    ensures { IfOk result (λ found. found ≡ rule_matches labels.now config.now.rules) }
+{
+    Shared::new(
+        alloc,
+        rule_matches_remembered(alloc, answers, config.rules(), labels)?,
+    )
 }
 
 /// Works out the groups that take an alert with these labels, by route.

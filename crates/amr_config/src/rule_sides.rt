@@ -27,8 +27,7 @@ pub fn rule_matches(
     rule_matches_remembered(alloc, &mut answers, rules, labels)
 }
 
-/// Works out which sides of each of these inhibition rules a label set is on. It asks the patterns
-/// of the matchers through the remembered answers.
+/// Works out the same. It asks the patterns of the matchers through the remembered answers.
 #[tactic(auto, unfolding(crate::specs::RuleMatches::rule_matches))]
 pub(crate) fn rule_matches_remembered(
     alloc: Global,

@@ -13,6 +13,6 @@ invariant_of-self-2 c =
     let groups : c.args.groups ≡ groups_of config c.in_ok-clone.field-0 =
     c.requires ∙ ap (λ k. groups_of k c.args.labels.now) (sym same) ∙ ap (groups_of config) labels in
     let rules : c.in_ok-rules.rules ≡ rule_matches c.in_ok-clone.field-0 config.rules =
-    c.in_ok-rules.ensures ∙ c.in_ok-found.ensures ∙ ap (rule_matches c.args.labels.now) c.rules.ensures ∙ ap (λ labels. rule_matches labels config.rules) labels in
+    c.in_ok-rules.ensures ∙ ap (λ labels. rule_matches labels config.rules) labels in
     known_more config c.self.inside.known c.insert.new.self c.in_ok-clone.field-0 (record { groups = c.args.groups; rules = c.in_ok-rules.rules }) c.self.invariant
     (λ i. record { groups = groups i; rules = rules i }) c.in_ok-insert.ensures.entries
