@@ -47,7 +47,7 @@ pub(crate) fn flush(store: &mut Store, at: Moment, group: &Spot) -> Result<(), A
 }
 
 /// Schedules the next flush, `group_interval` from now, and marks the group as flushed.
-fn wind(store: &mut Store, at: Moment, group: &Spot) -> Result<(), AllocError>
+pub(crate) fn wind(store: &mut Store, at: Moment, group: &Spot) -> Result<(), AllocError>
     requires { at ≤ latest_read }
     ensures ok { OnOk result (store.new.state
         ≡ set_clock group.now
@@ -90,7 +90,7 @@ fn serve(store: &mut Store, at: Moment, group: &Spot, members: &[Member]) -> Res
 }
 
 /// Returns the members that no stage mutes.
-fn let_through(
+pub(crate) fn let_through(
     store: &Store,
     at: Moment,
     route: usize,
