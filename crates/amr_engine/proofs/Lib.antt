@@ -9,3 +9,6 @@ pub mod Parted
 pub mod Settling
 pub mod Copied
 pub mod Growing
+pub mod QuietLaws
+pub mod QuietStays
+pub mod Remembering

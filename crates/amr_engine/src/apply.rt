@@ -4,6 +4,7 @@
 ghost use Rattle.std.specs.Prelude.{◌≡◌, ◌≤◌, ◌+◌, ◌*◌, OnOk, IfOk, length, drop};
 ghost use Rattle.amr_time.specs.Time.{latest_read};
 ghost use Rattle.amr_state.specs.Kept.{GrownBy, undone};
+ghost use Rattle.amr_engine.specs.Remembered.{IsTrueOf};
 ghost use Rattle.amr_engine.specs.Moves.{advance, moves_to};
 ghost use Rattle.amr_engine.specs.Events.{move_limit};
 ghost use Rattle.amr_engine.specs.Outcomes.{acceptance, outcome_view};
@@ -16,6 +17,7 @@ use crate::moves::advance;
 use crate::outcome::Outcome;
 use crate::post::put_all;
 use crate::prepare::{Prepared, prepare};
+use crate::quiet::QuietGroups;
 use crate::reload::reload;
 use crate::silencing::store_posting;
 use amr_events::{Event, Reason};
@@ -25,16 +27,22 @@ use amr_time::Moment;
 use std::alloc::{AllocError, Global};
 
 /// Applies an event to the store in place. If it is refused or memory runs out, the store is left
-/// half-changed, and the caller must put the open record back.
-pub(crate) fn attempt(store: &mut Store, event: &Event) -> Result<Outcome, AllocError>
+/// half-changed, and the caller must put the open record back and clear the memory of quiet groups.
+pub(crate) fn attempt(
+    store: &mut Store,
+    memory: &mut QuietGroups,
+    event: &Event,
+) -> Result<Outcome, AllocError>
+    requires { IsTrueOf memory.old store.old.state }
     ensures outcome { IfOk result
         (λ outcome. Leads store.old.state event.now store.new.state outcome) }
     ensures kept { undone store.new ≡ undone store.old }
     ensures light { IfOk result (λ outcome.
         IsLightIfAccepted store.old event.now store.new outcome) }
+    ensures memory { OnOk result (IsTrueOf memory.new store.new.state) }
 {
     let noted = store.notes().len();
-    match happen(store, event)? {
+    match happen(store, memory, event)? {
         Ok(done) => accepted(store, noted, done),
         Err(reason) => Ok(Outcome::Refused(reason)),
     }
@@ -51,10 +59,16 @@ struct Done {
 /// Prepares the event's action, makes the moves that are due up to the event, and performs the
 /// action. The action's own reason is decided before the first move, so it counts before too many
 /// moves.
-fn happen(store: &mut Store, event: &Event) -> Result<Result<Done, Reason>, AllocError>
+fn happen(
+    store: &mut Store,
+    memory: &mut QuietGroups,
+    event: &Event,
+) -> Result<Result<Done, Reason>, AllocError>
+    requires { IsTrueOf memory.old store.old.state }
     ensures done { IfOk result (λ done. IsDone store.old.state event.now store.new.state done) }
     ensures kept { undone store.new ≡ undone store.old }
     ensures light { IfOk result (λ done. IsLightIfDone store.old event.now store.new done) }
+    ensures memory { OnOk result (IsTrueOf memory.new store.new.state) }
 {
     let at = event.at();
     if at.nanoseconds() < store.moment().nanoseconds() {
@@ -62,10 +76,10 @@ fn happen(store: &mut Store, event: &Event) -> Result<Result<Done, Reason>, Allo
     }
     match prepare(store, at, event.act())? {
         Err(reason) => Ok(Err(reason)),
-        Ok(prepared) => match go_to(store, at)? {
+        Ok(prepared) => match go_to(store, memory, at)? {
             None => Ok(Err(Reason::TooManyMoves)),
             Some(moves) => {
-                let skipped = perform(store, prepared)?;
+                let skipped = perform(store, memory, prepared)?;
                 Ok(Ok(Done { moves, skipped }))
             }
         },
@@ -74,21 +88,50 @@ fn happen(store: &mut Store, event: &Event) -> Result<Result<Done, Reason>, Allo
 
 /// Makes every move due at or before `at`, then advances the clock to `at`. Returns the number of
 /// moves, or `None` if more than 10,000 are due.
-fn go_to(store: &mut Store, at: Moment) -> Result<Option<usize>, AllocError>
-    requires { at ≤ latest_read }
+fn go_to(
+    store: &mut Store,
+    memory: &mut QuietGroups,
+    at: Moment,
+) -> Result<Option<usize>, AllocError>
+    requires late { at ≤ latest_read }
+    requires memory { IsTrueOf memory.old store.old.state }
     ensures made { IfOk result (λ made. moves_to store.new.state made
         ≡ run_moved at (advance move_limit at store.old.state)) }
     ensures kept { undone store.new ≡ undone store.old }
     ensures grown { OnOk result (GrownBy (1 + 2 * first_weight move_limit at store.old.state)
         store.old store.new) }
+    ensures memory { OnOk result (IsTrueOf memory.new store.new.state) }
 {
-    let made = advance(store, at)?;
+    let made = advance(store, memory, at)?;
     store.set_moment(at)?;
     Ok(made)
 }
 
-/// Performs a prepared action. Returns the positions of the alerts that it skips, from 1.
-fn perform(store: &mut Store, prepared: Prepared) -> Result<Listing<usize>, AllocError>
+/// Performs a prepared action. Returns the positions of the alerts that it skips, from 1. The memory
+/// of quiet groups outlives only a tick, which changes nothing that it knows.
+fn perform(
+    store: &mut Store,
+    memory: &mut QuietGroups,
+    prepared: Prepared,
+) -> Result<Listing<usize>, AllocError>
+    requires { IsTrueOf memory.old store.old.state }
+    ensures done { IfOk result (λ skipped. store.new.state ≡ performed prepared store.old.state) }
+    ensures skipped { IfOk result (λ skipped. skipped ≡ skipped_by prepared) }
+    ensures kept { undone store.new ≡ undone store.old }
+    ensures grown { OnOk result (GrownBy (entries_of prepared store.old.state store.new.state)
+        store.old store.new) }
+    ensures memory { OnOk result (IsTrueOf memory.new store.new.state) }
+{
+    if let Prepared::Tick = &prepared {
+        return Ok(Listing::new(store.alloc()));
+    }
+    memory.clear();
+    change(store, prepared)
+}
+
+/// Changes the store by a prepared action. Returns the positions of the alerts that the action
+/// skips, from 1.
+fn change(store: &mut Store, prepared: Prepared) -> Result<Listing<usize>, AllocError>
     ensures done { IfOk result (λ skipped. store.new.state ≡ performed prepared store.old.state) }
     ensures skipped { IfOk result (λ skipped. skipped ≡ skipped_by prepared) }
     ensures kept { undone store.new ≡ undone store.old }

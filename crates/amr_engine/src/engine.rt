@@ -12,6 +12,7 @@ ghost use Rattle.amr_engine.specs.Explain.{verdicts};
 use crate::apply::attempt;
 use crate::explain::{self, Verdict};
 use crate::outcome::Outcome;
+use crate::quiet::QuietGroups;
 use amr_config::Config;
 use amr_events::Event;
 use amr_labels::Labels;
@@ -24,6 +25,8 @@ use std::marker::Model;
 #[derive(Drop)]
 pub struct Engine {
     store: Store,
+    /// What is known of the state. It is no part of it.
+    memory: QuietGroups,
 }
 
 impl Model for Engine {
@@ -32,6 +35,7 @@ impl Model for Engine {
     ghost use Rattle.amr_labels.specs.Map as map;
     ghost use Rattle.amr_state.specs.Records.{befores};
     ghost use Rattle.amr_state.specs.Steps.{Steps};
+    ghost use Rattle.amr_engine.specs.Remembered.{IsTrueOf};
 
     ghost Value = { Steps };
 
@@ -39,7 +43,7 @@ impl Model for Engine {
 
     ghost view = { λ engine. record { state = engine.store.state; past = befores engine.store.records engine.store.state; records = engine.store.records } };
 
-    ghost invariant = { λ engine. engine.store.current ≡ [] };
+    ghost invariant = { λ engine. (engine.store.current ≡ []) × IsTrueOf engine.memory engine.store.state };
 }
 
 impl Engine {
@@ -51,6 +55,7 @@ impl Engine {
     {
         Engine {
             store: Store::new(alloc, config),
+            memory: QuietGroups::new(alloc),
         }
     }
 
@@ -67,16 +72,18 @@ impl Engine {
         ensures err { OnErr result (self.new ≡ self.old) }
     {
         self.store.begin()?;
-        match attempt(&mut self.store, event) {
+        match attempt(&mut self.store, &mut self.memory, event) {
             Ok(outcome) => {
                 if outcome.is_refused() {
                     self.store.undo_open();
+                    self.memory.clear();
                 }
                 self.store.close();
                 Ok(outcome)
             }
             Err(error) => {
                 self.store.undo_open();
+                self.memory.clear();
                 Err(error)
             }
         }
@@ -91,6 +98,7 @@ impl Engine {
     {
         self.store.reopen();
         self.store.undo_open();
+        self.memory.clear();
     }
 
     /// Returns the number of records, which is that of the events that can be undone.

@@ -47,7 +47,7 @@ pub(crate) fn flush(store: &mut Store, at: Moment, group: &Spot) -> Result<(), A
 }
 
 /// Schedules the next flush, `group_interval` from now, and marks the group as flushed.
-fn wind(store: &mut Store, at: Moment, group: &Spot) -> Result<(), AllocError>
+pub(crate) fn wind(store: &mut Store, at: Moment, group: &Spot) -> Result<(), AllocError>
     requires { at ≤ latest_read }
     ensures ok { OnOk result (store.new.state
         ≡ set_clock group.now
@@ -89,9 +89,9 @@ fn serve(store: &mut Store, at: Moment, group: &Spot, members: &[Member]) -> Res
     drop_resolved(store, at, group, members)
 }
 
-/// Returns the members that no stage mutes. It works out which silences match a member's labels
-/// only if that isn't known.
-fn let_through(
+/// Returns the members that no stage mutes. It works out which silences match a member's labels, and
+/// which label sets can be sources of the rules that have it as a target, only if that isn't known.
+pub(crate) fn let_through(
     store: &mut Store,
     at: Moment,
     route: usize,
@@ -104,6 +104,7 @@ fn let_through(
     let mut through = Vec::new(store.alloc());
     for (labels, alert) in members {
         store.learn_silences(at, labels)?;
+        store.learn_sources(labels)?;
         if taken_away(store, at, route, labels)?.is_none() {
             through.push((labels.clone()?, alert.clone()?))?;
         }

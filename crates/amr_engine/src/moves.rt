@@ -1,13 +1,15 @@
 //! The moves of an event: the timers that fire at or before a moment, the earliest first. A move is
-//! the removal of an alert, the removal of a group, or the flush of a group.
+//! the removal of an alert, the removal of a group, or the flush of a group. Flushes go through the
+//! memory of quiet groups (`quiet.rt`).
 ghost use Rattle.std.specs.Prelude.{◌≡◌, ◌≤◌, ◌*◌, OnOk, IfOk};
 ghost use Rattle.amr_time.specs.Time.{latest_read};
 ghost use Rattle.amr_state.specs.Kept.{GrownBy, undone};
+ghost use Rattle.amr_engine.specs.Remembered.{IsTrueOf};
 ghost use Rattle.amr_engine.specs.Moves.{move, advance, counted_run, moves_to};
 ghost use Rattle.amr_engine.specs.Events.{move_limit};
 ghost use Rattle.amr_engine.specs.Weight.{move_weight, first_weight};
 
-use crate::flush::flush;
+use crate::quiet::QuietGroups;
 use amr_state::{Due, Kind, Spot, Store, next_due};
 use amr_time::Moment;
 use std::alloc::AllocError;
@@ -16,11 +18,13 @@ use std::alloc::AllocError;
 const MOST_MOVES: usize = 10_000;
 
 /// Makes a move, at its own moment and not at the event's.
-fn make(store: &mut Store, due: Due) -> Result<(), AllocError>
-    requires { due.moment ≤ latest_read }
+fn make(store: &mut Store, memory: &mut QuietGroups, due: Due) -> Result<(), AllocError>
+    requires late { due.moment ≤ latest_read }
+    requires memory { IsTrueOf memory.old store.old.state }
     ensures ok { OnOk result (store.new.state ≡ move due store.old.state) }
     ensures kept { undone store.new ≡ undone store.old }
     ensures grown { GrownBy (2 * move_weight store.old.state due due.kind) store.old store.new }
+    ensures memory { OnOk result (IsTrueOf memory.new store.new.state) }
 {
     let Due {
         moment,
@@ -29,29 +33,38 @@ fn make(store: &mut Store, due: Due) -> Result<(), AllocError>
         labels,
     } = due;
     match kind {
-        Kind::AlertRemoval => store.remove_alert(&labels),
+        Kind::AlertRemoval => {
+            memory.alert_leaves(store, &labels);
+            store.remove_alert(&labels)
+        }
         Kind::GroupRemoval => store.remove_clock(&Spot { route, labels }),
         Kind::GroupFlush => {
             let at = Moment::from_nanoseconds(moment);
-            flush(store, at, &Spot { route, labels })
+            memory.flush(store, at, &Spot { route, labels })
         }
     }
 }
 
 /// Makes every move due at or before a moment, and returns how many there were. Returns `None` if
 /// there are more than `MOST_MOVES`; the caller then undoes those that were made.
-pub(crate) fn advance(store: &mut Store, at: Moment) -> Result<Option<usize>, AllocError>
-    requires { at ≤ latest_read }
+pub(crate) fn advance(
+    store: &mut Store,
+    memory: &mut QuietGroups,
+    at: Moment,
+) -> Result<Option<usize>, AllocError>
+    requires late { at ≤ latest_read }
+    requires memory { IsTrueOf memory.old store.old.state }
     ensures ok { IfOk result (λ made. moves_to store.new.state made
         ≡ counted_run (advance move_limit at store.old.state)) }
     ensures kept { undone store.new ≡ undone store.old }
     ensures grown { OnOk result (GrownBy (2 * first_weight move_limit at store.old.state)
         store.old store.new) }
+    ensures memory { OnOk result (IsTrueOf memory.new store.new.state) }
 {
     for made in 0..MOST_MOVES {
         match next_due(store, at)? {
             None => return Ok(Some(made)),
-            Some(due) => make(store, due)?,
+            Some(due) => make(store, memory, due)?,
         }
     }
     if next_due(store, at)?.is_some() {

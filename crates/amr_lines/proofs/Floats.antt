@@ -16,11 +16,8 @@ use Rattle.amr_rules.specs.declared.silence.Silence.{Silence}
 use Rattle.amr_rules.specs.declared.update.LogEntry.{LogEntry}
 use Rattle.amr_state.specs.declared.note.LogKey.{LogKey}
 use Rattle.amr_state.specs.declared.views.Group.{Group}
-use Rattle.amr_state.specs.declared.note.FiringAlert.{FiringAlert}
-use Rattle.amr_state.specs.declared.note.ResolvedAlert.{ResolvedAlert}
-use Rattle.amr_state.specs.declared.note.Note.{Note}
 use Rattle.amr_labels.specs.Map.{entries}
-use Rattle.amr_lines.specs.Printed.{object_of, with_text, texts_data, labels_data, label_sets_data, moment_data, firing_members, firing_data, resolved_members, resolved_data, note_members, note_data, number_data, skipped_members, skipped_data, alert_members, alert_data, matcher_members, matcher_data, matchers_data, silence_members, silence_data, since_data, group_members, group_data, log_members, log_data}
+use Rattle.amr_lines.specs.Printed.{object_of, with_text, texts_data, labels_data, label_sets_data, moment_data, number_data, skipped_members, skipped_data, alert_members, alert_data, matcher_members, matcher_data, matchers_data, silence_members, silence_data, since_data, group_members, group_data, log_members, log_data}
 use Rattle.amr_engine.specs.declared.explain.Finding.{Finding}
 use Rattle.amr_engine.specs.declared.explain.Finding.TheVariants.{Waiting, Inhibited, OutsideActive, TimeMuted, Silenced, Nowhere, Told, Due}
 use Rattle.amr_engine.specs.declared.explain.Verdict.{Verdict}
@@ -81,40 +78,6 @@ has_float-label_sets sets = has_float-list labels_data has_float-labels sets
 has_float-moment : (m : Moment) → has_float (moment_data m) ≡ false
 unfolding moment_data
 has_float-moment m = refl
-
-has_float-firing : (alert : FiringAlert) → has_float (firing_data alert) ≡ false
-unfolding firing_data
-has_float-firing alert =
-    members_have_float-object_of (firing_members alert) (has_float-texts (entries alert.annotations), (has_float-labels alert.labels, (has_float-moment alert.starts_at, tt)))
-
-has_float-resolved : (alert : ResolvedAlert) → has_float (resolved_data alert) ≡ false
-unfolding resolved_data
-has_float-resolved alert =
-    members_have_float-object_of (resolved_members alert)
-    (has_float-texts (entries alert.annotations), (has_float-moment alert.ends_at, (has_float-labels alert.labels, (has_float-moment alert.starts_at, tt))))
-
-pub has_float-note : (note : Note) → has_float (note_data note) ≡ false
-unfolding note_data
-has_float-note note =
-    members_have_float-object_of (note_members note) (
-      has_float-moment note.at,
-      (
-        has_float-list firing_data has_float-firing note.firing,
-        (
-          has_float-labels note.key.group,
-          (
-            refl,
-            (
-              refl,
-              (
-                refl,
-                (has_float-list resolved_data has_float-resolved note.resolved, (refl, tt)),
-              ),
-            ),
-          ),
-        ),
-      ),
-    )
 
 pub has_float-skipped : (event : ℕ) (places : List ℕ) → has_float (skipped_data event places) ≡ false
 has_float-skipped event places = members_have_float-object_of (skipped_members event places) (refl, (has_float-list number_data (λ place. refl) places, tt))

@@ -2,3 +2,5 @@ pub mod Parts
 pub mod Floats
 pub mod LineParts
 pub mod ObjectMembers
+pub mod Tokens
+pub mod NoteTokens

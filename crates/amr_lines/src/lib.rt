@@ -3,10 +3,12 @@
 #![tactic(auto)]
 
 mod inlet;
+mod json_text;
 mod last_lines;
 mod lines;
 mod listed;
 mod listings;
+mod note_text;
 mod outlet;
 mod values;
 mod verdicts;

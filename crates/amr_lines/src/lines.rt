@@ -1,5 +1,6 @@
-//! The lines of an event: its notifications, then the alerts that it skipped; or its refusal. The
-//! values are made in `values.rt`; here they become text.
+//! The lines of an event: its notifications, then the alerts that it skipped; or its refusal.
+//! Notifications are written in `note_text.rt`; the other values are made in `values.rt`, and here
+//! they become text.
 ghost use Rattle.std.specs.Prelude.{◌≡◌, ◌∷◌, [], ◌++◌, false, length, ◌<◌, IfOk, string_bytes};
 ghost use Rattle.std.specs.List.{flat_map};
 ghost use Rattle.serde_json.specs.Written.{has_float, compact_text};
@@ -7,7 +8,9 @@ ghost use Rattle.serde_json.specs.View.{view};
 ghost use Rattle.amr_lines.specs.Printed.{note_line, skipped_line, skipped_lines, refused_event_line, event_lines};
 ghost use Rattle.amr_engine.specs.Outcomes.{outcome_view};
 
-use crate::values::{note_value, refused_event_value, skipped_value};
+use crate::json_text::text_of;
+use crate::note_text::append_note;
+use crate::values::{refused_event_value, skipped_value};
 use amr_engine::Outcome;
 use amr_labels::Shared;
 use amr_state::Note;
@@ -22,14 +25,6 @@ pub fn line_text(alloc: Global, value: &Value) -> Result<String, AllocError>
     let mut text = value.to_string(alloc)?;
     text.push('\n')?;
     Ok(text)
-}
-
-/// Returns the line of a notification.
-fn note_text(alloc: Global, note: &Note) -> Result<String, AllocError>
-    ensures { IfOk result (λ text. string_bytes text ≡ note_line note.now) }
-{
-    let value = note_value(alloc, note)?;
-    line_text(alloc, &value)
 }
 
 /// Returns the line with the alerts that an event skipped, by their positions in the post, from 1.
@@ -70,11 +65,11 @@ fn accepted_text(
 pub fn notes_text(alloc: Global, notes: &[Shared<Note>]) -> Result<String, AllocError>
     ensures { IfOk result (λ text. string_bytes text ≡ flat_map note_line notes.now) }
 {
-    let mut text = String::new(alloc);
+    let mut lines = Vec::new(alloc);
     for note in notes {
-        text.push_str(note_text(alloc, note.get())?.as_str())?;
+        lines = append_note(lines, alloc, note.get())?;
     }
-    Ok(text)
+    Ok(text_of(lines))
 }
 
 /// Returns the lines of an event's outcome. Events are numbered from 1; an event that is only tried

@@ -11,7 +11,7 @@ use Rattle.amr_time.specs.Time.{Moment}
 use Rattle.amr_stated.specs.declared.rule.InhibitRule.{InhibitRule}
 use Rattle.amr_rules.specs.declared.alert.Alert.{Alert}
 use Rattle.amr_rules.specs.Alerts.{is_resolved_at}
-use Rattle.amr_rules.specs.Muting.{Alerts, has_value, agree_on, rule_mutes, inhibits, with_pair, SharesLabel, ListsSources}
+use Rattle.amr_rules.specs.Muting.{Alerts, has_value, agree_on, rule_mutes, inhibits, with_pair, sources_of, SharesLabel, ListsSources}
 
 module _ {X : Type 0} where
   first_kept : (wanted kept : X → Bool) (x : X) (xs : List X) (w k : Bool) → wanted x ≡ w → kept x ≡ k → (w ≡ true → k ≡ true)
@@ -30,14 +30,29 @@ module _ {X : Type 0} where
 holds_of_one : {X : Type 0} (test : X → Bool) (xs : List X) (x : X) → list_all test xs ≡ true → Contains xs x → test x ≡ true
 holds_of_one test xs x all one = All-contains (λ y. test y ≡ true) xs x (AllPass-from_list_all test xs all) one
 
--- a source agrees with the target on the labels of the rule
-agrees : (now : Moment) (rule : InhibitRule) (target : LabelSet) (source : LabelSet × Alert) → inhibits now rule source target ≡ true → agree_on rule.equal source.0 target ≡ true
-agrees now rule target source mutes_it =
+both_true : (a b : Bool) → a ≡ true → b ≡ true → (a && b) ≡ true
+both_true a b ea eb = λ i. ea i && eb i
+
+-- a source matches the source side of the rule, and agrees with the target on the labels of the rule
+is_source : (now : Moment) (rule : InhibitRule) (target : LabelSet) (source : LabelSet × Alert) → inhibits now rule source target ≡ true → (all_hold rule.source source.0 && agree_on rule.equal source.0 target) ≡ true
+is_source now rule target source mutes_it =
     let mutes : rule_mutes rule source.0 target ≡ true = (and_parts (not (is_resolved_at now source.1)) (rule_mutes rule source.0 target) mutes_it).1 in
     let matched : Bool = all_hold rule.target target && all_hold rule.source source.0 in
     let agree : Bool = agree_on rule.equal source.0 target in
     let both : Bool = all_hold rule.source target && all_hold rule.target source.0 in
-    (and_parts matched agree (and_parts (matched && agree) (not both) mutes).0).1
+    let sides = and_parts matched agree (and_parts (matched && agree) (not both) mutes).0 in
+    both_true (all_hold rule.source source.0) agree (and_parts (all_hold rule.target target) (all_hold rule.source source.0) sides.0).1 sides.1
+
+agrees : (now : Moment) (rule : InhibitRule) (target : LabelSet) (source : LabelSet × Alert) → inhibits now rule source target ≡ true → agree_on rule.equal source.0 target ≡ true
+agrees now rule target source mutes_it =
+    (and_parts (all_hold rule.source source.0) (agree_on rule.equal source.0 target) (is_source now rule target source mutes_it)).1
+
+-- the alerts on the source side of the rule that agree with the target list its sources
+pub sources-sources_of : (rule : InhibitRule) (target : LabelSet) (alerts : Alerts) → ListsSources rule target alerts (sources_of rule target alerts)
+sources-sources_of rule target alerts = λ now.
+    ap (option_map (λ source. source.0))
+    (find-filter (λ source. inhibits now rule source target) (λ source. all_hold rule.source source.0 && agree_on rule.equal source.0 target)
+    (is_source now rule target) (entries alerts))
 
 -- the alerts that share a label of the rule with the target list its sources
 pub sources-with_pair : (rule : InhibitRule) (target : LabelSet) (alerts : Alerts) (label : Text × Text) → SharesLabel rule.equal target label

@@ -1,12 +1,13 @@
 //! The stored alerts, as inhibition asks for them.
-ghost use Rattle.std.specs.Prelude.{◌≡◌, IfOk, false, map};
+ghost use Rattle.std.specs.Prelude.{◌≡◌, IfOk, IfSome, false, map};
 ghost use Rattle.std.specs.Map.Iter.{deref_pair};
 ghost use Rattle.amr_labels.specs.Map.{entries};
 ghost use Rattle.amr_labels.specs.Labels.{is_empty};
-ghost use Rattle.amr_rules.specs.Muting.{Alerts, with_pair, has_value};
+ghost use Rattle.amr_rules.specs.Muting.{Alerts, with_pair, sources_of, has_value};
 
 use crate::alert::Alert;
 use amr_labels::{Labels, Text};
+use amr_stated::InhibitRule;
 use std::alloc::{AllocError, Global};
 use std::cmp::Ordering;
 
@@ -34,6 +35,18 @@ pub trait AlertStore {
     /// Returns about how many alerts `with_pair` looks at. Inhibition asks by the label with the
     /// least count. That decides only how long it takes, so no contract depends on the count.
     fn count_with_pair(&self, name: &Text, value: &Text) -> usize;
+
+    /// Lists the stored alerts that match the rule's source matchers and agree with a target on the
+    /// labels in `equal`, with their labels and in the order of the labels. Returns `None` if the
+    /// store doesn't keep track of them.
+    fn sources(
+        &self,
+        alloc: Global,
+        rule: &InhibitRule,
+        target: &Labels,
+    ) -> Result<Option<Vec<(&Labels, &Alert)>>, AllocError>
+        ensures { IfOk result (λ known. IfSome known (λ found. map deref_pair found.items
+            ≡ sources_of rule.now target.now (alerts self.now))) };
 }
 
 /// Returns whether a label has a value, an absent label being empty.

@@ -101,8 +101,9 @@ fn inhibitor_by<'a, A: AlertStore>(
     first_source(alloc, now, target, side.is_source, &stored, rule)
 }
 
-/// Lists the stored alerts that may mute a target by a rule. A source has to agree with the target
-/// on the labels in `equal`, so only those that share the rarest of them are listed.
+/// Lists the stored alerts that may mute a target by a rule: the rule's sources that agree with the
+/// target, if the store keeps track of them. If it doesn't, those that share with the target the
+/// rarest of the labels in `equal` are listed, since a source has to agree on all of them.
 fn possible_sources<'a, A: AlertStore>(
     alloc: Global,
     target: &Labels,
@@ -112,6 +113,9 @@ fn possible_sources<'a, A: AlertStore>(
     ensures { IfOk result (λ found. ListsSources rule.now target.now (A.alerts alerts.now)
         (map deref_pair found.items)) }
 {
+    if let Some(found) = alerts.sources(alloc, rule, target)? {
+        return Ok(found);
+    }
     match rarest_label(rule.equal.as_slice(), target, alerts) {
         Some((name, value)) => alerts.with_pair(alloc, name, value),
         None => alerts.all(alloc),

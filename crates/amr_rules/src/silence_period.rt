@@ -11,6 +11,7 @@ ghost use Rattle.amr_rules.specs.Silences.{Silences};
 use crate::silence::Silence;
 use amr_events::SilenceId;
 use amr_labels::{Labels, Listing};
+use amr_matchers::Answers;
 use amr_tables::Keyed;
 use amr_time::Moment;
 use std::alloc::{AllocError, Global};
@@ -36,9 +37,10 @@ impl SilencePeriod {
 }
 
 /// Lists the silences that match labels and aren't expired at a moment, with their periods, in the
-/// order of their ids.
+/// order of their ids. It asks the patterns of the matchers through the remembered answers.
 pub fn silence_periods(
     alloc: Global,
+    answers: &mut Answers,
     silences: &Keyed<SilenceId, Silence>,
     from: Moment,
     labels: &Labels,
@@ -48,7 +50,7 @@ pub fn silence_periods(
 {
     let mut periods = Listing::new(alloc);
     for (id, silence) in silences.iter() {
-        if may_silence(alloc, from, silence, labels)? {
+        if may_silence(answers, from, silence, labels)? {
             periods.push(SilencePeriod {
                 id: *id,
                 starts_at: silence.starts_at,
@@ -61,7 +63,7 @@ pub fn silence_periods(
 
 /// Returns whether a silence matches labels and isn't expired at a moment.
 fn may_silence(
-    alloc: Global,
+    answers: &mut Answers,
     from: Moment,
     silence: &Silence,
     labels: &Labels,
@@ -71,7 +73,7 @@ fn may_silence(
     if silence.is_expired_at(from) {
         return Ok(false);
     }
-    silence.matchers.matches_all(alloc, labels)
+    silence.matchers.matches_all_remembered(answers, labels)
 }
 
 /// Returns the id of the first of these periods that a moment is in. That is the silence that mutes

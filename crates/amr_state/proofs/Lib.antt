@@ -7,4 +7,6 @@ pub mod Fitting
 pub mod Soundness
 pub mod Emptied
 pub mod Pairing
+pub mod Arriving
+pub mod Sources
 pub mod SilencesKnown

@@ -1,9 +1,14 @@
 -- An alert that is placed on a route: first its copy, then the clock of its group.
 use Rattle.std.specs.Prelude.{◌≡◌, ℕ, zero, suc, List, [], ◌∷◌, Result, Ok, Err}
 use Rattle.std.specs.Result.{OnOk}
-use Rattle.std.specs.Prelude.{Some, map, length, slice_get}
+use Rattle.std.specs.Prelude.{Some, cond, map, length, slice_get}
+use Rattle.std.specs.declared.cmp.Ordering.{Ordering}
+use Rattle.std.specs.declared.cmp.Ordering.TheVariants.{Less, Equal, Greater}
+use Rattle.std.specs.Cmp.{IsTotalOrder}
+use Rattle.std.specs.FinMap.{IsAntisymmetric}
+use Rattle.std.specs.Ordering.{is_eq}
 use Rattle.std.proofs.Common.{ap, sym, refl, ◌∙◌}
-use Rattle.amr_labels.specs.Map.{get, insert}
+use Rattle.amr_labels.specs.Map.{Map, get, insert, get-insert, get_tied, same_map}
 use Rattle.amr_labels.specs.Labels.{LabelSet}
 use Rattle.amr_config.specs.Config.{Config}
 use Rattle.amr_config.specs.Routing.{chosen, group_wait_of}
@@ -29,6 +34,15 @@ placed s copied labels alert copy route group spot clock grouped at same wound i
     wound ∙ ap (λ (g : Spot). clock_with s.moment (group_wait_of s.config route) alert (get s.clocks g)) grouped in
     ap (λ (x : State). record x { clocks = insert x.clocks group clock }) is
     ∙ (λ i. record s { placements = insert s.placements (at i) (same i); clocks = insert s.clocks (grouped i) (by i) })
+
+-- putting the value of a key under that key changes nothing
+pub put_as_it_is : {K X : Type 0} {R : K → K → Ordering} (o : IsTotalOrder R) → IsAntisymmetric R → (m : Map R X) (k : K) (v : X) → get m k ≡ Some v → insert m k v ≡ m
+put_as_it_is {R = R} o same m k v e =
+    same_map o same _ _ (λ q. get-insert o m k v q ∙ elim (R q k) as (λ r. R q k ≡ r → cond (is_eq r) (Some v) (get m q) ≡ get m q) [
+      | Less ↦ λ h. refl
+      | Equal ↦ λ h. sym e ∙ get_tied o m q k h
+      | Greater ↦ λ h. refl
+    ] refl)
 
 -- ---- the groups that take an alert
 

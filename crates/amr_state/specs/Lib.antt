@@ -9,4 +9,5 @@ pub mod Records
 pub mod Fitting
 pub mod Kept
 pub mod LabelPairs
+pub mod RuleSources
 pub mod SilencesKnown

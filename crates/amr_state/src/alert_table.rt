@@ -1,6 +1,7 @@
-//! The stored alerts by label set, with an index of the label sets by label. `timetable.rt` changes
-//! the table; inhibition asks it for the alerts that have a given label. It neither merges alerts
-//! nor decides when one is removed.
+//! The stored alerts by label set, with an index of the label sets by label, and the label sets that
+//! can be sources of inhibition rules. `timetable.rt` changes the table; inhibition asks it for a
+//! rule's sources, or for the alerts that have a given label. It neither merges alerts nor decides
+//! when one is removed.
 ghost use Rattle.std.specs.Prelude.{◌≡◌, ◌≤◌, ◌<◌, [], IsTrue, is_some, length, OnOk, OnErr, IfOk};
 ghost use Rattle.std.specs.Option.{option_copied};
 ghost use Rattle.amr_labels.specs.Labels.{label_set_cmp};
@@ -10,20 +11,24 @@ ghost use Rattle.amr_state.specs.LabelPairs.{all_put, CanPutAll};
 
 use crate::label_counts::LabelCounts;
 use crate::label_pair::{LabelPair, PairedLabels, pairs_of};
+use crate::rule_source::RuleSources;
 use amr_labels::{Labels, Text};
 use amr_rules::{Alert, AlertStore};
+use amr_stated::InhibitRule;
 use amr_tables::{Entries, Journal, Keyed, Queue, change};
 use std::alloc::{AllocError, Global};
 use std::marker::Model;
 
 /// The stored alerts by label set. The index lists each label set that has a place, with the number
-/// of the place, under each of its labels. A place is never lost, so nothing leaves the index.
+/// of the place, under each of its labels. A place is never lost, so nothing leaves the index. The
+/// sources know each label set that has a place too.
 #[derive(Drop)]
 pub struct AlertTable {
     alloc: Global,
     alerts: Keyed<Labels, Alert>,
     index: Queue<PairedLabels>,
     counts: LabelCounts,
+    sources: RuleSources,
 }
 
 impl Model for AlertTable {
@@ -32,7 +37,7 @@ impl Model for AlertTable {
     ghost use Rattle.amr_labels.specs.Labels.{LabelSet};
     ghost use Rattle.amr_rules.specs.declared.alert.Alert.{Alert};
     ghost use Rattle.amr_tables.specs.Numbered.{Numbered};
-    ghost use Rattle.amr_state.specs.LabelPairs.{ListsLabelSets};
+    ghost use Rattle.amr_state.specs.RuleSources.{IsIndexed};
 
     ghost Value = { Numbered LabelSet Alert };
 
@@ -40,7 +45,7 @@ impl Model for AlertTable {
 
     ghost view = { λ t. t.alerts };
 
-    ghost invariant = { λ t. ListsLabelSets t.alerts t.index.dues };
+    ghost invariant = { λ t. IsIndexed t.alerts t.index.dues t.sources };
 }
 
 impl AlertTable {
@@ -56,6 +61,7 @@ impl AlertTable {
             alerts: Keyed::new(alloc),
             index: Queue::new(alloc),
             counts: LabelCounts::new(alloc),
+            sources: RuleSources::new(alloc),
         }
     }
 
@@ -78,6 +84,14 @@ impl AlertTable {
         ensures { result ≡ has_place label_set_cmp self.now labels.now }
     {
         self.alerts.has_place(labels)
+    }
+
+    /// Works out which label sets can be sources of a rule, so that `sources` needn't ask the rule's
+    /// matchers. It asks them once for each label set.
+    pub(crate) fn learn_side(&mut self, rule: &InhibitRule) -> Result<(), AllocError>
+        ensures { self.new ≡ self.old }
+    {
+        self.sources.learn(rule)
     }
 
     /// Clears the marks of all places, so that the open record takes their next change again. It
@@ -148,6 +162,7 @@ impl AlertTable {
         let pairs = pairs_of(self.alloc, labels, self.alerts.next_number())?;
         self.index.reserve(pairs.len())?;
         self.counts.add(self.alloc, labels)?;
+        self.sources.add(labels.clone()?)?;
         self.alerts.make_place(labels.clone()?)?;
         put_all(&mut self.index, pairs);
         Ok(())
@@ -186,6 +201,24 @@ impl AlertStore for AlertTable {
 
     fn count_with_pair(&self, name: &Text, value: &Text) -> usize {
         self.counts.count(name, value)
+    }
+
+    fn sources(
+        &self,
+        alloc: Global,
+        rule: &InhibitRule,
+        target: &Labels,
+    ) -> Result<Option<Vec<(&Labels, &Alert)>>, AllocError> {
+        let Some(sources) = self.sources.agreeing(rule, target)? else {
+            return Ok(None);
+        };
+        let mut found = Vec::new(alloc);
+        for source in sources {
+            if let Some(alert) = self.alerts.get(&source.labels) {
+                found.push((&source.labels, alert))?;
+            }
+        }
+        Ok(Some(found))
     }
 }
 

@@ -13,6 +13,7 @@ mod membership;
 mod note;
 mod placing;
 mod roster;
+mod rule_source;
 mod silence_table;
 mod spot;
 mod store;

@@ -1,9 +1,10 @@
 //! Inserts alerts into their groups, as Alertmanager's dispatcher does: an alert goes to one group
 //! on each route that takes it. A post and a change of the configuration call `place`. It sets
 //! group timers, but flushes nothing.
-ghost use Rattle.std.specs.Prelude.{◌≡◌, ◌+◌, ◌*◌, ◌≤◌, length, OnOk, IfOk, nat_lt};
+ghost use Rattle.std.specs.Prelude.{◌≡◌, ◌+◌, ◌*◌, ◌≤◌, Some, length, true, OnOk, IfOk, nat_lt};
 ghost use Rattle.amr_config.specs.Routing.{chosen};
 ghost use Rattle.amr_config.specs.Groups.{group_at};
+ghost use Rattle.amr_labels.specs.Map as map;
 ghost use Rattle.amr_time.specs.Time.{latest_read};
 ghost use Rattle.amr_state.specs.State.{spot_at, group_spot, clock_with, place_on, place};
 ghost use Rattle.amr_state.specs.Kept.{GrownBy, undone};
@@ -76,14 +77,49 @@ fn place_on(
         labels: group.labels.clone()?,
     };
     let wait = store.config().group_wait(route);
-    let clock = store.clocks().get(&group).copied();
-    let clock = clock_with(store.moment(), wait, alert, clock);
+    let before = store.clocks().get(&group).copied();
+    let after = clock_with(store.moment(), wait, alert, before);
     let spot = Spot {
         route,
         labels: labels.clone()?,
     };
-    store.place_copy(&spot, alert.clone()?)?;
-    store.set_clock(&group, clock)
+    store.place_copy(&group, &spot, alert.clone()?)?;
+    change_clock(store, &group, before, after)
+}
+
+/// Sets a group timer that is `before` now. Does nothing if it stays, as at most posts of an alert
+/// that the group has.
+fn change_clock(
+    store: &mut Store,
+    group: &Spot,
+    before: Option<Clock>,
+    after: Clock,
+) -> Result<(), AllocError>
+    requires { before ≡ map.get store.old.state.clocks group.now }
+    ensures ok { OnOk result (store.new.state
+        ≡ record store.old.state
+        { clocks = map.insert store.old.state.clocks group.now after }) }
+    ensures kept { undone store.new ≡ undone store.old }
+    ensures grown { GrownBy 1 store.old store.new }
+{
+    if stays(&before, &after) {
+        return Ok(());
+    }
+    store.set_clock(group, after)
+}
+
+/// Returns whether a group timer stays as it was. `before` is `None` if there was none.
+fn stays(before: &Option<Clock>, after: &Clock) -> bool
+    ensures { result ≡ true → before.now ≡ Some after.now }
+{
+    match before {
+        None => false,
+        Some(before) => {
+            before.next_flush.nanoseconds() == after.next_flush.nanoseconds()
+                && before.flushed == after.flushed
+                && before.empty_since == after.empty_since
+        }
+    }
 }
 
 /// Inserts an alert into its group on each route that takes it.

@@ -13,7 +13,6 @@ ghost use Rattle.amr_state.specs.Rostered.{in_group, member_entry_of, members_am
 
 use crate::members::Member;
 use crate::membership::Membership;
-use crate::placing::group_spot;
 use crate::spot::Spot;
 use crate::timetable::{make_room, put_back};
 use amr_config::{Config, RouteGroup, Router, RuleMatch};
@@ -119,14 +118,16 @@ impl Roster {
         self.placements.clear_entered();
     }
 
-    /// Sets or removes the member with these labels on this route. Returns the entry that the open
-    /// record needs, and leaves room for it there.
+    /// Sets or removes the member with these labels on this route, given its group. Returns the
+    /// entry that the open record needs, and leaves room for it there.
     pub(crate) fn change_member<E>(
         &mut self,
         journal: &mut Journal<E>,
+        group: &Spot,
         spot: &Spot,
         alert: Option<Alert>,
     ) -> Result<Option<(Membership, Option<Alert>)>, AllocError>
+        requires { group.now ≡ group_spot self.old.config spot.now }
         ensures entry { IfOk result (λ entry. entry
             ≡ member_entry_of self.old.config self.old.placements spot.now) }
         ensures shown { OnOk result (shown spot_cmp self.new.placements ≡
@@ -142,11 +143,11 @@ impl Roster {
         ensures current { journal.new.current ≡ journal.old.current }
         ensures record_room { journal.new.record_room ≡ journal.old.record_room }
     {
-        let group = group_spot(self.alloc, self.config.config(), spot.route, &spot.labels)?;
         let member = Membership {
             group: group.clone()?,
             labels: spot.labels.clone()?,
         };
+        let group = group.clone()?;
         make_room(&mut self.index, self.placements.has_place(spot), 1)?;
         let was = is_placed(&self.placements, spot);
         let is = alert.is_some();

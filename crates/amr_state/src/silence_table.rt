@@ -9,6 +9,7 @@ ghost use Rattle.amr_tables.specs.Numbered.{shown, has_place, entry_of, Enters, 
 
 use amr_events::SilenceId;
 use amr_labels::{Labels, Listing};
+use amr_matchers::Answers;
 use amr_rules::{Silence, SilencePeriod, silence_periods, silenced_by, silenced_in};
 use amr_tables::{Journal, Keyed, change};
 use amr_time::Moment;
@@ -22,6 +23,8 @@ use std::marker::Model;
 pub(crate) struct SilenceTable {
     alloc: Global,
     silences: Keyed<SilenceId, Silence>,
+    /// What the patterns of the silences' matchers answered.
+    answers: Answers,
     known: BTreeMap<Labels, KnownPeriods>,
 }
 
@@ -62,6 +65,7 @@ impl SilenceTable {
         SilenceTable {
             alloc,
             silences: Keyed::new(alloc),
+            answers: Answers::new(alloc),
             known: BTreeMap::new(alloc),
         }
     }
@@ -99,7 +103,7 @@ impl SilenceTable {
         if self.silences.iter().next().is_none() || self.periods(at, labels).is_some() {
             return Ok(());
         }
-        let periods = silence_periods(self.alloc, &self.silences, at, labels)?;
+        let periods = silence_periods(self.alloc, &mut self.answers, &self.silences, at, labels)?;
         let known = KnownPeriods { from: at, periods };
         self.known.insert(labels.clone()?, known)?;
         Ok(())

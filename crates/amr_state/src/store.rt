@@ -13,7 +13,7 @@ ghost use Rattle.amr_tables.specs.Numbered.{shown};
 ghost use Rattle.amr_tables.specs.Queued.{in_order};
 ghost use Rattle.amr_time.specs.Time.{latest_read};
 ghost use Rattle.amr_rules.specs.Muting.{is_silenced, silencer_of};
-ghost use Rattle.amr_state.specs.State.{start, members, spot_cmp, log_key_cmp};
+ghost use Rattle.amr_state.specs.State.{start, members, group_spot, spot_cmp, log_key_cmp};
 ghost use Rattle.amr_state.specs.Dues.{due_cmp, dues};
 ghost use Rattle.amr_state.specs.Kept.{GrownBy, undone};
 
@@ -22,6 +22,7 @@ use crate::displaced::Displaced;
 use crate::due::Due;
 use crate::members::Member;
 use crate::note::{Clock, LogKey, Note};
+use crate::placing::group_spot;
 use crate::roster::Roster;
 use crate::silence_table::SilenceTable;
 use crate::spot::{Spot, TimedGroup};
@@ -232,6 +233,19 @@ impl Store {
         self.tables.silences.learn(at, labels)
     }
 
+    /// Works out which label sets can be sources of the inhibition rules that have labels as a
+    /// target, so that inhibition needn't look for them among all stored alerts. It asks the source
+    /// matchers of such a rule once for each label set.
+    pub fn learn_sources(&mut self, labels: &Labels) -> Result<(), AllocError>
+        ensures same { self.new ≡ self.old }
+    {
+        let matched = self.tables.roster.rule_matches(labels)?;
+        self.tables.timetable.learn_sources(
+            self.tables.roster.config().rules(),
+            matched.get().as_slice(),
+        )
+    }
+
     /// Returns the members of all groups, by route and labels.
     pub(crate) fn placements(&self) -> &Keyed<Spot, Alert>
         ensures { shown spot_cmp result.now ≡ self.now.state.placements }
@@ -335,14 +349,20 @@ impl Store {
     }
 
     /// Sets the copy of an alert that its group on this route holds.
-    pub(crate) fn place_copy(&mut self, spot: &Spot, alert: Alert) -> Result<(), AllocError>
+    pub(crate) fn place_copy(
+        &mut self,
+        group: &Spot,
+        spot: &Spot,
+        alert: Alert,
+    ) -> Result<(), AllocError>
+        requires { group.now ≡ group_spot self.old.state.config spot.now }
         ensures ok { OnOk result (self.new.state
             ≡ record self.old.state
             { placements = map.insert self.old.state.placements spot.now alert }) }
         ensures kept { undone self.new ≡ undone self.old }
         ensures grown { GrownBy 1 self.old self.new }
     {
-        self.set_placement(spot, Some(alert))
+        self.set_placement(group, spot, Some(alert))
     }
 
     /// Removes an alert from its group on this route.
@@ -353,7 +373,8 @@ impl Store {
         ensures kept { undone self.new ≡ undone self.old }
         ensures grown { GrownBy 1 self.old self.new }
     {
-        self.set_placement(spot, None)
+        let group = group_spot(self.alloc, self.config(), spot.route, &spot.labels)?;
+        self.set_placement(&group, spot, None)
     }
 
     /// Sets a group timer, and adds the group if it is new.
@@ -475,9 +496,15 @@ impl Store {
         Ok(())
     }
 
-    /// Sets or removes the member with these labels on this route, and enters the former one into
-    /// the open record.
-    fn set_placement(&mut self, spot: &Spot, alert: Option<Alert>) -> Result<(), AllocError>
+    /// Sets or removes the member with these labels on this route, given its group, and enters the
+    /// former one into the open record.
+    fn set_placement(
+        &mut self,
+        group: &Spot,
+        spot: &Spot,
+        alert: Option<Alert>,
+    ) -> Result<(), AllocError>
+        requires { group.now ≡ group_spot self.old.state.config spot.now }
         ensures ok { OnOk result (self.new.state
             ≡ record self.old.state
             { placements = map.set self.old.state.placements spot.now alert }) }
@@ -487,7 +514,7 @@ impl Store {
         let entry = self
             .tables
             .roster
-            .change_member(&mut self.journal, spot, alert)?;
+            .change_member(&mut self.journal, group, spot, alert)?;
         if let Some((member, was)) = entry {
             self.journal.push(Displaced::WasPlacement(member, was));
         }
@@ -521,7 +548,7 @@ impl Store {
     {
         let spots = keys_of(self.alloc, self.tables.roster.placements())?;
         for spot in &spots {
-            self.set_placement(spot, None)?;
+            self.remove_copy(spot)?;
         }
         Ok(())
     }

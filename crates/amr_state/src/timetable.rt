@@ -15,8 +15,10 @@ use crate::alert_table::AlertTable;
 use crate::due::{Due, Kind, alert_removal, group_removal};
 use crate::note::Clock;
 use crate::spot::{Spot, TimedGroup};
+use amr_config::RuleMatch;
 use amr_labels::Labels;
 use amr_rules::Alert;
+use amr_stated::InhibitRule;
 use amr_tables::{Journal, Key, Keyed, Queue, change};
 use amr_time::Moment;
 use std::alloc::{AllocError, Global};
@@ -80,6 +82,18 @@ impl Timetable {
             (dues_of (shown label_set_cmp self.now.alerts) (shown spot_cmp self.now.clocks)) }
     {
         &self.queue
+    }
+
+    /// Works out which label sets can be sources of those rules that have a label set as a target,
+    /// given which sides of each rule it is on. Does nothing for a rule of which that is known.
+    pub(crate) fn learn_sources(
+        &mut self,
+        rules: &[InhibitRule],
+        matched: &[RuleMatch],
+    ) -> Result<(), AllocError>
+        ensures { self.new ≡ self.old }
+    {
+        learn_sides(&mut self.alerts, rules, matched)
     }
 
     /// Clears the marks of all places, so that the open record takes their next change again. It
@@ -197,6 +211,24 @@ impl Timetable {
 struct GroupMoments {
     flush: Option<u128>,
     removal: Option<u128>,
+}
+
+/// Works out which label sets can be sources of those rules that have a label set as a target, given
+/// which sides of each rule it is on.
+fn learn_sides(
+    alerts: &mut AlertTable,
+    rules: &[InhibitRule],
+    matched: &[RuleMatch],
+) -> Result<(), AllocError>
+    ensures { alerts.new ≡ alerts.old }
+{
+    for (place, rule) in rules.iter().enumerate() {
+        match matched.get(place) {
+            Some(side) if side.is_target => alerts.learn_side(rule)?,
+            _ => {}
+        }
+    }
+    Ok(())
 }
 
 /// Restores the value of a key that has a place, or its absence, and drops the present value. It

@@ -15,6 +15,7 @@ loop-made-init c = record {
   ok = begins move_limit c.args.at c.args.store.now.state;
   kept = refl;
   grown = none_spent move_limit c.args.at c.args.store.now.state (length c.args.store.now.current);
+  memory = c.requires.memory;
 }
 
 pub loop-made-preserved : goal.loop-made-preserved
@@ -27,6 +28,7 @@ loop-made-preserved c =
       grown = spent move_limit c.loop-made.made c.args.at c.loop-made.store.state c.make.new.store.state c.in-Some.due (length c.loop-made.store.current) (length c.make.new.store.current)
           (length c.args.store.now.current + 2 * first_weight move_limit c.args.at c.args.store.now.state) c.loop-made.invariant.grown less (rw c.in-Some.is at c.in_ok-next_due.ensures.due)
           c.in_ok-make-in-Some.ensures.ok c.in_ok-make-in-Some.ensures.grown;
+      memory = c.in_ok-make-in-Some.ensures.memory;
     }
 
 pub returns-then-is_some-clause-ok : goal.returns-then-is_some-clause-ok

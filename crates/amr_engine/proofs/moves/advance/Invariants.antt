@@ -1,6 +1,7 @@
 use Rattle.std.proofs.Common.{◌≡◌, ◌≤◌, ◌+◌, ◌*◌, ◌-◌, length}
 use Rattle.amr_engine.specs.Events.{move_limit}
 use Rattle.amr_engine.specs.Moves.{advance, counted_run}
+use Rattle.amr_engine.specs.Remembered.{IsTrueOf}
 use Rattle.amr_state.specs.Kept.{undone}
 use Rattle.amr_engine.specs.Weight.{first_weight}
 use Rattle.amr_engine.proofs.Cascade.{plus_moves}
@@ -12,4 +13,5 @@ invariant-loop-made l = record {
   ok : counted_run (advance move_limit l.at l.fn.store.state) ≡ plus_moves (counted_run (advance (move_limit - l.made) l.at l.store.state)) l.made;
   kept : undone l.store ≡ undone l.fn.store;
   grown : length l.store.current + 2 * first_weight (move_limit - l.made) l.at l.store.state ≤ length l.fn.store.current + 2 * first_weight move_limit l.at l.fn.store.state;
+  memory : IsTrueOf l.memory l.store.state;
 }

@@ -5,6 +5,8 @@ use Rattle.amr_state.specs.Steps.{Steps}
 use Rattle.amr_state.specs.Kept.{Kept}
 use Rattle.amr_state.specs.Records.{befores, put_back}
 use Rattle.amr_engine.specs.Events.{after_event}
+use Rattle.amr_engine.specs.Remembered.{IsTrueOf}
+use Rattle.amr_engine.specs.declared.engine.Engine.TheInside.{Inside}
 use Rattle.amr_engine.specs.Weight.{event_weight}
 use Rattle.amr_engine.proofs.Settling.{IsLeft, Settled, settled, has_room, past_is, records_are, state_back, put_back_whole, is_idle}
 use Rattle.amr_engine.proofs.engine.Engine.apply.Goals as goal
@@ -18,7 +20,7 @@ seen k = steps_of k.state k.records
 
 pub close-requires : goal.close-requires
 close-requires c =
-    let idle = c.in_ok-begin.ensures.current ∙ c.self.invariant in
+    let idle = c.in_ok-begin.ensures.current ∙ c.self.invariant.0 in
     let done : Settled c.args.event.now c.begin.new.self c.if-is_refused.self-inside.store c.in-Ok.outcome =
     settled c.args.event.now c.begin.new.self c.attempt.new.store c.if-is_refused.self-inside.store c.in-Ok.outcome idle c.in-Ok.ensures.outcome c.in-Ok.ensures.kept c.in-Ok.ensures.light
     (elim c.if-is_refused.branch [
@@ -28,11 +30,22 @@ close-requires c =
     has_room c.begin.new.self c.if-is_refused.self-inside.store done.undone_is c.in_ok-begin.ensures.room
 
 pub invariant_of-self-in-Err : goal.invariant_of-self-in-Err
-invariant_of-self-in-Err c = is_idle c.attempt.new.store c.undo_open-in-Err.new.self c.undo_open-in-Err.ensures
+invariant_of-self-in-Err c = (is_idle c.attempt.new.store c.undo_open-in-Err.new.self c.undo_open-in-Err.ensures, c.clear-in-Err.ensures c.undo_open-in-Err.new.self.state)
+
+pub invariant_of-self-in-Ok : goal.invariant_of-self-in-Ok
+invariant_of-self-in-Ok c =
+    let left = c.if-is_refused.self-inside in
+    let state : State = c.close.new.self.state in (
+      c.close.ensures.current,
+      elim c.if-is_refused.branch [
+        | then-is_refused w ↦ subst (λ memory. IsTrueOf memory state) (sym (ap (λ x. x.memory) w.self-inside-is)) (w.clear.ensures state)
+        | else-is_refused w ↦ subst (λ (x : Inside). IsTrueOf x.memory state) (sym w.self-inside-is) (subst (IsTrueOf c.attempt.new.memory) (sym (c.close.ensures.state ∙ ap (λ (x : Inside). x.store.state) w.self-inside-is)) c.in-Ok.ensures.memory)
+      ],
+    )
 
 pub returns-after-is_refused-clause-state : goal.returns-after-is_refused-clause-state
 returns-after-is_refused-clause-state c =
-    let idle = c.in_ok-begin.ensures.current ∙ c.self.invariant in
+    let idle = c.in_ok-begin.ensures.current ∙ c.self.invariant.0 in
     let done : Settled c.args.event.now c.begin.new.self c.if-is_refused.self-inside.store c.in-Ok.outcome =
     settled c.args.event.now c.begin.new.self c.attempt.new.store c.if-is_refused.self-inside.store c.in-Ok.outcome idle c.in-Ok.ensures.outcome c.in-Ok.ensures.kept c.in-Ok.ensures.light
     (elim c.if-is_refused.branch [
@@ -43,7 +56,7 @@ returns-after-is_refused-clause-state c =
 
 pub returns-after-is_refused-clause-past : goal.returns-after-is_refused-clause-past
 returns-after-is_refused-clause-past c =
-    let idle = c.in_ok-begin.ensures.current ∙ c.self.invariant in
+    let idle = c.in_ok-begin.ensures.current ∙ c.self.invariant.0 in
     let done : Settled c.args.event.now c.begin.new.self c.if-is_refused.self-inside.store c.in-Ok.outcome =
     settled c.args.event.now c.begin.new.self c.attempt.new.store c.if-is_refused.self-inside.store c.in-Ok.outcome idle c.in-Ok.ensures.outcome c.in-Ok.ensures.kept c.in-Ok.ensures.light
     (elim c.if-is_refused.branch [
@@ -56,7 +69,7 @@ returns-after-is_refused-clause-past c =
 
 pub returns-after-is_refused-clause-record_kept : goal.returns-after-is_refused-clause-record_kept
 returns-after-is_refused-clause-record_kept c =
-    let idle = c.in_ok-begin.ensures.current ∙ c.self.invariant in
+    let idle = c.in_ok-begin.ensures.current ∙ c.self.invariant.0 in
     let done : Settled c.args.event.now c.begin.new.self c.if-is_refused.self-inside.store c.in-Ok.outcome =
     settled c.args.event.now c.begin.new.self c.attempt.new.store c.if-is_refused.self-inside.store c.in-Ok.outcome idle c.in-Ok.ensures.outcome c.in-Ok.ensures.kept c.in-Ok.ensures.light
     (elim c.if-is_refused.branch [
@@ -76,7 +89,7 @@ returns-after-is_refused-clause-record_kept c =
 pub returns-in-Err-clause-err : goal.returns-in-Err-clause-err
 returns-in-Err-clause-err c =
     let begun = c.begin.new.self in
-    let whole : c.undo_open-in-Err.new.self ≡ begun = put_back_whole begun c.attempt.new.store c.undo_open-in-Err.new.self (c.in_ok-begin.ensures.current ∙ c.self.invariant) c.in-Err.ensures.kept c.undo_open-in-Err.ensures in
+    let whole : c.undo_open-in-Err.new.self ≡ begun = put_back_whole begun c.attempt.new.store c.undo_open-in-Err.new.self (c.in_ok-begin.ensures.current ∙ c.self.invariant.0) c.in-Err.ensures.kept c.undo_open-in-Err.ensures in
     ap seen whole
     ∙ (λ i. steps_of (c.in_ok-begin.ensures.state i) (c.in_ok-begin.ensures.records i))
     ∙ c.self.view_is

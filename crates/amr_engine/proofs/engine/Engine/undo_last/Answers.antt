@@ -7,7 +7,7 @@ pub reopen-requires-clause-some : goal.reopen-requires-clause-some
 reopen-requires-clause-some c = some_record c.self.inside.store c.args.self.now.past (ap (λ (v : Steps). v.past) c.self.view_is) c.requires
 
 pub invariant_of-self : goal.invariant_of-self
-invariant_of-self c = is_idle c.reopen.new.self c.undo_open.new.self c.undo_open.ensures
+invariant_of-self c = (is_idle c.reopen.new.self c.undo_open.new.self c.undo_open.ensures, c.clear.ensures c.undo_open.new.self.state)
 
 pub returns-clause-past : goal.returns-clause-past
 returns-clause-past c =

@@ -3,10 +3,14 @@ use Rattle.amr_labels.specs.Labels.{LabelSet, label_set_cmp}
 use Rattle.amr_rules.specs.declared.alert.Alert.{Alert}
 use Rattle.amr_tables.specs.Numbered.{Numbered, has_place}
 use Rattle.amr_state.proofs.Pairing.{index_put}
+use Rattle.amr_state.proofs.Arriving.{arrived_same}
 use Rattle.amr_state.proofs.alert_table.AlertTable.put_back.Goals as goal
 
 pub invariant_of-self : goal.invariant_of-self
 invariant_of-self c =
     let t = c.self.inside in
     let placed = subst (λ (v : Numbered LabelSet Alert). IsTrue (has_place label_set_cmp v c.args.labels.now)) (sym c.self.view_is) c.requires in
-    index_put t.alerts t.index.dues c.self.invariant c.displace.new.self c.args.labels.now c.args.alert c.displace.ensures.keys placed c.displace.ensures.shown
+    record {
+      lists = index_put t.alerts t.index.dues c.self.invariant.lists c.displace.new.self c.args.labels.now c.args.alert c.displace.ensures.keys placed c.displace.ensures.shown;
+      arrived = arrived_same t.alerts c.displace.new.self t.sources c.self.invariant.arrived c.displace.ensures.places;
+    }

@@ -28,13 +28,13 @@ loop-paired-init c =
           ap (λ (found : List (Bor LabelSet × Bor Alert)). map deref_pair found ++ filter_map (stored_at (shown label_set_cmp c.args.self.now)) (values_of c.into_iter-paired-iterator.result.rest.items)) c.new-found.ensures.items
           ∙ ap (λ (v : Numbered LabelSet Alert). filter_map (stored_at (shown label_set_cmp v)) (values_of c.into_iter-paired-iterator.result.rest.items)) (sym c.self.view_is)
           ∙ ap (filter_map (stored_at (shown label_set_cmp t.alerts))) (ap values_of all ∙ c.in_ok-paired-items.ensures)
-          ∙ listed_are t.alerts t.index.dues c.self.invariant pair some
+          ∙ listed_are t.alerts t.index.dues c.self.invariant.lists pair some
           ∙ ap (λ n. with_pair n pair.value (shown label_set_cmp t.alerts)) c.in_ok-clone.ensures.cases
           ∙ ap (λ v. with_pair name v (shown label_set_cmp t.alerts)) c.in_ok-clone-2.ensures.cases
           ∙ ap (λ (v : Numbered LabelSet Alert). with_pair name value (shown label_set_cmp v)) c.self.view_is;
       numbered =
           subst (λ (v : Numbered LabelSet Alert). AllByRecursion (IsNumbered v) (values_of c.into_iter-paired-iterator.result.rest.items)) c.self.view_is
-          (subst (AllByRecursion (IsNumbered t.alerts)) (sym (ap values_of all ∙ c.in_ok-paired-items.ensures)) (part_numbered t.alerts t.index.dues c.self.invariant pair));
+          (subst (AllByRecursion (IsNumbered t.alerts)) (sym (ap values_of all ∙ c.in_ok-paired-items.ensures)) (part_numbered t.alerts t.index.dues c.self.invariant.lists pair));
     }
 
 pub loop-paired-preserved-in_ok-push : goal.loop-paired-preserved-in_ok-push

@@ -22,7 +22,7 @@ enrol-requires g c =
     let spot = c.args.spot.now in
     let n = places_for spot_cmp r.placements spot in
     let room : r.index.room + n ≤ c.make_room.new.queue.room = subst (λ b. r.index.room + cond b 0 1 ≤ c.make_room.new.queue.room) c.has_place.ensures c.in_ok-make_room.ensures.room in
-    let group : c.in_ok-clone.field-0 ≡ group_spot r.config spot = c.in_ok-clone.ensures.cases ∙ c.in_ok-group.ensures ∙ ap (λ (config : Config). group_spot config spot) c.config.ensures in
+    let group : c.in_ok-clone.field-0 ≡ group_spot r.config spot = c.in_ok-clone.ensures.cases ∙ c.requires ∙ ap (λ (r : Rostered). group_spot r.config spot) (sym c.self.view_is) in
     let member : ◌≡◌ {A = Membership} (record { group = c.in_ok-clone.field-0; labels = c.in_ok-clone-2.field-0 }) (membership_of r.config spot) =
     λ i. record { group = group i; labels = c.in_ok-clone-2.ensures.cases i } in
     may_enrol r.config r.placements c.change.new.table r.index c.make_room.new.queue c.self.invariant _ spot c.args.alert c.is_placed-was.result c.is_some-is.result n
@@ -34,7 +34,7 @@ invariant_of-self-2 g c =
     let spot = c.args.spot.now in
     let n = places_for spot_cmp r.placements spot in
     let room : r.index.room + n ≤ c.make_room.new.queue.room = subst (λ b. r.index.room + cond b 0 1 ≤ c.make_room.new.queue.room) c.has_place.ensures c.in_ok-make_room.ensures.room in
-    let group : c.in_ok-clone.field-0 ≡ group_spot r.config spot = c.in_ok-clone.ensures.cases ∙ c.in_ok-group.ensures ∙ ap (λ (config : Config). group_spot config spot) c.config.ensures in
+    let group : c.in_ok-clone.field-0 ≡ group_spot r.config spot = c.in_ok-clone.ensures.cases ∙ c.requires ∙ ap (λ (r : Rostered). group_spot r.config spot) (sym c.self.view_is) in
     let member : ◌≡◌ {A = Membership} (record { group = c.in_ok-clone.field-0; labels = c.in_ok-clone-2.field-0 }) (membership_of r.config spot) =
     λ i. record { group = group i; labels = c.in_ok-clone-2.ensures.cases i } in
     indexed_after r.config r.placements c.change.new.table r.index c.make_room.new.queue c.self.invariant _ spot c.args.alert c.is_placed-was.result c.is_some-is.result n
@@ -45,7 +45,7 @@ pub returns-clause-entry : goal.returns-clause-entry
 returns-clause-entry g c =
     let r = c.self.inside in
     c.member_entry.ensures
-    ∙ entry_is r.config r.placements c.in_ok-group.group c.args.spot.now c.in_ok-entry.entry (c.in_ok-group.ensures ∙ ap (λ (config : Config). group_spot config c.args.spot.now) c.config.ensures) c.in_ok-entry.ensures.entry
+    ∙ entry_is r.config r.placements c.in_ok-group.group c.args.spot.now c.in_ok-entry.entry (c.in_ok-group.ensures.cases ∙ c.requires ∙ ap (λ (r : Rostered). group_spot r.config c.args.spot.now) (sym c.self.view_is)) c.in_ok-entry.ensures.entry
     ∙ ap (λ (r : Rostered). member_entry_of r.config r.placements c.args.spot.now) c.self.view_is
 
 pub returns-clause-entered : goal.returns-clause-entered

@@ -1,0 +1,222 @@
+-- A flush of a quiet group sets the group timer and changes nothing else.
+use Rattle.std.specs.Prelude.{◌≡◌, ℕ, Bool, true, false, not, ◌&&◌, ◌||◌, List, [], ◌∷◌, Option, Some, None, option_map, if◌then◌else◌, ◌+◌, ◌≤◌, ◌<◌, nat_le, nat_lt, length, ◌==◌, cond}
+use Rattle.std.specs.List.{list_all, list_any, find, filter, fold}
+use Rattle.std.specs.Option.{option_or, is_none}
+use Rattle.std.proofs.Common.{refl, sym, ap, ◌∙◌, arith}
+use Rattle.std.proofs.lemmas.Bool.Decides.{nat_tests}
+use Rattle.amr_labels.specs.Map.{Map, get, entries}
+use Rattle.amr_labels.specs.Labels.{LabelSet, Text}
+use Rattle.amr_time.specs.Time.{Moment, Span}
+use Rattle.amr_stated.specs.declared.rule.InhibitRule.{InhibitRule}
+use Rattle.amr_stated.specs.declared.receiver.Integration.{Integration}
+use Rattle.amr_config.specs.Config.{Config}
+use Rattle.amr_config.specs.Routing.{is_active_at, is_muted_at, is_within, active_intervals_of, mute_intervals_of, integrations_of, repeat_interval_of, group_interval_of}
+use Rattle.amr_rules.specs.declared.alert.Alert.{Alert}
+use Rattle.amr_rules.specs.declared.silence.Silence.{Silence}
+use Rattle.amr_rules.specs.declared.update.LogEntry.{LogEntry}
+use Rattle.amr_rules.specs.Alerts.{is_resolved_at}
+use Rattle.amr_rules.specs.Muting.{Alerts, inhibits, first_source, rule_mutes, inhibition_from, silencer_of, silences_labels}
+use Rattle.amr_rules.specs.Silences.{Silences}
+use Rattle.amr_rules.specs.Updates.{LabelSets, needs_update, differs}
+use Rattle.amr_state.specs.declared.spot.Spot.{Spot}
+use Rattle.amr_state.specs.State.{State, members, spot_cmp}
+use Rattle.amr_engine.specs.Stages.{by_inhibition, by_active_time, by_mute_time, by_silence, taken_away}
+use Rattle.amr_engine.specs.Flush.{Members, let_through, firing_of, resolved_of, labels_of, log_key_of, tell, notify, notify_all, set_clock, forget, mark_if_empty, drop_resolved, serve, flush}
+use Rattle.amr_state.specs.declared.note.Clock.{Clock}
+use Rattle.amr_state.specs.declared.note.Note.{Note}
+use Rattle.amr_labels.specs.Set.{is_subset, is_empty}
+use Rattle.amr_engine.specs.declared.explain.Finding.TheVariants.{Inhibited, OutsideActive, TimeMuted, Silenced}
+use Rattle.amr_engine.specs.Quiet.{is_outside, no_alert_ends, no_source_ends, no_silence_turns, IsStill, all_fire_until, is_untimed, no_repeat_before, is_told, are_told, wound, IsSettled, IsQuietWith, IsQuiet}
+
+pub both : (a b : Bool) → (a && b) ≡ true → (a ≡ true) × (b ≡ true)
+both true b e = (refl, e)
+both false b e = absurd (cc)
+
+-- two tests find the same where they agree on each element
+found_same : {X : Type 0} (ok p q : X → Bool) → ((x : X) → ok x ≡ true → p x ≡ q x) → (xs : List X) → list_all ok xs ≡ true → find p xs ≡ find q xs
+found_same ok p q same [] all = refl
+found_same ok p q same (x ∷ xs) all =
+    let parts = both (ok x) (list_all ok xs) all in
+    (λ i. cond (same x parts.0 i) (Some x) (found_same ok p q same xs parts.1 i))
+
+some_named : (name : Text) (names : List Text) → (length (name ∷ names) == 0) ≡ true → ⊥
+some_named name names none = grind (arith, nat_tests)
+
+-- a dedup check that says no, without its repeated notification
+no_more : (a b c d e : Bool) → (a || b || (c && (d || e))) ≡ false → (a || b || (c && (d || false))) ≡ false
+no_more true b c d e h = absurd (cc)
+no_more false true c d e h = absurd (cc)
+no_more false false false d e h = refl
+no_more false false true true e h = absurd (cc)
+no_more false false true false e h = refl
+
+is_no : (b : Bool) → not b ≡ true → b ≡ false
+is_no true e = absurd (cc)
+is_no false e = refl
+
+-- two moments between which nothing of a sort happens
+module _ (from until at : Moment) (not_before : from ≤ at) (before : at < until) where
+  past_same : (m : Moment) → is_outside from until m ≡ true → nat_le m at ≡ nat_le m from
+  past_same m out = grind (arith, nat_tests)
+
+  ahead_same : (m : Moment) → is_outside from until m ≡ true → nat_lt at m ≡ nat_lt from m
+  ahead_same m out = grind (arith, nat_tests)
+
+  -- ---- what mutes an alert
+
+  inhibits_same : (rule : InhibitRule) (target : LabelSet) (source : LabelSet × Alert) → is_outside from until source.1.ends_at ≡ true
+      → inhibits at rule source target ≡ inhibits from rule source target
+  inhibits_same rule target source out = ap (λ b. not b && rule_mutes rule source.0 target) (past_same source.1.ends_at out)
+
+  by_rules_same : (alerts : Alerts) → no_alert_ends from until alerts ≡ true → (target : LabelSet) (n : ℕ) (rules : List InhibitRule)
+      → inhibition_from n at target alerts rules ≡ inhibition_from n from target alerts rules
+  by_rules_same alerts still target n [] = refl
+  by_rules_same alerts still target n (rule ∷ rules) = λ i.
+      option_or (option_map (λ source. (n, source)) (option_map (λ source. source.0)
+      (found_same (λ stored. is_outside from until stored.1.ends_at) (λ source. inhibits at rule source target) (λ source. inhibits from rule source target) (inhibits_same rule target) (entries alerts) still i)))
+      (by_rules_same alerts still target (n + 1) rules i)
+
+  inhibition_same : (alerts : Alerts) (rules : List InhibitRule) → no_source_ends from until rules alerts ≡ true → (target : LabelSet) (n : ℕ)
+      → inhibition_from n at target alerts rules ≡ inhibition_from n from target alerts rules
+  inhibition_same alerts [] still target n = refl
+  inhibition_same alerts (rule ∷ rules) still target n = by_rules_same alerts still target n (rule ∷ rules)
+
+  silences_same : (labels : LabelSet) (stored : ℕ × Silence) → (is_outside from until stored.1.starts_at && is_outside from until stored.1.ends_at) ≡ true
+      → silences_labels at stored.1 labels ≡ silences_labels from stored.1 labels
+  silences_same labels stored out =
+      let parts = both (is_outside from until stored.1.starts_at) (is_outside from until stored.1.ends_at) out in
+      (λ i. (past_same stored.1.starts_at parts.0 i && ahead_same stored.1.ends_at parts.1 i) && Rattle.amr_matchers.specs.Matchers.all_hold stored.1.matchers labels)
+
+  silencer_same : (silences : Silences) → no_silence_turns from until silences ≡ true → (labels : LabelSet) → silencer_of at labels silences ≡ silencer_of from labels silences
+  silencer_same silences still labels =
+      ap (option_map (λ stored. stored.0)) (found_same _ (λ stored. silences_labels at stored.1 labels) (λ stored. silences_labels from stored.1 labels) (silences_same labels) (entries silences) still)
+
+  active_always : (config : Config) (moment : Moment) (names : List Text) → (length names == 0) ≡ true → ((length names == 0) || list_any (is_within config moment) names) ≡ true
+  active_always config moment [] none = refl
+  active_always config moment (name ∷ names) none = absurd (some_named name names none)
+
+  muted_never : (config : Config) (moment : Moment) (names : List Text) → (length names == 0) ≡ true → list_any (is_within config moment) names ≡ false
+  muted_never config moment [] none = refl
+  muted_never config moment (name ∷ names) none = absurd (some_named name names none)
+
+  active_same : (config : Config) (route : ℕ) → is_untimed config route ≡ true → is_active_at config route at ≡ is_active_at config route from
+  active_same config route untimed =
+      let none = (both (length (active_intervals_of config route) == 0) (length (mute_intervals_of config route) == 0) untimed).0 in
+      active_always config at (active_intervals_of config route) none ∙ sym (active_always config from (active_intervals_of config route) none)
+
+  muted_same : (config : Config) (route : ℕ) → is_untimed config route ≡ true → is_muted_at config route at ≡ is_muted_at config route from
+  muted_same config route untimed =
+      let none = (both (length (active_intervals_of config route) == 0) (length (mute_intervals_of config route) == 0) untimed).1 in
+      muted_never config at (mute_intervals_of config route) none ∙ sym (muted_never config from (mute_intervals_of config route) none)
+
+  taken_same : (s : State) (route : ℕ) → IsStill s from until → is_untimed s.config route ≡ true
+      → (labels : LabelSet) → taken_away s at route labels ≡ taken_away s from route labels
+  unfolding taken_away
+  taken_same s route still untimed labels = λ i.
+      option_or (option_map (λ found. Inhibited found.0 found.1) (inhibition_same s.alerts s.config.rules still.sources labels 0 i))
+      (option_or (if active_same s.config route untimed i then None else Some OutsideActive)
+      (option_or (if muted_same s.config route untimed i then Some TimeMuted else None)
+      (option_map Silenced (silencer_same s.silences still.silences labels i))))
+
+  -- ---- which members fire
+
+  resolved_not : (alert : Alert) → nat_le until alert.ends_at ≡ true → is_resolved_at at alert ≡ false
+  resolved_not alert fires = grind (arith, nat_tests)
+
+  firing_all : (ms : Members) → all_fire_until until ms ≡ true → firing_of at ms ≡ ms
+  firing_all [] fire = refl
+  firing_all (m ∷ ms) fire =
+      let parts = both (nat_le until m.1.ends_at) (all_fire_until until ms) fire in
+      (λ i. cond (not (resolved_not m.1 parts.0 i)) (m ∷ firing_all ms parts.1 i) (firing_all ms parts.1 i))
+
+  resolved_none : (ms : Members) → all_fire_until until ms ≡ true → resolved_of at ms ≡ []
+  resolved_none [] fire = refl
+  resolved_none (m ∷ ms) fire =
+      let parts = both (nat_le until m.1.ends_at) (all_fire_until until ms) fire in
+      (λ i. cond (resolved_not m.1 parts.0 i) (m ∷ resolved_none ms parts.1 i) (resolved_none ms parts.1 i))
+
+  fire_kept : (p : LabelSet × Alert → Bool) (ms : Members) → all_fire_until until ms ≡ true → all_fire_until until (filter p ms) ≡ true
+  fire_kept p [] fire = refl
+  fire_kept p (m ∷ ms) fire =
+      let parts = both (nat_le until m.1.ends_at) (all_fire_until until ms) fire in
+      elim (p m) as (λ b. all_fire_until until (cond b (m ∷ filter p ms) (filter p ms)) ≡ true) [
+        | true ↦ (λ i. parts.0 i && fire_kept p ms parts.1 i)
+        | false ↦ fire_kept p ms parts.1
+      ]
+
+  -- ---- who is notified
+
+  still_told : (entry : Option LogEntry) (firing resolved : LabelSets) (send_resolved : Bool) (interval : Span)
+      → needs_update entry firing resolved send_resolved from interval ≡ false → no_repeat_before until interval entry ≡ true
+      → needs_update entry firing resolved send_resolved at interval ≡ false
+  unfolding needs_update
+  still_told None firing resolved send_resolved interval told later = told
+  still_told (Some entry) firing resolved send_resolved interval told later =
+      let not_yet : nat_lt (entry.time + interval) at ≡ false = grind (arith, nat_tests) in
+      ap (λ late. not (is_subset firing entry.firing) || (is_empty firing && not (is_empty entry.firing)) || (not (is_empty firing) && ((send_resolved && not (is_subset resolved entry.resolved)) || late))) not_yet
+      ∙ no_more (not (is_subset firing entry.firing)) (is_empty firing && not (is_empty entry.firing)) (not (is_empty firing)) (send_resolved && not (is_subset resolved entry.resolved))
+      (nat_lt (entry.time + interval) from) told
+
+  notify_none : (s : State) (group : Spot) (ms : Members) → all_fire_until until ms ≡ true → (integration : Integration) → is_told s group from until (labels_of ms) integration ≡ true
+      → notify at group ms s integration ≡ s
+  unfolding notify
+  notify_none s group ms fire integration told =
+      let parts = both _ _ told in
+      ap (λ b. if b then tell at group (log_key_of s.config group integration) integration.send_resolved ms s else s)
+      ((λ i. needs_update (get s.log (log_key_of s.config group integration)) (labels_of (firing_all ms fire i)) (labels_of (resolved_none ms fire i)) integration.send_resolved at (repeat_interval_of s.config group.route))
+      ∙ still_told (get s.log (log_key_of s.config group integration)) (labels_of ms) (labels_of []) integration.send_resolved (repeat_interval_of s.config group.route) (is_no _ parts.0) parts.1)
+
+  notify_each_none : (s : State) (group : Spot) (ms : Members) → all_fire_until until ms ≡ true → (integrations : List Integration)
+      → list_all (is_told s group from until (labels_of ms)) integrations ≡ true → fold (notify at group ms) s integrations ≡ s
+  notify_each_none s group ms fire [] told = refl
+  notify_each_none s group ms fire (integration ∷ integrations) told =
+      let parts = both (is_told s group from until (labels_of ms) integration) (list_all (is_told s group from until (labels_of ms)) integrations) told in
+      ap (λ (x : State). fold (notify at group ms) x integrations) (notify_none s group ms fire integration parts.0) ∙ notify_each_none s group ms fire integrations parts.1
+
+  notify_all_none : (s : State) (group : Spot) (ms : Members) → all_fire_until until ms ≡ true → are_told s group from until ms ≡ true → notify_all at group ms s ≡ s
+  notify_all_none s group [] fire told = refl
+  notify_all_none s group (m ∷ ms) fire told = notify_each_none s group (m ∷ ms) fire (integrations_of s.config group.route) told
+
+  drop_none : (s : State) (group : Spot) (m : LabelSet × Alert) (ms : Members) → all_fire_until until (m ∷ ms) ≡ true → drop_resolved at group (m ∷ ms) s ≡ s
+  unfolding drop_resolved
+  drop_none s group m ms fire = λ i. mark_if_empty at group (firing_all (m ∷ ms) fire i) (fold (forget group) s (resolved_none (m ∷ ms) fire i))
+
+  -- ---- the flush
+
+  pub serve_none : (s : State) (group : Spot) (ms : Members) → IsQuietWith s group from until ms → serve at group ms s ≡ s
+  serve_none s group [] quiet = refl
+  serve_none s group (m ∷ ms) quiet =
+      let through : let_through s at group.route (m ∷ ms) ≡ let_through s from group.route (m ∷ ms) =
+      (λ i. filter (λ member. is_none (taken_same s group.route quiet.still quiet.untimed member.0 i)) (m ∷ ms)) in
+      let fire : all_fire_until until (let_through s from group.route (m ∷ ms)) ≡ true = fire_kept (λ member. is_none (taken_away s from group.route member.0)) (m ∷ ms) quiet.fire in
+      ap (λ (ps : Members). drop_resolved at group (m ∷ ms) (notify_all at group ps s)) through
+      ∙ ap (drop_resolved at group (m ∷ ms)) (notify_all_none s group (let_through s from group.route (m ∷ ms)) fire quiet.told)
+      ∙ drop_none s group m ms quiet.fire
+
+-- ---- what keeps a group quiet
+
+-- what the conditions read of a state: all but the clock, the group timers and the notifications
+kept_with : (s : State) (moment : Moment) (clocks : Map spot_cmp Clock) (notes : List Note) (group : Spot) (from until : Moment) (ms : Members)
+    → IsQuietWith s group from until ms → IsQuietWith (record s { moment = moment; clocks = clocks; notes = notes }) group from until ms
+unfolding taken_away
+kept_with s moment clocks notes group from until [] quiet = tt
+kept_with s moment clocks notes group from until (m ∷ ms) quiet = record {
+  fire = quiet.fire;
+  still = record { sources = quiet.still.sources; silences = quiet.still.silences };
+  untimed = quiet.untimed;
+  told = quiet.told;
+}
+
+-- quietness depends on neither the clock nor the group timers nor the notifications
+pub stays_quiet : (s : State) (moment : Moment) (clocks : Map spot_cmp Clock) (notes : List Note) (group : Spot) (from until : Moment)
+    → IsQuiet s group from until → IsQuiet (record s { moment = moment; clocks = clocks; notes = notes }) group from until
+unfolding IsQuiet members
+stays_quiet s moment clocks notes group from until quiet = kept_with s moment clocks notes group from until (members s group) quiet
+
+-- a flush of a quiet group sets the group timer and changes nothing else
+pub quiet_flush : (s : State) (group : Spot) (from until at : Moment) → from ≤ at → at < until → IsQuiet s group from until
+    → flush at group s ≡ wound at group s
+unfolding flush IsQuiet
+quiet_flush s group from until at not_before before quiet =
+    serve_none from until at not_before before (wound at group s) group (members s group)
+    (kept_with s s.moment (wound at group s).clocks s.notes group from until (members s group) quiet)

@@ -1,0 +1,400 @@
+-- The memory of quiet groups, and what keeps it true of the state.
+use Rattle.std.specs.Prelude.{◌≡◌, ℕ, Bool, true, false, not, ◌&&◌, ◌||◌, List, [], ◌∷◌, ◌++◌, Option, Some, None, Result, Ok, Err, unwrap_or, option_map, cond, ◌≤◌, ◌<◌, ◌+◌, ◌*◌, nat_le, nat_lt, ◌==◌, length}
+use Rattle.std.specs.Option.{option_or, option_map_or, is_none}
+use Rattle.std.specs.Result.{OnOk}
+use Rattle.std.specs.List.{list_any, list_all, filter}
+use Rattle.std.specs.declared.cmp.Ordering.{Ordering}
+use Rattle.std.specs.declared.cmp.Ordering.TheVariants.{Less, Equal, Greater}
+use Rattle.std.specs.Ordering.{eq_by_cmp, is_eq}
+use Rattle.std.proofs.Common.{refl, sym, ap, ◌∙◌, subst, arith, get_or, drop}
+use Rattle.std.proofs.lemmas.List.{at_drop_more}
+use Rattle.std.proofs.lemmas.Option.{slice_get_past}
+use Rattle.std.proofs.lemmas.Bool.Decides.{nat_tests}
+use Rattle.std.proofs.lemmas.Cmp.{tied_itself}
+use Rattle.amr_labels.specs.Map.{Map, entries, get, insert, remove, empty, get-empty, get-insert, get-remove}
+use Rattle.amr_labels.specs.Labels.{LabelSet, label_set_cmp, label_set_cmp_total, label_set_cmp-IsAntisymmetric}
+use Rattle.amr_time.specs.Time.{Moment, Span}
+use Rattle.amr_stated.specs.declared.receiver.Integration.{Integration}
+use Rattle.amr_config.specs.Config.{Config}
+use Rattle.amr_config.specs.Routing.{repeat_interval_of}
+use Rattle.amr_config.specs.Settled.{settings_of}
+use Rattle.amr_config.specs.declared.settings.Settings.{Settings}
+use Rattle.amr_stated.specs.declared.route.Route.{Route}
+use Rattle.amr_rules.specs.declared.update.LogEntry.{LogEntry}
+use Rattle.amr_rules.specs.Updates.{LabelSets, needs_update}
+use Rattle.amr_stated.specs.declared.rule.InhibitRule.{InhibitRule}
+use Rattle.amr_rules.specs.declared.alert.Alert.{Alert}
+use Rattle.amr_rules.specs.declared.silence.Silence.{Silence}
+use Rattle.amr_rules.specs.Muting.{Alerts, inhibition_from}
+use Rattle.amr_state.specs.declared.spot.Spot.{Spot}
+use Rattle.amr_state.specs.declared.note.Clock.{Clock}
+use Rattle.amr_state.specs.declared.note.Note.{Note}
+use Rattle.amr_state.specs.State.{State, spot_at, spot_cmp, members}
+use Rattle.amr_state.specs.Kept.{Kept, GrownBy}
+use Rattle.amr_engine.specs.declared.explain.Finding.TheVariants.{Inhibited}
+use Rattle.amr_engine.specs.Stages.{by_active_time, by_mute_time, by_silence, taken_away}
+use Rattle.amr_engine.specs.Weight.{turns, flush_weight}
+use Rattle.amr_engine.proofs.Parted.{on_ok}
+use Rattle.amr_engine.specs.declared.quiet.Stretch.{Stretch}
+use Rattle.amr_engine.specs.declared.quiet.QuietTime.{QuietTime}
+use Rattle.amr_engine.specs.declared.quiet.QuietGroups.{QuietGroups}
+use Rattle.amr_engine.specs.Flush.{Members, let_through, labels_of, log_key_of, flush}
+use Rattle.amr_engine.specs.Quiet.{is_outside, no_alert_ends, no_source_ends, no_silence_turns, all_fire_until, is_untimed, no_repeat_before, is_told, are_told, wound, IsStill, IsQuiet, IsQuietWith, LeavesOthers}
+use Rattle.amr_engine.specs.Remembered.{covers, times_at, is_known, of_others, with_time, AreQuiet, IsStillIn, IsTrueOf}
+use Rattle.amr_engine.proofs.QuietLaws.{both, quiet_flush, stays_quiet}
+use Rattle.amr_engine.proofs.QuietStays.{equal, flush_leaves, quiet_left, still_left}
+
+-- ---- what is remembered
+
+-- a memory of no group is true of each state
+pub nothing_known : (memory : QuietGroups) → memory.times ≡ empty → memory.still ≡ None → (s : State) → IsTrueOf memory s
+nothing_known memory times still s = record {
+  quiet = λ labels. subst (AreQuiet s labels) (sym (ap (λ (m : Map label_set_cmp (List QuietTime)). unwrap_or (get m labels) []) times ∙ ap (λ (o : Option (List QuietTime)). unwrap_or o []) (get-empty label_set_cmp labels))) tt;
+  still = subst (IsStillIn s) (sym still) tt;
+}
+
+module _ (s : State) (group : Spot) (at : Moment) where
+  one_known : (time : QuietTime) → IsQuiet s (spot_at time.route group.labels) time.stretch.from time.stretch.until
+      → ((time.route == group.route) && covers at time.stretch) ≡ true → flush at group s ≡ wound at group s
+  one_known time quiet known =
+      let parts = both (time.route == group.route) (covers at time.stretch) known in
+      let inside = both (nat_le time.stretch.from at) (nat_lt at time.stretch.until) parts.1 in
+      let route : time.route ≡ group.route = grind (arith, nat_tests) in
+      let not_before : time.stretch.from ≤ at = grind (arith, nat_tests) in
+      let before : at < time.stretch.until = grind (arith, nat_tests) in
+      quiet_flush s group time.stretch.from time.stretch.until at not_before before
+      (subst (λ (r : ℕ). IsQuiet s (spot_at r group.labels) time.stretch.from time.stretch.until) route quiet)
+
+  among_known : (times : List QuietTime) → AreQuiet s group.labels times → list_any (λ time. (time.route == group.route) && covers at time.stretch) times ≡ true
+      → flush at group s ≡ wound at group s
+  among_known [] quiet known = absurd (cc)
+  among_known (time ∷ times) quiet known =
+      elim ((time.route == group.route) && covers at time.stretch) as (λ b. ((time.route == group.route) && covers at time.stretch) ≡ b
+      → (b || list_any (λ time. (time.route == group.route) && covers at time.stretch) times) ≡ true → flush at group s ≡ wound at group s) [
+        | true ↦ λ is e. one_known time quiet.0 is
+        | false ↦ λ is e. among_known times quiet.1 e
+      ] refl known
+
+  -- a flush of a group that is remembered as quiet sets the group timer and changes nothing else
+  pub known_quiet : (memory : QuietGroups) → IsTrueOf memory s → is_known at group memory ≡ true → flush at group s ≡ wound at group s
+  known_quiet memory holds known = among_known (times_at memory group.labels) (holds.quiet group.labels) known
+
+-- ---- a group that is learned, and groups that are forgotten
+
+same_labels : (a b : LabelSet) → eq_by_cmp label_set_cmp a b ≡ true → a ≡ b
+same_labels a b e = label_set_cmp-IsAntisymmetric a b (equal (label_set_cmp a b) e)
+
+others_quiet : (s : State) (labels : LabelSet) (route : ℕ) (times : List QuietTime) → AreQuiet s labels times → AreQuiet s labels (of_others route times)
+others_quiet s labels route [] quiet = tt
+others_quiet s labels route (time ∷ times) quiet =
+    elim (not (time.route == route)) as (λ b. AreQuiet s labels (cond b (time ∷ of_others route times) (of_others route times))) [
+      | true ↦ (quiet.0, others_quiet s labels route times quiet.1)
+      | false ↦ others_quiet s labels route times quiet.1
+    ]
+
+one_more_quiet : (s : State) (labels : LabelSet) (times : List QuietTime) (time : QuietTime) → AreQuiet s labels times
+    → IsQuiet s (spot_at time.route labels) time.stretch.from time.stretch.until → AreQuiet s labels (times ++ time ∷ [])
+one_more_quiet s labels [] time quiet new_one = (new_one, tt)
+one_more_quiet s labels (t ∷ times) time quiet new_one = (quiet.0, one_more_quiet s labels times time quiet.1 new_one)
+
+-- a quiet group may be remembered
+pub learned : (s : State) (memory : QuietGroups) (group : Spot) (stretch : Stretch) → IsTrueOf memory s → IsQuiet s group stretch.from stretch.until
+    → IsTrueOf (with_time group stretch memory) s
+learned s memory group stretch holds quiet =
+    let times : List QuietTime = of_others group.route (times_at memory group.labels) ++ record { route = group.route; stretch = stretch } ∷ [] in
+    record {
+      quiet = λ labels.
+          subst (λ (o : Option (List QuietTime)). AreQuiet s labels (unwrap_or o [])) (sym (get-insert label_set_cmp_total memory.times group.labels times labels))
+          (elim (eq_by_cmp label_set_cmp labels group.labels) as (λ b. eq_by_cmp label_set_cmp labels group.labels ≡ b
+          → AreQuiet s labels (unwrap_or (cond b (Some times) (get memory.times labels)) [])) [
+            | true ↦ λ e. subst (λ (l : LabelSet). AreQuiet s l times) (sym (same_labels labels group.labels e))
+                (one_more_quiet s group.labels (of_others group.route (times_at memory group.labels)) (record { route = group.route; stretch = stretch })
+                (others_quiet s group.labels group.route (times_at memory group.labels) (holds.quiet group.labels)) quiet)
+            | false ↦ λ e. holds.quiet labels
+          ] refl);
+      still = holds.still;
+    }
+
+still_in_left : (labels : LabelSet) (s t : State) → LeavesOthers labels s t → (stretch : Option Stretch) → IsStillIn s stretch → IsStillIn t stretch
+still_in_left labels s t same None still = tt
+still_in_left labels s t same (Some stretch) still = still_left labels s t same stretch.from stretch.until still
+
+all_left : (labels flushed : LabelSet) (s t : State) → LeavesOthers flushed s t → (labels ≡ flushed → ⊥) → (times : List QuietTime) → AreQuiet s labels times → AreQuiet t labels times
+all_left labels flushed s t same other [] quiet = tt
+all_left labels flushed s t same other (time ∷ times) quiet =
+    (quiet_left flushed s t same (spot_at time.route labels) other time.stretch.from time.stretch.until quiet.0, all_left labels flushed s t same other times quiet.1)
+
+differ : (a b : LabelSet) → eq_by_cmp label_set_cmp a b ≡ false → a ≡ b → ⊥
+differ a b other e = absurd (cc (other, ap is_eq (tied_itself label_set_cmp_total b), ap (λ (l : LabelSet). eq_by_cmp label_set_cmp l b) e))
+
+-- after the flush of a group, what is remembered of groups with other labels still holds
+pub forgotten : (s : State) (memory : QuietGroups) (group : Spot) (at : Moment) → IsTrueOf memory s
+    → IsTrueOf (record memory { times = remove memory.times group.labels }) (flush at group s)
+forgotten s memory group at holds = record {
+  quiet = λ labels.
+      subst (λ (o : Option (List QuietTime)). AreQuiet (flush at group s) labels (unwrap_or o [])) (sym (get-remove label_set_cmp_total memory.times group.labels labels))
+      (elim (eq_by_cmp label_set_cmp labels group.labels) as (λ b. eq_by_cmp label_set_cmp labels group.labels ≡ b
+      → AreQuiet (flush at group s) labels (unwrap_or (cond b None (get memory.times labels)) [])) [
+        | true ↦ λ e. tt
+        | false ↦ λ e. all_left labels group.labels s (flush at group s) (flush_leaves group at s) (differ labels group.labels e) (times_at memory labels) (holds.quiet labels)
+      ] refl);
+  still = still_in_left group.labels s (flush at group s) (flush_leaves group at s) memory.still holds.still;
+}
+
+-- ---- the clock, group timers and notifications
+
+module _ (s : State) (moment : Moment) (clocks : Map spot_cmp Clock) (notes : List Note) where
+  all_stay : (labels : LabelSet) (times : List QuietTime) → AreQuiet s labels times → AreQuiet (record s { moment = moment; clocks = clocks; notes = notes }) labels times
+  all_stay labels [] quiet = tt
+  all_stay labels (time ∷ times) quiet =
+      (stays_quiet s moment clocks notes (spot_at time.route labels) time.stretch.from time.stretch.until quiet.0, all_stay labels times quiet.1)
+
+  still_stays : (stretch : Option Stretch) → IsStillIn s stretch → IsStillIn (record s { moment = moment; clocks = clocks; notes = notes }) stretch
+  still_stays None still = tt
+  still_stays (Some stretch) still = record { sources = still.sources; silences = still.silences }
+
+  -- what is remembered depends on neither the clock nor group timers nor notifications
+  pub stays_true : (memory : QuietGroups) → IsTrueOf memory s → IsTrueOf memory (record s { moment = moment; clocks = clocks; notes = notes })
+  stays_true memory holds = record {
+    quiet = λ labels. all_stay labels (times_at memory labels) (holds.quiet labels);
+    still = still_stays memory.still holds.still;
+  }
+
+-- ---- the removal of a stored alert
+
+-- without inhibition rules, stored alerts mute nothing
+ruleless : (at : Moment) (labels : LabelSet) (a b : Alerts) (rules : List InhibitRule) → rules ≡ [] → inhibition_from 0 at labels a rules ≡ inhibition_from 0 at labels b rules
+ruleless at labels a b [] none = refl
+ruleless at labels a b (rule ∷ rules) none = absurd (cc)
+
+no_sources : (from until : Moment) (alerts : Alerts) (rules : List InhibitRule) → rules ≡ [] → no_source_ends from until rules alerts ≡ true
+no_sources from until alerts [] none = refl
+no_sources from until alerts (rule ∷ rules) none = absurd (cc)
+
+module _ (s : State) (alerts : Alerts) (none : s.config.rules ≡ []) where
+  taken_alike : (at : Moment) (route : ℕ) (labels : LabelSet) → taken_away (record s { alerts = alerts }) at route labels ≡ taken_away s at route labels
+  unfolding taken_away
+  taken_alike at route labels =
+      ap (λ (o : Option (ℕ × LabelSet)). option_or (option_map (λ found. Inhibited found.0 found.1) o) (option_or (by_active_time s at route) (option_or (by_mute_time s at route) (by_silence s at labels))))
+      (ruleless at labels alerts s.alerts s.config.rules none)
+
+  through_alike : (at : Moment) (route : ℕ) (ms : Members) → let_through (record s { alerts = alerts }) at route ms ≡ let_through s at route ms
+  through_alike at route ms = λ i. filter (λ member. is_none (taken_alike at route member.0 i)) ms
+
+  told_alike : (group : Spot) (from until : Moment) (ms : Members) → are_told (record s { alerts = alerts }) group from until ms ≡ are_told s group from until ms
+  told_alike group from until [] = refl
+  told_alike group from until (m ∷ ms) = refl
+
+  still_alike : (from until : Moment) → IsStill s from until → IsStill (record s { alerts = alerts }) from until
+  still_alike from until still = record { sources = no_sources from until alerts s.config.rules none; silences = still.silences }
+
+  with_alike : (group : Spot) (from until : Moment) (ms : Members) → IsQuietWith s group from until ms → IsQuietWith (record s { alerts = alerts }) group from until ms
+  with_alike group from until [] quiet = tt
+  with_alike group from until (m ∷ ms) quiet = record {
+    fire = quiet.fire;
+    still = still_alike from until quiet.still;
+    untimed = quiet.untimed;
+    told = told_alike group from until (let_through (record s { alerts = alerts }) from group.route (m ∷ ms)) ∙ ap (are_told s group from until) (through_alike from group.route (m ∷ ms)) ∙ quiet.told;
+  }
+
+  quiet_alike : (group : Spot) (from until : Moment) → IsQuiet s group from until → IsQuiet (record s { alerts = alerts }) group from until
+  unfolding IsQuiet members
+  quiet_alike group from until quiet = with_alike group from until (members s group) quiet
+
+  all_alike : (labels : LabelSet) (times : List QuietTime) → AreQuiet s labels times → AreQuiet (record s { alerts = alerts }) labels times
+  all_alike labels [] quiet = tt
+  all_alike labels (time ∷ times) quiet = (quiet_alike (spot_at time.route labels) time.stretch.from time.stretch.until quiet.0, all_alike labels times quiet.1)
+
+  still_in_alike : (stretch : Option Stretch) → IsStillIn s stretch → IsStillIn (record s { alerts = alerts }) stretch
+  still_in_alike None still = tt
+  still_in_alike (Some stretch) still = still_alike stretch.from stretch.until still
+
+  -- without inhibition rules, nothing that is remembered depends on the stored alerts
+  pub true_alike : (memory : QuietGroups) → IsTrueOf memory s → IsTrueOf memory (record s { alerts = alerts })
+  true_alike memory holds = record {
+    quiet = λ labels. all_alike labels (times_at memory labels) (holds.quiet labels);
+    still = still_in_alike memory.still holds.still;
+  }
+
+-- ---- steps of the code
+
+-- the memory is true of what a step leaves, if it is true of what the step leads to
+pub true_then : {T E : Type 0} (r : Result T E) (memory : QuietGroups) (s t : State) → IsTrueOf memory s → OnOk r (t ≡ s) → OnOk r (IsTrueOf memory t)
+true_then r memory s t holds leads = on_ok r (t ≡ s) (IsTrueOf memory t) (λ e. subst (IsTrueOf memory) (sym e) holds) leads
+
+-- what holds anyway
+pub anyway : {T E : Type 0} (r : Result T E) (P : Type 0) → P → OnOk r P
+anyway (Ok x) P p = p
+anyway (Err e) P p = tt
+
+-- a memory that knows the same
+pub same_known : (before after : QuietGroups) (s : State) → after.times ≡ before.times → after.still ≡ before.still → IsTrueOf before s → IsTrueOf after s
+same_known before after s times still holds = record {
+  quiet = λ labels. subst (λ (m : Map label_set_cmp (List QuietTime)). AreQuiet s labels (unwrap_or (get m labels) [])) (sym times) (holds.quiet labels);
+  still = subst (IsStillIn s) (sym still) holds.still;
+}
+
+-- a memory that knows another stretch in which nothing changes that may mute an alert
+pub looked : (before after : QuietGroups) (stretch : Stretch) (s : State) → after.times ≡ before.times → after.still ≡ Some stretch → IsTrueOf before s
+    → IsStill s stretch.from stretch.until → IsTrueOf after s
+looked before after stretch s times still holds is = record {
+  quiet = λ labels. subst (λ (m : Map label_set_cmp (List QuietTime)). AreQuiet s labels (unwrap_or (get m labels) [])) (sym times) (holds.quiet labels);
+  still = subst (IsStillIn s) (sym still) is;
+}
+
+-- a group timer that is set leaves the memory true
+pub wound_true : (s : State) (at : Moment) (group : Spot) (memory : QuietGroups) → IsTrueOf memory s → IsTrueOf memory (wound at group s)
+wound_true s at group memory holds = stays_true s s.moment (wound at group s).clocks s.notes memory holds
+
+-- a flush that only sets the group timer, in a store that is as before
+module _ {T E : Type 0} (r : Result T E) (before held after : Kept) (same : held ≡ before) (at : Moment) (group : Spot) where
+  pub only_wound : flush at group before.state ≡ wound at group before.state → OnOk r (after.state ≡ wound at group held.state) → OnOk r (after.state ≡ flush at group before.state)
+  only_wound quiet winds =
+      on_ok r (after.state ≡ wound at group held.state) (after.state ≡ flush at group before.state)
+      (λ e. e ∙ ap (λ (k : Kept). wound at group k.state) same ∙ sym quiet) winds
+
+  pub still_true : (memory : QuietGroups) → IsTrueOf memory before.state → OnOk r (after.state ≡ wound at group held.state) → OnOk r (IsTrueOf memory after.state)
+  still_true memory holds winds =
+      true_then r memory (wound at group before.state) after.state (wound_true before.state at group memory holds)
+      (on_ok r (after.state ≡ wound at group held.state) (after.state ≡ wound at group before.state) (λ e. e ∙ ap (λ (k : Kept). wound at group k.state) same) winds)
+
+  pub flushed_same : OnOk r (after.state ≡ flush at group held.state) → OnOk r (after.state ≡ flush at group before.state)
+  flushed_same done =
+      on_ok r (after.state ≡ flush at group held.state) (after.state ≡ flush at group before.state) (λ e. e ∙ ap (λ (k : Kept). flush at group k.state) same) done
+
+  pub flushed_true : (memory left : QuietGroups) → IsTrueOf memory before.state → left.times ≡ remove memory.times group.labels → left.still ≡ memory.still
+      → OnOk r (after.state ≡ flush at group held.state) → OnOk r (IsTrueOf left after.state)
+  flushed_true memory left holds times still done =
+      true_then r left (flush at group before.state) after.state
+      (same_known (record memory { times = remove memory.times group.labels }) left (flush at group before.state) times still (forgotten before.state memory group at holds))
+      (flushed_same done)
+
+-- what a step adds to the open record of a store that is as before
+pub grown_same : (n m : ℕ) (before held after : Kept) → held ≡ before → n ≤ m → GrownBy n held after → GrownBy m before after
+grown_same n m before held after same more grown =
+    let current : length held.current ≡ length before.current = ap (λ (k : Kept). length k.current) same in
+    omega (arith, current, more, grown)
+
+pub winding : (s : State) (group : Spot) → 1 ≤ 2 * flush_weight s group
+winding s group = omega arith
+
+-- ---- until when
+
+outside_later : (from at until end m : Moment) → from ≤ at → end ≤ until → is_outside from until m ≡ true → is_outside at end m ≡ true
+outside_later from at until end m later sooner out = grind (arith, nat_tests)
+
+module _ (from at until end : Moment) (later : from ≤ at) (sooner : end ≤ until) where
+  alerts_later : (stored : List (LabelSet × Alert)) → list_all (λ one. is_outside from until one.1.ends_at) stored ≡ true → list_all (λ one. is_outside at end one.1.ends_at) stored ≡ true
+  alerts_later [] still = refl
+  alerts_later (one ∷ stored) still =
+      let parts = both (is_outside from until one.1.ends_at) (list_all (λ one. is_outside from until one.1.ends_at) stored) still in
+      (λ i. outside_later from at until end one.1.ends_at later sooner parts.0 i && alerts_later stored parts.1 i)
+
+  silences_later : (stored : List (ℕ × Silence)) → list_all (λ one. is_outside from until one.1.starts_at && is_outside from until one.1.ends_at) stored ≡ true
+      → list_all (λ one. is_outside at end one.1.starts_at && is_outside at end one.1.ends_at) stored ≡ true
+  silences_later [] still = refl
+  silences_later (one ∷ stored) still =
+      let parts = both (is_outside from until one.1.starts_at && is_outside from until one.1.ends_at) (list_all (λ one. is_outside from until one.1.starts_at && is_outside from until one.1.ends_at) stored) still in
+      let ends = both (is_outside from until one.1.starts_at) (is_outside from until one.1.ends_at) parts.0 in
+      (λ i. (outside_later from at until end one.1.starts_at later sooner ends.0 i && outside_later from at until end one.1.ends_at later sooner ends.1 i) && silences_later stored parts.1 i)
+
+  sources_later : (rules : List InhibitRule) (alerts : Alerts) → no_source_ends from until rules alerts ≡ true → no_source_ends at end rules alerts ≡ true
+  sources_later [] alerts still = refl
+  sources_later (rule ∷ rules) alerts still = alerts_later (entries alerts) still
+
+  -- what is still in a stretch is still in a part of it
+  pub still_later : (s : State) → IsStill s from until → IsStill s at end
+  still_later s still = record { sources = sources_later s.config.rules s.alerts still.sources; silences = silences_later (entries s.silences) still.silences }
+
+pub fire_sooner : (until end : Moment) → end ≤ until → (ms : Members) → all_fire_until until ms ≡ true → all_fire_until end ms ≡ true
+fire_sooner until end sooner [] fire = refl
+fire_sooner until end sooner (m ∷ ms) fire =
+    let parts = both (nat_le until m.1.ends_at) (all_fire_until until ms) fire in
+    let here : nat_le end m.1.ends_at ≡ true = grind (arith, nat_tests) in
+    (λ i. here i && fire_sooner until end sooner ms parts.1 i)
+
+pub is_settled : (s : State) (group : Spot) (from until : Moment) (ms : Members) → all_fire_until until ms ≡ true → IsStill s from until → is_untimed s.config group.route ≡ true
+    → are_told s group from until (let_through s from group.route ms) ≡ true → IsQuietWith s group from until ms
+is_settled s group from until [] fire still untimed told = tt
+is_settled s group from until (m ∷ ms) fire still untimed told = record { fire = fire; still = still; untimed = untimed; told = told }
+
+-- a group is quiet that was found so
+pub found_quiet : (s : State) (group : Spot) (from until first end : Moment) (ms through : Members) → ms ≡ members s group → through ≡ let_through s from group.route ms
+    → is_untimed s.config group.route ≡ true → IsStill s from until → first ≤ until → all_fire_until first ms ≡ true → end ≤ first → are_told s group from end through ≡ true
+    → IsQuiet s group from end
+unfolding IsQuiet
+found_quiet s group from until first end ms through all is untimed still first_within fire end_within told =
+    let within : end ≤ until = omega (arith, first_within, end_within) in
+    let same : from ≤ from = omega arith in
+    subst (IsQuietWith s group from end) all
+    (is_settled s group from end ms (fire_sooner first end end_within ms fire) (still_later from from until end same within s still) untimed
+    (ap (are_told s group from end) (sym is) ∙ told))
+
+no_repeat_sooner : (until end : Moment) (interval : Span) (entry : Option LogEntry) → end ≤ until → no_repeat_before until interval entry ≡ true → no_repeat_before end interval entry ≡ true
+no_repeat_sooner until end interval None sooner told = refl
+no_repeat_sooner until end interval (Some entry) sooner told = grind (arith, nat_tests)
+
+-- what was told until a moment was told until each one before it
+pub told_sooner : (s : State) (group : Spot) (from until end : Moment) (firing : LabelSets) (integration : Integration) → end ≤ until
+    → is_told s group from until firing integration ≡ true → is_told s group from end firing integration ≡ true
+told_sooner s group from until end firing integration sooner told =
+    let parts = both (not (needs_update (get s.log (log_key_of s.config group integration)) firing (labels_of []) integration.send_resolved from (repeat_interval_of s.config group.route)))
+    (no_repeat_before until (repeat_interval_of s.config group.route) (get s.log (log_key_of s.config group integration))) told in
+    (λ i. parts.0 i && no_repeat_sooner until end (repeat_interval_of s.config group.route) (get s.log (log_key_of s.config group integration)) sooner parts.1 i)
+
+-- one more element passes a test that the rest of a list passes
+pub all_more : {X : Type 0} (p : X → Bool) (xs : List X) (i : ℕ) (x : X) → i < length xs → x ≡ get_or xs i x → p x ≡ true → list_all p (drop (i + 1) xs) ≡ true
+    → list_all p (drop i xs) ≡ true
+all_more p xs i x less is here rest =
+    at_drop_more (list_all p) xs i x less ∙ ap (λ b. p b && list_all p (drop (i + 1) xs)) (sym is) ∙ (λ j. here j && rest j)
+
+pub outside_sooner : (from until end m : Moment) → end ≤ until → is_outside from until m ≡ true → is_outside from end m ≡ true
+outside_sooner from until end m sooner out = grind (arith, nat_tests)
+
+-- a route that doesn't exist has no time intervals
+pub no_route : (config : Config) (route : ℕ) → length config.routes ≤ route → true ≡ is_untimed config route
+no_route config route past =
+    sym (ap (λ (o : Option Route). (length (option_map_or (λ r. r.active_time_intervals) o []) == 0) && (length (option_map_or (λ r. r.mute_time_intervals) o []) == 0)) (slice_get_past config.routes route past))
+
+-- the settings of a route say whether it has time intervals
+pub untimed_by : (config : Config) (route : ℕ) (settings : Settings) (active mute : Bool) → settings ≡ settings_of config route
+    → active ≡ (length settings.active_time_intervals == 0) → mute ≡ (length settings.mute_time_intervals == 0) → (active && mute) ≡ is_untimed config route
+unfolding settings_of
+untimed_by config route settings active mute is e f = (λ i. e i && f i) ∙ ap (λ (x : Settings). (length x.active_time_intervals == 0) && (length x.mute_time_intervals == 0)) is
+
+-- what is known to be still at a moment
+pub known_still_is : (memory : QuietGroups) (at : Moment) (stretch : Stretch) → memory.still ≡ Some stretch → covers at stretch ≡ true
+    → (s : State) → IsTrueOf memory s → IsStill s at stretch.until
+known_still_is memory at stretch is inside s holds =
+    let still : IsStill s stretch.from stretch.until = subst (IsStillIn s) is holds.still in
+    let parts = both (nat_le stretch.from at) (nat_lt at stretch.until) inside in
+    let later : stretch.from ≤ at = grind (arith, nat_tests) in
+    let all : stretch.until ≤ stretch.until = omega arith in
+    still_later stretch.from at stretch.until stretch.until later all s still
+
+none_left : (rules : List InhibitRule) → (length rules == 0) ≡ true → rules ≡ []
+none_left [] none = refl
+none_left (rule ∷ rules) none = absurd (grind (arith, nat_tests))
+
+pub no_rules : (config told : Config) (asked : List InhibitRule) (b : Bool) → told ≡ config → asked ≡ told.rules → b ≡ (length asked == 0) → b ≡ true → config.rules ≡ []
+no_rules config told asked b same rules counted none =
+    none_left config.rules (ap (λ (rs : List InhibitRule). length rs == 0) (sym (rules ∙ ap (λ (c : Config). c.rules) same)) ∙ sym counted ∙ none)
+
+all_sources : (from until : Moment) (alerts : Alerts) (rules : List InhibitRule) → no_alert_ends from until alerts ≡ true → no_source_ends from until rules alerts ≡ true
+all_sources from until alerts [] still = refl
+all_sources from until alerts (rule ∷ rules) still = still
+
+-- nothing changes that may mute an alert, if no silence turns and then no alert ends
+pub still_by : (s : State) (from until end : Moment) → end ≤ until → no_silence_turns from until s.silences ≡ true → no_alert_ends from end s.alerts ≡ true → IsStill s from end
+still_by s from until end sooner silences alerts =
+    let same : from ≤ from = omega arith in
+    record { sources = all_sources from end s.alerts s.config.rules alerts; silences = silences_later from from until end same sooner (entries s.silences) silences }
+
+-- a group is quiet that was found so in a store that stays as it is
+pub quiet_found : (before held : Kept) (group : Spot) (from until first end : Moment) (ms ends asked through told : Members) → held ≡ before → ms ≡ members before.state group → ends ≡ ms → asked ≡ ms
+    → through ≡ let_through before.state from group.route asked → told ≡ through → is_untimed before.state.config group.route ≡ true → IsStill before.state from until
+    → first ≤ until → all_fire_until first ends ≡ true → end ≤ first → are_told held.state group from end told ≡ true → IsQuiet before.state group from end
+quiet_found before held group from until first end ms ends asked through told same all as_ends as_asked is as_told untimed still first_within fire end_within are =
+    found_quiet before.state group from until first end ms through all (is ∙ ap (let_through before.state from group.route) as_asked) untimed still first_within
+    (ap (all_fire_until first) (sym as_ends) ∙ fire) end_within
+    ((λ i. are_told (sym same i).state group from end (sym as_told i)) ∙ are)

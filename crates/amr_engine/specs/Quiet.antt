@@ -1,0 +1,96 @@
+-- Groups whose flushes change nothing but the group timer, from one moment until another.
+use Rattle.std.specs.Prelude.{◌≡◌, ℕ, Bool, true, not, ◌&&◌, ◌||◌, List, [], ◌∷◌, Option, Some, None, ◌+◌, nat_le, length, ◌==◌}
+use Rattle.std.specs.List.{list_all}
+use Rattle.amr_labels.specs.Map.{get, entries}
+use Rattle.amr_time.specs.Time.{Moment, Span}
+use Rattle.amr_stated.specs.declared.receiver.Integration.{Integration}
+use Rattle.amr_stated.specs.declared.rule.InhibitRule.{InhibitRule}
+use Rattle.amr_labels.specs.Labels.{LabelSet}
+use Rattle.amr_config.specs.Config.{Config}
+use Rattle.amr_config.specs.Routing.{active_intervals_of, mute_intervals_of, group_interval_of, repeat_interval_of, integrations_of}
+use Rattle.amr_rules.specs.Muting.{Alerts}
+use Rattle.amr_rules.specs.Silences.{Silences}
+use Rattle.amr_rules.specs.Updates.{LabelSets, needs_update}
+use Rattle.amr_rules.specs.declared.update.LogEntry.{LogEntry}
+use Rattle.amr_state.specs.declared.note.LogKey.{LogKey}
+use Rattle.amr_state.specs.declared.spot.Spot.{Spot}
+use Rattle.amr_state.specs.State.{State, members}
+use Rattle.amr_engine.specs.Flush.{Members, let_through, labels_of, log_key_of, set_clock}
+
+-- the group timer is set as at a flush, and nothing else changes
+abbrev pub wound : Moment → Spot → State → State
+wound at group s = set_clock group (λ clock. record clock { next_flush = at + group_interval_of s.config group.route; flushed = true }) s
+
+-- the moment `at` is past already at the first of the two moments, or still ahead until the second
+abbrev pub is_outside : Moment → Moment → Moment → Bool
+is_outside from until at = nat_le at from || nat_le until at
+
+-- no stored alert ends between the two moments
+abbrev pub no_alert_ends : Moment → Moment → Alerts → Bool
+no_alert_ends from until alerts = list_all (λ stored. is_outside from until stored.1.ends_at) (entries alerts)
+
+-- no source of an inhibition rule ends between the two moments
+abbrev pub no_source_ends : Moment → Moment → List InhibitRule → Alerts → Bool
+no_source_ends from until [] alerts = true
+no_source_ends from until (rule ∷ rules) alerts = no_alert_ends from until alerts
+
+-- no silence starts or ends between the two moments
+abbrev pub no_silence_turns : Moment → Moment → Silences → Bool
+no_silence_turns from until silences =
+    list_all (λ stored. is_outside from until stored.1.starts_at && is_outside from until stored.1.ends_at) (entries silences)
+
+-- what may mute an alert doesn't change between the two moments
+pub record IsStill (s : State) (from until : Moment) : Type 0 where
+  pub sources : no_source_ends from until s.config.rules s.alerts ≡ true
+  pub silences : no_silence_turns from until s.silences ≡ true
+
+-- all members fire until the moment
+abbrev pub all_fire_until : Moment → Members → Bool
+all_fire_until until = list_all (λ member. nat_le until member.1.ends_at)
+
+-- the route has no active and no mute time intervals
+abbrev pub is_untimed : Config → ℕ → Bool
+is_untimed config route = (length (active_intervals_of config route) == 0) && (length (mute_intervals_of config route) == 0)
+
+-- no repeated notification is due before the moment
+abbrev pub no_repeat_before : Moment → Span → Option LogEntry → Bool
+no_repeat_before until interval None = true
+no_repeat_before until interval (Some entry) = nat_le until (entry.time + interval + 1)
+
+-- the dedup check is against a notification of these firing members, and stays so until a repeated
+-- one is due
+abbrev pub is_told : State → Spot → Moment → Moment → LabelSets → Integration → Bool
+is_told s group from until firing integration =
+    not (needs_update (get s.log (log_key_of s.config group integration)) firing (labels_of []) integration.send_resolved from (repeat_interval_of s.config group.route))
+    && no_repeat_before until (repeat_interval_of s.config group.route) (get s.log (log_key_of s.config group integration))
+
+-- all members are muted, or all integrations were told of those that aren't
+abbrev pub are_told : State → Spot → Moment → Moment → Members → Bool
+are_told s group from until [] = true
+are_told s group from until (member ∷ members) = list_all (is_told s group from until (labels_of (member ∷ members))) (integrations_of s.config group.route)
+
+-- What a flush of the members depends on doesn't change from one moment until another: which of
+-- them fire, what mutes them, and whether somebody is to be notified, which nobody is. It names no
+-- group timer and not the clock.
+pub record IsSettled (s : State) (group : Spot) (from until : Moment) (members : Members) : Type 0 where
+  pub fire : all_fire_until until members ≡ true
+  pub still : IsStill s from until
+  pub untimed : is_untimed s.config group.route ≡ true
+  pub told : are_told s group from until (let_through s from group.route members) ≡ true
+
+-- a group without members is quiet for ever
+abbrev pub IsQuietWith : State → Spot → Moment → Moment → Members → Type 0
+IsQuietWith s group from until [] = Unit {0}
+IsQuietWith s group from until (member ∷ members) = IsSettled s group from until (member ∷ members)
+
+-- the group's flushes from one moment until another set the group timer and change nothing else
+unfoldable pub IsQuiet : State → Spot → Moment → Moment → Type 0
+IsQuiet s group from until = IsQuietWith s group from until (members s group)
+
+-- What flushes of groups with other labels than these depend on is the same in both states.
+pub record LeavesOthers (labels : LabelSet) (s t : State) : Type 0 where
+  pub config : t.config ≡ s.config
+  pub alerts : t.alerts ≡ s.alerts
+  pub silences : t.silences ≡ s.silences
+  pub members : (group : Spot) → (group.labels ≡ labels → ⊥) → members t group ≡ members s group
+  pub log : (key : LogKey) → (key.group ≡ labels → ⊥) → get t.log key ≡ get s.log key

@@ -1,0 +1,469 @@
+//! The groups whose flushes change nothing but the group timer, and until when. Most moves of a
+//! long replay are such flushes. `moves.rt` flushes groups through this memory, which is no part of
+//! the state: it only knows what the state implies. The engine keeps it from one tick to the next,
+//! and clears it at each other event.
+ghost use Rattle.std.specs.Prelude.{◌≡◌, ◌≤◌, ◌<◌, ◌*◌, ◌==◌, ◌&&◌, true, OnOk, IfOk, IfSome};
+ghost use Rattle.std.specs.List.{list_any, list_all};
+ghost use Rattle.amr_config.specs.Routing.{integrations_of};
+ghost use Rattle.amr_labels.specs.Map as map;
+ghost use Rattle.amr_time.specs.Time.{latest_read};
+ghost use Rattle.amr_state.specs.State.{State};
+ghost use Rattle.amr_state.specs.Kept.{GrownBy, undone};
+ghost use Rattle.amr_engine.specs.Flush.{flush};
+ghost use Rattle.amr_engine.specs.Quiet.{is_outside, no_alert_ends, no_silence_turns, all_fire_until, is_untimed, is_told, are_told, wound, IsStill, IsQuiet};
+ghost use Rattle.amr_engine.specs.Weight.{flush_weight};
+
+use crate::flush::{flush, let_through, log_key, wind};
+use amr_config::Config;
+use amr_labels::{LabelMap, Labels, Listing};
+use amr_rules::{labels_of, needs_update};
+use amr_state::{Member, Spot, Store, members_of};
+use amr_stated::Integration;
+use amr_time::Moment;
+use std::alloc::{AllocError, Global};
+
+/// So many stored alerts and silences are looked at for each flush in full. Looking at this many
+/// takes less time than such a flush, which copies members and asks rules and silences. So the
+/// looks never cost more than the flushes, and where thousands of groups are flushed once a tick,
+/// all but the first of them have the look.
+const LOOKED_AT_PER_FLUSH: usize = 100;
+
+/// The moments from one until just before another, both in nanoseconds since 1970. The end may be
+/// after the last moment, so it isn't a `Moment`.
+#[derive(Clone, Copy)]
+struct Stretch {
+    from: u128,
+    until: u128,
+}
+
+/// When a group is quiet. The memory has the labels of the group.
+#[derive(Drop)]
+struct QuietTime {
+    route: usize,
+    stretch: Stretch,
+}
+
+/// The groups that are quiet.
+#[derive(Drop)]
+pub(crate) struct QuietGroups {
+    alloc: Global,
+    /// The flushes in full since the last look at all stored alerts and silences.
+    flushes: usize,
+    /// The flushes in full that pay for the next look.
+    price: usize,
+    /// When no source of an inhibition rule ends and no silence starts or ends.
+    still: Option<Stretch>,
+    /// The quiet groups, by their labels.
+    times: LabelMap<Listing<QuietTime>>,
+}
+
+ghost use Rattle.amr_engine.specs.Remembered.{covers, times_at, is_known, of_others, with_time, IsTrueOf};
+
+impl QuietGroups {
+    /// Returns a memory of no group.
+    pub(crate) fn new(alloc: Global) -> QuietGroups
+        ensures { (s : State) → IsTrueOf result s }
+    {
+        QuietGroups {
+            alloc,
+            flushes: 0,
+            price: 0,
+            still: None,
+            times: LabelMap::new(alloc),
+        }
+    }
+
+    /// Forgets all groups.
+    pub(crate) fn clear(&mut self)
+        ensures { (s : State) → IsTrueOf self.new s }
+    {
+        self.still = None;
+        self.times = LabelMap::new(self.alloc);
+    }
+
+    /// Forgets what the removal of a stored alert may change, which is nothing if there are no
+    /// inhibition rules.
+    pub(crate) fn alert_leaves(&mut self, store: &Store, labels: &Labels)
+        requires { IsTrueOf self.old store.now.state }
+        ensures { IsTrueOf self.new (record store.now.state {
+          alerts = map.remove store.now.state.alerts labels.now;
+        }) }
+    {
+        if store.config().rules().is_empty() {
+            return;
+        }
+        self.clear();
+    }
+
+    /// Flushes a group at a moment. For a quiet group it only sets the group timer, which takes no
+    /// look at the members. After any other flush it forgets the groups with the same labels,
+    /// because they may share entries of the notification log.
+    pub(crate) fn flush(
+        &mut self,
+        store: &mut Store,
+        at: Moment,
+        group: &Spot,
+    ) -> Result<(), AllocError>
+        requires late { at ≤ latest_read }
+        requires memory { IsTrueOf self.old store.old.state }
+        ensures ok { OnOk result (store.new.state ≡ flush at group.now store.old.state) }
+        ensures kept { undone store.new ≡ undone store.old }
+        ensures grown { GrownBy (2 * flush_weight store.old.state group.now) store.old store.new }
+        ensures memory { OnOk result (IsTrueOf self.new store.new.state) }
+    {
+        if self.is_quiet(store, at, group)? {
+            return wind(store, at, group);
+        }
+        self.flushes = self.flushes.saturating_add(1);
+        self.forget(&group.labels);
+        flush(store, at, group)
+    }
+
+    /// Returns whether a flush of the group only sets its timer. A `false` may only mean that
+    /// finding out isn't worth it yet.
+    fn is_quiet(&mut self, store: &mut Store, at: Moment, group: &Spot) -> Result<bool, AllocError>
+        requires { IsTrueOf self.old store.old.state }
+        ensures quiet { IfOk result (λ quiet. quiet ≡ true
+            → flush at group.now store.old.state ≡ wound at group.now store.old.state) }
+        ensures memory { OnOk result (IsTrueOf self.new store.old.state) }
+        ensures same { store.new ≡ store.old }
+    {
+        if self.is_known(at, group) {
+            return Ok(true);
+        }
+        match self.still_until(store, at) {
+            None => Ok(false),
+            Some(until) => self.find(store, at, group, until),
+        }
+    }
+
+    /// Returns whether the group is remembered as quiet at a moment.
+    fn is_known(&self, at: Moment, group: &Spot) -> bool
+        ensures { result ≡ is_known at group.now self.now }
+    {
+        match self.times.get(&group.labels) {
+            None => false,
+            Some(times) => covers_one(times.as_slice(), at, group.route),
+        }
+    }
+
+    /// Returns a moment until which nothing that may mute an alert changes. Returns `None` if
+    /// looking for it isn't worth it yet.
+    fn still_until(&mut self, store: &Store, at: Moment) -> Option<u128>
+        requires { IsTrueOf self.old store.now.state }
+        ensures still { IfSome result (λ until. IsStill store.now.state at until) }
+        ensures memory { IsTrueOf self.new store.now.state }
+    {
+        if let Some(until) = self.known_still(at) {
+            return Some(until);
+        }
+        if self.flushes < self.price {
+            return None;
+        }
+        Some(self.look(store, at))
+    }
+
+    /// Returns until when the memory knows that nothing that may mute an alert changes, if it knows
+    /// it of this moment.
+    fn known_still(&self, at: Moment) -> Option<u128>
+        ensures { IfSome result (λ until. (s : State) → IsTrueOf self.now s → IsStill s at until) }
+    {
+        match self.still {
+            Some(stretch) if covers(at, stretch) => Some(stretch.until),
+            _ => None,
+        }
+    }
+
+    /// Looks at all stored alerts and silences. Returns a moment until which nothing that may mute
+    /// an alert changes, and remembers it.
+    fn look(&mut self, store: &Store, at: Moment) -> u128
+        requires { IsTrueOf self.old store.now.state }
+        ensures still { IsStill store.now.state at result }
+        ensures memory { IsTrueOf self.new store.now.state }
+    {
+        let from = at.nanoseconds();
+        let until = still_until(store, at);
+        self.flushes = 0;
+        let stored = alert_count(store).saturating_add(silence_count(store));
+        self.price = stored / LOOKED_AT_PER_FLUSH;
+        self.still = Some(Stretch { from, until });
+        until
+    }
+
+    /// Finds out whether the group is quiet at a moment, and remembers until when. Nothing that may
+    /// mute an alert changes until `until`.
+    fn find(
+        &mut self,
+        store: &mut Store,
+        at: Moment,
+        group: &Spot,
+        until: u128,
+    ) -> Result<bool, AllocError>
+        requires memory { IsTrueOf self.old store.old.state }
+        requires still { IsStill store.old.state at until }
+        ensures quiet { IfOk result (λ quiet. quiet ≡ true
+            → flush at group.now store.old.state ≡ wound at group.now store.old.state) }
+        ensures memory { OnOk result (IsTrueOf self.new store.old.state) }
+        ensures same { store.new ≡ store.old }
+    {
+        match quiet_until(store, at, group, until)? {
+            None => Ok(false),
+            Some(until) => {
+                let from = at.nanoseconds();
+                self.learn(group, Stretch { from, until })?;
+                Ok(true)
+            }
+        }
+    }
+
+    /// Remembers when a group is quiet.
+    fn learn(&mut self, group: &Spot, stretch: Stretch) -> Result<(), AllocError>
+        ensures { OnOk result (self.new ≡ with_time group.now stretch self.old) }
+    {
+        let mut times = self.others(group)?;
+        times.push(QuietTime {
+            route: group.route,
+            stretch,
+        })?;
+        self.times.insert(group.labels.clone()?, times)
+    }
+
+    /// Returns what is remembered of the groups with the same labels on other routes.
+    fn others(&self, group: &Spot) -> Result<Listing<QuietTime>, AllocError>
+        ensures { IfOk result (λ others. others
+            ≡ of_others group.now.route (times_at self.now group.now.labels)) }
+    {
+        match self.times.get(&group.labels) {
+            None => Ok(Listing::new(self.alloc)),
+            Some(times) => of_others(self.alloc, times.as_slice(), group.route),
+        }
+    }
+
+    /// Forgets the groups with these labels.
+    fn forget(&mut self, labels: &Labels)
+        ensures { self.new ≡ record self.old { times = map.remove self.old.times labels.now } }
+    {
+        self.times.remove(labels);
+    }
+}
+
+/// Returns whether a moment is in a stretch.
+fn covers(at: Moment, stretch: Stretch) -> bool
+    ensures { result ≡ covers at stretch }
+{
+    stretch.from <= at.nanoseconds() && at.nanoseconds() < stretch.until
+}
+
+/// Returns whether one of these stretches is of the route and has the moment in it.
+fn covers_one(times: &[QuietTime], at: Moment, route: usize) -> bool
+    ensures { result ≡ list_any (λ time. (time.route == route) && covers at time.stretch)
+        times.now }
+{
+    times
+        .iter()
+        .any(|time| time.route == route && covers(at, time.stretch))
+}
+
+/// Returns the times of other routes.
+fn of_others(
+    alloc: Global,
+    times: &[QuietTime],
+    route: usize,
+) -> Result<Listing<QuietTime>, AllocError>
+    ensures { IfOk result (λ others. others ≡ of_others route times.now) }
+{
+    let mut others = Listing::new(alloc);
+    for time in times {
+        if time.route != route {
+            others.push(QuietTime {
+                route: time.route,
+                stretch: time.stretch,
+            })?;
+        }
+    }
+    Ok(others)
+}
+
+/// Returns until when a group is quiet from a moment on, at the latest until `until`. Returns `None`
+/// if it isn't quiet at the moment.
+fn quiet_until(
+    store: &mut Store,
+    at: Moment,
+    group: &Spot,
+    until: u128,
+) -> Result<Option<u128>, AllocError>
+    requires { IsStill store.old.state at until }
+    ensures quiet { IfOk result (λ found. IfSome found
+        (λ end. (at < end) × IsQuiet store.old.state group.now at end)) }
+    ensures same { store.new ≡ store.old }
+{
+    if !is_untimed(store.config(), group.route) {
+        return Ok(None);
+    }
+    let members = members_of(store, group)?;
+    let until = first_end(members.as_slice(), until);
+    let through = let_through(store, at, group.route, members.as_slice())?;
+    match told_until(store, at, group, through.as_slice(), until)? {
+        Some(end) if at.nanoseconds() < end => Ok(Some(end)),
+        _ => Ok(None),
+    }
+}
+
+/// Returns whether a route has neither active nor mute time intervals.
+fn is_untimed(config: &Config, route: usize) -> bool
+    ensures { result ≡ is_untimed config.now route }
+{
+    if config.route_count() <= route {
+        return true;
+    }
+    let settings = config.route(route);
+    settings.active_time_intervals.is_empty() && settings.mute_time_intervals.is_empty()
+}
+
+/// Returns the earliest end of these members if it is before `until`, and else `until`.
+fn first_end(members: &[Member], until: u128) -> u128
+    ensures within { result ≤ until }
+    ensures fire { all_fire_until result members.now ≡ true }
+{
+    let mut until = until;
+    for (_, alert) in members {
+        until = until.min(alert.ends_at.nanoseconds());
+    }
+    until
+}
+
+/// Returns until when no integration of the group's receiver is to be notified of these members, at
+/// the latest until `until`. Returns `None` if one may have to be notified at the moment.
+fn told_until(
+    store: &Store,
+    at: Moment,
+    group: &Spot,
+    through: &[Member],
+    until: u128,
+) -> Result<Option<u128>, AllocError>
+    ensures { IfOk result (λ found. IfSome found (λ end. (end ≤ until)
+        × (are_told store.now.state group.now at end through.now ≡ true))) }
+{
+    if through.is_empty() {
+        return Ok(Some(until));
+    }
+    let firing = labels_of(store.alloc(), through)?;
+    each_told_until(store, at, group, &firing, until)
+}
+
+/// Returns until when no integration of the group's receiver is to be notified that these alerts
+/// fire, at the latest until `until`. Returns `None` if one may have to be notified at the moment.
+fn each_told_until(
+    store: &Store,
+    at: Moment,
+    group: &Spot,
+    firing: &LabelMap<()>,
+    until: u128,
+) -> Result<Option<u128>, AllocError>
+    ensures { IfOk result (λ found. IfSome found (λ end. (end ≤ until)
+        × (list_all (is_told store.now.state group.now at end firing.now)
+        (integrations_of store.now.state.config group.now.route) ≡ true))) }
+{
+    let mut until = until;
+    for integration in store.config().integrations(group.route) {
+        match repeat_of(store, at, group, firing, integration)? {
+            None => return Ok(None),
+            Some(repeat) => until = until.min(repeat),
+        }
+    }
+    Ok(Some(until))
+}
+
+/// Returns the first moment at which an integration that was told of these firing alerts is
+/// notified of them again. Returns `None` if it is to be notified now, or never was.
+fn repeat_of(
+    store: &Store,
+    at: Moment,
+    group: &Spot,
+    firing: &LabelMap<()>,
+    integration: &Integration,
+) -> Result<Option<u128>, AllocError>
+    ensures { IfOk result (λ found. IfSome found
+        (λ end. is_told store.now.state group.now at end firing.now integration.now ≡ true)) }
+{
+    let key = log_key(store.alloc(), store.config(), group, integration)?;
+    let interval = store.config().repeat_interval(group.route);
+    match store.log().get(&key) {
+        None => Ok(None),
+        Some(entry) => {
+            let none = LabelMap::new(store.alloc());
+            let send_resolved = integration.send_resolved;
+            if needs_update(Some(entry), firing, &none, send_resolved, at, interval) {
+                return Ok(None);
+            }
+            Ok(Some(entry.time.nanoseconds() + u128::from(interval.nanoseconds()) + 1))
+        }
+    }
+}
+
+/// Returns how many alerts are stored.
+fn alert_count(store: &Store) -> usize {
+    let mut count: usize = 0;
+    for _alert in store.alerts().iter() {
+        count = count.saturating_add(1);
+    }
+    count
+}
+
+/// Returns how many silences are stored.
+fn silence_count(store: &Store) -> usize {
+    let mut count: usize = 0;
+    for _silence in store.silences().iter() {
+        count = count.saturating_add(1);
+    }
+    count
+}
+
+/// Returns a moment until which nothing that may mute an alert changes.
+fn still_until(store: &Store, at: Moment) -> u128
+    ensures { IsStill store.now.state at result }
+{
+    let until = silence_turn(store, at, u128::MAX);
+    if store.config().rules().is_empty() {
+        return until;
+    }
+    alert_end(store, at, until)
+}
+
+/// Returns the first start or end of a silence after a moment if it is before `until`, and else
+/// `until`.
+fn silence_turn(store: &Store, at: Moment, until: u128) -> u128
+    ensures within { result ≤ until }
+    ensures still { no_silence_turns at result store.now.state.silences ≡ true }
+{
+    let mut until = until;
+    for (_, silence) in store.silences().iter() {
+        until = sooner(at, silence.starts_at, until);
+        until = sooner(at, silence.ends_at, until);
+    }
+    until
+}
+
+/// Returns the first end of a stored alert after a moment if it is before `until`, and else `until`.
+fn alert_end(store: &Store, at: Moment, until: u128) -> u128
+    ensures within { result ≤ until }
+    ensures still { no_alert_ends at result store.now.state.alerts ≡ true }
+{
+    let mut until = until;
+    for (_, alert) in store.alerts().iter() {
+        until = sooner(at, alert.ends_at, until);
+    }
+    until
+}
+
+/// Returns `moment` if it is after `at` and before `until`, and else `until`.
+fn sooner(at: Moment, moment: Moment, until: u128) -> u128
+    ensures within { result ≤ until }
+    ensures outside { is_outside at result moment ≡ true }
+{
+    if at < moment && moment.nanoseconds() < until {
+        moment.nanoseconds()
+    } else {
+        until
+    }
+}

@@ -1,0 +1,87 @@
+//! JSON written straight into a writer's buffer: texts under their names, moments, numbers. The
+//! writer sets commas, colons and escapes; a caller keeps members in the order of their names.
+ghost use Rattle.std.specs.Prelude.{◌≡◌, T, codes, OnOk, IsUtf8, string_bytes};
+ghost use Rattle.std.specs.FinMap.{is_sorted};
+ghost use Rattle.serde_json.specs.Data.{string};
+ghost use Rattle.amr_labels.specs.Map.{entries};
+ghost use Rattle.amr_labels.specs.Labels.{text_cmp};
+ghost use Rattle.amr_lines.specs.Printed.{texts_data, labels_data, moment_data, number_data};
+ghost use Rattle.amr_lines.specs.Tokens.{data_tokens, member_tokens, Adds};
+
+use amr_labels::{Labels, Text, TextMap};
+use amr_time::{Moment, write_moment};
+use json::Writer;
+use std::alloc::{AllocError, Global};
+
+/// Writes an object with these texts under their names, which ascend.
+fn write_texts(out: &mut Writer, texts: &[(Text, Text)]) -> Result<(), AllocError>
+    requires { T (is_sorted text_cmp texts.now) }
+    ensures { OnOk result (Adds out.old out.new (data_tokens (texts_data texts.now))) }
+{
+    out.begin_object()?;
+    for text in texts {
+        out.key(text.0.as_str())?;
+        out.string(text.1.as_str())?;
+    }
+    out.end_object()
+}
+
+/// Writes a label set as a member of an object.
+pub(crate) fn write_labels(out: &mut Writer, name: &str, labels: &Labels) -> Result<(), AllocError>
+    ensures { OnOk result (Adds out.old out.new
+        (member_tokens name.now (labels_data labels.now))) }
+{
+    out.key(name)?;
+    write_texts(out, labels.entries())
+}
+
+/// Writes annotations as the member `annotations` of an object.
+pub(crate) fn write_annotations(out: &mut Writer, texts: &TextMap) -> Result<(), AllocError>
+    ensures { OnOk result (Adds out.old out.new
+        (member_tokens (codes "annotations") (texts_data (entries texts.now)))) }
+{
+    out.key("annotations")?;
+    write_texts(out, texts.entries())
+}
+
+/// Writes a moment as a member of an object, in RFC 3339.
+pub(crate) fn write_moment_member(
+    out: &mut Writer,
+    alloc: Global,
+    name: &str,
+    moment: Moment,
+) -> Result<(), AllocError>
+    ensures { OnOk result (Adds out.old out.new (member_tokens name.now (moment_data moment))) }
+{
+    out.key(name)?;
+    out.string(write_moment(alloc, moment)?.as_str())
+}
+
+/// Writes a text as a member of an object.
+#[tactic(auto, unfolding(crate::specs::Tokens::data_tokens))]
+pub(crate) fn write_text(out: &mut Writer, name: &str, text: &str) -> Result<(), AllocError>
+    ensures { OnOk result (Adds out.old out.new (member_tokens name.now (string text.now))) }
+{
+    out.key(name)?;
+    out.string(text)
+}
+
+/// Writes a number as a member of an object.
+#[tactic(auto, unfolding(crate::specs::Tokens::data_tokens))]
+pub(crate) fn write_number(out: &mut Writer, name: &str, number: usize) -> Result<(), AllocError>
+    ensures { OnOk result (Adds out.old out.new (member_tokens name.now (number_data number))) }
+{
+    out.key(name)?;
+    out.u64(number as u64)
+}
+
+/// Returns a writer's bytes as a text.
+pub(crate) fn text_of(bytes: Vec<u8>) -> String
+    requires { IsUtf8 bytes.items }
+    ensures { string_bytes result ≡ bytes.items }
+{
+    match String::from_utf8(bytes) {
+        Ok(text) => text,
+        Err(_) => unreachable!(),
+    }
+}
