@@ -14,8 +14,8 @@ use Rattle.amr_command_lines.specs.Parts.{trimmed, word_in, argument_in, is_digi
 use Rattle.amr_events.specs.LabelTexts.{labels_in}
 use Rattle.amr_command_lines.specs.declared.command.Command.{Command}
 use Rattle.amr_command_lines.specs.declared.command.Command.TheVariants as command
-use Rattle.amr_command_lines.specs.declared.command.Said.{Said}
-use Rattle.amr_command_lines.specs.declared.command.Said.TheVariants.{Nothing, Asks, Malformed, BadMoment, Unfit}
+use Rattle.amr_command_lines.specs.declared.command.ParsedLine.{ParsedLine}
+use Rattle.amr_command_lines.specs.declared.command.ParsedLine.TheVariants.{Nothing, Asks, Malformed, BadMoment, BadArgument}
 
 -- the first of these words that the text is
 abbrev pub named_among : List Word → Text → Word
@@ -31,32 +31,32 @@ unfoldable pub word_named : Text → Word
 word_named = named_among known_words
 
 -- a command that takes no argument
-abbrev pub said_alone : Word → Command → Text → Said
+abbrev pub said_alone : Word → Command → Text → ParsedLine
 said_alone word command [] = Asks command
 said_alone word command (byte ∷ bytes) = Malformed word
 
 -- a command that takes one
-abbrev pub with_argument : Word → (Text → Said) → Text → Said
+abbrev pub with_argument : Word → (Text → ParsedLine) → Text → ParsedLine
 with_argument word says [] = Malformed word
 with_argument word says (byte ∷ bytes) = says (byte ∷ bytes)
 
-abbrev pub seek_said : Text → Said
+abbrev pub seek_said : Text → ParsedLine
 seek_said argument = if list_all is_digit argument then Asks (command.Seek (number_within argument)) else Malformed word.Seek
 
 unfoldable pub moment_in : Text → Option Moment
 moment_in text = if is_utf8 text then moment_at text else None
 
-abbrev pub seek_time_said : Text → Said
+abbrev pub seek_time_said : Text → ParsedLine
 seek_time_said argument = option_map_or (λ moment. Asks (command.SeekTime moment)) (moment_in argument) BadMoment
 
-abbrev pub trial_said : Text → Said
-trial_said argument = option_map_or (λ event. Asks (command.Trial event)) (event_of_line argument) (Unfit word.Trial)
+abbrev pub trial_said : Text → ParsedLine
+trial_said argument = option_map_or (λ event. Asks (command.Trial event)) (event_of_line argument) (BadArgument word.Trial)
 
-abbrev pub explain_said : Text → Said
-explain_said argument = option_map_or (λ labels. Asks (command.Explain labels)) (labels_in argument) (Unfit word.Explain)
+abbrev pub explain_said : Text → ParsedLine
+explain_said argument = option_map_or (λ labels. Asks (command.Explain labels)) (labels_in argument) (BadArgument word.Explain)
 
 -- what a word is parsed as, with what follows it
-unfoldable pub said_by : Word → Text → Said
+unfoldable pub said_by : Word → Text → ParsedLine
 said_by word.Step argument = said_alone word.Step command.Step argument
 said_by word.Back argument = said_alone word.Back command.Back argument
 said_by word.Seek argument = with_argument word.Seek seek_said argument
@@ -72,9 +72,9 @@ said_by word.Cursor argument = said_alone word.Cursor command.Cursor argument
 said_by word.Unknown argument = Malformed word.Unknown
 
 -- what a text without white space at its ends is parsed as
-unfoldable pub said_in : Text → Said
+unfoldable pub said_in : Text → ParsedLine
 said_in text = if length text == 0 then Nothing else said_by (word_named (word_in text)) (argument_in text)
 
 -- what a line is parsed as
-unfoldable pub said_of : Text → Said
+unfoldable pub said_of : Text → ParsedLine
 said_of line = if is_utf8 line then said_in (trimmed line) else Malformed word.Unknown

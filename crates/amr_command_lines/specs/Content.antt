@@ -2,9 +2,9 @@
 use Rattle.std.specs.Prelude.{◌≡◌, ℕ, ◌<◌, ◌≤◌, List, length}
 use Rattle.amr_command_lines.specs.Line.{longest}
 use Rattle.amr_command_lines.specs.declared.line.Content.{Content}
-use Rattle.amr_command_lines.specs.declared.line.Content.TheVariants.{TooLong, Unheld, Held}
+use Rattle.amr_command_lines.specs.declared.line.Content.TheVariants.{TooLong, NoMemory, Held}
 
 abbrev pub IsContent : List ℕ → Content → Type 0
 IsContent bytes TooLong = longest < length bytes
-IsContent bytes Unheld = (0 < length bytes) × (length bytes ≤ longest)
+IsContent bytes NoMemory = (0 < length bytes) × (length bytes ≤ longest)
 IsContent bytes (Held held) = (length bytes ≤ longest) × (held.now ≡ bytes)

@@ -1,5 +1,5 @@
 pub mod Line
 pub mod Parts
 pub mod Command
-pub mod Said
+pub mod ParsedLine
 pub mod Content

@@ -1,9 +1,9 @@
 //! Parsing a command line: the word, and the argument that its command takes. A session calls
-//! `Said::read` for each line. Nothing here is executed.
+//! `ParsedLine::read` for each line. Nothing here is executed.
 ghost use Rattle.std.specs.Prelude.{◌≡◌, MatchResult};
 ghost use Rattle.std.specs.Str.{is_utf8};
 ghost use Rattle.amr_command_lines.specs.Command.{word_named, said_alone, seek_said, seek_time_said, trial_said, explain_said, with_argument, said_by, said_in, said_of, moment_in};
-ghost use Rattle.amr_command_lines.specs.Said.{FailsToRead, LineSays, Reads, ReadsSuch, TextSays, WordSays};
+ghost use Rattle.amr_command_lines.specs.ParsedLine.{FailsToRead, LineSays, Reads, ReadsSuch, TextSays, WordSays};
 
 use crate::digits::{all_digits, number};
 use crate::parts::{argument, trimmed, word};
@@ -35,7 +35,7 @@ pub enum Command {
 
 /// What a line was parsed as.
 #[derive(Drop)]
-pub enum Said {
+pub enum ParsedLine {
     /// The line is empty but for white space.
     Nothing,
     Asks(Command),
@@ -44,7 +44,7 @@ pub enum Said {
     /// The argument isn't a moment.
     BadMoment,
     /// The argument isn't an event, or not a label set.
-    Unfit(Word),
+    BadArgument(Word),
 }
 
 /// Memory ran out for the argument of this word.
@@ -83,24 +83,24 @@ fn word_of(text: &[u8]) -> Word
 }
 
 /// Parses a command that takes no argument.
-fn alone(word: Word, command: Command, argument: &[u8]) -> Said
+fn alone(word: Word, command: Command, argument: &[u8]) -> ParsedLine
     ensures { result ≡ said_alone word command argument.now }
 {
     if argument.is_empty() {
-        Said::Asks(command)
+        ParsedLine::Asks(command)
     } else {
-        Said::Malformed(word)
+        ParsedLine::Malformed(word)
     }
 }
 
 /// Parses the argument of `seek`, a decimal number of events.
-fn seek(argument: &[u8]) -> Said
+fn seek(argument: &[u8]) -> ParsedLine
     ensures { result ≡ with_argument Word.Seek seek_said argument.now }
 {
     if argument.is_empty() || !all_digits(argument) {
-        return Said::Malformed(Word::Seek);
+        return ParsedLine::Malformed(Word::Seek);
     }
-    Said::Asks(Command::Seek(number(argument)))
+    ParsedLine::Asks(Command::Seek(number(argument)))
 }
 
 /// Reads a moment, in RFC 3339.
@@ -115,44 +115,44 @@ fn moment(text: &[u8]) -> Option<Moment>
 }
 
 /// Parses the argument of `seek-time`.
-fn seek_time(argument: &[u8]) -> Said
+fn seek_time(argument: &[u8]) -> ParsedLine
     ensures { result ≡ with_argument Word.SeekTime seek_time_said argument.now }
 {
     if argument.is_empty() {
-        return Said::Malformed(Word::SeekTime);
+        return ParsedLine::Malformed(Word::SeekTime);
     }
     match moment(argument) {
-        Some(moment) => Said::Asks(Command::SeekTime(moment)),
-        None => Said::BadMoment,
+        Some(moment) => ParsedLine::Asks(Command::SeekTime(moment)),
+        None => ParsedLine::BadMoment,
     }
 }
 
 /// Parses the argument of `trial`, which is an event as on a line of a script.
 #[tactic(auto, unfolding(crate::specs::Command::said_by))]
-fn trial(alloc: Global, argument: &[u8]) -> Result<Said, Unread>
+fn trial(alloc: Global, argument: &[u8]) -> Result<ParsedLine, Unread>
     ensures { ReadsSuch (WordSays Word.Trial argument.now) (said_by Word.Trial argument.now)
         result }
 {
     if argument.is_empty() {
-        return Ok(Said::Malformed(Word::Trial));
+        return Ok(ParsedLine::Malformed(Word::Trial));
     }
     match Event::read(alloc, argument) {
-        Ok(event) => Ok(Said::Asks(Command::Trial(event))),
-        Err(ScriptError::Refused(_)) => Ok(Said::Unfit(Word::Trial)),
+        Ok(event) => Ok(ParsedLine::Asks(Command::Trial(event))),
+        Err(ScriptError::Refused(_)) => Ok(ParsedLine::BadArgument(Word::Trial)),
         Err(ScriptError::Memory) => Err(Unread { word: Word::Trial }),
     }
 }
 
 /// Parses the argument of `explain`, which is a label set as a JSON object.
-fn explain(alloc: Global, argument: &[u8]) -> Result<Said, Unread>
+fn explain(alloc: Global, argument: &[u8]) -> Result<ParsedLine, Unread>
     ensures { Reads (with_argument Word.Explain explain_said argument.now) result }
 {
     if argument.is_empty() {
-        return Ok(Said::Malformed(Word::Explain));
+        return Ok(ParsedLine::Malformed(Word::Explain));
     }
     match read_labels(alloc, argument) {
-        Ok(labels) => Ok(Said::Asks(Command::Explain(labels))),
-        Err(LineError::Faulty) => Ok(Said::Unfit(Word::Explain)),
+        Ok(labels) => Ok(ParsedLine::Asks(Command::Explain(labels))),
+        Err(LineError::Faulty) => Ok(ParsedLine::BadArgument(Word::Explain)),
         Err(LineError::Memory) => Err(Unread {
             word: Word::Explain,
         }),
@@ -161,7 +161,7 @@ fn explain(alloc: Global, argument: &[u8]) -> Result<Said, Unread>
 
 /// Parses a word's argument.
 #[tactic(auto, unfolding(crate::specs::Command::said_by))]
-fn read_argument(alloc: Global, word: Word, argument: &[u8]) -> Result<Said, Unread>
+fn read_argument(alloc: Global, word: Word, argument: &[u8]) -> Result<ParsedLine, Unread>
     ensures { ReadsSuch (WordSays word argument.now) (said_by word argument.now) result }
 {
     match word {
@@ -177,7 +177,7 @@ fn read_argument(alloc: Global, word: Word, argument: &[u8]) -> Result<Said, Unr
         Word::Log => Ok(alone(word, Command::Log, argument)),
         Word::Transcript => Ok(alone(word, Command::Transcript, argument)),
         Word::Cursor => Ok(alone(word, Command::Cursor, argument)),
-        Word::Unknown => Ok(Said::Malformed(word)),
+        Word::Unknown => Ok(ParsedLine::Malformed(word)),
     }
 }
 
@@ -193,24 +193,24 @@ fn is_text(line: &[u8]) -> bool
 
 /// Parses a text without white space at its ends.
 #[tactic(auto, unfolding(crate::specs::Command::said_in))]
-fn read_text(alloc: Global, text: &[u8]) -> Result<Said, Unread>
+fn read_text(alloc: Global, text: &[u8]) -> Result<ParsedLine, Unread>
     ensures { ReadsSuch (TextSays text.now) (said_in text.now) result }
 {
     if text.is_empty() {
-        return Ok(Said::Nothing);
+        return Ok(ParsedLine::Nothing);
     }
     read_argument(alloc, word_of(word(text)), argument(text))
 }
 
-impl Said {
+impl ParsedLine {
     /// Parses the bytes of a line. Only the arguments of `trial` and `explain` take memory.
     #[tactic(auto, unfolding(crate::specs::Command::said_of))]
-    pub fn read(alloc: Global, line: &[u8]) -> Result<Said, Unread>
+    pub fn read(alloc: Global, line: &[u8]) -> Result<ParsedLine, Unread>
         ensures { MatchResult result (LineSays line.now)
             (λ unread. FailsToRead line.now unread.word) }
     {
         if !is_text(line) {
-            return Ok(Said::Malformed(Word::Unknown));
+            return Ok(ParsedLine::Malformed(Word::Unknown));
         }
         read_text(alloc, trimmed(line))
     }

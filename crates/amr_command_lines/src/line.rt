@@ -22,7 +22,7 @@ pub enum Content<'a> {
     /// The line has more than `LONGEST` bytes.
     TooLong,
     /// The line isn't too long, but memory ran out for it.
-    Unheld,
+    NoMemory,
     Held(&'a [u8]),
 }
 
@@ -78,7 +78,7 @@ impl Line {
             return Content::TooLong;
         }
         if !self.is_held {
-            return Content::Unheld;
+            return Content::NoMemory;
         }
         Content::Held(self.bytes.as_slice())
     }

@@ -14,13 +14,13 @@ use Rattle.amr_engine.specs.Explain.{verdicts}
 use Rattle.amr_replay.specs.Session.{View, at_cursor, events_until}
 use Rattle.amr_lines.specs.declared.word.Word.{Word}
 use Rattle.amr_lines.specs.declared.word.Word.TheVariants as word
-use Rattle.amr_lines.specs.Printed.{note_line, alert_line, silence_line, group_seen_line, log_line}
+use Rattle.amr_lines.specs.Printed.{notification_line, alert_line, silence_line, group_seen_line, log_line}
 use Rattle.amr_lines.specs.Verdicts.{verdict_line}
 use Rattle.amr_lines.specs.LastLines.{cursor_line, place_line}
-use Rattle.amr_command_lines.specs.Said.{word_of_command}
+use Rattle.amr_command_lines.specs.ParsedLine.{word_of_command}
 use Rattle.amr_command_lines.specs.declared.command.Command.{Command}
 use Rattle.amr_command_lines.specs.declared.command.Command.TheVariants.{Step, Back, Seek, SeekTime, Trial, Explain, Alerts, Silences, Groups, Log, Transcript, Cursor}
-use Rattle.amr_command_lines.specs.declared.command.Said.TheVariants.{Asks}
+use Rattle.amr_command_lines.specs.declared.command.ParsedLine.TheVariants.{Asks}
 use Rattle.amr_commands.specs.Replies.{Incident, Reply, incident_of, state_in, moved, listed, tried_lines, reply_to, TakesMemory}
 use Rattle.amr_commands.specs.Answer.{left, Answered, Moves, Lists}
 use Rattle.amr_commands.specs.declared.answer.Refusal.TheVariants.{AtEnd, AtStart, OutOfRange}
@@ -121,11 +121,11 @@ module _ (s : View) (view : s ≡ at_cursor s.config s.events s.cursor) (built :
   pub log_answered : IfOk built (λ text. string_bytes text ≡ flat_map log_line (entries s.state.log)) → Lists s.cursor word.Log built answer → Answered (incident_of s) s.cursor s.cursor (Asks Log) answer
   log_answered = lists_answered (incident_of s) s.cursor Log _ built answer log_reply tt
 
-  transcript_reply : reply_to (incident_of s) s.cursor Transcript ≡ listed s.cursor word.Transcript (flat_map note_line s.state.notes)
+  transcript_reply : reply_to (incident_of s) s.cursor Transcript ≡ listed s.cursor word.Transcript (flat_map notification_line s.state.notes)
   unfolding reply_to
-  transcript_reply = ap (λ (st : State). listed s.cursor word.Transcript (flat_map note_line st.notes)) (state_of s view)
+  transcript_reply = ap (λ (st : State). listed s.cursor word.Transcript (flat_map notification_line st.notes)) (state_of s view)
 
-  pub transcript_answered : IfOk built (λ text. string_bytes text ≡ flat_map note_line s.state.notes) → Lists s.cursor word.Transcript built answer → Answered (incident_of s) s.cursor s.cursor (Asks Transcript) answer
+  pub transcript_answered : IfOk built (λ text. string_bytes text ≡ flat_map notification_line s.state.notes) → Lists s.cursor word.Transcript built answer → Answered (incident_of s) s.cursor s.cursor (Asks Transcript) answer
   transcript_answered = lists_answered (incident_of s) s.cursor Transcript _ built answer transcript_reply tt
 
 pub place_reply : (s : View) → s ≡ at_cursor s.config s.events s.cursor → (text : String Global) → string_bytes text ≡ place_line s.cursor (length s.events) s.state.moment → reply_to (incident_of s) s.cursor Cursor ≡ left s.cursor (Built text)

@@ -5,22 +5,22 @@ use Rattle.std.proofs.lemmas.Result.{MatchResult-at_ok, MatchResult-at_err}
 use Rattle.amr_command_lines.specs.declared.line.Line.{Line}
 use Rattle.amr_commands.specs.Replies.{Incident}
 use Rattle.amr_commands.specs.Converse.{Stands}
-use Rattle.amr_commands.specs.Talk.{Told, StopsInside, Hears}
+use Rattle.amr_commands.specs.Talk.{Progress, StopsInside, Takes}
 use Rattle.amr_commands.proofs.Talks.{StopsInside-more}
 
 module _ {E : Type 0} (incident incident' : Incident) (start mid now : Option (List ℕ)) (before all : List ℕ) (cursor cursor' : ℕ) (line line' : Line) (r : Result Unit E) (i d : ℕ) where
-  pub Stands-next : (x : Unit) → i < length all → incident' ≡ incident → r ≡ Ok x → Hears incident' mid cursor line now cursor' line' r (get_or all i d ∷ [])
+  pub Stands-next : (x : Unit) → i < length all → incident' ≡ incident → r ≡ Ok x → Takes incident' mid cursor line now cursor' line' r (get_or all i d ∷ [])
       → Stands incident start mid (before ++ take i all) cursor line → Stands incident start now (before ++ take (i + 1) all) cursor' line'
   Stands-next x h same e hears (rest, t, holds) =
-      let one = subst (λ es. Hears es mid cursor line now cursor' line' r (get_or all i d ∷ [])) same hears in
+      let one = subst (λ es. Takes es mid cursor line now cursor' line' r (get_or all i d ∷ [])) same hears in
       let (rest', t', holds') = MatchResult-at_ok _ _ x e (one start (before ++ take i all) rest t holds) in
       let bytes : (before ++ take i all) ++ get_or all i d ∷ [] ≡ before ++ take (i + 1) all = append_assoc before (take i all) _ ∙ ap (λ l. before ++ l) (sym (take_more all i d h)) in
-      (rest', subst (λ l. Told incident start now l cursor' rest') bytes t', holds')
+      (rest', subst (λ l. Progress incident start now l cursor' rest') bytes t', holds')
 
-  pub StopsInside-at : (x : E) → i < length all → incident' ≡ incident → r ≡ Err x → Hears incident' mid cursor line now cursor' line' r (get_or all i d ∷ [])
+  pub StopsInside-at : (x : E) → i < length all → incident' ≡ incident → r ≡ Err x → Takes incident' mid cursor line now cursor' line' r (get_or all i d ∷ [])
       → Stands incident start mid (before ++ take i all) cursor line → StopsInside incident start now (before ++ all)
   StopsInside-at x h same e hears (rest, t, holds) =
-      let one = subst (λ es. Hears es mid cursor line now cursor' line' r (get_or all i d ∷ [])) same hears in
+      let one = subst (λ es. Takes es mid cursor line now cursor' line' r (get_or all i d ∷ [])) same hears in
       let stops = MatchResult-at_err _ _ x e (one start (before ++ take i all) rest t holds) in
       let bytes : ((before ++ take i all) ++ get_or all i d ∷ []) ++ drop (i + 1) all ≡ before ++ all =
       ap (λ l. l ++ drop (i + 1) all) (append_assoc before (take i all) _ ∙ ap (λ l. before ++ l) (sym (take_more all i d h))) ∙ append_assoc before _ _ ∙ ap (λ l. before ++ l) (take-append-drop (i + 1) all) in

@@ -3,13 +3,13 @@ use Rattle.std.proofs.Common.{◌≡◌, ℕ, [], ap, sym, subst, inl, inr, refl
 use Rattle.std.specs.Prelude.{if◌then◌else◌}
 use Rattle.std.proofs.lemmas.Str.{IsUtf8-nil, is_utf8-from_IsUtf8}
 use Rattle.amr_lines.specs.declared.word.Word.TheVariants as word
-use Rattle.amr_command_lines.specs.declared.command.Said.{Said}
-use Rattle.amr_command_lines.specs.declared.command.Said.TheVariants.{Nothing, Malformed}
+use Rattle.amr_command_lines.specs.declared.command.ParsedLine.{ParsedLine}
+use Rattle.amr_command_lines.specs.declared.command.ParsedLine.TheVariants.{Nothing, Malformed}
 use Rattle.amr_command_lines.specs.Parts.{word_in, trimmed}
 use Rattle.amr_command_lines.specs.Command.{word_named, said_in, said_of}
-use Rattle.amr_command_lines.specs.Said.{LineSays}
+use Rattle.amr_command_lines.specs.ParsedLine.{LineSays}
 use Rattle.amr_commands.specs.Replies.{Incident, MayFindNoMemory, reply_of}
-use Rattle.amr_commands.specs.Talk.{Fate, TooLong, Unheld, Undone, Done, MayBe}
+use Rattle.amr_commands.specs.Talk.{LineOutcome, TooLong, NoMemory, Undone, Done, MayBe}
 use Rattle.amr_commands.specs.Laws.{nothing_at, EmptyIsSilent}
 
 empty_says : said_of [] ≡ Nothing
@@ -21,12 +21,12 @@ unfolding word_named
 empty_is_no_word = refl
 
 -- an empty line is parsed as nothing
-says_nothing : (said : Said) → LineSays [] said → Nothing ≡ said
-says_nothing said (inl e) = sym (cc (e, empty_says))
-says_nothing said (inr (text, trial, tries)) = absurd (cc (empty_is_no_word, trial))
+says_nothing : (parsed : ParsedLine) → LineSays [] parsed → Nothing ≡ parsed
+says_nothing parsed (inl e) = sym (cc (e, empty_says))
+says_nothing parsed (inr (text, trial, tries)) = absurd (cc (empty_is_no_word, trial))
 
 pub empty_is_silent : EmptyIsSilent
 empty_is_silent incident cursor TooLong long = absurd (omega arith)
-empty_is_silent incident cursor Unheld (some, short) = absurd (omega arith)
-empty_is_silent incident cursor (Undone said) (short, says, takes) = absurd (subst (MayFindNoMemory incident cursor) (sym (says_nothing said says)) takes)
-empty_is_silent incident cursor (Done said) (short, says) = ap (reply_of incident cursor) (sym (says_nothing said says))
+empty_is_silent incident cursor NoMemory (some, short) = absurd (omega arith)
+empty_is_silent incident cursor (Undone parsed) (short, says, takes) = absurd (subst (MayFindNoMemory incident cursor) (sym (says_nothing parsed says)) takes)
+empty_is_silent incident cursor (Done parsed) (short, says) = ap (reply_of incident cursor) (sym (says_nothing parsed says))

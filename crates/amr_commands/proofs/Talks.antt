@@ -8,25 +8,25 @@ use Rattle.std.specs.Io.KnownBytes.{Appends, Keeps}
 use Rattle.std.proofs.KnownBytes.{Appends-nil, Appends-trans, Appends-kept}
 use Rattle.amr_commands.specs.Replies.{Incident}
 use Rattle.amr_commands.specs.Lines.{ended, IsOneLine}
-use Rattle.amr_commands.specs.Talk.{Heard, reply, MayBe, after, out, AllMayBe, Answers, Told, StopsShort, StopsInside}
+use Rattle.amr_commands.specs.Talk.{AnsweredLine, reply, MayBe, after, out, AllMayBe, Answers, Progress, StopsShort, StopsInside}
 
-abbrev line_of : Heard → List ℕ
+abbrev line_of : AnsweredLine → List ℕ
 line_of h = h.line
 
-pub after-append : (incident : Incident) (cursor : ℕ) (hs : List Heard) (h : Heard) → after incident cursor (hs ++ h ∷ []) ≡ (reply incident (after incident cursor hs) h.fate).cursor
+pub after-append : (incident : Incident) (cursor : ℕ) (hs : List AnsweredLine) (h : AnsweredLine) → after incident cursor (hs ++ h ∷ []) ≡ (reply incident (after incident cursor hs) h.line_outcome).cursor
 after-append incident cursor [] h = refl
-after-append incident cursor (g ∷ hs) h = after-append incident ((reply incident cursor g.fate).cursor) hs h
+after-append incident cursor (g ∷ hs) h = after-append incident ((reply incident cursor g.line_outcome).cursor) hs h
 
-pub out-append : (incident : Incident) (cursor : ℕ) (hs : List Heard) (h : Heard) → out incident cursor (hs ++ h ∷ []) ≡ out incident cursor hs ++ (reply incident (after incident cursor hs) h.fate).text
+pub out-append : (incident : Incident) (cursor : ℕ) (hs : List AnsweredLine) (h : AnsweredLine) → out incident cursor (hs ++ h ∷ []) ≡ out incident cursor hs ++ (reply incident (after incident cursor hs) h.line_outcome).text
 out-append incident cursor [] h = append-nil _
 out-append incident cursor (g ∷ hs) h =
-    ap (λ t. (reply incident cursor g.fate).text ++ t) (out-append incident ((reply incident cursor g.fate).cursor) hs h) ∙ sym (append_assoc ((reply incident cursor g.fate).text) _ _)
+    ap (λ t. (reply incident cursor g.line_outcome).text ++ t) (out-append incident ((reply incident cursor g.line_outcome).cursor) hs h) ∙ sym (append_assoc ((reply incident cursor g.line_outcome).text) _ _)
 
-pub AllMayBe-append : (incident : Incident) (cursor : ℕ) (hs : List Heard) (h : Heard) → AllMayBe incident cursor hs → MayBe incident (after incident cursor hs) h.line h.fate → AllMayBe incident cursor (hs ++ h ∷ [])
+pub AllMayBe-append : (incident : Incident) (cursor : ℕ) (hs : List AnsweredLine) (h : AnsweredLine) → AllMayBe incident cursor hs → MayBe incident (after incident cursor hs) h.line h.line_outcome → AllMayBe incident cursor (hs ++ h ∷ [])
 AllMayBe-append incident cursor [] h p q = (q, tt)
-AllMayBe-append incident cursor (g ∷ hs) h p q = (p.0, AllMayBe-append incident ((reply incident cursor g.fate).cursor) hs h p.1 q)
+AllMayBe-append incident cursor (g ∷ hs) h p q = (p.0, AllMayBe-append incident ((reply incident cursor g.line_outcome).cursor) hs h p.1 q)
 
-lines-append : (hs : List Heard) (h : Heard) → map line_of (hs ++ h ∷ []) ≡ map line_of hs ++ h.line ∷ []
+lines-append : (hs : List AnsweredLine) (h : AnsweredLine) → map line_of (hs ++ h ∷ []) ≡ map line_of hs ++ h.line ∷ []
 lines-append [] h = refl
 lines-append (g ∷ hs) h = ap (λ l. g.line ∷ l) (lines-append hs h)
 
@@ -38,14 +38,14 @@ joined : (bytes rest : List ℕ) (lines : List (List ℕ)) → bytes ≡ flat_ma
 joined bytes rest lines e =
     ap (λ l. l ++ 10 ∷ []) e ∙ append_assoc (flat_map ended lines) rest (10 ∷ []) ∙ sym (ap (λ l. flat_map ended lines ++ l) (append-nil (ended rest))) ∙ sym (flat_map-append ended lines (rest ∷ [])) ∙ sym (append-nil _)
 
-pub Told-nil : (incident : Incident) (w : Option (List ℕ)) → Told incident w w [] 0 []
-Told-nil incident w =
+pub Progress-nil : (incident : Incident) (w : Option (List ℕ)) → Progress incident w w [] 0 []
+Progress-nil incident w =
     record { heard = []; cut = record { whole = refl; each = All-nil _; last = All-nil _ }; may_be = tt; place = refl; written = Appends-nil w }
 
 -- a byte of a line
-pub Told-more : (incident : Incident) (start now : Option (List ℕ)) (bytes : List ℕ) (cursor : ℕ) (rest : List ℕ) (b : ℕ)
-    → b ≢ 10 → Told incident start now bytes cursor rest → Told incident start now (bytes ++ b ∷ []) cursor (rest ++ b ∷ [])
-Told-more incident start now bytes cursor rest b ne t =
+pub Progress-more : (incident : Incident) (start now : Option (List ℕ)) (bytes : List ℕ) (cursor : ℕ) (rest : List ℕ) (b : ℕ)
+    → b ≢ 10 → Progress incident start now bytes cursor rest → Progress incident start now (bytes ++ b ∷ []) cursor (rest ++ b ∷ [])
+Progress-more incident start now bytes cursor rest b ne t =
     record {
       heard = t.heard;
       cut = record {
@@ -59,15 +59,15 @@ Told-more incident start now bytes cursor rest b ne t =
     }
 
 -- a line that was answered
-pub Told-ended : {E : Type 0} (incident : Incident) (start mid now : Option (List ℕ)) (bytes : List ℕ) (cursor cursor' : ℕ) (rest : List ℕ) (r : Result Unit E)
-    → Told incident start mid bytes cursor rest → Answers incident cursor cursor' rest mid now r
-    → MatchResult r (λ _. Told incident start now (bytes ++ 10 ∷ []) cursor' []) (λ _. StopsShort incident start now bytes [])
-Told-ended incident start mid now bytes cursor cursor' rest r t a =
-    let h : Heard = record { line = rest; fate = a.fate } in
+pub Progress-ended : {E : Type 0} (incident : Incident) (start mid now : Option (List ℕ)) (bytes : List ℕ) (cursor cursor' : ℕ) (rest : List ℕ) (r : Result Unit E)
+    → Progress incident start mid bytes cursor rest → Answers incident cursor cursor' rest mid now r
+    → MatchResult r (λ _. Progress incident start now (bytes ++ 10 ∷ []) cursor' []) (λ _. StopsShort incident start now bytes [])
+Progress-ended incident start mid now bytes cursor cursor' rest r t a =
+    let h : AnsweredLine = record { line = rest; line_outcome = a.line_outcome } in
     let place = t.place in
-    let may : AllMayBe incident 0 (t.heard ++ h ∷ []) = AllMayBe-append incident 0 t.heard h t.may_be (subst (λ c. MayBe incident c rest a.fate) place a.may_be) in
-    let text : (reply incident cursor h.fate).text ≡ (reply incident (after incident 0 t.heard) h.fate).text = ap (λ c. (reply incident c h.fate).text) place in
-    let all : out incident 0 (t.heard ++ h ∷ []) ≡ out incident 0 t.heard ++ (reply incident cursor h.fate).text = out-append incident 0 t.heard h ∙ ap (λ l. out incident 0 t.heard ++ l) (sym text) in
+    let may : AllMayBe incident 0 (t.heard ++ h ∷ []) = AllMayBe-append incident 0 t.heard h t.may_be (subst (λ c. MayBe incident c rest a.line_outcome) place a.may_be) in
+    let text : (reply incident cursor h.line_outcome).text ≡ (reply incident (after incident 0 t.heard) h.line_outcome).text = ap (λ c. (reply incident c h.line_outcome).text) place in
+    let all : out incident 0 (t.heard ++ h ∷ []) ≡ out incident 0 t.heard ++ (reply incident cursor h.line_outcome).text = out-append incident 0 t.heard h ∙ ap (λ l. out incident 0 t.heard ++ l) (sym text) in
     MatchResult-weaker r a.did
     (λ _ d. record {
       heard = t.heard ++ h ∷ [];
@@ -77,7 +77,7 @@ Told-ended incident start mid now bytes cursor cursor' rest r t a =
         last = All-nil _;
       };
       may_be = may;
-      place = d.0 ∙ ap (λ c. (reply incident c h.fate).cursor) place ∙ sym (after-append incident 0 t.heard h);
+      place = d.0 ∙ ap (λ c. (reply incident c h.line_outcome).cursor) place ∙ sym (after-append incident 0 t.heard h);
       written = subst (Appends start now) (sym all) (Appends-trans start mid now _ _ t.written d.1);
     })
     (λ _ d. record {
@@ -121,11 +121,11 @@ IfErr-all (Err e) P h = h e
 pub Answers-flushed : {E F : Type 0} (incident : Incident) (cursor cursor' : ℕ) (line : List ℕ) (old mid now : Option (List ℕ)) (r : Result Unit E) (x : Unit) (flushed : Result Unit F)
     → r ≡ Ok x → Keeps mid now → Answers incident cursor cursor' line old mid r → Answers incident cursor cursor' line old now flushed
 Answers-flushed incident cursor cursor' line old mid now r x flushed e k a =
-    let text = (reply incident cursor a.fate).text in
+    let text = (reply incident cursor a.line_outcome).text in
     let did = MatchResult-at_ok _ _ x e a.did in
     let all : Appends old now text = Appends-kept old mid now text did.1 k in
     record {
-      fate = a.fate;
+      line_outcome = a.line_outcome;
       may_be = a.may_be;
       did = MatchResult-from_both flushed _ _
           (IfOk-all flushed _ (λ _. (did.0, all)))
@@ -133,17 +133,17 @@ Answers-flushed incident cursor cursor' line old mid now r x flushed e k a =
     }
 
 -- the line feed came, and the line was answered
-pub Told-line_ok : {E : Type 0} (incident : Incident) (start mid now : Option (List ℕ)) (bytes : List ℕ) (cursor cursor' : ℕ) (rest : List ℕ) (r : Result Unit E) (x : Unit) (b : ℕ)
-    → b ≡ 10 → r ≡ Ok x → Told incident start mid bytes cursor rest → Answers incident cursor cursor' rest mid now r → Told incident start now (bytes ++ b ∷ []) cursor' []
-Told-line_ok incident start mid now bytes cursor cursor' rest r x b feed e t a =
-    subst (λ l. Told incident start now (bytes ++ l ∷ []) cursor' []) (sym feed) (MatchResult-at_ok _ _ x e (Told-ended incident start mid now bytes cursor cursor' rest r t a))
+pub Progress-line_ok : {E : Type 0} (incident : Incident) (start mid now : Option (List ℕ)) (bytes : List ℕ) (cursor cursor' : ℕ) (rest : List ℕ) (r : Result Unit E) (x : Unit) (b : ℕ)
+    → b ≡ 10 → r ≡ Ok x → Progress incident start mid bytes cursor rest → Answers incident cursor cursor' rest mid now r → Progress incident start now (bytes ++ b ∷ []) cursor' []
+Progress-line_ok incident start mid now bytes cursor cursor' rest r x b feed e t a =
+    subst (λ l. Progress incident start now (bytes ++ l ∷ []) cursor' []) (sym feed) (MatchResult-at_ok _ _ x e (Progress-ended incident start mid now bytes cursor cursor' rest r t a))
 
 -- the line feed came, and the writer failed
-pub Told-line_err : {E : Type 0} (incident : Incident) (start mid now : Option (List ℕ)) (bytes : List ℕ) (cursor cursor' : ℕ) (rest : List ℕ) (r : Result Unit E) (x : E) (b : ℕ)
-    → b ≡ 10 → r ≡ Err x → Told incident start mid bytes cursor rest → Answers incident cursor cursor' rest mid now r → StopsInside incident start now (bytes ++ b ∷ [])
-Told-line_err incident start mid now bytes cursor cursor' rest r x b feed e t a =
+pub Progress-line_err : {E : Type 0} (incident : Incident) (start mid now : Option (List ℕ)) (bytes : List ℕ) (cursor cursor' : ℕ) (rest : List ℕ) (r : Result Unit E) (x : E) (b : ℕ)
+    → b ≡ 10 → r ≡ Err x → Progress incident start mid bytes cursor rest → Answers incident cursor cursor' rest mid now r → StopsInside incident start now (bytes ++ b ∷ [])
+Progress-line_err incident start mid now bytes cursor cursor' rest r x b feed e t a =
     subst (λ l. StopsInside incident start now (bytes ++ l ∷ [])) (sym feed)
-    ([], StopsShort-more incident start now bytes [] (10 ∷ []) (MatchResult-at_err _ _ x e (Told-ended incident start mid now bytes cursor cursor' rest r t a)))
+    ([], StopsShort-more incident start now bytes [] (10 ∷ []) (MatchResult-at_err _ _ x e (Progress-ended incident start mid now bytes cursor cursor' rest r t a)))
 
 -- bytes that come after those that were taken in
 pub StopsInside-more : (incident : Incident) (start now : Option (List ℕ)) (bytes more : List ℕ) → StopsInside incident start now bytes → StopsInside incident start now (bytes ++ more)

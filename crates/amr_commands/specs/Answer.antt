@@ -6,11 +6,11 @@ use Rattle.amr_labels.specs.Labels.{Text}
 use Rattle.amr_lines.specs.declared.word.Word.{Word}
 use Rattle.amr_lines.specs.declared.word.Word.TheVariants as word
 use Rattle.amr_lines.specs.LastLines.{moves_line, cursor_line, refused_line}
-use Rattle.amr_command_lines.specs.declared.command.Said.{Said}
-use Rattle.amr_command_lines.specs.Said.{word_of}
+use Rattle.amr_command_lines.specs.declared.command.ParsedLine.{ParsedLine}
+use Rattle.amr_command_lines.specs.ParsedLine.{word_of}
 use Rattle.amr_replay.specs.Session.{View}
 use Rattle.amr_commands.specs.Replies.{Incident, incident_of, Reply, reply_of, moved, listed, MayFindNoMemory}
-use Rattle.amr_commands.specs.Talk.{Fate, reply, MayBe}
+use Rattle.amr_commands.specs.Talk.{LineOutcome, reply, MayBe}
 use Rattle.amr_commands.specs.declared.answer.Refusal.{Refusal}
 use Rattle.amr_commands.specs.declared.answer.Refusal.TheVariants.{Memory, BadTime, BadLine, LineTooLong, AtEnd, AtStart, OutOfRange}
 use Rattle.amr_commands.specs.declared.answer.Answer.{Answer}
@@ -38,20 +38,20 @@ abbrev pub left : ℕ → Answer → Reply
 left cursor answer = record { cursor = cursor; text = answer_text cursor answer }
 
 -- the command was done, or memory ran out and it was undone
-abbrev pub Answered : Incident → ℕ → ℕ → Said → Answer → Type 0
-Answered incident cursor cursor' said answer =
-    (reply_of incident cursor said ≡ left cursor' answer)
-    ⊎ (MayFindNoMemory incident cursor said × (left cursor' answer ≡ left cursor (Refused (word_of said) Memory)))
+abbrev pub Answered : Incident → ℕ → ℕ → ParsedLine → Answer → Type 0
+Answered incident cursor cursor' parsed answer =
+    (reply_of incident cursor parsed ≡ left cursor' answer)
+    ⊎ (MayFindNoMemory incident cursor parsed × (left cursor' answer ≡ left cursor (Refused (word_of parsed) Memory)))
 
 -- the same for a session before and after
-abbrev pub AnsweredBy : View → View → Said → Answer → Type 0
-AnsweredBy before after said answer = Answered (incident_of before) before.cursor after.cursor said answer
+abbrev pub AnsweredBy : View → View → ParsedLine → Answer → Type 0
+AnsweredBy before after parsed answer = Answered (incident_of before) before.cursor after.cursor parsed answer
 
 -- the line ended in one of these ways
-pub record Fated (incident : Incident) (cursor cursor' : ℕ) (line : Text) (answer : Answer) : Type 0 where
-  pub fate : Fate
-  pub may_be : MayBe incident cursor line fate
-  pub replied : reply incident cursor fate ≡ left cursor' answer
+pub record HasLineOutcome (incident : Incident) (cursor cursor' : ℕ) (line : Text) (answer : Answer) : Type 0 where
+  pub line_outcome : LineOutcome
+  pub may_be : MayBe incident cursor line line_outcome
+  pub replied : reply incident cursor line_outcome ≡ left cursor' answer
 
 -- the cursor was moved there and this is written, or memory ran out on the way forward and the
 -- command was undone

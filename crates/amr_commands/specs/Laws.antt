@@ -1,7 +1,7 @@
 -- A law of what a session prints.
 use Rattle.std.specs.Prelude.{◌≡◌, ℕ, []}
 use Rattle.amr_commands.specs.Replies.{Incident, Reply}
-use Rattle.amr_commands.specs.Talk.{Fate, MayBe, reply}
+use Rattle.amr_commands.specs.Talk.{LineOutcome, MayBe, reply}
 
 -- this doesn't change the session, and prints nothing
 abbrev pub nothing_at : ℕ → Reply
@@ -9,4 +9,4 @@ nothing_at cursor = record { cursor = cursor; text = [] }
 
 -- an empty line prints nothing, even if memory runs out
 abbrev pub EmptyIsSilent : Type 0
-EmptyIsSilent = (incident : Incident) (cursor : ℕ) (fate : Fate) → MayBe incident cursor [] fate → reply incident cursor fate ≡ nothing_at cursor
+EmptyIsSilent = (incident : Incident) (cursor : ℕ) (line_outcome : LineOutcome) → MayBe incident cursor [] line_outcome → reply incident cursor line_outcome ≡ nothing_at cursor

@@ -12,13 +12,13 @@ use Rattle.amr_engine.specs.Explain.{verdicts}
 use Rattle.amr_replay.specs.Session.{View, state_at, outcomes_passed, events_until}
 use Rattle.amr_lines.specs.declared.word.Word.{Word}
 use Rattle.amr_lines.specs.declared.word.Word.TheVariants as word
-use Rattle.amr_lines.specs.Printed.{event_lines, note_line, alert_line, silence_line, group_seen_line, log_line}
+use Rattle.amr_lines.specs.Printed.{event_lines, notification_line, alert_line, silence_line, group_seen_line, log_line}
 use Rattle.amr_lines.specs.Verdicts.{verdict_line}
 use Rattle.amr_lines.specs.LastLines.{moves_line, cursor_line, place_line, refused_line}
 use Rattle.amr_command_lines.specs.declared.command.Command.{Command}
 use Rattle.amr_command_lines.specs.declared.command.Command.TheVariants.{Step, Back, Seek, SeekTime, Trial, Explain, Alerts, Silences, Groups, Log, Transcript, Cursor}
-use Rattle.amr_command_lines.specs.declared.command.Said.{Said}
-use Rattle.amr_command_lines.specs.declared.command.Said.TheVariants.{Nothing, Asks, Malformed, BadMoment, Unfit}
+use Rattle.amr_command_lines.specs.declared.command.ParsedLine.{ParsedLine}
+use Rattle.amr_command_lines.specs.declared.command.ParsedLine.TheVariants.{Nothing, Asks, Malformed, BadMoment, BadArgument}
 
 -- a configuration, and the events of a script
 pub record Incident : Type 0 where
@@ -77,7 +77,7 @@ reply_to incident n Alerts = listed n word.Alerts (flat_map alert_line (entries 
 reply_to incident n Silences = listed n word.Silences (flat_map silence_line (entries (state_in incident n).silences))
 reply_to incident n Groups = listed n word.Groups (flat_map group_seen_line (groups_of (state_in incident n)))
 reply_to incident n Log = listed n word.Log (flat_map log_line (entries (state_in incident n).log))
-reply_to incident n Transcript = listed n word.Transcript (flat_map note_line (state_in incident n).notes)
+reply_to incident n Transcript = listed n word.Transcript (flat_map notification_line (state_in incident n).notes)
 reply_to incident n Cursor = record { cursor = n; text = place_line n (length incident.events) (state_in incident n).moment }
 
 -- the command takes memory there, so memory may run out
@@ -96,17 +96,17 @@ TakesMemory incident n Transcript = ⊤
 TakesMemory incident n Cursor = ⊤
 
 -- what a line leaves that was parsed as this
-abbrev pub reply_of : Incident → ℕ → Said → Reply
+abbrev pub reply_of : Incident → ℕ → ParsedLine → Reply
 reply_of incident n Nothing = record { cursor = n; text = [] }
 reply_of incident n (Asks command) = reply_to incident n command
 reply_of incident n (Malformed word) = refused n word 13
 reply_of incident n BadMoment = refused n word.SeekTime 3
-reply_of incident n (Unfit word) = refused n word 13
+reply_of incident n (BadArgument word) = refused n word 13
 
 -- parsing it takes memory, or executing it
-abbrev pub MayFindNoMemory : Incident → ℕ → Said → Type 0
+abbrev pub MayFindNoMemory : Incident → ℕ → ParsedLine → Type 0
 MayFindNoMemory incident n Nothing = ⊥
 MayFindNoMemory incident n (Asks command) = TakesMemory incident n command
 MayFindNoMemory incident n (Malformed word) = ⊥
 MayFindNoMemory incident n BadMoment = ⊥
-MayFindNoMemory incident n (Unfit word) = ⊤
+MayFindNoMemory incident n (BadArgument word) = ⊤

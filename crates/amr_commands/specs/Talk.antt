@@ -4,67 +4,67 @@ use Rattle.std.specs.Io.KnownBytes.{Appends}
 use Rattle.amr_labels.specs.Labels.{Text}
 use Rattle.amr_lines.specs.Outlet.{AppendsBeginning}
 use Rattle.amr_lines.specs.declared.word.Word.TheVariants as word
-use Rattle.amr_command_lines.specs.declared.command.Said.{Said}
+use Rattle.amr_command_lines.specs.declared.command.ParsedLine.{ParsedLine}
 use Rattle.amr_command_lines.specs.declared.line.Line.{Line}
 use Rattle.amr_command_lines.specs.Line.{longest, Holds}
-use Rattle.amr_command_lines.specs.Said.{LineSays, word_of}
+use Rattle.amr_command_lines.specs.ParsedLine.{LineSays, word_of}
 use Rattle.amr_commands.specs.Lines.{Cuts, ended, IsOneLine}
 use Rattle.amr_commands.specs.Replies.{Incident, Reply, refused, reply_of, MayFindNoMemory}
 
 -- how a line ends: it is too long; memory ran out to hold it, or to parse or execute it; it is done
-pub data Fate : Type 0 where
-  TooLong : Fate
-  Unheld : Fate
-  Undone : Said → Fate
-  Done : Said → Fate
+pub data LineOutcome : Type 0 where
+  TooLong : LineOutcome
+  NoMemory : LineOutcome
+  Undone : ParsedLine → LineOutcome
+  Done : ParsedLine → LineOutcome
 
 -- a line that was read, and how it ended
-pub record Heard : Type 0 where
+pub record AnsweredLine : Type 0 where
   pub line : Text
-  pub fate : Fate
+  pub line_outcome : LineOutcome
 
 -- what a line leaves
-abbrev pub reply : Incident → ℕ → Fate → Reply
+abbrev pub reply : Incident → ℕ → LineOutcome → Reply
 reply incident cursor TooLong = refused cursor word.Unknown 14
-reply incident cursor Unheld = refused cursor word.Unknown 0
-reply incident cursor (Undone said) = refused cursor (word_of said) 0
-reply incident cursor (Done said) = reply_of incident cursor said
+reply incident cursor NoMemory = refused cursor word.Unknown 0
+reply incident cursor (Undone parsed) = refused cursor (word_of parsed) 0
+reply incident cursor (Done parsed) = reply_of incident cursor parsed
 
 -- A line may end like this. It is undone only if it takes memory, and memory to hold it can run out
 -- only if it has a byte. So an empty line, like the one after a line feed at the end, prints
 -- nothing.
-abbrev pub MayBe : Incident → ℕ → Text → Fate → Type 0
+abbrev pub MayBe : Incident → ℕ → Text → LineOutcome → Type 0
 MayBe incident cursor line TooLong = longest < length line
-MayBe incident cursor line Unheld = (0 < length line) × (length line ≤ longest)
-MayBe incident cursor line (Undone said) = (length line ≤ longest) × LineSays line said × MayFindNoMemory incident cursor said
-MayBe incident cursor line (Done said) = (length line ≤ longest) × LineSays line said
+MayBe incident cursor line NoMemory = (0 < length line) × (length line ≤ longest)
+MayBe incident cursor line (Undone parsed) = (length line ≤ longest) × LineSays line parsed × MayFindNoMemory incident cursor parsed
+MayBe incident cursor line (Done parsed) = (length line ≤ longest) × LineSays line parsed
 
 -- the cursor after these lines
-abbrev pub after : Incident → ℕ → List Heard → ℕ
+abbrev pub after : Incident → ℕ → List AnsweredLine → ℕ
 after incident cursor [] = cursor
-after incident cursor (h ∷ hs) = after incident ((reply incident cursor h.fate).cursor) hs
+after incident cursor (h ∷ hs) = after incident ((reply incident cursor h.line_outcome).cursor) hs
 
 -- all that these lines print
-abbrev pub out : Incident → ℕ → List Heard → Text
+abbrev pub out : Incident → ℕ → List AnsweredLine → Text
 out incident cursor [] = []
-out incident cursor (h ∷ hs) = (reply incident cursor h.fate).text ++ out incident ((reply incident cursor h.fate).cursor) hs
+out incident cursor (h ∷ hs) = (reply incident cursor h.line_outcome).text ++ out incident ((reply incident cursor h.line_outcome).cursor) hs
 
 -- each may have ended as it did
-abbrev pub AllMayBe : Incident → ℕ → List Heard → Type 0
+abbrev pub AllMayBe : Incident → ℕ → List AnsweredLine → Type 0
 AllMayBe incident cursor [] = ⊤
-AllMayBe incident cursor (h ∷ hs) = MayBe incident cursor h.line h.fate × AllMayBe incident ((reply incident cursor h.fate).cursor) hs
+AllMayBe incident cursor (h ∷ hs) = MayBe incident cursor h.line h.line_outcome × AllMayBe incident ((reply incident cursor h.line_outcome).cursor) hs
 
 -- one line was answered: its whole output was written at `Ok`, and a prefix of it at `Err`
 pub record Answers {E : Type 0} (incident : Incident) (cursor cursor' : ℕ) (line : Text) (old new : Option Text) (r : Result Unit E) : Type 0 where
-  pub fate : Fate
-  pub may_be : MayBe incident cursor line fate
+  pub line_outcome : LineOutcome
+  pub may_be : MayBe incident cursor line line_outcome
   pub did : MatchResult r
-      (λ _. (cursor' ≡ (reply incident cursor fate).cursor) × Appends old new ((reply incident cursor fate).text))
-      (λ _. AppendsBeginning old new ((reply incident cursor fate).text))
+      (λ _. (cursor' ≡ (reply incident cursor line_outcome).cursor) × Appends old new ((reply incident cursor line_outcome).text))
+      (λ _. AppendsBeginning old new ((reply incident cursor line_outcome).text))
 
 -- what was read so far: whole lines, which were answered, and the rest
-pub record Told (incident : Incident) (start now : Option Text) (bytes : Text) (cursor : ℕ) (rest : Text) : Type 0 where
-  pub heard : List Heard
+pub record Progress (incident : Incident) (start now : Option Text) (bytes : Text) (cursor : ℕ) (rest : Text) : Type 0 where
+  pub heard : List AnsweredLine
   pub cut : Cuts bytes (map (λ h. h.line) heard) rest
   pub may_be : AllMayBe incident 0 heard
   pub place : cursor ≡ after incident 0 heard
@@ -73,8 +73,8 @@ pub record Told (incident : Incident) (start now : Option Text) (bytes : Text) (
 -- the writer failed at a line: it has got a prefix of the output up to that line; these bytes
 -- follow the line
 pub record StopsShort (incident : Incident) (start now : Option Text) (bytes after_line : Text) : Type 0 where
-  pub heard : List Heard
-  pub last : Heard
+  pub heard : List AnsweredLine
+  pub last : AnsweredLine
   pub whole : bytes ≡ flat_map ended (map (λ h. h.line) heard) ++ (last.line ++ after_line)
   pub each : All IsOneLine (map (λ h. h.line) heard)
   pub one_line : IsOneLine last.line
@@ -86,9 +86,9 @@ abbrev pub StopsInside : Incident → Option Text → Option Text → Text → T
 StopsInside incident start now bytes = (more : Text) × StopsShort incident start now bytes (10 ∷ more)
 
 -- what more bytes do to a session
-abbrev pub Hears : {E : Type 0} → Incident → Option Text → ℕ → Line → Option Text → ℕ → Line → Result Unit E → Text → Type 0
-Hears incident w c line w' c' line' r bytes = (start : Option Text) (before rest : Text)
-    → Told incident start w before c rest → Holds line rest
+abbrev pub Takes : {E : Type 0} → Incident → Option Text → ℕ → Line → Option Text → ℕ → Line → Result Unit E → Text → Type 0
+Takes incident w c line w' c' line' r bytes = (start : Option Text) (before rest : Text)
+    → Progress incident start w before c rest → Holds line rest
     → MatchResult r
-    (λ _. (rest' : Text) × Told incident start w' (before ++ bytes) c' rest' × Holds line' rest')
+    (λ _. (rest' : Text) × Progress incident start w' (before ++ bytes) c' rest' × Holds line' rest')
     (λ _. StopsInside incident start w' (before ++ bytes))

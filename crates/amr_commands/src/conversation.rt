@@ -8,8 +8,8 @@ ghost use Rattle.amr_commands.specs.Replies.{incident_of};
 ghost use Rattle.amr_commands.specs.Converse.{Converses, Turns, Printed, Stands, EndsBy, CountsTurn};
 ghost use Rattle.amr_commands.specs.Talk.{StopsShort};
 
-use crate::hear::hear;
-use crate::respond::answer_line;
+use crate::dispatch::answer_line;
+use crate::input::take_bytes;
 use amr_command_lines::Line;
 use amr_lines::{Inlet, Outlet, WriteFailed};
 use amr_replay::Session;
@@ -21,7 +21,7 @@ const CHUNK: usize = 4096;
 
 /// Which end failed.
 #[derive(Clone, Copy, Debug, PartialEq, Eq)]
-pub enum Broken {
+pub enum ConversationError {
     Reading,
     Writing,
 }
@@ -34,21 +34,21 @@ enum Turn {
 }
 
 /// Reads once.
-fn read_once<R: Read>(commands: &mut Inlet<R>, chunk: &mut [u8]) -> Result<usize, Broken>
+fn read_once<R: Read>(commands: &mut Inlet<R>, chunk: &mut [u8]) -> Result<usize, ConversationError>
     requires { 0 < length chunk.old }
     ensures read { MatchResult result
         (λ n. (n ≤ length chunk.new)
         × Consumes (R.remaining commands.old.reader) (R.remaining commands.new.reader)
         (take n chunk.new)
         × (n ≡ 0 → IsAtEnd (R.remaining commands.new.reader)))
-        (λ broken. (broken ≡ Broken.Reading)
+        (λ error. (error ≡ ConversationError.Reading)
         × Keeps (R.remaining commands.old.reader) (R.remaining commands.new.reader)) }
     ensures counted { CountsCall result commands.old.failed commands.new.failed commands.old.calls
         commands.new.calls }
 {
     match commands.read(chunk) {
         Ok(n) => Ok(n),
-        Err(_) => Err(Broken::Reading),
+        Err(_) => Err(ConversationError::Reading),
     }
 }
 
@@ -79,7 +79,7 @@ fn take_turn<R: Read, W: Write>(
     chunk: &mut [u8],
     commands: &mut Inlet<R>,
     out: &mut Outlet<W>,
-) -> Result<Turn, Broken>
+) -> Result<Turn, ConversationError>
     requires { 0 < length chunk.old }
     ensures kept { incident_of session.new ≡ incident_of session.old }
     ensures turned { Turns (incident_of session.old) (R.remaining commands.old.reader)
@@ -92,14 +92,14 @@ fn take_turn<R: Read, W: Write>(
         out.old.failed out.new.failed }
 {
     match read_once(commands, chunk) {
-        Err(_) => Err(Broken::Reading),
+        Err(_) => Err(ConversationError::Reading),
         Ok(0) => match finish(alloc, session, line, out) {
             Ok(()) => Ok(Turn::Ended),
-            Err(_) => Err(Broken::Writing),
+            Err(_) => Err(ConversationError::Writing),
         },
-        Ok(n) => match hear(alloc, session, line, &chunk[..n], out) {
+        Ok(n) => match take_bytes(alloc, session, line, &chunk[..n], out) {
             Ok(()) => Ok(Turn::More),
-            Err(_) => Err(Broken::Writing),
+            Err(_) => Err(ConversationError::Writing),
         },
     }
 }
@@ -113,7 +113,7 @@ pub fn converse<R: Read, W: Write>(
     session: &mut Session,
     commands: &mut Inlet<R>,
     out: &mut Outlet<W>,
-) -> Result<(), Broken>
+) -> Result<(), ConversationError>
     requires { session.old.cursor ≡ 0 }
     ensures conversed { Converses (incident_of session.old) (R.remaining commands.old.reader)
         (R.remaining commands.new.reader)
@@ -127,7 +127,7 @@ pub fn converse<R: Read, W: Write>(
         match take_turn(alloc, session, &mut line, &mut chunk, commands, out) {
             Ok(Turn::More) => {}
             Ok(Turn::Ended) => return Ok(()),
-            Err(broken) => return Err(broken),
+            Err(error) => return Err(error),
         }
     }
 }

@@ -4,10 +4,10 @@
 
 mod answer;
 mod conversation;
-mod hear;
+mod dispatch;
+mod input;
 pub mod laws;
-mod look;
-mod passing;
-mod respond;
+mod navigation;
+mod queries;
 
-pub use conversation::{Broken, converse};
+pub use conversation::{ConversationError, converse};

@@ -15,8 +15,8 @@ use Rattle.amr_config.specs.Config.{Config}
 use Rattle.amr_config.specs.Routing.{chosen, is_chosen, route_numbers}
 use Rattle.amr_rules.specs.declared.alert.Alert.{Alert}
 use Rattle.amr_rules.specs.Alerts.{joined}
-use Rattle.amr_state.specs.declared.spot.Spot.{Spot}
-use Rattle.amr_state.specs.State.{State, spot_at, spot_cmp, spot_cmp_total, spot_cmp-IsAntisymmetric, place_on, place}
+use Rattle.amr_state.specs.declared.route_labels.RouteLabels.{RouteLabels}
+use Rattle.amr_state.specs.State.{State, on_route, route_labels_cmp, route_labels_cmp_total, route_labels_cmp-IsAntisymmetric, place_on, place}
 use Rattle.amr_engine.specs.Events.{put, with_config}
 use Rattle.amr_engine.specs.Weight.{copies}
 
@@ -32,22 +32,22 @@ equal Equal e = refl
 equal Greater e = absurd (cc)
 
 -- different keys don't compare as equal
-apart : (q k : Spot) → (q ≡ k → ⊥) → eq_by_cmp spot_cmp q k ≡ false
+apart : (q k : RouteLabels) → (q ≡ k → ⊥) → eq_by_cmp route_labels_cmp q k ≡ false
 apart q k differ =
-    elim (eq_by_cmp spot_cmp q k) as (λ b. eq_by_cmp spot_cmp q k ≡ b → b ≡ false) [
-      | true ↦ λ e. absurd (differ (spot_cmp-IsAntisymmetric q k (equal (spot_cmp q k) e)))
+    elim (eq_by_cmp route_labels_cmp q k) as (λ b. eq_by_cmp route_labels_cmp q k ≡ b → b ≡ false) [
+      | true ↦ λ e. absurd (differ (route_labels_cmp-IsAntisymmetric q k (equal (route_labels_cmp q k) e)))
       | false ↦ λ e. refl
     ] refl
 
 -- a member elsewhere leaves a key free
-still_free : (s : State) (labels : LabelSet) (alert : Alert) (route : ℕ) (q : Spot) → (q ≡ spot_at route labels → ⊥) → get s.placements q ≡ None → get (place_on labels alert s route).placements q ≡ None
+still_free : (s : State) (labels : LabelSet) (alert : Alert) (route : ℕ) (q : RouteLabels) → (q ≡ on_route route labels → ⊥) → get s.placements q ≡ None → get (place_on labels alert s route).placements q ≡ None
 still_free s labels alert route q differ free =
-    get-insert spot_cmp_total s.placements (spot_at route labels) alert q
-    ∙ ap (λ b. cond b (Some alert) (get s.placements q)) (apart q (spot_at route labels) differ) ∙ free
+    get-insert route_labels_cmp_total s.placements (on_route route labels) alert q
+    ∙ ap (λ b. cond b (Some alert) (get s.placements q)) (apart q (on_route route labels) differ) ∙ free
 
 -- no member has these labels, on the routes from a number on
 abbrev pub IsFree : State → LabelSet → ℕ → Type 0
-IsFree s labels from = (route : ℕ) → from ≤ route → get s.placements (spot_at route labels) ≡ None
+IsFree s labels from = (route : ℕ) → from ≤ route → get s.placements (on_route route labels) ≡ None
 
 module _ (p : ℕ → Bool) (labels : LabelSet) (alert : Alert) where
   abbrev placed : State → ℕ → ℕ → State
@@ -61,17 +61,17 @@ module _ (p : ℕ → Bool) (labels : LabelSet) (alert : Alert) where
         | true ↦
             let next : State = place_on labels alert s from in
             let free_next : IsFree next labels (from + 1) = λ route le.
-            still_free s labels alert from (spot_at route labels)
-            (λ e. let same : route ≡ from = ap (λ (x : Spot). x.route) e in omega (arith, same, le)) (free route (omega (arith, le))) in
+            still_free s labels alert from (on_route route labels)
+            (λ e. let same : route ≡ from = ap (λ (x : RouteLabels). x.route) e in omega (arith, same, le)) (free route (omega (arith, le))) in
             placed_len n (from + 1) next free_next
-            ∙ ap (λ k. k + length (filter p (range_with_len (from + 1) n))) (longer spot_cmp_total s.placements (spot_at from labels) alert (free from (omega arith)))
+            ∙ ap (λ k. k + length (filter p (range_with_len (from + 1) n))) (longer route_labels_cmp_total s.placements (on_route from labels) alert (free from (omega arith)))
             ∙ omega arith
         | false ↦ placed_len n (from + 1) s (λ route le. free route (omega (arith, le)))
       ]
 
-placed_free : (labels : LabelSet) (alert : Alert) (rs : List ℕ) (s : State) (q : Spot) → (q.labels ≡ labels → ⊥) → get s.placements q ≡ None → get (fold (place_on labels alert) s rs).placements q ≡ None
+placed_free : (labels : LabelSet) (alert : Alert) (rs : List ℕ) (s : State) (q : RouteLabels) → (q.labels ≡ labels → ⊥) → get s.placements q ≡ None → get (fold (place_on labels alert) s rs).placements q ≡ None
 placed_free labels alert [] s q differ free = free
-placed_free labels alert (r ∷ rs) s q differ free = placed_free labels alert rs (place_on labels alert s r) q differ (still_free s labels alert r q (λ e. differ (ap (λ (x : Spot). x.labels) e)) free)
+placed_free labels alert (r ∷ rs) s q differ free = placed_free labels alert rs (place_on labels alert s r) q differ (still_free s labels alert r q (λ e. differ (ap (λ (x : RouteLabels). x.labels) e)) free)
 
 place_on-config : (labels : LabelSet) (alert : Alert) (rs : List ℕ) (s : State) → (fold (place_on labels alert) s rs).config ≡ s.config
 place_on-config labels alert [] s = refl
@@ -92,7 +92,7 @@ place_len s alert free = placed_len (is_chosen s.config alert.0) alert.0 alert.1
 place_free : (s : State) (alert : LabelSet × Alert) (labels : LabelSet) → label_set_cmp alert.0 labels ≡ Less → IsFree s labels 0 → IsFree (place s alert) labels 0
 unfolding place
 place_free s alert labels less free = λ route le.
-    placed_free alert.0 alert.1 (chosen s.config alert.0) s (spot_at route labels)
+    placed_free alert.0 alert.1 (chosen s.config alert.0) s (on_route route labels)
     (λ same. let level : Equal ≡ Less = sym (tied_itself label_set_cmp_total alert.0) ∙ ap (label_set_cmp alert.0) (sym same) ∙ less in absurd (cc)) (free route le)
 
 -- no member has the labels of any of these alerts
@@ -126,10 +126,10 @@ placed_all config (alert ∷ alerts) s same sorted free =
     ∙ ap (λ k. k + copies config alerts) (place_len s alert free.0 ∙ ap (λ c. len s.placements + length (chosen c alert.0)) same)
     ∙ omega (arith, sum_by-cons (λ (a : LabelSet × Alert). length (chosen config a.0)) alert alerts)
 
-none_placed : (s : State) (config : Config) (alerts : List (LabelSet × Alert)) → AreFree (record s { config = config; placements = empty; clocks = empty }) alerts
+none_placed : (s : State) (config : Config) (alerts : List (LabelSet × Alert)) → AreFree (record s { config = config; placements = empty; timers = empty }) alerts
 unfolding AreFree
 none_placed s config [] = tt
-none_placed s config (alert ∷ alerts) = ((λ route le. get-empty spot_cmp (spot_at route alert.0)), none_placed s config alerts)
+none_placed s config (alert ∷ alerts) = ((λ route le. get-empty route_labels_cmp (on_route route alert.0)), none_placed s config alerts)
 
 len-empty : {K : Type 0} (X : Type 0) (R : K → K → Ordering) → len (empty {X = X} {R = R}) ≡ 0
 unfolding entries empty
@@ -139,5 +139,5 @@ len-empty X R = refl
 pub copies_are_members : (s : State) (config : Config) → len (with_config s config).placements ≡ copies config (entries s.alerts)
 unfolding with_config
 copies_are_members s config =
-    placed_all config (entries s.alerts) (record s { config = config; placements = empty; clocks = empty }) refl (entries-sorted s.alerts) (none_placed s config (entries s.alerts))
-    ∙ ap (λ k. k + copies config (entries s.alerts)) (len-empty Alert spot_cmp) ∙ omega arith
+    placed_all config (entries s.alerts) (record s { config = config; placements = empty; timers = empty }) refl (entries-sorted s.alerts) (none_placed s config (entries s.alerts))
+    ∙ ap (λ k. k + copies config (entries s.alerts)) (len-empty Alert route_labels_cmp) ∙ omega arith

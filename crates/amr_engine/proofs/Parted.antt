@@ -13,31 +13,31 @@ use Rattle.amr_config.specs.Routing.{integrations_of, repeat_interval_of}
 use Rattle.amr_rules.specs.declared.alert.Alert.{Alert}
 use Rattle.amr_rules.specs.declared.update.LogEntry.{LogEntry}
 use Rattle.amr_rules.specs.Alerts.{is_resolved_at}
-use Rattle.amr_state.specs.declared.note.LogKey.{LogKey}
-use Rattle.amr_state.specs.declared.note.Note.{Note}
-use Rattle.amr_state.specs.declared.spot.Spot.{Spot}
+use Rattle.amr_state.specs.declared.notification.LogKey.{LogKey}
+use Rattle.amr_state.specs.declared.notification.Notification.{Notification}
+use Rattle.amr_state.specs.declared.route_labels.RouteLabels.{RouteLabels}
 use Rattle.amr_state.specs.State.{State}
 use Rattle.amr_engine.specs.declared.flush.Parted.{Parted}
-use Rattle.amr_engine.specs.Flush.{Members, firing_of, resolved_of, log_key_of, notes_told, notify, notify_all, set_clock, mark_if_empty, forget, drop_resolved}
-use Rattle.amr_engine.specs.Parting.{IsParted, told_by, tell_parted, entry_of}
+use Rattle.amr_engine.specs.Flush.{Members, firing_of, resolved_of, log_key_of, notifications_of, notify, notify_all, set_timer, mark_if_empty, drop_member, drop_resolved}
+use Rattle.amr_engine.specs.Parting.{IsParted, notified_by, record_parted, entry_of}
 
 -- what follows for the value of a result
 pub on_ok : {T E : Type 0} (r : Result T E) (P Q : Type 0) → (P → Q) → OnOk r P → OnOk r Q
 on_ok (Ok x) P Q f p = f p
 on_ok (Err e) P Q f p = p
 
-abbrev turn : Moment → Spot → Members → Members → LabelSets → LabelSets → State → Integration → State
+abbrev turn : Moment → RouteLabels → Members → Members → LabelSets → LabelSets → State → Integration → State
 turn at group firing resolved firing_labels resolved_labels s integration =
     let key : LogKey = log_key_of s.config group integration in
     if needs_update (get s.log key) firing_labels resolved_labels integration.send_resolved at (repeat_interval_of s.config group.route)
     then record s {
       log = insert s.log key (record { time = at; firing = firing_labels; resolved = resolved_labels });
-      notes = s.notes ++ notes_told at group key integration.send_resolved firing resolved;
+      notes = s.notes ++ notifications_of at group key integration.send_resolved firing resolved;
     } else s
 
 -- notifying by split members is notifying by all
-pub notified : (at : Moment) (group : Spot) (members : Members) (parted : Parted) → IsParted at members parted → (s : State) (integration : Integration)
-    → told_by at group parted s integration ≡ notify at group members s integration
+pub notified : (at : Moment) (group : RouteLabels) (members : Members) (parted : Parted) → IsParted at members parted → (s : State) (integration : Integration)
+    → notified_by at group parted s integration ≡ notify at group members s integration
 unfolding notify
 notified at group members parted is s integration = λ i. turn at group (is.firing i) (is.resolved i) (is.firing_labels i) (is.resolved_labels i) s integration
 
@@ -45,41 +45,41 @@ fold_same : {A X : Type 0} (f g : A → X → A) → ((a : A) (x : X) → f a x 
 fold_same f g same a [] = refl
 fold_same f g same a (x ∷ xs) = ap (λ b. fold f b xs) (same a x) ∙ fold_same f g same (g a x) xs
 
-pub notified_all : (at : Moment) (group : Spot) (members : Members) (parted : Parted) (s : State) → (length members == 0) ≡ false → IsParted at members parted
-    → fold (told_by at group parted) s (integrations_of s.config group.route) ≡ notify_all at group members s
+pub notified_all : (at : Moment) (group : RouteLabels) (members : Members) (parted : Parted) (s : State) → (length members == 0) ≡ false → IsParted at members parted
+    → fold (notified_by at group parted) s (integrations_of s.config group.route) ≡ notify_all at group members s
 notified_all at group [] parted s some is = absurd (cc)
 notified_all at group (member ∷ members) parted s some is =
-    fold_same (told_by at group parted) (notify at group (member ∷ members)) (notified at group (member ∷ members) parted is) s (integrations_of s.config group.route)
+    fold_same (notified_by at group parted) (notify at group (member ∷ members)) (notified at group (member ∷ members) parted is) s (integrations_of s.config group.route)
 
 -- the log entry, and then the notification
-pub told_at : (s logged : State) (at : Moment) (group : Spot) (key : LogKey) (parted : Parted) (send_resolved : Bool) (entry : LogEntry) (added notes : List Note)
-    → logged ≡ record s { log = insert s.log key entry } → entry ≡ entry_of at parted → added ≡ notes → (record s { log = insert s.log key (entry_of at parted); notes = s.notes ++ notes }) ≡ tell_parted at group key parted send_resolved s
-    → record logged { notes = logged.notes ++ added } ≡ tell_parted at group key parted send_resolved s
-told_at s logged at group key parted send_resolved entry added notes is same told last =
-    ap (λ (x : State). record x { notes = x.notes ++ added }) is ∙ (λ i. record s { log = insert s.log key (same i); notes = s.notes ++ told i }) ∙ last
+pub recorded_at : (s logged : State) (at : Moment) (group : RouteLabels) (key : LogKey) (parted : Parted) (send_resolved : Bool) (entry : LogEntry) (added notes : List Notification)
+    → logged ≡ record s { log = insert s.log key entry } → entry ≡ entry_of at parted → added ≡ notes → (record s { log = insert s.log key (entry_of at parted); notes = s.notes ++ notes }) ≡ record_parted at group key parted send_resolved s
+    → record logged { notes = logged.notes ++ added } ≡ record_parted at group key parted send_resolved s
+recorded_at s logged at group key parted send_resolved entry added notes is same notified last =
+    ap (λ (x : State). record x { notes = x.notes ++ added }) is ∙ (λ i. record s { log = insert s.log key (same i); notes = s.notes ++ notified i }) ∙ last
 
-abbrev emptied : Moment → Spot → State → State
-emptied at group = set_clock group (λ clock. record clock { empty_since = Some at })
+abbrev emptied : Moment → RouteLabels → State → State
+emptied at group = set_timer group (λ timer. record timer { empty_since = Some at })
 
 abbrev all_resolved : Moment → Members → Bool
 all_resolved at = list_all (λ member. is_resolved_at at member.1)
 
-marked_one : (at : Moment) (group : Spot) (member : LabelSet × Alert) (members : Members) (s : State) (b : Bool)
+marked_one : (at : Moment) (group : RouteLabels) (member : LabelSet × Alert) (members : Members) (s : State) (b : Bool)
     → mark_if_empty at group (firing_of at members) s ≡ (if all_resolved at members then emptied at group s else s)
     → mark_if_empty at group (if not b then member ∷ firing_of at members else firing_of at members) s ≡ (if b && all_resolved at members then emptied at group s else s)
 marked_one at group member members s true rest = rest
 marked_one at group member members s false rest = refl
 
 -- a group is empty if all of its members are resolved
-marked : (at : Moment) (group : Spot) (members : Members) (s : State)
+marked : (at : Moment) (group : RouteLabels) (members : Members) (s : State)
     → mark_if_empty at group (firing_of at members) s ≡ (if all_resolved at members then emptied at group s else s)
 marked at group [] s = refl
 marked at group (member ∷ members) s = marked_one at group member members s (is_resolved_at at member.1) (marked at group members s)
 
 -- what is left of the group if all of its members are resolved, and if some member isn't
-pub dropped : (at : Moment) (group : Spot) (members : Members) (s forgotten : State) (b : Bool) → b ≡ all_resolved at members
-    → forgotten ≡ fold (forget group) s (resolved_of at members)
-    → (if b then emptied at group forgotten else forgotten) ≡ drop_resolved at group members s
+pub dropped : (at : Moment) (group : RouteLabels) (members : Members) (s dropped : State) (b : Bool) → b ≡ all_resolved at members
+    → dropped ≡ fold (drop_member group) s (resolved_of at members)
+    → (if b then emptied at group dropped else dropped) ≡ drop_resolved at group members s
 unfolding drop_resolved
-dropped at group members s forgotten b test is =
-    (λ i. if test i then emptied at group (is i) else is i) ∙ sym (marked at group members (fold (forget group) s (resolved_of at members)))
+dropped at group members s dropped b test is =
+    (λ i. if test i then emptied at group (is i) else is i) ∙ sym (marked at group members (fold (drop_member group) s (resolved_of at members)))

@@ -17,7 +17,7 @@ use Rattle.amr_events.specs.Acts.{by_number}
 use Rattle.amr_events.specs.Events.{Act, Reason}
 use Rattle.amr_rules.specs.declared.alert.Alert.{Alert}
 use Rattle.amr_rules.specs.declared.silence.Silence.{Silence}
-use Rattle.amr_rules.specs.declared.posting.Posting.{Posting}
+use Rattle.amr_rules.specs.declared.silence_update.SilenceUpdate.{SilenceUpdate}
 use Rattle.amr_rules.specs.Alerts.{completed}
 use Rattle.amr_rules.specs.Silences.{Silences, after_post, after_expiry, expired}
 use Rattle.amr_rules.specs.Silencing.{with_decision}
@@ -75,15 +75,15 @@ unfolding after_act
 no_silence s at posted reason own = ap (on_ok (with_silences (at_moment at s))) (sym own)
 
 -- a silence is stored
-pub some_silence : (s : State) (at : Moment) (posted : PostedSilence) (posting : Posting) → Ok (with_decision posted posting s.silences) ≡ after_post at posted s.silences
-    → Does s at (Act.Silence posted) (prepared.Silence posted.id posted.new_id posting)
+pub some_silence : (s : State) (at : Moment) (posted : PostedSilence) (silence_update : SilenceUpdate) → Ok (with_decision posted silence_update s.silences) ≡ after_post at posted s.silences
+    → Does s at (Act.Silence posted) (prepared.Silence posted.id posted.new_id silence_update)
 unfolding after_act
-some_silence s at posted posting own = record {
+some_silence s at posted silence_update own = record {
   does = λ next stays.
       ap (λ (now : Moment). on_ok (with_silences next) (after_post now posted next.silences)) stays.moment
       ∙ ap (λ (kept : Silences). on_ok (with_silences next) (after_post at posted kept)) stays.silences
       ∙ ap (on_ok (with_silences next)) (sym own)
-      ∙ ap (λ (kept : Silences). Ok (with_silences next (with_decision posted posting kept))) (sym stays.silences);
+      ∙ ap (λ (kept : Silences). Ok (with_silences next (with_decision posted silence_update kept))) (sym stays.silences);
   skips = refl;
   light = λ next after stays. omega arith;
 }

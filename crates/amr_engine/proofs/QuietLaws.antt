@@ -18,15 +18,15 @@ use Rattle.amr_rules.specs.Alerts.{is_resolved_at}
 use Rattle.amr_rules.specs.Muting.{Alerts, inhibits, first_source, rule_mutes, inhibition_from, silencer_of, silences_labels}
 use Rattle.amr_rules.specs.Silences.{Silences}
 use Rattle.amr_rules.specs.Updates.{LabelSets, needs_update, differs}
-use Rattle.amr_state.specs.declared.spot.Spot.{Spot}
-use Rattle.amr_state.specs.State.{State, members, spot_cmp}
+use Rattle.amr_state.specs.declared.route_labels.RouteLabels.{RouteLabels}
+use Rattle.amr_state.specs.State.{State, members, route_labels_cmp}
 use Rattle.amr_engine.specs.Stages.{by_inhibition, by_active_time, by_mute_time, by_silence, taken_away}
-use Rattle.amr_engine.specs.Flush.{Members, let_through, firing_of, resolved_of, labels_of, log_key_of, tell, notify, notify_all, set_clock, forget, mark_if_empty, drop_resolved, serve, flush}
-use Rattle.amr_state.specs.declared.note.Clock.{Clock}
-use Rattle.amr_state.specs.declared.note.Note.{Note}
+use Rattle.amr_engine.specs.Flush.{Members, let_through, firing_of, resolved_of, labels_of, log_key_of, record_notification, notify, notify_all, set_timer, drop_member, mark_if_empty, drop_resolved, run_pipeline, flush}
+use Rattle.amr_state.specs.declared.notification.GroupTimer.{GroupTimer}
+use Rattle.amr_state.specs.declared.notification.Notification.{Notification}
 use Rattle.amr_labels.specs.Set.{is_subset, is_empty}
 use Rattle.amr_engine.specs.declared.explain.Finding.TheVariants.{Inhibited, OutsideActive, TimeMuted, Silenced}
-use Rattle.amr_engine.specs.Quiet.{is_outside, no_alert_ends, no_source_ends, no_silence_turns, IsStill, all_fire_until, is_untimed, no_repeat_before, is_told, are_told, wound, IsSettled, IsQuietWith, IsQuiet}
+use Rattle.amr_engine.specs.Quiet.{is_outside, no_alert_ends, no_source_ends, no_silence_turns, IsStill, all_fire_until, is_untimed, no_repeat_before, is_notified, are_notified, with_timer_reset, IsSettled, IsQuietWith, IsQuiet}
 
 pub both : (a b : Bool) → (a && b) ≡ true → (a ≡ true) × (b ≡ true)
 both true b e = (refl, e)
@@ -146,77 +146,77 @@ module _ (from until at : Moment) (not_before : from ≤ at) (before : at < unti
 
   -- ---- who is notified
 
-  still_told : (entry : Option LogEntry) (firing resolved : LabelSets) (send_resolved : Bool) (interval : Span)
+  still_notified : (entry : Option LogEntry) (firing resolved : LabelSets) (send_resolved : Bool) (interval : Span)
       → needs_update entry firing resolved send_resolved from interval ≡ false → no_repeat_before until interval entry ≡ true
       → needs_update entry firing resolved send_resolved at interval ≡ false
   unfolding needs_update
-  still_told None firing resolved send_resolved interval told later = told
-  still_told (Some entry) firing resolved send_resolved interval told later =
+  still_notified None firing resolved send_resolved interval notified later = notified
+  still_notified (Some entry) firing resolved send_resolved interval notified later =
       let not_yet : nat_lt (entry.time + interval) at ≡ false = grind (arith, nat_tests) in
       ap (λ late. not (is_subset firing entry.firing) || (is_empty firing && not (is_empty entry.firing)) || (not (is_empty firing) && ((send_resolved && not (is_subset resolved entry.resolved)) || late))) not_yet
       ∙ no_more (not (is_subset firing entry.firing)) (is_empty firing && not (is_empty entry.firing)) (not (is_empty firing)) (send_resolved && not (is_subset resolved entry.resolved))
-      (nat_lt (entry.time + interval) from) told
+      (nat_lt (entry.time + interval) from) notified
 
-  notify_none : (s : State) (group : Spot) (ms : Members) → all_fire_until until ms ≡ true → (integration : Integration) → is_told s group from until (labels_of ms) integration ≡ true
+  notify_none : (s : State) (group : RouteLabels) (ms : Members) → all_fire_until until ms ≡ true → (integration : Integration) → is_notified s group from until (labels_of ms) integration ≡ true
       → notify at group ms s integration ≡ s
   unfolding notify
-  notify_none s group ms fire integration told =
-      let parts = both _ _ told in
-      ap (λ b. if b then tell at group (log_key_of s.config group integration) integration.send_resolved ms s else s)
+  notify_none s group ms fire integration notified =
+      let parts = both _ _ notified in
+      ap (λ b. if b then record_notification at group (log_key_of s.config group integration) integration.send_resolved ms s else s)
       ((λ i. needs_update (get s.log (log_key_of s.config group integration)) (labels_of (firing_all ms fire i)) (labels_of (resolved_none ms fire i)) integration.send_resolved at (repeat_interval_of s.config group.route))
-      ∙ still_told (get s.log (log_key_of s.config group integration)) (labels_of ms) (labels_of []) integration.send_resolved (repeat_interval_of s.config group.route) (is_no _ parts.0) parts.1)
+      ∙ still_notified (get s.log (log_key_of s.config group integration)) (labels_of ms) (labels_of []) integration.send_resolved (repeat_interval_of s.config group.route) (is_no _ parts.0) parts.1)
 
-  notify_each_none : (s : State) (group : Spot) (ms : Members) → all_fire_until until ms ≡ true → (integrations : List Integration)
-      → list_all (is_told s group from until (labels_of ms)) integrations ≡ true → fold (notify at group ms) s integrations ≡ s
-  notify_each_none s group ms fire [] told = refl
-  notify_each_none s group ms fire (integration ∷ integrations) told =
-      let parts = both (is_told s group from until (labels_of ms) integration) (list_all (is_told s group from until (labels_of ms)) integrations) told in
+  notify_each_none : (s : State) (group : RouteLabels) (ms : Members) → all_fire_until until ms ≡ true → (integrations : List Integration)
+      → list_all (is_notified s group from until (labels_of ms)) integrations ≡ true → fold (notify at group ms) s integrations ≡ s
+  notify_each_none s group ms fire [] notified = refl
+  notify_each_none s group ms fire (integration ∷ integrations) notified =
+      let parts = both (is_notified s group from until (labels_of ms) integration) (list_all (is_notified s group from until (labels_of ms)) integrations) notified in
       ap (λ (x : State). fold (notify at group ms) x integrations) (notify_none s group ms fire integration parts.0) ∙ notify_each_none s group ms fire integrations parts.1
 
-  notify_all_none : (s : State) (group : Spot) (ms : Members) → all_fire_until until ms ≡ true → are_told s group from until ms ≡ true → notify_all at group ms s ≡ s
-  notify_all_none s group [] fire told = refl
-  notify_all_none s group (m ∷ ms) fire told = notify_each_none s group (m ∷ ms) fire (integrations_of s.config group.route) told
+  notify_all_none : (s : State) (group : RouteLabels) (ms : Members) → all_fire_until until ms ≡ true → are_notified s group from until ms ≡ true → notify_all at group ms s ≡ s
+  notify_all_none s group [] fire notified = refl
+  notify_all_none s group (m ∷ ms) fire notified = notify_each_none s group (m ∷ ms) fire (integrations_of s.config group.route) notified
 
-  drop_none : (s : State) (group : Spot) (m : LabelSet × Alert) (ms : Members) → all_fire_until until (m ∷ ms) ≡ true → drop_resolved at group (m ∷ ms) s ≡ s
+  drop_none : (s : State) (group : RouteLabels) (m : LabelSet × Alert) (ms : Members) → all_fire_until until (m ∷ ms) ≡ true → drop_resolved at group (m ∷ ms) s ≡ s
   unfolding drop_resolved
-  drop_none s group m ms fire = λ i. mark_if_empty at group (firing_all (m ∷ ms) fire i) (fold (forget group) s (resolved_none (m ∷ ms) fire i))
+  drop_none s group m ms fire = λ i. mark_if_empty at group (firing_all (m ∷ ms) fire i) (fold (drop_member group) s (resolved_none (m ∷ ms) fire i))
 
   -- ---- the flush
 
-  pub serve_none : (s : State) (group : Spot) (ms : Members) → IsQuietWith s group from until ms → serve at group ms s ≡ s
-  serve_none s group [] quiet = refl
-  serve_none s group (m ∷ ms) quiet =
+  pub pipeline_none : (s : State) (group : RouteLabels) (ms : Members) → IsQuietWith s group from until ms → run_pipeline at group ms s ≡ s
+  pipeline_none s group [] quiet = refl
+  pipeline_none s group (m ∷ ms) quiet =
       let through : let_through s at group.route (m ∷ ms) ≡ let_through s from group.route (m ∷ ms) =
       (λ i. filter (λ member. is_none (taken_same s group.route quiet.still quiet.untimed member.0 i)) (m ∷ ms)) in
       let fire : all_fire_until until (let_through s from group.route (m ∷ ms)) ≡ true = fire_kept (λ member. is_none (taken_away s from group.route member.0)) (m ∷ ms) quiet.fire in
       ap (λ (ps : Members). drop_resolved at group (m ∷ ms) (notify_all at group ps s)) through
-      ∙ ap (drop_resolved at group (m ∷ ms)) (notify_all_none s group (let_through s from group.route (m ∷ ms)) fire quiet.told)
+      ∙ ap (drop_resolved at group (m ∷ ms)) (notify_all_none s group (let_through s from group.route (m ∷ ms)) fire quiet.notified)
       ∙ drop_none s group m ms quiet.fire
 
 -- ---- what keeps a group quiet
 
 -- what the conditions read of a state: all but the clock, the group timers and the notifications
-kept_with : (s : State) (moment : Moment) (clocks : Map spot_cmp Clock) (notes : List Note) (group : Spot) (from until : Moment) (ms : Members)
-    → IsQuietWith s group from until ms → IsQuietWith (record s { moment = moment; clocks = clocks; notes = notes }) group from until ms
+kept_with : (s : State) (moment : Moment) (timers : Map route_labels_cmp GroupTimer) (notes : List Notification) (group : RouteLabels) (from until : Moment) (ms : Members)
+    → IsQuietWith s group from until ms → IsQuietWith (record s { moment = moment; timers = timers; notes = notes }) group from until ms
 unfolding taken_away
-kept_with s moment clocks notes group from until [] quiet = tt
-kept_with s moment clocks notes group from until (m ∷ ms) quiet = record {
+kept_with s moment timers notes group from until [] quiet = tt
+kept_with s moment timers notes group from until (m ∷ ms) quiet = record {
   fire = quiet.fire;
   still = record { sources = quiet.still.sources; silences = quiet.still.silences };
   untimed = quiet.untimed;
-  told = quiet.told;
+  notified = quiet.notified;
 }
 
 -- quietness depends on neither the clock nor the group timers nor the notifications
-pub stays_quiet : (s : State) (moment : Moment) (clocks : Map spot_cmp Clock) (notes : List Note) (group : Spot) (from until : Moment)
-    → IsQuiet s group from until → IsQuiet (record s { moment = moment; clocks = clocks; notes = notes }) group from until
+pub stays_quiet : (s : State) (moment : Moment) (timers : Map route_labels_cmp GroupTimer) (notes : List Notification) (group : RouteLabels) (from until : Moment)
+    → IsQuiet s group from until → IsQuiet (record s { moment = moment; timers = timers; notes = notes }) group from until
 unfolding IsQuiet members
-stays_quiet s moment clocks notes group from until quiet = kept_with s moment clocks notes group from until (members s group) quiet
+stays_quiet s moment timers notes group from until quiet = kept_with s moment timers notes group from until (members s group) quiet
 
 -- a flush of a quiet group sets the group timer and changes nothing else
-pub quiet_flush : (s : State) (group : Spot) (from until at : Moment) → from ≤ at → at < until → IsQuiet s group from until
-    → flush at group s ≡ wound at group s
+pub quiet_flush : (s : State) (group : RouteLabels) (from until at : Moment) → from ≤ at → at < until → IsQuiet s group from until
+    → flush at group s ≡ with_timer_reset at group s
 unfolding flush IsQuiet
 quiet_flush s group from until at not_before before quiet =
-    serve_none from until at not_before before (wound at group s) group (members s group)
-    (kept_with s s.moment (wound at group s).clocks s.notes group from until (members s group) quiet)
+    pipeline_none from until at not_before before (with_timer_reset at group s) group (members s group)
+    (kept_with s s.moment (with_timer_reset at group s).timers s.notes group from until (members s group) quiet)

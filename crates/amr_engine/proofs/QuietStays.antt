@@ -19,15 +19,15 @@ use Rattle.amr_config.specs.Routing.{integrations_of, repeat_interval_of}
 use Rattle.amr_rules.specs.declared.alert.Alert.{Alert}
 use Rattle.amr_rules.specs.declared.update.LogEntry.{LogEntry}
 use Rattle.amr_rules.specs.Updates.{LabelSets, needs_update}
-use Rattle.amr_state.specs.declared.note.LogKey.{LogKey}
-use Rattle.amr_state.specs.declared.note.Clock.{Clock}
-use Rattle.amr_state.specs.declared.note.Note.{Note}
+use Rattle.amr_state.specs.declared.notification.LogKey.{LogKey}
+use Rattle.amr_state.specs.declared.notification.GroupTimer.{GroupTimer}
+use Rattle.amr_state.specs.declared.notification.Notification.{Notification}
 use Rattle.amr_rules.specs.Alerts.{is_resolved_at}
-use Rattle.amr_state.specs.declared.spot.Spot.{Spot}
-use Rattle.amr_state.specs.State.{State, spot_at, spot_cmp, spot_cmp_total, spot_cmp-IsAntisymmetric, log_key_cmp, log_key_cmp_total, log_key_cmp-IsAntisymmetric, group_spot, members}
+use Rattle.amr_state.specs.declared.route_labels.RouteLabels.{RouteLabels}
+use Rattle.amr_state.specs.State.{State, on_route, route_labels_cmp, route_labels_cmp_total, route_labels_cmp-IsAntisymmetric, log_key_cmp, log_key_cmp_total, log_key_cmp-IsAntisymmetric, group_key, members}
 use Rattle.amr_engine.specs.Stages.{taken_away}
-use Rattle.amr_engine.specs.Flush.{Members, firing_of, resolved_of, labels_of, log_key_of, tell, notify, notify_all, set_clock, forget, mark_if_empty, drop_resolved, serve, flush, let_through}
-use Rattle.amr_engine.specs.Quiet.{wound, no_repeat_before, is_told, are_told, IsSettled, IsQuietWith, IsQuiet, LeavesOthers, IsStill, no_source_ends, no_silence_turns}
+use Rattle.amr_engine.specs.Flush.{Members, firing_of, resolved_of, labels_of, log_key_of, record_notification, notify, notify_all, set_timer, drop_member, mark_if_empty, drop_resolved, run_pipeline, flush, let_through}
+use Rattle.amr_engine.specs.Quiet.{with_timer_reset, no_repeat_before, is_notified, are_notified, IsSettled, IsQuietWith, IsQuiet, LeavesOthers, IsStill, no_source_ends, no_silence_turns}
 
 -- ---- states that are the same for other groups
 
@@ -50,20 +50,20 @@ module _ (labels : LabelSet) where
 
 -- the first state with the parts of the second that may differ
 abbrev mixed : State → State → State
-mixed s t = record s { moment = t.moment; placements = t.placements; clocks = t.clocks; log = t.log; notes = t.notes }
+mixed s t = record s { moment = t.moment; placements = t.placements; timers = t.timers; log = t.log; notes = t.notes }
 
 mixed_is : (labels : LabelSet) (s t : State) → LeavesOthers labels s t → mixed s t ≡ t
 mixed_is labels s t same = sym (λ i. record t { config = same.config i; alerts = same.alerts i; silences = same.silences i })
 
-module _ (s t : State) (group : Spot) (from until : Moment) (log : (key : LogKey) → key.group ≡ group.labels → get t.log key ≡ get s.log key) where
-  told_same : (firing : LabelSets) (integration : Integration) → is_told (mixed s t) group from until firing integration ≡ is_told s group from until firing integration
-  told_same firing integration = λ i.
+module _ (s t : State) (group : RouteLabels) (from until : Moment) (log : (key : LogKey) → key.group ≡ group.labels → get t.log key ≡ get s.log key) where
+  notified_same : (firing : LabelSets) (integration : Integration) → is_notified (mixed s t) group from until firing integration ≡ is_notified s group from until firing integration
+  notified_same firing integration = λ i.
       not (needs_update (log (log_key_of s.config group integration) refl i) firing (labels_of []) integration.send_resolved from (repeat_interval_of s.config group.route))
       && no_repeat_before until (repeat_interval_of s.config group.route) (log (log_key_of s.config group integration) refl i)
 
-  all_told_same : (ms : Members) → are_told (mixed s t) group from until ms ≡ are_told s group from until ms
-  all_told_same [] = refl
-  all_told_same (m ∷ ms) = λ i. list_all (λ integration. told_same (labels_of (m ∷ ms)) integration i) (integrations_of s.config group.route)
+  all_notified_same : (ms : Members) → are_notified (mixed s t) group from until ms ≡ are_notified s group from until ms
+  all_notified_same [] = refl
+  all_notified_same (m ∷ ms) = λ i. list_all (λ integration. notified_same (labels_of (m ∷ ms)) integration i) (integrations_of s.config group.route)
 
   quiet_with_same : (ms : Members) → IsQuietWith s group from until ms → IsQuietWith (mixed s t) group from until ms
   unfolding taken_away
@@ -72,11 +72,11 @@ module _ (s t : State) (group : Spot) (from until : Moment) (log : (key : LogKey
     fire = quiet.fire;
     still = record { sources = quiet.still.sources; silences = quiet.still.silences };
     untimed = quiet.untimed;
-    told = all_told_same (let_through s from group.route (m ∷ ms)) ∙ quiet.told;
+    notified = all_notified_same (let_through s from group.route (m ∷ ms)) ∙ quiet.notified;
   }
 
 -- a group with other labels that is quiet in the one state is quiet in the other
-pub quiet_left : (labels : LabelSet) (s t : State) → LeavesOthers labels s t → (group : Spot) → (group.labels ≡ labels → ⊥) → (from until : Moment)
+pub quiet_left : (labels : LabelSet) (s t : State) → LeavesOthers labels s t → (group : RouteLabels) → (group.labels ≡ labels → ⊥) → (from until : Moment)
     → IsQuiet s group from until → IsQuiet t group from until
 unfolding IsQuiet
 quiet_left labels s t same group other from until quiet =
@@ -120,14 +120,14 @@ kept_without R p test others (e ∷ es) =
     ] refl
 
 -- the member belongs to the group
-abbrev BelongsTo : Config → Spot → LabelSet × Alert → Type 0
-BelongsTo config group member = group_spot config (spot_at group.route member.0) ≡ group
+abbrev BelongsTo : Config → RouteLabels → LabelSet × Alert → Type 0
+BelongsTo config group member = group_key config (on_route group.route member.0) ≡ group
 
-abbrev AllBelong : Config → Spot → Members → Type 0
+abbrev AllBelong : Config → RouteLabels → Members → Type 0
 AllBelong config group [] = Unit {0}
 AllBelong config group (m ∷ ms) = BelongsTo config group m × AllBelong config group ms
 
-kept_belong : (config : Config) (group : Spot) (p : LabelSet × Alert → Bool) (ms : Members) → AllBelong config group ms → AllBelong config group (filter p ms)
+kept_belong : (config : Config) (group : RouteLabels) (p : LabelSet × Alert → Bool) (ms : Members) → AllBelong config group ms → AllBelong config group (filter p ms)
 kept_belong config group p [] of = tt
 kept_belong config group p (m ∷ ms) of =
     elim (p m) as (λ b. AllBelong config group (cond b (m ∷ filter p ms) (filter p ms))) [
@@ -135,32 +135,32 @@ kept_belong config group p (m ∷ ms) of =
       | false ↦ kept_belong config group p ms of.1
     ]
 
-belongs : (config : Config) (group : Spot) (placement : Spot × Alert) → group_spot config placement.0 ≡ group → BelongsTo config group (placement.0.labels, placement.1)
+belongs : (config : Config) (group : RouteLabels) (placement : RouteLabels × Alert) → group_key config placement.0 ≡ group → BelongsTo config group (placement.0.labels, placement.1)
 belongs config group placement e =
-    let route : placement.0.route ≡ group.route = ap (λ (x : Spot). x.route) e in
-    ap (λ r. group_spot config (spot_at r placement.0.labels)) (sym route) ∙ e
+    let route : placement.0.route ≡ group.route = ap (λ (x : RouteLabels). x.route) e in
+    ap (λ r. group_key config (on_route r placement.0.labels)) (sym route) ∙ e
 
-all_belong : (config : Config) (group : Spot) (placements : List (Spot × Alert))
-    → AllBelong config group (map (λ placement. (placement.0.labels, placement.1)) (filter (λ placement. eq_by_cmp spot_cmp (group_spot config placement.0) group) placements))
+all_belong : (config : Config) (group : RouteLabels) (placements : List (RouteLabels × Alert))
+    → AllBelong config group (map (λ placement. (placement.0.labels, placement.1)) (filter (λ placement. eq_by_cmp route_labels_cmp (group_key config placement.0) group) placements))
 all_belong config group [] = tt
 all_belong config group (placement ∷ placements) =
-    elim (eq_by_cmp spot_cmp (group_spot config placement.0) group) as (λ b. eq_by_cmp spot_cmp (group_spot config placement.0) group ≡ b
+    elim (eq_by_cmp route_labels_cmp (group_key config placement.0) group) as (λ b. eq_by_cmp route_labels_cmp (group_key config placement.0) group ≡ b
     → AllBelong config group (map (λ placement. (placement.0.labels, placement.1))
-    (cond b (placement ∷ filter (λ placement. eq_by_cmp spot_cmp (group_spot config placement.0) group) placements) (filter (λ placement. eq_by_cmp spot_cmp (group_spot config placement.0) group) placements)))) [
-      | true ↦ λ e. (belongs config group placement (spot_cmp-IsAntisymmetric (group_spot config placement.0) group (equal _ e)), all_belong config group placements)
+    (cond b (placement ∷ filter (λ placement. eq_by_cmp route_labels_cmp (group_key config placement.0) group) placements) (filter (λ placement. eq_by_cmp route_labels_cmp (group_key config placement.0) group) placements)))) [
+      | true ↦ λ e. (belongs config group placement (route_labels_cmp-IsAntisymmetric (group_key config placement.0) group (equal _ e)), all_belong config group placements)
       | false ↦ λ e. all_belong config group placements
     ] refl
 
-members_belong : (s : State) (group : Spot) → AllBelong s.config group (members s group)
+members_belong : (s : State) (group : RouteLabels) → AllBelong s.config group (members s group)
 unfolding members
 members_belong s group = all_belong s.config group (entries s.placements)
 
-module _ (flushed : Spot) where
-  clock_leaves : (change : Clock → Clock) (s : State) → LeavesOthers flushed.labels s (set_clock flushed change s)
+module _ (flushed : RouteLabels) where
+  timer_leaves : (change : GroupTimer → GroupTimer) (s : State) → LeavesOthers flushed.labels s (set_timer flushed change s)
   unfolding members
-  clock_leaves change s = record { config = refl; alerts = refl; silences = refl; members = λ group other. refl; log = λ key other. refl }
+  timer_leaves change s = record { config = refl; alerts = refl; silences = refl; members = λ group other. refl; log = λ key other. refl }
 
-  log_leaves : (s : State) (key : LogKey) → key.group ≡ flushed.labels → (entry : LogEntry) (notes : List Note)
+  log_leaves : (s : State) (key : LogKey) → key.group ≡ flushed.labels → (entry : LogEntry) (notes : List Notification)
       → LeavesOthers flushed.labels s (record s { log = insert s.log key entry; notes = notes })
   unfolding members
   log_leaves s key of entry notes = record {
@@ -177,7 +177,7 @@ module _ (flushed : Spot) where
   unfolding notify
   notify_leaves at ms s integration =
       elim (needs_update (get s.log (log_key_of s.config flushed integration)) (labels_of (firing_of at ms)) (labels_of (resolved_of at ms)) integration.send_resolved at (repeat_interval_of s.config flushed.route))
-      as (λ b. LeavesOthers flushed.labels s (if b then tell at flushed (log_key_of s.config flushed integration) integration.send_resolved ms s else s)) [
+      as (λ b. LeavesOthers flushed.labels s (if b then record_notification at flushed (log_key_of s.config flushed integration) integration.send_resolved ms s else s)) [
         | true ↦ log_leaves s (log_key_of s.config flushed integration) refl _ _
         | false ↦ leaves_all flushed.labels s
       ]
@@ -187,52 +187,52 @@ module _ (flushed : Spot) where
   notify_all_leaves at (m ∷ ms) s = leaves_fold flushed.labels (notify at flushed (m ∷ ms)) (notify_leaves at (m ∷ ms)) s (integrations_of s.config flushed.route)
 
   -- a member of a group with other labels isn't one of the flushed group
-  stays_member : (config : Config) (group : Spot) → (group.labels ≡ flushed.labels → ⊥) → (gone : Spot) → group_spot config gone ≡ flushed → (placement : Spot × Alert)
-      → eq_by_cmp spot_cmp (group_spot config placement.0) group ≡ true → not (eq_by_cmp spot_cmp gone placement.0) ≡ true
+  stays_member : (config : Config) (group : RouteLabels) → (group.labels ≡ flushed.labels → ⊥) → (gone : RouteLabels) → group_key config gone ≡ flushed → (placement : RouteLabels × Alert)
+      → eq_by_cmp route_labels_cmp (group_key config placement.0) group ≡ true → not (eq_by_cmp route_labels_cmp gone placement.0) ≡ true
   stays_member config group other gone of placement in_group =
-      ap not (apart spot_cmp-IsAntisymmetric gone placement.0 (λ e.
-      other (ap (λ (x : Spot). x.labels) (sym (spot_cmp-IsAntisymmetric (group_spot config placement.0) group (equal _ in_group)) ∙ ap (group_spot config) (sym e) ∙ of))))
+      ap not (apart route_labels_cmp-IsAntisymmetric gone placement.0 (λ e.
+      other (ap (λ (x : RouteLabels). x.labels) (sym (route_labels_cmp-IsAntisymmetric (group_key config placement.0) group (equal _ in_group)) ∙ ap (group_key config) (sym e) ∙ of))))
 
-  forget_leaves : (s : State) (member : LabelSet × Alert) → BelongsTo s.config flushed member → LeavesOthers flushed.labels s (forget flushed s member)
+  drop_member_leaves : (s : State) (member : LabelSet × Alert) → BelongsTo s.config flushed member → LeavesOthers flushed.labels s (drop_member flushed s member)
   unfolding members remove
-  forget_leaves s member of = record {
+  drop_member_leaves s member of = record {
     config = refl;
     alerts = refl;
     silences = refl;
     members = λ group other. ap (map (λ placement. (placement.0.labels, placement.1)))
-        (ap (filter (λ placement. eq_by_cmp spot_cmp (group_spot s.config placement.0) group)) (entries-retain_keys s.placements (λ spot. not (eq_by_cmp spot_cmp (spot_at flushed.route member.0) spot)))
-        ∙ kept_without spot_cmp (λ placement. eq_by_cmp spot_cmp (group_spot s.config placement.0) group) (λ spot. not (eq_by_cmp spot_cmp (spot_at flushed.route member.0) spot))
-        (stays_member s.config group other (spot_at flushed.route member.0) of) (entries s.placements));
+        (ap (filter (λ placement. eq_by_cmp route_labels_cmp (group_key s.config placement.0) group)) (entries-retain_keys s.placements (λ route_labels. not (eq_by_cmp route_labels_cmp (on_route flushed.route member.0) route_labels)))
+        ∙ kept_without route_labels_cmp (λ placement. eq_by_cmp route_labels_cmp (group_key s.config placement.0) group) (λ route_labels. not (eq_by_cmp route_labels_cmp (on_route flushed.route member.0) route_labels))
+        (stays_member s.config group other (on_route flushed.route member.0) of) (entries s.placements));
     log = λ key other. refl;
   }
 
-  forget_all_leaves : (s : State) (ms : Members) → AllBelong s.config flushed ms → LeavesOthers flushed.labels s (fold (forget flushed) s ms)
-  forget_all_leaves s [] of = leaves_all flushed.labels s
-  forget_all_leaves s (m ∷ ms) of =
-      leaves_then flushed.labels s (forget flushed s m) (fold (forget flushed) (forget flushed s m) ms) (forget_leaves s m of.0) (forget_all_leaves (forget flushed s m) ms of.1)
+  drop_all_leaves : (s : State) (ms : Members) → AllBelong s.config flushed ms → LeavesOthers flushed.labels s (fold (drop_member flushed) s ms)
+  drop_all_leaves s [] of = leaves_all flushed.labels s
+  drop_all_leaves s (m ∷ ms) of =
+      leaves_then flushed.labels s (drop_member flushed s m) (fold (drop_member flushed) (drop_member flushed s m) ms) (drop_member_leaves s m of.0) (drop_all_leaves (drop_member flushed s m) ms of.1)
 
   mark_leaves : (at : Moment) (ms : Members) (s : State) → LeavesOthers flushed.labels s (mark_if_empty at flushed ms s)
-  mark_leaves at [] s = clock_leaves (λ clock. record clock { empty_since = Some at }) s
+  mark_leaves at [] s = timer_leaves (λ timer. record timer { empty_since = Some at }) s
   mark_leaves at (m ∷ ms) s = leaves_all flushed.labels s
 
   drop_leaves : (at : Moment) (ms : Members) (s : State) → AllBelong s.config flushed ms → LeavesOthers flushed.labels s (drop_resolved at flushed ms s)
   unfolding drop_resolved
   drop_leaves at ms s of =
-      leaves_then flushed.labels s (fold (forget flushed) s (resolved_of at ms)) (mark_if_empty at flushed (firing_of at ms) (fold (forget flushed) s (resolved_of at ms)))
-      (forget_all_leaves s (resolved_of at ms) (kept_belong s.config flushed (λ member. is_resolved_at at member.1) ms of))
-      (mark_leaves at (firing_of at ms) (fold (forget flushed) s (resolved_of at ms)))
+      leaves_then flushed.labels s (fold (drop_member flushed) s (resolved_of at ms)) (mark_if_empty at flushed (firing_of at ms) (fold (drop_member flushed) s (resolved_of at ms)))
+      (drop_all_leaves s (resolved_of at ms) (kept_belong s.config flushed (λ member. is_resolved_at at member.1) ms of))
+      (mark_leaves at (firing_of at ms) (fold (drop_member flushed) s (resolved_of at ms)))
 
-  serve_leaves : (at : Moment) (ms : Members) (s : State) → AllBelong s.config flushed ms → LeavesOthers flushed.labels s (serve at flushed ms s)
-  serve_leaves at [] s of = leaves_all flushed.labels s
-  serve_leaves at (m ∷ ms) s of =
+  pipeline_leaves : (at : Moment) (ms : Members) (s : State) → AllBelong s.config flushed ms → LeavesOthers flushed.labels s (run_pipeline at flushed ms s)
+  pipeline_leaves at [] s of = leaves_all flushed.labels s
+  pipeline_leaves at (m ∷ ms) s of =
       let through : Members = let_through s at flushed.route (m ∷ ms) in
-      let told : LeavesOthers flushed.labels s (notify_all at flushed through s) = notify_all_leaves at through s in
-      leaves_then flushed.labels s (notify_all at flushed through s) (drop_resolved at flushed (m ∷ ms) (notify_all at flushed through s)) told
-      (drop_leaves at (m ∷ ms) (notify_all at flushed through s) (subst (λ (c : Config). AllBelong c flushed (m ∷ ms)) (sym told.config) of))
+      let notified : LeavesOthers flushed.labels s (notify_all at flushed through s) = notify_all_leaves at through s in
+      leaves_then flushed.labels s (notify_all at flushed through s) (drop_resolved at flushed (m ∷ ms) (notify_all at flushed through s)) notified
+      (drop_leaves at (m ∷ ms) (notify_all at flushed through s) (subst (λ (c : Config). AllBelong c flushed (m ∷ ms)) (sym notified.config) of))
 
   -- the flush of a group leaves alone what flushes of groups with other labels depend on
   pub flush_leaves : (at : Moment) (s : State) → LeavesOthers flushed.labels s (flush at flushed s)
   unfolding flush
   flush_leaves at s =
-      leaves_then flushed.labels s (wound at flushed s) (serve at flushed (members s flushed) (wound at flushed s))
-      (clock_leaves _ s) (serve_leaves at (members s flushed) (wound at flushed s) (members_belong s flushed))
+      leaves_then flushed.labels s (with_timer_reset at flushed s) (run_pipeline at flushed (members s flushed) (with_timer_reset at flushed s))
+      (timer_leaves _ s) (pipeline_leaves at (members s flushed) (with_timer_reset at flushed s) (members_belong s flushed))

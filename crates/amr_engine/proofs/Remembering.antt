@@ -26,10 +26,10 @@ use Rattle.amr_stated.specs.declared.rule.InhibitRule.{InhibitRule}
 use Rattle.amr_rules.specs.declared.alert.Alert.{Alert}
 use Rattle.amr_rules.specs.declared.silence.Silence.{Silence}
 use Rattle.amr_rules.specs.Muting.{Alerts, inhibition_from}
-use Rattle.amr_state.specs.declared.spot.Spot.{Spot}
-use Rattle.amr_state.specs.declared.note.Clock.{Clock}
-use Rattle.amr_state.specs.declared.note.Note.{Note}
-use Rattle.amr_state.specs.State.{State, spot_at, spot_cmp, members}
+use Rattle.amr_state.specs.declared.route_labels.RouteLabels.{RouteLabels}
+use Rattle.amr_state.specs.declared.notification.GroupTimer.{GroupTimer}
+use Rattle.amr_state.specs.declared.notification.Notification.{Notification}
+use Rattle.amr_state.specs.State.{State, on_route, route_labels_cmp, members}
 use Rattle.amr_state.specs.Kept.{Kept, GrownBy}
 use Rattle.amr_engine.specs.declared.explain.Finding.TheVariants.{Inhibited}
 use Rattle.amr_engine.specs.Stages.{by_active_time, by_mute_time, by_silence, taken_away}
@@ -39,7 +39,7 @@ use Rattle.amr_engine.specs.declared.quiet.Stretch.{Stretch}
 use Rattle.amr_engine.specs.declared.quiet.QuietTime.{QuietTime}
 use Rattle.amr_engine.specs.declared.quiet.QuietGroups.{QuietGroups}
 use Rattle.amr_engine.specs.Flush.{Members, let_through, labels_of, log_key_of, flush}
-use Rattle.amr_engine.specs.Quiet.{is_outside, no_alert_ends, no_source_ends, no_silence_turns, all_fire_until, is_untimed, no_repeat_before, is_told, are_told, wound, IsStill, IsQuiet, IsQuietWith, LeavesOthers}
+use Rattle.amr_engine.specs.Quiet.{is_outside, no_alert_ends, no_source_ends, no_silence_turns, all_fire_until, is_untimed, no_repeat_before, is_notified, are_notified, with_timer_reset, IsStill, IsQuiet, IsQuietWith, LeavesOthers}
 use Rattle.amr_engine.specs.Remembered.{covers, times_at, is_known, of_others, with_time, AreQuiet, IsStillIn, IsTrueOf}
 use Rattle.amr_engine.proofs.QuietLaws.{both, quiet_flush, stays_quiet}
 use Rattle.amr_engine.proofs.QuietStays.{equal, flush_leaves, quiet_left, still_left}
@@ -53,9 +53,9 @@ nothing_known memory times still s = record {
   still = subst (IsStillIn s) (sym still) tt;
 }
 
-module _ (s : State) (group : Spot) (at : Moment) where
-  one_known : (time : QuietTime) → IsQuiet s (spot_at time.route group.labels) time.stretch.from time.stretch.until
-      → ((time.route == group.route) && covers at time.stretch) ≡ true → flush at group s ≡ wound at group s
+module _ (s : State) (group : RouteLabels) (at : Moment) where
+  one_known : (time : QuietTime) → IsQuiet s (on_route time.route group.labels) time.stretch.from time.stretch.until
+      → ((time.route == group.route) && covers at time.stretch) ≡ true → flush at group s ≡ with_timer_reset at group s
   one_known time quiet known =
       let parts = both (time.route == group.route) (covers at time.stretch) known in
       let inside = both (nat_le time.stretch.from at) (nat_lt at time.stretch.until) parts.1 in
@@ -63,20 +63,20 @@ module _ (s : State) (group : Spot) (at : Moment) where
       let not_before : time.stretch.from ≤ at = grind (arith, nat_tests) in
       let before : at < time.stretch.until = grind (arith, nat_tests) in
       quiet_flush s group time.stretch.from time.stretch.until at not_before before
-      (subst (λ (r : ℕ). IsQuiet s (spot_at r group.labels) time.stretch.from time.stretch.until) route quiet)
+      (subst (λ (r : ℕ). IsQuiet s (on_route r group.labels) time.stretch.from time.stretch.until) route quiet)
 
   among_known : (times : List QuietTime) → AreQuiet s group.labels times → list_any (λ time. (time.route == group.route) && covers at time.stretch) times ≡ true
-      → flush at group s ≡ wound at group s
+      → flush at group s ≡ with_timer_reset at group s
   among_known [] quiet known = absurd (cc)
   among_known (time ∷ times) quiet known =
       elim ((time.route == group.route) && covers at time.stretch) as (λ b. ((time.route == group.route) && covers at time.stretch) ≡ b
-      → (b || list_any (λ time. (time.route == group.route) && covers at time.stretch) times) ≡ true → flush at group s ≡ wound at group s) [
+      → (b || list_any (λ time. (time.route == group.route) && covers at time.stretch) times) ≡ true → flush at group s ≡ with_timer_reset at group s) [
         | true ↦ λ is e. one_known time quiet.0 is
         | false ↦ λ is e. among_known times quiet.1 e
       ] refl known
 
   -- a flush of a group that is remembered as quiet sets the group timer and changes nothing else
-  pub known_quiet : (memory : QuietGroups) → IsTrueOf memory s → is_known at group memory ≡ true → flush at group s ≡ wound at group s
+  pub known_quiet : (memory : QuietGroups) → IsTrueOf memory s → is_known at group memory ≡ true → flush at group s ≡ with_timer_reset at group s
   known_quiet memory holds known = among_known (times_at memory group.labels) (holds.quiet group.labels) known
 
 -- ---- a group that is learned, and groups that are forgotten
@@ -93,12 +93,12 @@ others_quiet s labels route (time ∷ times) quiet =
     ]
 
 one_more_quiet : (s : State) (labels : LabelSet) (times : List QuietTime) (time : QuietTime) → AreQuiet s labels times
-    → IsQuiet s (spot_at time.route labels) time.stretch.from time.stretch.until → AreQuiet s labels (times ++ time ∷ [])
+    → IsQuiet s (on_route time.route labels) time.stretch.from time.stretch.until → AreQuiet s labels (times ++ time ∷ [])
 one_more_quiet s labels [] time quiet new_one = (new_one, tt)
 one_more_quiet s labels (t ∷ times) time quiet new_one = (quiet.0, one_more_quiet s labels times time quiet.1 new_one)
 
 -- a quiet group may be remembered
-pub learned : (s : State) (memory : QuietGroups) (group : Spot) (stretch : Stretch) → IsTrueOf memory s → IsQuiet s group stretch.from stretch.until
+pub learned : (s : State) (memory : QuietGroups) (group : RouteLabels) (stretch : Stretch) → IsTrueOf memory s → IsQuiet s group stretch.from stretch.until
     → IsTrueOf (with_time group stretch memory) s
 learned s memory group stretch holds quiet =
     let times : List QuietTime = of_others group.route (times_at memory group.labels) ++ record { route = group.route; stretch = stretch } ∷ [] in
@@ -122,13 +122,13 @@ still_in_left labels s t same (Some stretch) still = still_left labels s t same 
 all_left : (labels flushed : LabelSet) (s t : State) → LeavesOthers flushed s t → (labels ≡ flushed → ⊥) → (times : List QuietTime) → AreQuiet s labels times → AreQuiet t labels times
 all_left labels flushed s t same other [] quiet = tt
 all_left labels flushed s t same other (time ∷ times) quiet =
-    (quiet_left flushed s t same (spot_at time.route labels) other time.stretch.from time.stretch.until quiet.0, all_left labels flushed s t same other times quiet.1)
+    (quiet_left flushed s t same (on_route time.route labels) other time.stretch.from time.stretch.until quiet.0, all_left labels flushed s t same other times quiet.1)
 
 differ : (a b : LabelSet) → eq_by_cmp label_set_cmp a b ≡ false → a ≡ b → ⊥
 differ a b other e = absurd (cc (other, ap is_eq (tied_itself label_set_cmp_total b), ap (λ (l : LabelSet). eq_by_cmp label_set_cmp l b) e))
 
 -- after the flush of a group, what is remembered of groups with other labels still holds
-pub forgotten : (s : State) (memory : QuietGroups) (group : Spot) (at : Moment) → IsTrueOf memory s
+pub forgotten : (s : State) (memory : QuietGroups) (group : RouteLabels) (at : Moment) → IsTrueOf memory s
     → IsTrueOf (record memory { times = remove memory.times group.labels }) (flush at group s)
 forgotten s memory group at holds = record {
   quiet = λ labels.
@@ -143,18 +143,18 @@ forgotten s memory group at holds = record {
 
 -- ---- the clock, group timers and notifications
 
-module _ (s : State) (moment : Moment) (clocks : Map spot_cmp Clock) (notes : List Note) where
-  all_stay : (labels : LabelSet) (times : List QuietTime) → AreQuiet s labels times → AreQuiet (record s { moment = moment; clocks = clocks; notes = notes }) labels times
+module _ (s : State) (moment : Moment) (timers : Map route_labels_cmp GroupTimer) (notes : List Notification) where
+  all_stay : (labels : LabelSet) (times : List QuietTime) → AreQuiet s labels times → AreQuiet (record s { moment = moment; timers = timers; notes = notes }) labels times
   all_stay labels [] quiet = tt
   all_stay labels (time ∷ times) quiet =
-      (stays_quiet s moment clocks notes (spot_at time.route labels) time.stretch.from time.stretch.until quiet.0, all_stay labels times quiet.1)
+      (stays_quiet s moment timers notes (on_route time.route labels) time.stretch.from time.stretch.until quiet.0, all_stay labels times quiet.1)
 
-  still_stays : (stretch : Option Stretch) → IsStillIn s stretch → IsStillIn (record s { moment = moment; clocks = clocks; notes = notes }) stretch
+  still_stays : (stretch : Option Stretch) → IsStillIn s stretch → IsStillIn (record s { moment = moment; timers = timers; notes = notes }) stretch
   still_stays None still = tt
   still_stays (Some stretch) still = record { sources = still.sources; silences = still.silences }
 
   -- what is remembered depends on neither the clock nor group timers nor notifications
-  pub stays_true : (memory : QuietGroups) → IsTrueOf memory s → IsTrueOf memory (record s { moment = moment; clocks = clocks; notes = notes })
+  pub stays_true : (memory : QuietGroups) → IsTrueOf memory s → IsTrueOf memory (record s { moment = moment; timers = timers; notes = notes })
   stays_true memory holds = record {
     quiet = λ labels. all_stay labels (times_at memory labels) (holds.quiet labels);
     still = still_stays memory.still holds.still;
@@ -181,29 +181,29 @@ module _ (s : State) (alerts : Alerts) (none : s.config.rules ≡ []) where
   through_alike : (at : Moment) (route : ℕ) (ms : Members) → let_through (record s { alerts = alerts }) at route ms ≡ let_through s at route ms
   through_alike at route ms = λ i. filter (λ member. is_none (taken_alike at route member.0 i)) ms
 
-  told_alike : (group : Spot) (from until : Moment) (ms : Members) → are_told (record s { alerts = alerts }) group from until ms ≡ are_told s group from until ms
-  told_alike group from until [] = refl
-  told_alike group from until (m ∷ ms) = refl
+  notified_alike : (group : RouteLabels) (from until : Moment) (ms : Members) → are_notified (record s { alerts = alerts }) group from until ms ≡ are_notified s group from until ms
+  notified_alike group from until [] = refl
+  notified_alike group from until (m ∷ ms) = refl
 
   still_alike : (from until : Moment) → IsStill s from until → IsStill (record s { alerts = alerts }) from until
   still_alike from until still = record { sources = no_sources from until alerts s.config.rules none; silences = still.silences }
 
-  with_alike : (group : Spot) (from until : Moment) (ms : Members) → IsQuietWith s group from until ms → IsQuietWith (record s { alerts = alerts }) group from until ms
+  with_alike : (group : RouteLabels) (from until : Moment) (ms : Members) → IsQuietWith s group from until ms → IsQuietWith (record s { alerts = alerts }) group from until ms
   with_alike group from until [] quiet = tt
   with_alike group from until (m ∷ ms) quiet = record {
     fire = quiet.fire;
     still = still_alike from until quiet.still;
     untimed = quiet.untimed;
-    told = told_alike group from until (let_through (record s { alerts = alerts }) from group.route (m ∷ ms)) ∙ ap (are_told s group from until) (through_alike from group.route (m ∷ ms)) ∙ quiet.told;
+    notified = notified_alike group from until (let_through (record s { alerts = alerts }) from group.route (m ∷ ms)) ∙ ap (are_notified s group from until) (through_alike from group.route (m ∷ ms)) ∙ quiet.notified;
   }
 
-  quiet_alike : (group : Spot) (from until : Moment) → IsQuiet s group from until → IsQuiet (record s { alerts = alerts }) group from until
+  quiet_alike : (group : RouteLabels) (from until : Moment) → IsQuiet s group from until → IsQuiet (record s { alerts = alerts }) group from until
   unfolding IsQuiet members
   quiet_alike group from until quiet = with_alike group from until (members s group) quiet
 
   all_alike : (labels : LabelSet) (times : List QuietTime) → AreQuiet s labels times → AreQuiet (record s { alerts = alerts }) labels times
   all_alike labels [] quiet = tt
-  all_alike labels (time ∷ times) quiet = (quiet_alike (spot_at time.route labels) time.stretch.from time.stretch.until quiet.0, all_alike labels times quiet.1)
+  all_alike labels (time ∷ times) quiet = (quiet_alike (on_route time.route labels) time.stretch.from time.stretch.until quiet.0, all_alike labels times quiet.1)
 
   still_in_alike : (stretch : Option Stretch) → IsStillIn s stretch → IsStillIn (record s { alerts = alerts }) stretch
   still_in_alike None still = tt
@@ -243,20 +243,20 @@ looked before after stretch s times still holds is = record {
 }
 
 -- a group timer that is set leaves the memory true
-pub wound_true : (s : State) (at : Moment) (group : Spot) (memory : QuietGroups) → IsTrueOf memory s → IsTrueOf memory (wound at group s)
-wound_true s at group memory holds = stays_true s s.moment (wound at group s).clocks s.notes memory holds
+pub reset_true : (s : State) (at : Moment) (group : RouteLabels) (memory : QuietGroups) → IsTrueOf memory s → IsTrueOf memory (with_timer_reset at group s)
+reset_true s at group memory holds = stays_true s s.moment (with_timer_reset at group s).timers s.notes memory holds
 
 -- a flush that only sets the group timer, in a store that is as before
-module _ {T E : Type 0} (r : Result T E) (before held after : Kept) (same : held ≡ before) (at : Moment) (group : Spot) where
-  pub only_wound : flush at group before.state ≡ wound at group before.state → OnOk r (after.state ≡ wound at group held.state) → OnOk r (after.state ≡ flush at group before.state)
-  only_wound quiet winds =
-      on_ok r (after.state ≡ wound at group held.state) (after.state ≡ flush at group before.state)
-      (λ e. e ∙ ap (λ (k : Kept). wound at group k.state) same ∙ sym quiet) winds
+module _ {T E : Type 0} (r : Result T E) (before held after : Kept) (same : held ≡ before) (at : Moment) (group : RouteLabels) where
+  pub only_reset : flush at group before.state ≡ with_timer_reset at group before.state → OnOk r (after.state ≡ with_timer_reset at group held.state) → OnOk r (after.state ≡ flush at group before.state)
+  only_reset quiet resets =
+      on_ok r (after.state ≡ with_timer_reset at group held.state) (after.state ≡ flush at group before.state)
+      (λ e. e ∙ ap (λ (k : Kept). with_timer_reset at group k.state) same ∙ sym quiet) resets
 
-  pub still_true : (memory : QuietGroups) → IsTrueOf memory before.state → OnOk r (after.state ≡ wound at group held.state) → OnOk r (IsTrueOf memory after.state)
-  still_true memory holds winds =
-      true_then r memory (wound at group before.state) after.state (wound_true before.state at group memory holds)
-      (on_ok r (after.state ≡ wound at group held.state) (after.state ≡ wound at group before.state) (λ e. e ∙ ap (λ (k : Kept). wound at group k.state) same) winds)
+  pub still_true : (memory : QuietGroups) → IsTrueOf memory before.state → OnOk r (after.state ≡ with_timer_reset at group held.state) → OnOk r (IsTrueOf memory after.state)
+  still_true memory holds resets =
+      true_then r memory (with_timer_reset at group before.state) after.state (reset_true before.state at group memory holds)
+      (on_ok r (after.state ≡ with_timer_reset at group held.state) (after.state ≡ with_timer_reset at group before.state) (λ e. e ∙ ap (λ (k : Kept). with_timer_reset at group k.state) same) resets)
 
   pub flushed_same : OnOk r (after.state ≡ flush at group held.state) → OnOk r (after.state ≡ flush at group before.state)
   flushed_same done =
@@ -275,8 +275,8 @@ grown_same n m before held after same more grown =
     let current : length held.current ≡ length before.current = ap (λ (k : Kept). length k.current) same in
     omega (arith, current, more, grown)
 
-pub winding : (s : State) (group : Spot) → 1 ≤ 2 * flush_weight s group
-winding s group = omega arith
+pub resetting : (s : State) (group : RouteLabels) → 1 ≤ 2 * flush_weight s group
+resetting s group = omega arith
 
 -- ---- until when
 
@@ -313,33 +313,33 @@ fire_sooner until end sooner (m ∷ ms) fire =
     let here : nat_le end m.1.ends_at ≡ true = grind (arith, nat_tests) in
     (λ i. here i && fire_sooner until end sooner ms parts.1 i)
 
-pub is_settled : (s : State) (group : Spot) (from until : Moment) (ms : Members) → all_fire_until until ms ≡ true → IsStill s from until → is_untimed s.config group.route ≡ true
-    → are_told s group from until (let_through s from group.route ms) ≡ true → IsQuietWith s group from until ms
-is_settled s group from until [] fire still untimed told = tt
-is_settled s group from until (m ∷ ms) fire still untimed told = record { fire = fire; still = still; untimed = untimed; told = told }
+pub is_settled : (s : State) (group : RouteLabels) (from until : Moment) (ms : Members) → all_fire_until until ms ≡ true → IsStill s from until → is_untimed s.config group.route ≡ true
+    → are_notified s group from until (let_through s from group.route ms) ≡ true → IsQuietWith s group from until ms
+is_settled s group from until [] fire still untimed notified = tt
+is_settled s group from until (m ∷ ms) fire still untimed notified = record { fire = fire; still = still; untimed = untimed; notified = notified }
 
 -- a group is quiet that was found so
-pub found_quiet : (s : State) (group : Spot) (from until first end : Moment) (ms through : Members) → ms ≡ members s group → through ≡ let_through s from group.route ms
-    → is_untimed s.config group.route ≡ true → IsStill s from until → first ≤ until → all_fire_until first ms ≡ true → end ≤ first → are_told s group from end through ≡ true
+pub found_quiet : (s : State) (group : RouteLabels) (from until first end : Moment) (ms through : Members) → ms ≡ members s group → through ≡ let_through s from group.route ms
+    → is_untimed s.config group.route ≡ true → IsStill s from until → first ≤ until → all_fire_until first ms ≡ true → end ≤ first → are_notified s group from end through ≡ true
     → IsQuiet s group from end
 unfolding IsQuiet
-found_quiet s group from until first end ms through all is untimed still first_within fire end_within told =
+found_quiet s group from until first end ms through all is untimed still first_within fire end_within notified =
     let within : end ≤ until = omega (arith, first_within, end_within) in
     let same : from ≤ from = omega arith in
     subst (IsQuietWith s group from end) all
     (is_settled s group from end ms (fire_sooner first end end_within ms fire) (still_later from from until end same within s still) untimed
-    (ap (are_told s group from end) (sym is) ∙ told))
+    (ap (are_notified s group from end) (sym is) ∙ notified))
 
 no_repeat_sooner : (until end : Moment) (interval : Span) (entry : Option LogEntry) → end ≤ until → no_repeat_before until interval entry ≡ true → no_repeat_before end interval entry ≡ true
-no_repeat_sooner until end interval None sooner told = refl
-no_repeat_sooner until end interval (Some entry) sooner told = grind (arith, nat_tests)
+no_repeat_sooner until end interval None sooner notified = refl
+no_repeat_sooner until end interval (Some entry) sooner notified = grind (arith, nat_tests)
 
--- what was told until a moment was told until each one before it
-pub told_sooner : (s : State) (group : Spot) (from until end : Moment) (firing : LabelSets) (integration : Integration) → end ≤ until
-    → is_told s group from until firing integration ≡ true → is_told s group from end firing integration ≡ true
-told_sooner s group from until end firing integration sooner told =
+-- what was notified until a moment was notified until each one before it
+pub notified_sooner : (s : State) (group : RouteLabels) (from until end : Moment) (firing : LabelSets) (integration : Integration) → end ≤ until
+    → is_notified s group from until firing integration ≡ true → is_notified s group from end firing integration ≡ true
+notified_sooner s group from until end firing integration sooner notified =
     let parts = both (not (needs_update (get s.log (log_key_of s.config group integration)) firing (labels_of []) integration.send_resolved from (repeat_interval_of s.config group.route)))
-    (no_repeat_before until (repeat_interval_of s.config group.route) (get s.log (log_key_of s.config group integration))) told in
+    (no_repeat_before until (repeat_interval_of s.config group.route) (get s.log (log_key_of s.config group integration))) notified in
     (λ i. parts.0 i && no_repeat_sooner until end (repeat_interval_of s.config group.route) (get s.log (log_key_of s.config group integration)) sooner parts.1 i)
 
 -- one more element passes a test that the rest of a list passes
@@ -376,8 +376,8 @@ none_left : (rules : List InhibitRule) → (length rules == 0) ≡ true → rule
 none_left [] none = refl
 none_left (rule ∷ rules) none = absurd (grind (arith, nat_tests))
 
-pub no_rules : (config told : Config) (asked : List InhibitRule) (b : Bool) → told ≡ config → asked ≡ told.rules → b ≡ (length asked == 0) → b ≡ true → config.rules ≡ []
-no_rules config told asked b same rules counted none =
+pub no_rules : (config notified : Config) (asked : List InhibitRule) (b : Bool) → notified ≡ config → asked ≡ notified.rules → b ≡ (length asked == 0) → b ≡ true → config.rules ≡ []
+no_rules config notified asked b same rules counted none =
     none_left config.rules (ap (λ (rs : List InhibitRule). length rs == 0) (sym (rules ∙ ap (λ (c : Config). c.rules) same)) ∙ sym counted ∙ none)
 
 all_sources : (from until : Moment) (alerts : Alerts) (rules : List InhibitRule) → no_alert_ends from until alerts ≡ true → no_source_ends from until rules alerts ≡ true
@@ -391,10 +391,10 @@ still_by s from until end sooner silences alerts =
     record { sources = all_sources from end s.alerts s.config.rules alerts; silences = silences_later from from until end same sooner (entries s.silences) silences }
 
 -- a group is quiet that was found so in a store that stays as it is
-pub quiet_found : (before held : Kept) (group : Spot) (from until first end : Moment) (ms ends asked through told : Members) → held ≡ before → ms ≡ members before.state group → ends ≡ ms → asked ≡ ms
-    → through ≡ let_through before.state from group.route asked → told ≡ through → is_untimed before.state.config group.route ≡ true → IsStill before.state from until
-    → first ≤ until → all_fire_until first ends ≡ true → end ≤ first → are_told held.state group from end told ≡ true → IsQuiet before.state group from end
-quiet_found before held group from until first end ms ends asked through told same all as_ends as_asked is as_told untimed still first_within fire end_within are =
+pub quiet_found : (before held : Kept) (group : RouteLabels) (from until first end : Moment) (ms ends asked through notified : Members) → held ≡ before → ms ≡ members before.state group → ends ≡ ms → asked ≡ ms
+    → through ≡ let_through before.state from group.route asked → notified ≡ through → is_untimed before.state.config group.route ≡ true → IsStill before.state from until
+    → first ≤ until → all_fire_until first ends ≡ true → end ≤ first → are_notified held.state group from end notified ≡ true → IsQuiet before.state group from end
+quiet_found before held group from until first end ms ends asked through notified same all as_ends as_asked is as_notified untimed still first_within fire end_within are =
     found_quiet before.state group from until first end ms through all (is ∙ ap (let_through before.state from group.route) as_asked) untimed still first_within
     (ap (all_fire_until first) (sym as_ends) ∙ fire) end_within
-    ((λ i. are_told (sym same i).state group from end (sym as_told i)) ∙ are)
+    ((λ i. are_notified (sym same i).state group from end (sym as_notified i)) ∙ are)

@@ -18,9 +18,9 @@ abbrev pub run_moved : Moment → Option (List Due × State) → Option (ℕ × 
 run_moved at run = option_map (λ r. (length r.0, at_moment at r.1)) run
 
 -- the state after the event, and its outcome
-pub record ComesTo (s : State) (event : Event) (after : State) (told : Outcome) : Type 0 where
+pub record ComesTo (s : State) (event : Event) (after : State) (notified : Outcome) : Type 0 where
   pub state : after ≡ after_event s event
-  pub outcome : told ≡ outcome_of s event
+  pub outcome : notified ≡ outcome_of s event
 
 -- the state that is left: the next one if the event was done, and the one before if there is a
 -- reason against it
@@ -29,13 +29,13 @@ state_left s next (Ok done) = next
 state_left s next (Err reason) = s
 
 -- the outcome that is returned
-abbrev pub told_of : State → State → Result Done code.Reason → Outcome
-told_of s next (Ok done) = acceptance done.moves (drop (length s.notes) next.notes) done.skipped
-told_of s next (Err reason) = refusal (reason_number reason)
+abbrev pub answer_of : State → State → Result Done code.Reason → Outcome
+answer_of s next (Ok done) = acceptance done.moves (drop (length s.notes) next.notes) done.skipped
+answer_of s next (Err reason) = refusal (reason_number reason)
 
 -- what was done and the next state are what the event leads to
 abbrev pub IsDone : State → Event → State → Result Done code.Reason → Type 0
-IsDone s event next done = ComesTo s event (state_left s next done) (told_of s next done)
+IsDone s event next done = ComesTo s event (state_left s next done) (answer_of s next done)
 
 -- the state that an outcome leaves: the next one if the event is accepted, and else the one before
 abbrev pub state_after : State → State → code_outcome.Outcome → State

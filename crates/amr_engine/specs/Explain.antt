@@ -10,33 +10,33 @@ use Rattle.amr_config.specs.Routing.{chosen, group_of, receiver_name_of, integra
 use Rattle.amr_rules.specs.declared.alert.Alert.{Alert}
 use Rattle.amr_rules.specs.Alerts.{is_resolved_at}
 use Rattle.amr_rules.specs.declared.update.LogEntry.{LogEntry}
-use Rattle.amr_state.specs.declared.note.Clock.{Clock}
-use Rattle.amr_state.specs.declared.spot.Spot.{Spot}
+use Rattle.amr_state.specs.declared.notification.GroupTimer.{GroupTimer}
+use Rattle.amr_state.specs.declared.route_labels.RouteLabels.{RouteLabels}
 use Rattle.amr_engine.specs.declared.explain.Finding.{Finding}
 use Rattle.amr_engine.specs.declared.explain.Finding.TheVariants.{Waiting, Nowhere, Told, Due}
 use Rattle.amr_engine.specs.declared.explain.Verdict.{Verdict}
 use Rattle.amr_engine.specs.declared.explain.Verdict.TheVariants.{Unknown, Ended, AtRoute}
-use Rattle.amr_state.specs.State.{State, spot_at}
+use Rattle.amr_state.specs.State.{State, on_route}
 use Rattle.amr_engine.specs.Stages.{taken_away}
 use Rattle.amr_engine.specs.Flush.{log_key_of}
 
-abbrev pub waiting : Clock → Option Finding
-waiting clock = if clock.flushed then None else Some (Waiting clock.next_flush)
+abbrev pub waiting : GroupTimer → Option Finding
+waiting timer = if timer.flushed then None else Some (Waiting timer.next_flush)
 
 -- what the log says at the integration: it was notified of the alert, or the next flush decides
-abbrev pub logged : LabelSet → Clock → Option LogEntry → Finding
-logged labels clock None = Due clock.next_flush
-logged labels clock (Some entry) = if contains entry.firing labels then Told entry.time else Due clock.next_flush
+abbrev pub logged : LabelSet → GroupTimer → Option LogEntry → Finding
+logged labels timer None = Due timer.next_flush
+logged labels timer (Some entry) = if contains entry.firing labels then Told entry.time else Due timer.next_flush
 
-abbrev pub heard : State → Spot → LabelSet → Clock → Option Integration → Finding
-heard s group labels clock None = Nowhere
-heard s group labels clock (Some integration) = logged labels clock (get s.log (log_key_of s.config group integration))
+abbrev pub heard : State → RouteLabels → LabelSet → GroupTimer → Option Integration → Finding
+heard s group labels timer None = Nowhere
+heard s group labels timer (Some integration) = logged labels timer (get s.log (log_key_of s.config group integration))
 
 -- the first that applies: the group waits for its first flush; a stage mutes the alert; what the
 -- log says
-abbrev pub finding : State → Spot → LabelSet → Option Integration → Clock → Finding
-finding s group labels integration clock =
-    unwrap_or (option_or (waiting clock) (taken_away s s.moment group.route labels)) (heard s group labels clock integration)
+abbrev pub finding : State → RouteLabels → LabelSet → Option Integration → GroupTimer → Finding
+finding s group labels integration timer =
+    unwrap_or (option_or (waiting timer) (taken_away s s.moment group.route labels)) (heard s group labels timer integration)
 
 -- each integration of a receiver, or one entry for a receiver without one
 abbrev pub asked : List Integration → List (Option Integration)
@@ -44,20 +44,20 @@ asked [] = None ∷ []
 asked (integration ∷ integrations) = map Some (integration ∷ integrations)
 
 -- the group timer; a group with a member has one
-abbrev pub clock_of : State → Spot → Clock
-clock_of s group = unwrap_or (get s.clocks group) (record { next_flush = 0; flushed = false; empty_since = None })
+abbrev pub timer_of : State → RouteLabels → GroupTimer
+timer_of s group = unwrap_or (get s.timers group) (record { next_flush = 0; flushed = false; empty_since = None })
 
 abbrev pub kind_and_place : Integration → Text × ℕ
 kind_and_place integration = (integration.kind, integration.place)
 
-abbrev pub verdict_at : State → Spot → LabelSet → Clock → Option Integration → Verdict
-verdict_at s group labels clock integration =
-    AtRoute group.route (receiver_name_of s.config group.route) (option_map kind_and_place integration) (finding s group labels integration clock)
+abbrev pub verdict_at : State → RouteLabels → LabelSet → GroupTimer → Option Integration → Verdict
+verdict_at s group labels timer integration =
+    AtRoute group.route (receiver_name_of s.config group.route) (option_map kind_and_place integration) (finding s group labels integration timer)
 
 abbrev pub verdicts_at : State → LabelSet → ℕ → List Verdict
 verdicts_at s labels route =
-    let group : Spot = spot_at route (group_of s.config route labels) in
-    map (verdict_at s group labels (clock_of s group)) (asked (integrations_of s.config route))
+    let group : RouteLabels = on_route route (group_of s.config route labels) in
+    map (verdict_at s group labels (timer_of s group)) (asked (integrations_of s.config route))
 
 abbrev pub verdicts_of_stored : State → LabelSet → Option Alert → List Verdict
 verdicts_of_stored s labels None = Unknown ∷ []

@@ -1,12 +1,12 @@
 -- The outcome that the code returns, as an outcome of the definitions.
 use Rattle.std.specs.Prelude.{ℕ, List}
 use Rattle.amr_events.specs.Reasons.{reason_number}
-use Rattle.amr_state.specs.declared.note.Note.{Note}
+use Rattle.amr_state.specs.declared.notification.Notification.{Notification}
 use Rattle.amr_engine.specs.Events as events
 use Rattle.amr_engine.specs.declared.outcome.Outcome as code
 use Rattle.amr_engine.specs.declared.outcome.Outcome.TheVariants.{Accepted, Refused}
 
-abbrev pub acceptance : ℕ → List Note → List ℕ → events.Outcome
+abbrev pub acceptance : ℕ → List Notification → List ℕ → events.Outcome
 acceptance moves notes skipped = events.Outcome.Accepted moves notes skipped
 
 abbrev pub refusal : ℕ → events.Outcome

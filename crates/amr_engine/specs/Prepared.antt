@@ -6,7 +6,7 @@ use Rattle.amr_time.specs.Time.{Moment}
 use Rattle.amr_events.specs.Events.{Act}
 use Rattle.amr_events.specs.declared.reason.Reason as code
 use Rattle.amr_events.specs.Reasons.{reason_number}
-use Rattle.amr_rules.specs.Silencing.{posting_stored}
+use Rattle.amr_rules.specs.Silencing.{update_stored}
 use Rattle.amr_state.specs.State.{State}
 use Rattle.amr_engine.specs.Weight.{reload_entries, alerts_weight, act_weight}
 use Rattle.amr_engine.specs.declared.prepare.Prepared as prepare
@@ -16,7 +16,7 @@ use Rattle.amr_engine.specs.Events.{after_act, at_moment, put, with_silences, wi
 -- the state after a prepared action
 abbrev pub performed : prepare.Prepared → State → State
 performed (Put sifted) s = fold put s sifted.valid.items
-performed (Silence id new_id posting) s = with_silences s (posting_stored id new_id posting s.silences)
+performed (Silence id new_id silence_update) s = with_silences s (update_stored id new_id silence_update s.silences)
 performed (Expire id ended) s = with_silences s (insert s.silences id ended)
 performed (Reload config) s = with_config s config
 performed Tick s = s
@@ -24,7 +24,7 @@ performed Tick s = s
 -- the positions of the alerts that a prepared action skips
 abbrev pub skipped_by : prepare.Prepared → List ℕ
 skipped_by (Put sifted) = sifted.skipped
-skipped_by (Silence id new_id posting) = []
+skipped_by (Silence id new_id silence_update) = []
 skipped_by (Expire id ended) = []
 skipped_by (Reload config) = []
 skipped_by Tick = []
@@ -33,7 +33,7 @@ skipped_by Tick = []
 -- after it
 abbrev pub entries_of : prepare.Prepared → State → State → ℕ
 entries_of (Put sifted) before after = alerts_weight before.config sifted.valid.items
-entries_of (Silence id new_id posting) before after = 2
+entries_of (Silence id new_id silence_update) before after = 2
 entries_of (Expire id ended) before after = 1
 entries_of (Reload config) before after = reload_entries before after
 entries_of Tick before after = 0

@@ -12,14 +12,14 @@ use Rattle.amr_rules.specs.Muting.{Alerts}
 use Rattle.amr_rules.specs.Silences.{Silences}
 use Rattle.amr_rules.specs.Updates.{LabelSets, needs_update}
 use Rattle.amr_rules.specs.declared.update.LogEntry.{LogEntry}
-use Rattle.amr_state.specs.declared.note.LogKey.{LogKey}
-use Rattle.amr_state.specs.declared.spot.Spot.{Spot}
+use Rattle.amr_state.specs.declared.notification.LogKey.{LogKey}
+use Rattle.amr_state.specs.declared.route_labels.RouteLabels.{RouteLabels}
 use Rattle.amr_state.specs.State.{State, members}
-use Rattle.amr_engine.specs.Flush.{Members, let_through, labels_of, log_key_of, set_clock}
+use Rattle.amr_engine.specs.Flush.{Members, let_through, labels_of, log_key_of, set_timer}
 
 -- the group timer is set as at a flush, and nothing else changes
-abbrev pub wound : Moment → Spot → State → State
-wound at group s = set_clock group (λ clock. record clock { next_flush = at + group_interval_of s.config group.route; flushed = true }) s
+abbrev pub with_timer_reset : Moment → RouteLabels → State → State
+with_timer_reset at group s = set_timer group (λ timer. record timer { next_flush = at + group_interval_of s.config group.route; flushed = true }) s
 
 -- the moment `at` is past already at the first of the two moments, or still ahead until the second
 abbrev pub is_outside : Moment → Moment → Moment → Bool
@@ -59,32 +59,32 @@ no_repeat_before until interval (Some entry) = nat_le until (entry.time + interv
 
 -- the dedup check is against a notification of these firing members, and stays so until a repeated
 -- one is due
-abbrev pub is_told : State → Spot → Moment → Moment → LabelSets → Integration → Bool
-is_told s group from until firing integration =
+abbrev pub is_notified : State → RouteLabels → Moment → Moment → LabelSets → Integration → Bool
+is_notified s group from until firing integration =
     not (needs_update (get s.log (log_key_of s.config group integration)) firing (labels_of []) integration.send_resolved from (repeat_interval_of s.config group.route))
     && no_repeat_before until (repeat_interval_of s.config group.route) (get s.log (log_key_of s.config group integration))
 
--- all members are muted, or all integrations were told of those that aren't
-abbrev pub are_told : State → Spot → Moment → Moment → Members → Bool
-are_told s group from until [] = true
-are_told s group from until (member ∷ members) = list_all (is_told s group from until (labels_of (member ∷ members))) (integrations_of s.config group.route)
+-- all members are muted, or all integrations were notified of those that aren't
+abbrev pub are_notified : State → RouteLabels → Moment → Moment → Members → Bool
+are_notified s group from until [] = true
+are_notified s group from until (member ∷ members) = list_all (is_notified s group from until (labels_of (member ∷ members))) (integrations_of s.config group.route)
 
 -- What a flush of the members depends on doesn't change from one moment until another: which of
 -- them fire, what mutes them, and whether somebody is to be notified, which nobody is. It names no
 -- group timer and not the clock.
-pub record IsSettled (s : State) (group : Spot) (from until : Moment) (members : Members) : Type 0 where
+pub record IsSettled (s : State) (group : RouteLabels) (from until : Moment) (members : Members) : Type 0 where
   pub fire : all_fire_until until members ≡ true
   pub still : IsStill s from until
   pub untimed : is_untimed s.config group.route ≡ true
-  pub told : are_told s group from until (let_through s from group.route members) ≡ true
+  pub notified : are_notified s group from until (let_through s from group.route members) ≡ true
 
 -- a group without members is quiet for ever
-abbrev pub IsQuietWith : State → Spot → Moment → Moment → Members → Type 0
+abbrev pub IsQuietWith : State → RouteLabels → Moment → Moment → Members → Type 0
 IsQuietWith s group from until [] = Unit {0}
 IsQuietWith s group from until (member ∷ members) = IsSettled s group from until (member ∷ members)
 
 -- the group's flushes from one moment until another set the group timer and change nothing else
-unfoldable pub IsQuiet : State → Spot → Moment → Moment → Type 0
+unfoldable pub IsQuiet : State → RouteLabels → Moment → Moment → Type 0
 IsQuiet s group from until = IsQuietWith s group from until (members s group)
 
 -- What flushes of groups with other labels than these depend on is the same in both states.
@@ -92,5 +92,5 @@ pub record LeavesOthers (labels : LabelSet) (s t : State) : Type 0 where
   pub config : t.config ≡ s.config
   pub alerts : t.alerts ≡ s.alerts
   pub silences : t.silences ≡ s.silences
-  pub members : (group : Spot) → (group.labels ≡ labels → ⊥) → members t group ≡ members s group
+  pub members : (group : RouteLabels) → (group.labels ≡ labels → ⊥) → members t group ≡ members s group
   pub log : (key : LogKey) → (key.group ≡ labels → ⊥) → get t.log key ≡ get s.log key

@@ -4,8 +4,8 @@ use Rattle.std.specs.List.{list_any, filter}
 use Rattle.amr_labels.specs.Map.{get, insert}
 use Rattle.amr_labels.specs.Labels.{LabelSet}
 use Rattle.amr_time.specs.Time.{Moment}
-use Rattle.amr_state.specs.declared.spot.Spot.{Spot}
-use Rattle.amr_state.specs.State.{State, spot_at}
+use Rattle.amr_state.specs.declared.route_labels.RouteLabels.{RouteLabels}
+use Rattle.amr_state.specs.State.{State, on_route}
 use Rattle.amr_engine.specs.declared.quiet.Stretch.{Stretch}
 use Rattle.amr_engine.specs.declared.quiet.QuietTime.{QuietTime}
 use Rattle.amr_engine.specs.declared.quiet.QuietGroups.{QuietGroups}
@@ -20,7 +20,7 @@ abbrev pub times_at : QuietGroups → LabelSet → List QuietTime
 times_at memory labels = unwrap_or (get memory.times labels) []
 
 -- the group is remembered as quiet at the moment
-abbrev pub is_known : Moment → Spot → QuietGroups → Bool
+abbrev pub is_known : Moment → RouteLabels → QuietGroups → Bool
 is_known at group memory = list_any (λ time. (time.route == group.route) && covers at time.stretch) (times_at memory group.labels)
 
 -- what is remembered of other routes
@@ -28,14 +28,14 @@ abbrev pub of_others : ℕ → List QuietTime → List QuietTime
 of_others route = filter (λ time. not (time.route == route))
 
 -- the group is quiet in this stretch, and no other of it is remembered
-abbrev pub with_time : Spot → Stretch → QuietGroups → QuietGroups
+abbrev pub with_time : RouteLabels → Stretch → QuietGroups → QuietGroups
 with_time group stretch memory =
     record memory { times = insert memory.times group.labels (of_others group.route (times_at memory group.labels) ++ record { route = group.route; stretch = stretch } ∷ []) }
 
 -- the groups with these labels are quiet in the stretches
 abbrev pub AreQuiet : State → LabelSet → List QuietTime → Type 0
 AreQuiet s labels [] = Unit {0}
-AreQuiet s labels (time ∷ times) = IsQuiet s (spot_at time.route labels) time.stretch.from time.stretch.until × AreQuiet s labels times
+AreQuiet s labels (time ∷ times) = IsQuiet s (on_route time.route labels) time.stretch.from time.stretch.until × AreQuiet s labels times
 
 abbrev pub IsStillIn : State → Option Stretch → Type 0
 IsStillIn s None = Unit {0}

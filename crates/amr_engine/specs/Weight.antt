@@ -12,24 +12,24 @@ use Rattle.amr_events.specs.Events.{Act, Event}
 use Rattle.amr_state.specs.declared.due.Due.{Due}
 use Rattle.amr_state.specs.declared.due.Kind.{Kind}
 use Rattle.amr_state.specs.declared.due.Kind.TheVariants.{AlertRemoval, GroupRemoval, GroupFlush}
-use Rattle.amr_state.specs.declared.spot.Spot.{Spot}
-use Rattle.amr_state.specs.State.{State, spot_at, members}
+use Rattle.amr_state.specs.declared.route_labels.RouteLabels.{RouteLabels}
+use Rattle.amr_state.specs.State.{State, on_route, members}
 use Rattle.amr_state.specs.Dues.{next_due}
 use Rattle.amr_engine.specs.Moves.{move, advance}
 use Rattle.amr_engine.specs.Events.{move_limit, valid_alerts, at_moment}
 
 -- how many integrations the receiver of a group has
-abbrev pub turns : State → Spot → ℕ
+abbrev pub turns : State → RouteLabels → ℕ
 turns s group = length (integrations_of s.config group.route)
 
-abbrev pub flush_weight : State → Spot → ℕ
+abbrev pub flush_weight : State → RouteLabels → ℕ
 flush_weight s group = 1 + turns s group + length (members s group)
 
 -- what a move may displace
 abbrev pub move_weight : State → Due → Kind → ℕ
 move_weight s due AlertRemoval = 1
 move_weight s due GroupRemoval = 1
-move_weight s due GroupFlush = flush_weight s (spot_at due.route due.labels)
+move_weight s due GroupFlush = flush_weight s (on_route due.route due.labels)
 
 abbrev pub moves_weight : State → List Due → ℕ
 moves_weight s [] = 0
@@ -41,7 +41,7 @@ first_weight zero at s = 0
 first_weight (suc most) at s = option_map_or (λ due. move_weight s due due.kind + first_weight most at (move due s)) (next_due at s) 0
 
 abbrev pub groups_weight : State → ℕ
-groups_weight s = len s.clocks + len s.placements
+groups_weight s = len s.timers + len s.placements
 
 -- the entries of a reload: one for the configuration, one for each group and member before, and two
 -- for each member after, for itself and its group's timer

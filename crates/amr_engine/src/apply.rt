@@ -19,10 +19,10 @@ use crate::post::put_all;
 use crate::prepare::{Prepared, prepare};
 use crate::quiet::QuietGroups;
 use crate::reload::reload;
-use crate::silencing::store_posting;
+use crate::silencing::store_update;
 use amr_events::{Event, Reason};
 use amr_labels::{Listing, Shared};
-use amr_state::{Note, Store};
+use amr_state::{Notification, Store};
 use amr_time::Moment;
 use std::alloc::{AllocError, Global};
 
@@ -41,9 +41,9 @@ pub(crate) fn attempt(
         IsLightIfAccepted store.old event.now store.new outcome) }
     ensures memory { OnOk result (IsTrueOf memory.new store.new.state) }
 {
-    let noted = store.notes().len();
+    let earlier = store.notes().len();
     match happen(store, memory, event)? {
-        Ok(done) => accepted(store, noted, done),
+        Ok(done) => accepted(store, earlier, done),
         Err(reason) => Ok(Outcome::Refused(reason)),
     }
 }
@@ -146,8 +146,8 @@ fn change(store: &mut Store, prepared: Prepared) -> Result<Listing<usize>, Alloc
         Prepared::Silence {
             id,
             new_id,
-            posting,
-        } => store_posting(store, id, new_id, posting)?,
+            silence_update,
+        } => store_update(store, id, new_id, silence_update)?,
         Prepared::Expire { id, ended } => store.insert_silence(id, ended)?,
         Prepared::Reload(config) => reload(store, config)?,
         Prepared::Tick => {}
@@ -155,13 +155,13 @@ fn change(store: &mut Store, prepared: Prepared) -> Result<Listing<usize>, Alloc
     Ok(Listing::new(store.alloc()))
 }
 
-/// Returns the outcome of an accepted event. `noted` is how many notifications the transcript had
+/// Returns the outcome of an accepted event. `earlier` is how many notifications the transcript had
 /// before it.
-fn accepted(store: &Store, noted: usize, done: Done) -> Result<Outcome, AllocError>
+fn accepted(store: &Store, earlier: usize, done: Done) -> Result<Outcome, AllocError>
     ensures { IfOk result (λ outcome. outcome_view outcome
-        ≡ acceptance done.moves (drop noted store.now.state.notes) done.skipped) }
+        ≡ acceptance done.moves (drop earlier store.now.state.notes) done.skipped) }
 {
-    let notes = notes_from(store.alloc(), store.notes(), noted)?;
+    let notes = notes_from(store.alloc(), store.notes(), earlier)?;
     Ok(Outcome::Accepted {
         moves: done.moves,
         notes,
@@ -172,17 +172,17 @@ fn accepted(store: &Store, noted: usize, done: Done) -> Result<Outcome, AllocErr
 /// Returns the notifications of the transcript from an index on.
 fn notes_from(
     alloc: Global,
-    notes: &[Shared<Note>],
+    notes: &[Shared<Notification>],
     from: usize,
-) -> Result<Listing<Shared<Note>>, AllocError>
+) -> Result<Listing<Shared<Notification>>, AllocError>
     ensures { IfOk result (λ added. added ≡ drop from notes.now) }
 {
     let mut added = Listing::new(alloc);
     if notes.len() < from {
         return Ok(added);
     }
-    for note in &notes[from..] {
-        added.push(note.clone()?)?;
+    for notification in &notes[from..] {
+        added.push(notification.clone()?)?;
     }
     Ok(added)
 }

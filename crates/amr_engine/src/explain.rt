@@ -4,14 +4,14 @@ ghost use Rattle.std.specs.Prelude.{◌≡◌, ◌++◌, IfOk, OnOk, option_map}
 ghost use Rattle.std.specs.Option.{option_copied};
 ghost use Rattle.std.specs.List.{flat_map};
 ghost use Rattle.amr_config.specs.Routing.{chosen};
-ghost use Rattle.amr_engine.specs.Explain.{waiting, logged, heard, finding, clock_of, kind_and_place, verdict_at, verdicts_at, verdicts_of_stored, verdicts};
+ghost use Rattle.amr_engine.specs.Explain.{waiting, logged, heard, finding, timer_of, kind_and_place, verdict_at, verdicts_at, verdicts_of_stored, verdicts};
 
 use crate::flush::log_key;
 use crate::stages::taken_away;
 use amr_events::SilenceId;
 use amr_labels::{Labels, Text};
 use amr_rules::{Alert, LogEntry};
-use amr_state::{Clock, Spot, Store, group_spot};
+use amr_state::{GroupTimer, RouteLabels, Store, group_key};
 use amr_stated::Integration;
 use amr_time::Moment;
 use std::alloc::AllocError;
@@ -60,27 +60,27 @@ pub enum Verdict {
 }
 
 /// Returns the finding of a group that hasn't been flushed yet.
-fn waiting(clock: &Clock) -> Option<Finding>
-    ensures { result ≡ waiting clock.now }
+fn waiting(timer: &GroupTimer) -> Option<Finding>
+    ensures { result ≡ waiting timer.now }
 {
-    if clock.flushed {
+    if timer.flushed {
         None
     } else {
         Some(Finding::Waiting {
-            due: clock.next_flush,
+            due: timer.next_flush,
         })
     }
 }
 
 /// Returns what the log entry says: the integration was notified that the alert fires, or the next
 /// flush decides.
-fn logged(labels: &Labels, clock: &Clock, entry: Option<&LogEntry>) -> Finding
-    ensures { result ≡ logged labels.now clock.now (option_copied entry.entry) }
+fn logged(labels: &Labels, timer: &GroupTimer, entry: Option<&LogEntry>) -> Finding
+    ensures { result ≡ logged labels.now timer.now (option_copied entry.entry) }
 {
     match entry {
         Some(entry) if entry.firing.get(labels).is_some() => Finding::Told { at: entry.time },
         _ => Finding::Due {
-            at: clock.next_flush,
+            at: timer.next_flush,
         },
     }
 }
@@ -89,19 +89,19 @@ fn logged(labels: &Labels, clock: &Clock, entry: Option<&LogEntry>) -> Finding
 /// none.
 fn heard(
     store: &Store,
-    group: &Spot,
+    group: &RouteLabels,
     labels: &Labels,
-    clock: &Clock,
+    timer: &GroupTimer,
     integration: Option<&Integration>,
 ) -> Result<Finding, AllocError>
     ensures { IfOk result (λ found. found
-        ≡ heard store.now.state group.now labels.now clock.now (option_copied integration.entry)) }
+        ≡ heard store.now.state group.now labels.now timer.now (option_copied integration.entry)) }
 {
     match integration {
         None => Ok(Finding::Nowhere),
         Some(integration) => {
             let key = log_key(store.alloc(), store.config(), group, integration)?;
-            Ok(logged(labels, clock, store.log().get(&key)))
+            Ok(logged(labels, timer, store.log().get(&key)))
         }
     }
 }
@@ -109,22 +109,22 @@ fn heard(
 /// Returns the first finding that applies.
 fn first_finding(
     store: &Store,
-    group: &Spot,
+    group: &RouteLabels,
     labels: &Labels,
     integration: Option<&Integration>,
-    clock: &Clock,
+    timer: &GroupTimer,
 ) -> Result<Finding, AllocError>
     ensures { IfOk result (λ found. found
         ≡ finding store.now.state group.now labels.now (option_copied integration.entry)
-        clock.now) }
+        timer.now) }
 {
-    if let Some(found) = waiting(clock) {
+    if let Some(found) = waiting(timer) {
         return Ok(found);
     }
     if let Some(found) = taken_away(store, store.moment(), group.route, labels)? {
         return Ok(found);
     }
-    heard(store, group, labels, clock, integration)
+    heard(store, group, labels, timer, integration)
 }
 
 /// Returns the kind and the index of an integration, if there is one.
@@ -141,31 +141,31 @@ fn kind_and_place(integration: Option<&Integration>) -> Result<Option<(Text, usi
 /// Returns the verdict for an integration, or for a receiver without one.
 fn verdict_at(
     store: &Store,
-    group: &Spot,
+    group: &RouteLabels,
     labels: &Labels,
-    clock: &Clock,
+    timer: &GroupTimer,
     integration: Option<&Integration>,
 ) -> Result<Verdict, AllocError>
     ensures { IfOk result (λ verdict. verdict
-        ≡ verdict_at store.now.state group.now labels.now clock.now
+        ≡ verdict_at store.now.state group.now labels.now timer.now
         (option_copied integration.entry)) }
 {
     Ok(Verdict::AtRoute {
         route: group.route,
         receiver: store.config().receiver_name(store.alloc(), group.route)?,
         integration: kind_and_place(integration)?,
-        finding: first_finding(store, group, labels, integration, clock)?,
+        finding: first_finding(store, group, labels, integration, timer)?,
     })
 }
 
 /// Returns the group timer. A group with a member always has one; the timer at 1970 only completes
 /// the match.
-fn clock_of(store: &Store, group: &Spot) -> Clock
-    ensures { result ≡ clock_of store.now.state group.now }
+fn timer_of(store: &Store, group: &RouteLabels) -> GroupTimer
+    ensures { result ≡ timer_of store.now.state group.now }
 {
-    match store.clocks().get(group) {
-        Some(clock) => *clock,
-        None => Clock {
+    match store.timers().get(group) {
+        Some(timer) => *timer,
+        None => GroupTimer {
             next_flush: Moment::START,
             flushed: false,
             empty_since: None,
@@ -183,15 +183,15 @@ fn add_verdicts(
     ensures { OnOk result (found.new.items ≡ found.old.items
         ++ verdicts_at store.now.state labels.now route) }
 {
-    let group = group_spot(store.alloc(), store.config(), route, labels)?;
-    let clock = clock_of(store, &group);
+    let group = group_key(store.alloc(), store.config(), route, labels)?;
+    let timer = timer_of(store, &group);
     let integrations = store.config().integrations(route);
     if integrations.is_empty() {
-        found.push(verdict_at(store, &group, labels, &clock, None)?)?;
+        found.push(verdict_at(store, &group, labels, &timer, None)?)?;
         return Ok(());
     }
     for integration in integrations {
-        found.push(verdict_at(store, &group, labels, &clock, Some(integration))?)?;
+        found.push(verdict_at(store, &group, labels, &timer, Some(integration))?)?;
     }
     Ok(())
 }

@@ -9,14 +9,17 @@ ghost use Rattle.amr_config.specs.Routing.{group_interval_of, repeat_interval_of
 ghost use Rattle.amr_time.specs.Time.{latest_read};
 ghost use Rattle.amr_rules.specs.Alerts.{is_resolved_at};
 ghost use Rattle.amr_state.specs.Kept.{GrownBy, undone};
-ghost use Rattle.amr_engine.specs.Flush.{let_through, firing_of, resolved_of, labels_of, log_key_of, told_firing, told_resolved, notes_told, notify_all, set_clock, forget, drop_resolved, serve, flush};
+ghost use Rattle.amr_engine.specs.Flush.{let_through, firing_of, resolved_of, labels_of, log_key_of, notified_firing, notified_resolved, notifications_of, notify_all, set_timer, drop_member, drop_resolved, run_pipeline, flush};
 ghost use Rattle.amr_engine.specs.Weight.{turns, flush_weight};
 
 use crate::stages::taken_away;
 use amr_config::Config;
 use amr_labels::{LabelMap, Listing};
 use amr_rules::{LogEntry, labels_of, needs_update};
-use amr_state::{Clock, FiringAlert, LogKey, Member, Note, ResolvedAlert, Spot, Store, members_of};
+use amr_state::{
+    FiringAlert, GroupTimer, LogKey, Member, Notification, ResolvedAlert, RouteLabels, Store,
+    members_of,
+};
 use amr_stated::Integration;
 use amr_time::Moment;
 use std::alloc::{AllocError, Global};
@@ -31,28 +34,32 @@ struct Parted {
     resolved_labels: LabelMap<()>,
 }
 
-ghost use Rattle.amr_engine.specs.Parting.{IsParted, entry_of, is_due, tell_parted, told_by};
+ghost use Rattle.amr_engine.specs.Parting.{IsParted, entry_of, needs_notification, record_parted, notified_by};
 
 /// Flushes a group at a moment: sets its timer, notifies, and drops its resolved members.
 #[tactic(auto, unfolding(crate::specs::Flush::flush))]
-pub(crate) fn flush(store: &mut Store, at: Moment, group: &Spot) -> Result<(), AllocError>
+pub(crate) fn flush(store: &mut Store, at: Moment, group: &RouteLabels) -> Result<(), AllocError>
     requires { at ≤ latest_read }
     ensures ok { OnOk result (store.new.state ≡ flush at group.now store.old.state) }
     ensures kept { undone store.new ≡ undone store.old }
     ensures grown { GrownBy (2 * flush_weight store.old.state group.now) store.old store.new }
 {
     let members = members_of(store, group)?;
-    wind(store, at, group)?;
-    serve(store, at, group, members.as_slice())
+    reset_timer(store, at, group)?;
+    run_pipeline(store, at, group, members.as_slice())
 }
 
 /// Schedules the next flush, `group_interval` from now, and marks the group as flushed.
-pub(crate) fn wind(store: &mut Store, at: Moment, group: &Spot) -> Result<(), AllocError>
+pub(crate) fn reset_timer(
+    store: &mut Store,
+    at: Moment,
+    group: &RouteLabels,
+) -> Result<(), AllocError>
     requires { at ≤ latest_read }
     ensures ok { OnOk result (store.new.state
-        ≡ set_clock group.now
-        (λ clock.
-        record clock {
+        ≡ set_timer group.now
+        (λ timer.
+        record timer {
           next_flush = at + group_interval_of store.old.state.config group.now.route;
           flushed = true;
         }) store.old.state) }
@@ -60,23 +67,28 @@ pub(crate) fn wind(store: &mut Store, at: Moment, group: &Spot) -> Result<(), Al
     ensures grown { GrownBy 1 store.old store.new }
 {
     let interval = store.config().group_interval(group.route);
-    match store.clocks().get(group).copied() {
+    match store.timers().get(group).copied() {
         None => Ok(()),
-        Some(clock) => {
-            let wound = Clock {
+        Some(timer) => {
+            let with_timer_reset = GroupTimer {
                 next_flush: at.plus(interval),
                 flushed: true,
-                ..clock
+                ..timer
             };
-            store.set_clock(group, wound)
+            store.set_timer(group, with_timer_reset)
         }
     }
 }
 
 /// Notifies of the members that nothing mutes, then drops the resolved members from the group. Does
 /// nothing for a group without members.
-fn serve(store: &mut Store, at: Moment, group: &Spot, members: &[Member]) -> Result<(), AllocError>
-    ensures ok { OnOk result (store.new.state ≡ serve at group.now members.now store.old.state) }
+fn run_pipeline(
+    store: &mut Store,
+    at: Moment,
+    group: &RouteLabels,
+    members: &[Member],
+) -> Result<(), AllocError>
+    ensures ok { OnOk result (store.new.state ≡ run_pipeline at group.now members.now store.old.state) }
     ensures kept { undone store.new ≡ undone store.old }
     ensures grown { GrownBy (1 + 2 * turns store.old.state group.now + length members.now)
         store.old store.new }
@@ -117,7 +129,7 @@ pub(crate) fn let_through(
 fn notify_all(
     store: &mut Store,
     at: Moment,
-    group: &Spot,
+    group: &RouteLabels,
     through: &[Member],
 ) -> Result<(), AllocError>
     ensures ok { OnOk result (store.new.state
@@ -179,11 +191,11 @@ fn resolved_of(alloc: Global, at: Moment, members: &[Member]) -> Result<Vec<Memb
 fn notify_each(
     store: &mut Store,
     at: Moment,
-    group: &Spot,
+    group: &RouteLabels,
     parted: &Parted,
 ) -> Result<(), AllocError>
     ensures ok { OnOk result (store.new.state
-        ≡ fold (told_by at group.now parted.now) store.old.state
+        ≡ fold (notified_by at group.now parted.now) store.old.state
         (integrations_of store.old.state.config group.now.route)) }
     ensures kept { undone store.new ≡ undone store.old }
     ensures grown { GrownBy (2 * turns store.old.state group.now) store.old store.new }
@@ -199,18 +211,18 @@ fn notify_each(
 fn notify(
     store: &mut Store,
     at: Moment,
-    group: &Spot,
+    group: &RouteLabels,
     parted: &Parted,
     integration: &Integration,
 ) -> Result<(), AllocError>
     ensures ok { OnOk result (store.new.state
-        ≡ told_by at group.now parted.now store.old.state integration.now) }
+        ≡ notified_by at group.now parted.now store.old.state integration.now) }
     ensures kept { undone store.new ≡ undone store.old }
     ensures grown { GrownBy 2 store.old store.new }
 {
     let key = log_key(store.alloc(), store.config(), group, integration)?;
-    if is_due(store, at, group, &key, parted, integration) {
-        tell(store, at, group, &key, parted, integration)?;
+    if needs_notification(store, at, group, &key, parted, integration) {
+        record_notification(store, at, group, &key, parted, integration)?;
     }
     Ok(())
 }
@@ -219,7 +231,7 @@ fn notify(
 pub(crate) fn log_key(
     alloc: Global,
     config: &Config,
-    group: &Spot,
+    group: &RouteLabels,
     integration: &Integration,
 ) -> Result<LogKey, AllocError>
     ensures { IfOk result (λ key. key ≡ log_key_of config.now group.now integration.now) }
@@ -234,15 +246,15 @@ pub(crate) fn log_key(
 }
 
 /// Returns whether the dedup check says that an integration is notified now.
-fn is_due(
+fn needs_notification(
     store: &Store,
     at: Moment,
-    group: &Spot,
+    group: &RouteLabels,
     key: &LogKey,
     parted: &Parted,
     integration: &Integration,
 ) -> bool
-    ensures { result ≡ is_due store.now.state at group.now key.now parted.now integration.now }
+    ensures { result ≡ needs_notification store.now.state at group.now key.now parted.now integration.now }
 {
     needs_update(
         store.log().get(key),
@@ -256,25 +268,25 @@ fn is_due(
 
 /// Writes the notification-log entry and appends the notification, if there is one. The entry is
 /// also written if only resolved alerts are left and the integration doesn't send them.
-fn tell(
+fn record_notification(
     store: &mut Store,
     at: Moment,
-    group: &Spot,
+    group: &RouteLabels,
     key: &LogKey,
     parted: &Parted,
     integration: &Integration,
 ) -> Result<(), AllocError>
     ensures ok { OnOk result (store.new.state
-        ≡ tell_parted at group.now key.now parted.now integration.now.send_resolved
+        ≡ record_parted at group.now key.now parted.now integration.now.send_resolved
         store.old.state) }
     ensures kept { undone store.new ≡ undone store.old }
     ensures grown { GrownBy 2 store.old store.new }
 {
     let entry = log_entry(at, parted)?;
     let send_resolved = integration.send_resolved;
-    let note = note_told(store.alloc(), at, group, key, send_resolved, parted)?;
+    let notification = notification_of(store.alloc(), at, group, key, send_resolved, parted)?;
     store.write_log(key, entry)?;
-    append(store, note)
+    append(store, notification)
 }
 
 /// Returns the log entry for a notification about these members.
@@ -290,76 +302,79 @@ fn log_entry(at: Moment, parted: &Parted) -> Result<LogEntry, AllocError>
 
 /// Returns the notification for an integration. Returns `None` if nothing fires and the integration
 /// doesn't send resolved alerts.
-fn note_told(
+fn notification_of(
     alloc: Global,
     at: Moment,
-    group: &Spot,
+    group: &RouteLabels,
     key: &LogKey,
     send_resolved: bool,
     parted: &Parted,
-) -> Result<Option<Note>, AllocError>
-    ensures { IfOk result (λ note. option_to_list note
-        ≡ notes_told at group.now key.now send_resolved parted.now.firing.items
+) -> Result<Option<Notification>, AllocError>
+    ensures { IfOk result (λ notification. option_to_list notification
+        ≡ notifications_of at group.now key.now send_resolved parted.now.firing.items
         parted.now.resolved.items) }
 {
     if parted.firing.is_empty() && !send_resolved {
         return Ok(None);
     }
     let resolved = if send_resolved {
-        told_resolved(alloc, parted.resolved.as_slice())?
+        notified_resolved(alloc, parted.resolved.as_slice())?
     } else {
         Listing::new(alloc)
     };
-    Ok(Some(Note {
+    Ok(Some(Notification {
         at,
         route: group.route,
         key: key.clone()?,
-        firing: told_firing(alloc, parted.firing.as_slice())?,
+        firing: notified_firing(alloc, parted.firing.as_slice())?,
         resolved,
     }))
 }
 
 /// Returns the firing alerts of a notification.
-fn told_firing(alloc: Global, members: &[Member]) -> Result<Listing<FiringAlert>, AllocError>
-    ensures { IfOk result (λ told. told ≡ map told_firing members.now) }
+fn notified_firing(alloc: Global, members: &[Member]) -> Result<Listing<FiringAlert>, AllocError>
+    ensures { IfOk result (λ notified. notified ≡ map notified_firing members.now) }
 {
-    let mut told = Listing::new(alloc);
+    let mut notified = Listing::new(alloc);
     for (labels, alert) in members {
-        told.push(FiringAlert {
+        notified.push(FiringAlert {
             labels: labels.clone()?,
             starts_at: alert.starts_at,
             annotations: alert.annotations.clone()?,
         })?;
     }
-    Ok(told)
+    Ok(notified)
 }
 
 /// Returns the resolved alerts of a notification.
-fn told_resolved(alloc: Global, members: &[Member]) -> Result<Listing<ResolvedAlert>, AllocError>
-    ensures { IfOk result (λ told. told ≡ map told_resolved members.now) }
+fn notified_resolved(
+    alloc: Global,
+    members: &[Member],
+) -> Result<Listing<ResolvedAlert>, AllocError>
+    ensures { IfOk result (λ notified. notified ≡ map notified_resolved members.now) }
 {
-    let mut told = Listing::new(alloc);
+    let mut notified = Listing::new(alloc);
     for (labels, alert) in members {
-        told.push(ResolvedAlert {
+        notified.push(ResolvedAlert {
             labels: labels.clone()?,
             starts_at: alert.starts_at,
             ends_at: alert.ends_at,
             annotations: alert.annotations.clone()?,
         })?;
     }
-    Ok(told)
+    Ok(notified)
 }
 
 /// Appends the notification to the transcript, if there is one.
-fn append(store: &mut Store, note: Option<Note>) -> Result<(), AllocError>
+fn append(store: &mut Store, notification: Option<Notification>) -> Result<(), AllocError>
     ensures ok { OnOk result (store.new.state
-        ≡ record store.old.state { notes = store.old.state.notes ++ option_to_list note }) }
+        ≡ record store.old.state { notes = store.old.state.notes ++ option_to_list notification }) }
     ensures kept { undone store.new ≡ undone store.old }
     ensures grown { GrownBy 1 store.old store.new }
 {
-    match note {
+    match notification {
         None => Ok(()),
-        Some(note) => store.append_note(note),
+        Some(notification) => store.append_notification(notification),
     }
 }
 
@@ -369,7 +384,7 @@ fn append(store: &mut Store, note: Option<Note>) -> Result<(), AllocError>
 fn drop_resolved(
     store: &mut Store,
     at: Moment,
-    group: &Spot,
+    group: &RouteLabels,
     members: &[Member],
 ) -> Result<(), AllocError>
     ensures ok { OnOk result (store.new.state
@@ -377,7 +392,7 @@ fn drop_resolved(
     ensures kept { undone store.new ≡ undone store.old }
     ensures grown { GrownBy (1 + length members.now) store.old store.new }
 {
-    forget_resolved(store, at, group, members)?;
+    drop_each_resolved(store, at, group, members)?;
     if are_resolved(at, members) {
         return mark_empty(store, at, group);
     }
@@ -385,24 +400,24 @@ fn drop_resolved(
 }
 
 /// Removes the resolved members from the group.
-fn forget_resolved(
+fn drop_each_resolved(
     store: &mut Store,
     at: Moment,
-    group: &Spot,
+    group: &RouteLabels,
     members: &[Member],
 ) -> Result<(), AllocError>
     ensures ok { OnOk result (store.new.state
-        ≡ fold (forget group.now) store.old.state (resolved_of at members.now)) }
+        ≡ fold (drop_member group.now) store.old.state (resolved_of at members.now)) }
     ensures kept { undone store.new ≡ undone store.old }
     ensures grown { GrownBy (length members.now) store.old store.new }
 {
     for (labels, alert) in members {
         if alert.is_resolved_at(at) {
-            let spot = Spot {
+            let route_labels = RouteLabels {
                 route: group.route,
                 labels: labels.clone()?,
             };
-            store.remove_copy(&spot)?;
+            store.remove_copy(&route_labels)?;
         }
     }
     Ok(())
@@ -421,20 +436,20 @@ fn are_resolved(at: Moment, members: &[Member]) -> bool
 }
 
 /// Marks a group as empty since a moment. Its timer is removed later, by the clean-up of groups.
-fn mark_empty(store: &mut Store, at: Moment, group: &Spot) -> Result<(), AllocError>
+fn mark_empty(store: &mut Store, at: Moment, group: &RouteLabels) -> Result<(), AllocError>
     ensures ok { OnOk result (store.new.state
-        ≡ set_clock group.now (λ clock. record clock { empty_since = Some at }) store.old.state) }
+        ≡ set_timer group.now (λ timer. record timer { empty_since = Some at }) store.old.state) }
     ensures kept { undone store.new ≡ undone store.old }
     ensures grown { GrownBy 1 store.old store.new }
 {
-    match store.clocks().get(group).copied() {
+    match store.timers().get(group).copied() {
         None => Ok(()),
-        Some(clock) => {
-            let empty = Clock {
+        Some(timer) => {
+            let empty = GroupTimer {
                 empty_since: Some(at),
-                ..clock
+                ..timer
             };
-            store.set_clock(group, empty)
+            store.set_timer(group, empty)
         }
     }
 }

@@ -10,7 +10,7 @@ ghost use Rattle.amr_engine.specs.Events.{move_limit};
 ghost use Rattle.amr_engine.specs.Weight.{move_weight, first_weight};
 
 use crate::quiet::QuietGroups;
-use amr_state::{Due, Kind, Spot, Store, next_due};
+use amr_state::{Due, Kind, RouteLabels, Store, next_due};
 use amr_time::Moment;
 use std::alloc::AllocError;
 
@@ -37,10 +37,10 @@ fn make(store: &mut Store, memory: &mut QuietGroups, due: Due) -> Result<(), All
             memory.alert_leaves(store, &labels);
             store.remove_alert(&labels)
         }
-        Kind::GroupRemoval => store.remove_clock(&Spot { route, labels }),
+        Kind::GroupRemoval => store.remove_timer(&RouteLabels { route, labels }),
         Kind::GroupFlush => {
             let at = Moment::from_nanoseconds(moment);
-            memory.flush(store, at, &Spot { route, labels })
+            memory.flush(store, at, &RouteLabels { route, labels })
         }
     }
 }

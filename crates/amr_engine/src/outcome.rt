@@ -4,7 +4,7 @@ ghost use Rattle.std.specs.Prelude.{◌≡◌};
 
 use amr_events::Reason;
 use amr_labels::{Listing, Shared};
-use amr_state::Note;
+use amr_state::Notification;
 
 /// The outcome of an event.
 #[derive(Drop)]
@@ -13,7 +13,7 @@ pub enum Outcome {
         /// How many moves were made up to the event's moment.
         moves: usize,
         /// The notifications that were appended, in order.
-        notes: Listing<Shared<Note>>,
+        notes: Listing<Shared<Notification>>,
         /// The positions of the posted alerts that aren't valid, from 1.
         skipped: Listing<usize>,
     },

@@ -8,7 +8,7 @@ ghost use Rattle.amr_events.specs.Events.{Act as act};
 use crate::post::{Sifted, sift};
 use amr_config::Config;
 use amr_events::{Act, PostedAlert, PostedSilence, Reason, SilenceId};
-use amr_rules::{Posting, Silence, set_silence, silence_expire};
+use amr_rules::{Silence, SilenceUpdate, set_silence, silence_expire};
 use amr_state::Store;
 use amr_time::Moment;
 use std::alloc::AllocError;
@@ -22,7 +22,7 @@ pub(crate) enum Prepared {
     Silence {
         id: Option<SilenceId>,
         new_id: SilenceId,
-        posting: Posting,
+        silence_update: SilenceUpdate,
     },
     /// Stores the expired form of a silence.
     Expire {
@@ -86,10 +86,10 @@ fn prepare_silence(
 {
     match set_silence(store.alloc(), at, posted, store.silences())? {
         Err(reason) => Ok(Err(reason)),
-        Ok(posting) => Ok(Ok(Prepared::Silence {
+        Ok(silence_update) => Ok(Ok(Prepared::Silence {
             id: posted.id,
             new_id: posted.new_id,
-            posting,
+            silence_update,
         })),
     }
 }

@@ -10,14 +10,14 @@ ghost use Rattle.amr_time.specs.Time.{latest_read};
 ghost use Rattle.amr_state.specs.State.{State};
 ghost use Rattle.amr_state.specs.Kept.{GrownBy, undone};
 ghost use Rattle.amr_engine.specs.Flush.{flush};
-ghost use Rattle.amr_engine.specs.Quiet.{is_outside, no_alert_ends, no_silence_turns, all_fire_until, is_untimed, is_told, are_told, wound, IsStill, IsQuiet};
+ghost use Rattle.amr_engine.specs.Quiet.{is_outside, no_alert_ends, no_silence_turns, all_fire_until, is_untimed, is_notified, are_notified, with_timer_reset, IsStill, IsQuiet};
 ghost use Rattle.amr_engine.specs.Weight.{flush_weight};
 
-use crate::flush::{flush, let_through, log_key, wind};
+use crate::flush::{flush, let_through, log_key, reset_timer};
 use amr_config::Config;
 use amr_labels::{LabelMap, Labels, Listing};
 use amr_rules::{labels_of, needs_update};
-use amr_state::{Member, Spot, Store, members_of};
+use amr_state::{Member, RouteLabels, Store, members_of};
 use amr_stated::Integration;
 use amr_time::Moment;
 use std::alloc::{AllocError, Global};
@@ -102,7 +102,7 @@ impl QuietGroups {
         &mut self,
         store: &mut Store,
         at: Moment,
-        group: &Spot,
+        group: &RouteLabels,
     ) -> Result<(), AllocError>
         requires late { at ≤ latest_read }
         requires memory { IsTrueOf self.old store.old.state }
@@ -112,7 +112,7 @@ impl QuietGroups {
         ensures memory { OnOk result (IsTrueOf self.new store.new.state) }
     {
         if self.is_quiet(store, at, group)? {
-            return wind(store, at, group);
+            return reset_timer(store, at, group);
         }
         self.flushes = self.flushes.saturating_add(1);
         self.forget(&group.labels);
@@ -121,10 +121,15 @@ impl QuietGroups {
 
     /// Returns whether a flush of the group only sets its timer. A `false` may only mean that
     /// finding out isn't worth it yet.
-    fn is_quiet(&mut self, store: &mut Store, at: Moment, group: &Spot) -> Result<bool, AllocError>
+    fn is_quiet(
+        &mut self,
+        store: &mut Store,
+        at: Moment,
+        group: &RouteLabels,
+    ) -> Result<bool, AllocError>
         requires { IsTrueOf self.old store.old.state }
         ensures quiet { IfOk result (λ quiet. quiet ≡ true
-            → flush at group.now store.old.state ≡ wound at group.now store.old.state) }
+            → flush at group.now store.old.state ≡ with_timer_reset at group.now store.old.state) }
         ensures memory { OnOk result (IsTrueOf self.new store.old.state) }
         ensures same { store.new ≡ store.old }
     {
@@ -138,7 +143,7 @@ impl QuietGroups {
     }
 
     /// Returns whether the group is remembered as quiet at a moment.
-    fn is_known(&self, at: Moment, group: &Spot) -> bool
+    fn is_known(&self, at: Moment, group: &RouteLabels) -> bool
         ensures { result ≡ is_known at group.now self.now }
     {
         match self.times.get(&group.labels) {
@@ -196,13 +201,13 @@ impl QuietGroups {
         &mut self,
         store: &mut Store,
         at: Moment,
-        group: &Spot,
+        group: &RouteLabels,
         until: u128,
     ) -> Result<bool, AllocError>
         requires memory { IsTrueOf self.old store.old.state }
         requires still { IsStill store.old.state at until }
         ensures quiet { IfOk result (λ quiet. quiet ≡ true
-            → flush at group.now store.old.state ≡ wound at group.now store.old.state) }
+            → flush at group.now store.old.state ≡ with_timer_reset at group.now store.old.state) }
         ensures memory { OnOk result (IsTrueOf self.new store.old.state) }
         ensures same { store.new ≡ store.old }
     {
@@ -217,7 +222,7 @@ impl QuietGroups {
     }
 
     /// Remembers when a group is quiet.
-    fn learn(&mut self, group: &Spot, stretch: Stretch) -> Result<(), AllocError>
+    fn learn(&mut self, group: &RouteLabels, stretch: Stretch) -> Result<(), AllocError>
         ensures { OnOk result (self.new ≡ with_time group.now stretch self.old) }
     {
         let mut times = self.others(group)?;
@@ -229,7 +234,7 @@ impl QuietGroups {
     }
 
     /// Returns what is remembered of the groups with the same labels on other routes.
-    fn others(&self, group: &Spot) -> Result<Listing<QuietTime>, AllocError>
+    fn others(&self, group: &RouteLabels) -> Result<Listing<QuietTime>, AllocError>
         ensures { IfOk result (λ others. others
             ≡ of_others group.now.route (times_at self.now group.now.labels)) }
     {
@@ -289,7 +294,7 @@ fn of_others(
 fn quiet_until(
     store: &mut Store,
     at: Moment,
-    group: &Spot,
+    group: &RouteLabels,
     until: u128,
 ) -> Result<Option<u128>, AllocError>
     requires { IsStill store.old.state at until }
@@ -303,7 +308,7 @@ fn quiet_until(
     let members = members_of(store, group)?;
     let until = first_end(members.as_slice(), until);
     let through = let_through(store, at, group.route, members.as_slice())?;
-    match told_until(store, at, group, through.as_slice(), until)? {
+    match notified_until(store, at, group, through.as_slice(), until)? {
         Some(end) if at.nanoseconds() < end => Ok(Some(end)),
         _ => Ok(None),
     }
@@ -334,34 +339,34 @@ fn first_end(members: &[Member], until: u128) -> u128
 
 /// Returns until when no integration of the group's receiver is to be notified of these members, at
 /// the latest until `until`. Returns `None` if one may have to be notified at the moment.
-fn told_until(
+fn notified_until(
     store: &Store,
     at: Moment,
-    group: &Spot,
+    group: &RouteLabels,
     through: &[Member],
     until: u128,
 ) -> Result<Option<u128>, AllocError>
     ensures { IfOk result (λ found. IfSome found (λ end. (end ≤ until)
-        × (are_told store.now.state group.now at end through.now ≡ true))) }
+        × (are_notified store.now.state group.now at end through.now ≡ true))) }
 {
     if through.is_empty() {
         return Ok(Some(until));
     }
     let firing = labels_of(store.alloc(), through)?;
-    each_told_until(store, at, group, &firing, until)
+    each_notified_until(store, at, group, &firing, until)
 }
 
 /// Returns until when no integration of the group's receiver is to be notified that these alerts
 /// fire, at the latest until `until`. Returns `None` if one may have to be notified at the moment.
-fn each_told_until(
+fn each_notified_until(
     store: &Store,
     at: Moment,
-    group: &Spot,
+    group: &RouteLabels,
     firing: &LabelMap<()>,
     until: u128,
 ) -> Result<Option<u128>, AllocError>
     ensures { IfOk result (λ found. IfSome found (λ end. (end ≤ until)
-        × (list_all (is_told store.now.state group.now at end firing.now)
+        × (list_all (is_notified store.now.state group.now at end firing.now)
         (integrations_of store.now.state.config group.now.route) ≡ true))) }
 {
     let mut until = until;
@@ -374,17 +379,17 @@ fn each_told_until(
     Ok(Some(until))
 }
 
-/// Returns the first moment at which an integration that was told of these firing alerts is
+/// Returns the first moment at which an integration that was notified of these firing alerts is
 /// notified of them again. Returns `None` if it is to be notified now, or never was.
 fn repeat_of(
     store: &Store,
     at: Moment,
-    group: &Spot,
+    group: &RouteLabels,
     firing: &LabelMap<()>,
     integration: &Integration,
 ) -> Result<Option<u128>, AllocError>
     ensures { IfOk result (λ found. IfSome found
-        (λ end. is_told store.now.state group.now at end firing.now integration.now ≡ true)) }
+        (λ end. is_notified store.now.state group.now at end firing.now integration.now ≡ true)) }
 {
     let key = log_key(store.alloc(), store.config(), group, integration)?;
     let interval = store.config().repeat_interval(group.route);

@@ -2,32 +2,32 @@
 //! moves of the event.
 ghost use Rattle.std.specs.Prelude.{◌≡◌, OnOk};
 ghost use Rattle.amr_rules.specs.Silences.{stored_under};
-ghost use Rattle.amr_rules.specs.Silencing.{posting_stored};
+ghost use Rattle.amr_rules.specs.Silencing.{update_stored};
 ghost use Rattle.amr_state.specs.Kept.{GrownBy, undone};
 ghost use Rattle.amr_engine.specs.Events.{with_silences};
 
 use amr_events::SilenceId;
-use amr_rules::{Posting, Silence};
+use amr_rules::{Silence, SilenceUpdate};
 use amr_state::Store;
 use std::alloc::AllocError;
 
 /// Stores what was decided of a post of a silence. `id` is that of the silence it names, and
 /// `new_id` that of a new one.
-pub(crate) fn store_posting(
+pub(crate) fn store_update(
     store: &mut Store,
     id: Option<SilenceId>,
     new_id: SilenceId,
-    posting: Posting,
+    silence_update: SilenceUpdate,
 ) -> Result<(), AllocError>
     ensures ok { OnOk result (store.new.state
         ≡ with_silences store.old.state
-        (posting_stored id new_id posting store.old.state.silences)) }
+        (update_stored id new_id silence_update store.old.state.silences)) }
     ensures kept { undone store.new ≡ undone store.old }
     ensures grown { GrownBy 2 store.old store.new }
 {
-    match posting {
-        Posting::InPlace(silence) => store_under(store, id, Some(silence)),
-        Posting::New(silence, old) => {
+    match silence_update {
+        SilenceUpdate::InPlace(silence) => store_under(store, id, Some(silence)),
+        SilenceUpdate::New(silence, old) => {
             store_under(store, id, old)?;
             store.insert_silence(new_id, silence)
         }

@@ -14,7 +14,7 @@ use Rattle.amr_time.specs.Time.{Moment}
 use Rattle.amr_rules.specs.declared.alert.Alert.{Alert}
 use Rattle.amr_rules.specs.declared.silence.Silence.{Silence}
 use Rattle.amr_rules.specs.declared.update.LogEntry.{LogEntry}
-use Rattle.amr_state.specs.declared.note.LogKey.{LogKey}
+use Rattle.amr_state.specs.declared.notification.LogKey.{LogKey}
 use Rattle.amr_state.specs.declared.views.Group.{Group}
 use Rattle.amr_labels.specs.Map.{entries}
 use Rattle.amr_lines.specs.Printed.{object_of, with_text, texts_data, labels_data, label_sets_data, moment_data, number_data, skipped_members, skipped_data, alert_members, alert_data, matcher_members, matcher_data, matchers_data, silence_members, silence_data, since_data, group_members, group_data, log_members, log_data}

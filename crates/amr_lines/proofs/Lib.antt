@@ -3,4 +3,4 @@ pub mod Floats
 pub mod LineParts
 pub mod ObjectMembers
 pub mod Tokens
-pub mod NoteTokens
+pub mod NotificationTokens

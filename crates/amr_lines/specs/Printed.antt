@@ -15,12 +15,12 @@ use Rattle.amr_time.specs.Time.{Moment}
 use Rattle.amr_rules.specs.declared.alert.Alert.{Alert}
 use Rattle.amr_rules.specs.declared.silence.Silence.{Silence}
 use Rattle.amr_rules.specs.declared.update.LogEntry.{LogEntry}
-use Rattle.amr_state.specs.declared.note.Clock.{Clock}
-use Rattle.amr_state.specs.declared.note.LogKey.{LogKey}
-use Rattle.amr_state.specs.declared.note.FiringAlert.{FiringAlert}
-use Rattle.amr_state.specs.declared.note.ResolvedAlert.{ResolvedAlert}
-use Rattle.amr_state.specs.declared.note.Note.{Note}
-use Rattle.amr_state.specs.declared.spot.Spot.{Spot}
+use Rattle.amr_state.specs.declared.notification.GroupTimer.{GroupTimer}
+use Rattle.amr_state.specs.declared.notification.LogKey.{LogKey}
+use Rattle.amr_state.specs.declared.notification.FiringAlert.{FiringAlert}
+use Rattle.amr_state.specs.declared.notification.ResolvedAlert.{ResolvedAlert}
+use Rattle.amr_state.specs.declared.notification.Notification.{Notification}
+use Rattle.amr_state.specs.declared.route_labels.RouteLabels.{RouteLabels}
 use Rattle.amr_state.specs.declared.views.Group.{Group}
 use Rattle.amr_state.specs.State.{State}
 use Rattle.amr_state.specs.Seen.{group_seen}
@@ -76,22 +76,22 @@ resolved_members alert =
 unfoldable pub resolved_data : ResolvedAlert → Data
 resolved_data alert = object (object_of (resolved_members alert))
 
-abbrev pub note_members : Note → List (Text × Data)
-note_members note =
-    (codes "at", moment_data note.at)
-    ∷ (codes "firing", array (items_of (map firing_data note.firing)))
-    ∷ (codes "groupLabels", labels_data note.key.group)
-    ∷ (codes "integration", string note.key.kind)
-    ∷ (codes "place", number_data note.key.place)
-    ∷ (codes "receiver", string note.key.receiver)
-    ∷ (codes "resolved", array (items_of (map resolved_data note.resolved)))
-    ∷ (codes "route", number_data note.route) ∷ []
+abbrev pub notification_members : Notification → List (Text × Data)
+notification_members notification =
+    (codes "at", moment_data notification.at)
+    ∷ (codes "firing", array (items_of (map firing_data notification.firing)))
+    ∷ (codes "groupLabels", labels_data notification.key.group)
+    ∷ (codes "integration", string notification.key.kind)
+    ∷ (codes "place", number_data notification.key.place)
+    ∷ (codes "receiver", string notification.key.receiver)
+    ∷ (codes "resolved", array (items_of (map resolved_data notification.resolved)))
+    ∷ (codes "route", number_data notification.route) ∷ []
 
-unfoldable pub note_data : Note → Data
-note_data note = object (object_of (note_members note))
+unfoldable pub notification_data : Notification → Data
+notification_data notification = object (object_of (notification_members notification))
 
-abbrev pub note_line : Note → Text
-note_line note = data_line (note_data note)
+abbrev pub notification_line : Notification → Text
+notification_line notification = data_line (notification_data notification)
 
 abbrev pub skipped_members : ℕ → List ℕ → List (Text × Data)
 skipped_members event places = (codes "event", number_data event) ∷ (codes "skipped", array (items_of (map number_data places))) ∷ []
@@ -118,7 +118,7 @@ skipped_lines event (place ∷ places) = skipped_line event (place ∷ places)
 -- the lines of an event's outcome: its notifications in order, then the skipped alerts; or its
 -- refusal
 abbrev pub event_lines : ℕ → Outcome → Text
-event_lines event (Accepted moves notes skipped) = flat_map note_line notes ++ skipped_lines event skipped
+event_lines event (Accepted moves notes skipped) = flat_map notification_line notes ++ skipped_lines event skipped
 event_lines event (Refused reason) = refused_event_line event reason
 
 abbrev pub alert_members : LabelSet × Alert → List (Text × Data)
@@ -198,7 +198,7 @@ abbrev pub group_seen_line : Group → Text
 group_seen_line group = data_line (group_data group)
 
 -- a group of the state, with its timer
-abbrev pub group_line : State → Spot × Clock → Text
+abbrev pub group_line : State → RouteLabels × GroupTimer → Text
 group_line s group = group_seen_line (group_seen s group)
 
 abbrev pub log_members : LogKey × LogEntry → List (Text × Data)
@@ -221,5 +221,5 @@ log_line entry = data_line (log_data entry)
 
 -- a proof with this on its `unfolding` line computes what is printed
 unfoldable pub printing : Unit {0}
-unfolding moment_data firing_data resolved_data note_data alert_data matcher_data id_text silence_data group_data log_data
+unfolding moment_data firing_data resolved_data notification_data alert_data matcher_data id_text silence_data group_data log_data
 printing = tt

@@ -8,7 +8,7 @@ mod last_lines;
 mod lines;
 mod listed;
 mod listings;
-mod note_text;
+mod notification_text;
 mod outlet;
 mod values;
 mod verdicts;

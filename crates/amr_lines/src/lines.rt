@@ -1,19 +1,19 @@
 //! The lines of an event: its notifications, then the alerts that it skipped; or its refusal.
-//! Notifications are written in `note_text.rt`; the other values are made in `values.rt`, and here
-//! they become text.
+//! Notifications are written in `notification_text.rt`; the other values are made in `values.rt`, and
+//! here they become text.
 ghost use Rattle.std.specs.Prelude.{◌≡◌, ◌∷◌, [], ◌++◌, false, length, ◌<◌, IfOk, string_bytes};
 ghost use Rattle.std.specs.List.{flat_map};
 ghost use Rattle.serde_json.specs.Written.{has_float, compact_text};
 ghost use Rattle.serde_json.specs.View.{view};
-ghost use Rattle.amr_lines.specs.Printed.{note_line, skipped_line, skipped_lines, refused_event_line, event_lines};
+ghost use Rattle.amr_lines.specs.Printed.{notification_line, skipped_line, skipped_lines, refused_event_line, event_lines};
 ghost use Rattle.amr_engine.specs.Outcomes.{outcome_view};
 
 use crate::json_text::text_of;
-use crate::note_text::append_note;
+use crate::notification_text::append_notification;
 use crate::values::{refused_event_value, skipped_value};
 use amr_engine::Outcome;
 use amr_labels::Shared;
-use amr_state::Note;
+use amr_state::Notification;
 use serde_json::Value;
 use std::alloc::{AllocError, Global};
 
@@ -48,10 +48,10 @@ fn refused_event_text(alloc: Global, event: u64, reason: u64) -> Result<String, 
 fn accepted_text(
     alloc: Global,
     event: u64,
-    notes: &[Shared<Note>],
+    notes: &[Shared<Notification>],
     skipped: &[usize],
 ) -> Result<String, AllocError>
-    ensures { IfOk result (λ text. string_bytes text ≡ flat_map note_line notes.now
+    ensures { IfOk result (λ text. string_bytes text ≡ flat_map notification_line notes.now
         ++ skipped_lines event skipped.now) }
 {
     let mut text = notes_text(alloc, notes)?;
@@ -62,12 +62,12 @@ fn accepted_text(
 }
 
 /// Returns the lines of notifications.
-pub fn notes_text(alloc: Global, notes: &[Shared<Note>]) -> Result<String, AllocError>
-    ensures { IfOk result (λ text. string_bytes text ≡ flat_map note_line notes.now) }
+pub fn notes_text(alloc: Global, notes: &[Shared<Notification>]) -> Result<String, AllocError>
+    ensures { IfOk result (λ text. string_bytes text ≡ flat_map notification_line notes.now) }
 {
     let mut lines = Vec::new(alloc);
-    for note in notes {
-        lines = append_note(lines, alloc, note.get())?;
+    for notification in notes {
+        lines = append_notification(lines, alloc, notification.get())?;
     }
     Ok(text_of(lines))
 }

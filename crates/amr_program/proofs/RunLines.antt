@@ -14,8 +14,8 @@ use Rattle.amr_engine.specs.Events.{Outcome, outcome_of, after_event, after_even
 use Rattle.amr_lines.specs.Printed.{event_lines}
 use Rattle.amr_program.specs.Runs.{lines_from, run_lines, LeavesAt, RunLeavesAt, RunLeaves}
 use Rattle.amr_lines.specs.Outlet.{AppendsBeginning}
-use Rattle.amr_program.specs.declared.run.Stopped.{Stopped}
-use Rattle.amr_program.specs.declared.run.Stopped.TheVariants.{OutOfMemory, CannotWrite}
+use Rattle.amr_program.specs.declared.run.RunError.{RunError}
+use Rattle.amr_program.specs.declared.run.RunError.TheVariants.{OutOfMemory, CannotWrite}
 use Rattle.amr_lines.proofs.Parts.{AppendsBeginning-after}
 
 lines_from-append : (n : ℕ) (s : State) (events more : List Event)
@@ -81,7 +81,7 @@ module _ (a b c : Option Text) (config : Config) (events : List Event) (k : ℕ)
       )
 
   -- the run stops at an event
-  pub RunLeavesAt-event : (stopped : Stopped) → LeavesAt b c (event_lines (k + 1) outcome) stopped → RunLeavesAt a c config events stopped
+  pub RunLeavesAt-event : (error : RunError) → LeavesAt b c (event_lines (k + 1) outcome) error → RunLeavesAt a c config events error
   RunLeavesAt-event OutOfMemory left = (k, subst (Appends a c) (append-nil (run_lines config (take k events))) (Appends-trans a b c _ _ before left))
   RunLeavesAt-event CannotWrite left = AppendsBeginning-after a b c _ _ rest_lines.0 _ before left rest_lines.1
 
@@ -94,7 +94,7 @@ run_lines-split config events k = (
 )
 
 -- the writer can't be flushed
-pub RunLeaves-unflushed : (a b c : Option Text) (config : Config) (events : List Event) (ended : Result (Unit {0}) Stopped)
+pub RunLeaves-unflushed : (a b c : Option Text) (config : Config) (events : List Event) (ended : Result (Unit {0}) RunError)
     → RunLeaves a b config events ended → Keeps b c → AppendsBeginning a c (run_lines config events)
 RunLeaves-unflushed a b c config events (Ok u) left kept =
     record { written = run_lines config events; unwritten = []; parts = sym (append-nil (run_lines config events)); appended = Appends-kept a b c _ left kept }
@@ -105,7 +105,7 @@ RunLeaves-unflushed a b c config events (Err CannotWrite) left kept =
     record { written = left.written; unwritten = left.unwritten; parts = left.parts; appended = Appends-kept a b c _ left.appended kept }
 
 -- the writer is flushed
-pub RunLeaves-flushed : (a b c : Option Text) (config : Config) (events : List Event) (ended : Result (Unit {0}) Stopped)
+pub RunLeaves-flushed : (a b c : Option Text) (config : Config) (events : List Event) (ended : Result (Unit {0}) RunError)
     → RunLeaves a b config events ended → Keeps b c → RunLeaves a c config events ended
 RunLeaves-flushed a b c config events (Ok u) left kept = Appends-kept a b c _ left kept
 RunLeaves-flushed a b c config events (Err OutOfMemory) left kept = (left.0, Appends-kept a b c _ left.1 kept)

@@ -8,10 +8,10 @@ use Rattle.amr_events.specs.declared.error.Fault.{Fault as ScriptFault}
 use Rattle.amr_events.specs.declared.error.Fault.TheVariants.{BadLine, LineTooLong, TooManyEvents}
 use Rattle.amr_events.specs.declared.error.ScriptError.{ScriptError}
 use Rattle.amr_events.specs.declared.error.ScriptError.TheVariants as script_error
-use Rattle.amr_commands.specs.declared.conversation.Broken.{Broken}
-use Rattle.amr_commands.specs.declared.conversation.Broken.TheVariants as broken
-use Rattle.amr_program.specs.declared.run.Stopped.{Stopped}
-use Rattle.amr_program.specs.declared.run.Stopped.TheVariants as stopped
+use Rattle.amr_commands.specs.declared.conversation.ConversationError.{ConversationError}
+use Rattle.amr_commands.specs.declared.conversation.ConversationError.TheVariants as error
+use Rattle.amr_program.specs.declared.run.RunError.{RunError}
+use Rattle.amr_program.specs.declared.run.RunError.TheVariants as error
 use Rattle.amr_program.specs.declared.fault.Fault.{Fault}
 use Rattle.amr_program.specs.declared.fault.Fault.TheVariants.{Config, Script, CannotReadConfig, CannotReadScript, CannotReadCommands, CannotWrite, OutOfMemory, Usage}
 use Rattle.amr_program.specs.declared.fault.Place.{Place}
@@ -26,13 +26,13 @@ abbrev pub script_fault : ScriptError → Fault
 script_fault script_error.Memory = OutOfMemory
 script_fault (script_error.Refused fault) = Script fault
 
-abbrev pub stop_fault : Stopped → Fault
-stop_fault stopped.OutOfMemory = OutOfMemory
-stop_fault stopped.CannotWrite = CannotWrite
+abbrev pub stop_fault : RunError → Fault
+stop_fault error.OutOfMemory = OutOfMemory
+stop_fault error.CannotWrite = CannotWrite
 
-abbrev pub broken_fault : Broken → Fault
-broken_fault broken.Reading = CannotReadCommands
-broken_fault broken.Writing = CannotWrite
+abbrev pub broken_fault : ConversationError → Fault
+broken_fault error.Reading = CannotReadCommands
+broken_fault error.Writing = CannotWrite
 
 abbrev pub config_name : Refusal → List ℕ
 config_name (BadConfig path) = codes "amreplay: config: 5 BadConfig"

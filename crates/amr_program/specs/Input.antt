@@ -1,11 +1,11 @@
 -- Why a file couldn't be read.
 use Rattle.std.specs.Prelude.{◌≡◌, ℕ, Bool}
 use Rattle.amr_lines.specs.Inlet.{HasEnded}
-use Rattle.amr_program.specs.declared.input.Unread.{Unread}
-use Rattle.amr_program.specs.declared.input.Unread.TheVariants.{OutOfMemory, CannotRead}
+use Rattle.amr_program.specs.declared.input.InputError.{InputError}
+use Rattle.amr_program.specs.declared.input.InputError.TheVariants.{OutOfMemory, CannotRead}
 
 -- the reader failed, or was called as often as it may be; or memory ran out, and the reader didn't
 -- fail
-abbrev pub UnreadBy : Unread → Bool → Bool → ℕ → Type 0
+abbrev pub UnreadBy : InputError → Bool → Bool → ℕ → Type 0
 UnreadBy OutOfMemory failed failed' calls = failed' ≡ failed
 UnreadBy CannotRead failed failed' calls = HasEnded failed' calls

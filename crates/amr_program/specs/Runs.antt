@@ -6,8 +6,8 @@ use Rattle.amr_config.specs.Config.{Config}
 use Rattle.amr_events.specs.Events.{Event}
 use Rattle.amr_state.specs.State.{State, start}
 use Rattle.amr_engine.specs.Events.{outcome_of, after_event}
-use Rattle.amr_program.specs.declared.run.Stopped.{Stopped}
-use Rattle.amr_program.specs.declared.run.Stopped.TheVariants.{OutOfMemory, CannotWrite}
+use Rattle.amr_program.specs.declared.run.RunError.{RunError}
+use Rattle.amr_program.specs.declared.run.RunError.TheVariants.{OutOfMemory, CannotWrite}
 use Rattle.amr_lines.specs.Outlet.{AppendsBeginning}
 use Rattle.amr_lines.specs.Printed.{event_lines}
 
@@ -22,20 +22,20 @@ run_lines config events = lines_from 1 (start config) events
 
 -- What is left of a text in a writer: the text; nothing of it if memory runs out; a prefix of it if
 -- the writer fails.
-abbrev pub LeavesAt : Option Text → Option Text → Text → Stopped → Type 0
+abbrev pub LeavesAt : Option Text → Option Text → Text → RunError → Type 0
 LeavesAt old new text OutOfMemory = Appends old new []
 LeavesAt old new text CannotWrite = AppendsBeginning old new text
 
-abbrev pub Leaves : Option Text → Option Text → Text → Result (Unit {0}) Stopped → Type 0
+abbrev pub Leaves : Option Text → Option Text → Text → Result (Unit {0}) RunError → Type 0
 Leaves old new text (Ok u) = Appends old new text
-Leaves old new text (Err stopped) = LeavesAt old new text stopped
+Leaves old new text (Err error) = LeavesAt old new text error
 
 -- What a run leaves in a writer: its lines; the lines of the first events if memory runs out; a
 -- prefix of the lines if the writer fails.
-abbrev pub RunLeavesAt : Option Text → Option Text → Config → List Event → Stopped → Type 0
+abbrev pub RunLeavesAt : Option Text → Option Text → Config → List Event → RunError → Type 0
 RunLeavesAt old new config events OutOfMemory = (k : ℕ) × Appends old new (run_lines config (take k events))
 RunLeavesAt old new config events CannotWrite = AppendsBeginning old new (run_lines config events)
 
-abbrev pub RunLeaves : Option Text → Option Text → Config → List Event → Result (Unit {0}) Stopped → Type 0
+abbrev pub RunLeaves : Option Text → Option Text → Config → List Event → Result (Unit {0}) RunError → Type 0
 RunLeaves old new config events (Ok u) = Appends old new (run_lines config events)
-RunLeaves old new config events (Err stopped) = RunLeavesAt old new config events stopped
+RunLeaves old new config events (Err error) = RunLeavesAt old new config events error

@@ -4,7 +4,7 @@ use Rattle.std.specs.Io.KnownBytes.{Keeps}
 use Rattle.amr_labels.specs.Labels.{Text}
 use Rattle.amr_config.specs.Config as config
 use Rattle.amr_events.specs.Events.{Event}
-use Rattle.amr_commands.specs.declared.conversation.Broken.{Broken}
+use Rattle.amr_commands.specs.declared.conversation.ConversationError.{ConversationError}
 use Rattle.amr_commands.specs.Replies.{Incident}
 use Rattle.amr_commands.specs.Converse.{Converses}
 use Rattle.amr_program.specs.declared.fault.Fault.{Fault}
@@ -21,5 +21,5 @@ SessionLeaves source left old new bytes script (Ok u) =
     (held : config.Config) × (events : List Event) × Hold bytes script held events × Converses (incident_with held events) source left old new (Ok u)
 SessionLeaves source left old new bytes script (Err fault) =
     (AreRefused bytes script fault × Keeps source left × Keeps old new)
-    ⊎ ((held : config.Config) × (events : List Event) × Hold bytes script held events × (broken : Broken) × (fault ≡ broken_fault broken)
-    × Converses (incident_with held events) source left old new (Err broken))
+    ⊎ ((held : config.Config) × (events : List Event) × Hold bytes script held events × (error : ConversationError) × (fault ≡ broken_fault error)
+    × Converses (incident_with held events) source left old new (Err error))

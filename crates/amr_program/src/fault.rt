@@ -3,8 +3,8 @@
 ghost use Rattle.std.specs.Prelude.{◌≡◌};
 ghost use Rattle.amr_lines.specs.Outlet.{WritesText, FailsAt};
 
-use crate::run::Stopped;
-use amr_commands::Broken;
+use crate::run::RunError;
+use amr_commands::ConversationError;
 use amr_events::{Fault as ScriptFault, ScriptError};
 use amr_lines::{Outlet, WriteFailed, write_parts};
 use amr_stated::{ConfigError, Refusal};
@@ -67,16 +67,16 @@ impl From<ScriptError> for Fault {
     }
 }
 
-impl From<Stopped> for Fault {
+impl From<RunError> for Fault {
     ghost use Rattle.std.specs.Prelude.{◌≡◌};
     ghost use Rattle.amr_program.specs.Faults.{stop_fault};
 
-    ghost from_gives = { λ stopped fault. fault ≡ stop_fault stopped };
+    ghost from_gives = { λ error fault. fault ≡ stop_fault error };
 
-    fn from(stopped: Stopped) -> Fault {
-        match stopped {
-            Stopped::OutOfMemory => Fault::OutOfMemory,
-            Stopped::CannotWrite => Fault::CannotWrite,
+    fn from(error: RunError) -> Fault {
+        match error {
+            RunError::OutOfMemory => Fault::OutOfMemory,
+            RunError::CannotWrite => Fault::CannotWrite,
         }
     }
 }
@@ -92,16 +92,16 @@ impl From<WriteFailed> for Fault {
     }
 }
 
-impl From<Broken> for Fault {
+impl From<ConversationError> for Fault {
     ghost use Rattle.std.specs.Prelude.{◌≡◌};
     ghost use Rattle.amr_program.specs.Faults.{broken_fault};
 
-    ghost from_gives = { λ broken fault. fault ≡ broken_fault broken };
+    ghost from_gives = { λ error fault. fault ≡ broken_fault error };
 
-    fn from(broken: Broken) -> Fault {
-        match broken {
-            Broken::Reading => Fault::CannotReadCommands,
-            Broken::Writing => Fault::CannotWrite,
+    fn from(error: ConversationError) -> Fault {
+        match error {
+            ConversationError::Reading => Fault::CannotReadCommands,
+            ConversationError::Writing => Fault::CannotWrite,
         }
     }
 }

@@ -13,30 +13,30 @@ const CHUNK: usize = 8192;
 
 /// Why a file couldn't be read.
 #[derive(Clone, Copy, Debug, PartialEq, Eq)]
-pub enum Unread {
+pub enum InputError {
     OutOfMemory,
     CannotRead,
 }
 
-impl From<AllocError> for Unread {
+impl From<AllocError> for InputError {
     ghost use Rattle.std.specs.Prelude.{◌≡◌};
-    ghost use Rattle.amr_program.specs.declared.input.Unread.TheVariants.{OutOfMemory};
+    ghost use Rattle.amr_program.specs.declared.input.InputError.TheVariants.{OutOfMemory};
 
     ghost from_gives = { λ _ unread. unread ≡ OutOfMemory };
 
-    fn from(_error: AllocError) -> Unread {
-        Unread::OutOfMemory
+    fn from(_error: AllocError) -> InputError {
+        InputError::OutOfMemory
     }
 }
 
-impl From<ReadFailed> for Unread {
+impl From<ReadFailed> for InputError {
     ghost use Rattle.std.specs.Prelude.{◌≡◌};
-    ghost use Rattle.amr_program.specs.declared.input.Unread.TheVariants.{CannotRead};
+    ghost use Rattle.amr_program.specs.declared.input.InputError.TheVariants.{CannotRead};
 
     ghost from_gives = { λ _ unread. unread ≡ CannotRead };
 
-    fn from(_error: ReadFailed) -> Unread {
-        Unread::CannotRead
+    fn from(_error: ReadFailed) -> InputError {
+        InputError::CannotRead
     }
 }
 
@@ -44,7 +44,7 @@ impl From<ReadFailed> for Unread {
 ///
 /// Reading also ends at an error of the reader, and at the read numbered 1,099,511,627,776. Both
 /// are errors, so that a file that is cut short is never taken for a whole one.
-pub fn read_whole<R: Read>(alloc: Global, inlet: &mut Inlet<R>) -> Result<Vec<u8>, Unread>
+pub fn read_whole<R: Read>(alloc: Global, inlet: &mut Inlet<R>) -> Result<Vec<u8>, InputError>
     ensures consumed { IfOk result (λ bytes. Consumes (R.remaining inlet.old.reader)
         (R.remaining inlet.new.reader) bytes.items) }
     ensures at_end { IfOk result (λ bytes. IsAtEnd (R.remaining inlet.new.reader)) }

@@ -12,7 +12,7 @@ mod words;
 
 pub use check::check_config;
 pub use fault::{Fault, status_of, write_fault};
-pub use input::{Unread, read_whole};
+pub use input::{InputError, read_whole};
 pub use load::{LONGEST_CONFIG, open_session, read_config};
 pub use run::run_script;
 pub use session::run_session;

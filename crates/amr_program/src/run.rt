@@ -19,30 +19,30 @@ use std::io::Write;
 
 /// Why a run ended before its last line.
 #[derive(Debug, Drop)]
-pub enum Stopped {
+pub enum RunError {
     OutOfMemory,
     CannotWrite,
 }
 
-impl From<AllocError> for Stopped {
+impl From<AllocError> for RunError {
     ghost use Rattle.std.specs.Prelude.{◌≡◌};
-    ghost use Rattle.amr_program.specs.declared.run.Stopped.TheVariants.{OutOfMemory};
+    ghost use Rattle.amr_program.specs.declared.run.RunError.TheVariants.{OutOfMemory};
 
     ghost from_gives = { λ _ e. e ≡ OutOfMemory };
 
-    fn from(_error: AllocError) -> Stopped {
-        Stopped::OutOfMemory
+    fn from(_error: AllocError) -> RunError {
+        RunError::OutOfMemory
     }
 }
 
-impl From<WriteFailed> for Stopped {
+impl From<WriteFailed> for RunError {
     ghost use Rattle.std.specs.Prelude.{◌≡◌};
-    ghost use Rattle.amr_program.specs.declared.run.Stopped.TheVariants.{CannotWrite};
+    ghost use Rattle.amr_program.specs.declared.run.RunError.TheVariants.{CannotWrite};
 
     ghost from_gives = { λ _ e. e ≡ CannotWrite };
 
-    fn from(_error: WriteFailed) -> Stopped {
-        Stopped::CannotWrite
+    fn from(_error: WriteFailed) -> RunError {
+        RunError::CannotWrite
     }
 }
 
@@ -53,10 +53,10 @@ fn write_event<W: Write>(
     event: u64,
     outcome: &Outcome,
     out: &mut Outlet<W>,
-) -> Result<(), Stopped>
+) -> Result<(), RunError>
     ensures left { Leaves (W.contents out.old.writer) (W.contents out.new.writer)
         (event_lines event (outcome_view outcome.now)) result }
-    ensures stopped { StoppedBy result out.old.failed out.new.failed }
+    ensures error { StoppedBy result out.old.failed out.new.failed }
 {
     let text = event_text(alloc, event, outcome)?;
     write_whole(out, text.as_bytes())?;
@@ -70,12 +70,12 @@ fn pass_event<W: Write>(
     number: u64,
     event: &Event,
     out: &mut Outlet<W>,
-) -> Result<(), Stopped>
+) -> Result<(), RunError>
     ensures left { Leaves (W.contents out.old.writer) (W.contents out.new.writer)
         (event_lines number (outcome_of engine.old.state event.now)) result }
     ensures passed { OnOk result (engine.new.state ≡ after_event engine.old.state event.now) }
     ensures forgotten { OnOk result (engine.new.records ≡ []) }
-    ensures stopped { StoppedBy result out.old.failed out.new.failed }
+    ensures error { StoppedBy result out.old.failed out.new.failed }
 {
     let outcome = engine.apply(event)?;
     engine.forget();
@@ -88,11 +88,11 @@ fn write_events<W: Write>(
     engine: &mut Engine,
     script: &Script,
     out: &mut Outlet<W>,
-) -> Result<(), Stopped>
+) -> Result<(), RunError>
     requires { engine.old.state ≡ start engine.old.state.config }
     ensures left { RunLeaves (W.contents out.old.writer) (W.contents out.new.writer)
         engine.old.state.config script.now result }
-    ensures stopped { StoppedBy result out.old.failed out.new.failed }
+    ensures error { StoppedBy result out.old.failed out.new.failed }
 {
     for number in 0..script.len() {
         pass_event(alloc, engine, number as u64 + 1, script.event(number), out)?;
@@ -106,11 +106,11 @@ fn write_run<W: Write>(
     engine: &mut Engine,
     script: &Script,
     out: &mut Outlet<W>,
-) -> Result<(), Stopped>
+) -> Result<(), RunError>
     requires { engine.old.state ≡ start engine.old.state.config }
     ensures left { RunLeaves (W.contents out.old.writer) (W.contents out.new.writer)
         engine.old.state.config script.now result }
-    ensures stopped { StoppedBy result out.old.failed out.new.failed }
+    ensures error { StoppedBy result out.old.failed out.new.failed }
 {
     let ended = write_events(alloc, engine, script, out);
     flush(out)?;

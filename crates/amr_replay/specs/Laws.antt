@@ -4,7 +4,7 @@ use Rattle.std.specs.Prelude.{◌≡◌, ◌↔◌, ℕ, ◌<◌, ◌≤◌, Lis
 use Rattle.amr_time.specs.Time.{Moment}
 use Rattle.amr_events.specs.Events.{Event, Reason}
 use Rattle.amr_state.specs.declared.due.Due.{Due}
-use Rattle.amr_state.specs.declared.note.Note.{Note}
+use Rattle.amr_state.specs.declared.notification.Notification.{Notification}
 use Rattle.amr_state.specs.State.{State}
 use Rattle.amr_state.specs.Dues.{dues, next_due}
 use Rattle.amr_engine.specs.Events.{Accepted, Refused, outcome_of, after_event, at_moment, skipped_of, move_limit}
@@ -13,7 +13,7 @@ use Rattle.amr_engine.specs.Said.{Does, Refuses, IsIn, IsLeast}
 -- The event makes these moves, as `Does` says, and leads to the state after it. Its outcome has
 -- their number, the notifications that were appended, and the positions of the alerts that were
 -- skipped.
-pub record IsDone (s : State) (event : Event) (count : ℕ) (notes : List Note) (skipped : List ℕ) : Type 0 where
+pub record IsDone (s : State) (event : Event) (count : ℕ) (notes : List Notification) (skipped : List ℕ) : Type 0 where
   pub moves : List Due
   pub does : Does move_limit s event moves (after_event s event)
   pub count_is : count ≡ length moves
@@ -22,7 +22,7 @@ pub record IsDone (s : State) (event : Event) (count : ℕ) (notes : List Note) 
 
 -- an event is accepted exactly if it does what `Does` says
 abbrev pub AcceptedIsDone : Type 0
-AcceptedIsDone = (s : State) (event : Event) (count : ℕ) (notes : List Note) (skipped : List ℕ)
+AcceptedIsDone = (s : State) (event : Event) (count : ℕ) (notes : List Notification) (skipped : List ℕ)
     → (outcome_of s event ≡ Accepted count notes skipped) ↔ IsDone s event count notes skipped
 
 -- an event is refused exactly for the reason that `Refuses` gives

@@ -5,12 +5,12 @@ use Rattle.std.specs.Option.{option_copied}
 use Rattle.amr_time.specs.Time.{Moment}
 use Rattle.amr_events.specs.declared.event.PostedSilence.{PostedSilence}
 use Rattle.amr_rules.specs.declared.silence.Silence.{Silence}
-use Rattle.amr_rules.specs.declared.posting.Posting.{Posting}
-use Rattle.amr_rules.specs.Silences.{Silences, decided_post, named_silence, names_unknown, with_posting, with_decided, after_post}
+use Rattle.amr_rules.specs.declared.silence_update.SilenceUpdate.{SilenceUpdate}
+use Rattle.amr_rules.specs.Silences.{Silences, decided_post, named_silence, names_unknown, with_update, with_decided, after_post}
 
 -- what a post stores, given the stored silence that it names
-abbrev pub IsDecision : Moment → PostedSilence → Silences → Option Posting → Type 0
-IsDecision now posted silences posting = ok_or posting 17 ≡ decided_post now posted (named_silence posted silences)
+abbrev pub IsDecision : Moment → PostedSilence → Silences → Option SilenceUpdate → Type 0
+IsDecision now posted silences silence_update = ok_or silence_update 17 ≡ decided_post now posted (named_silence posted silences)
 
 -- whether the named silence is missing
 pub is_missing : (old : Option (Bor Silence)) (named : Option Silence) → option_copied old ≡ named → is_none named ≡ not (is_some old)
@@ -37,29 +37,29 @@ known_named posted silences old given missing named id found is_given stored =
 pub none_named : (posted : PostedSilence) (silences : Silences) (given : Bool) → given ≡ is_some posted.id → given ≡ false → names_unknown posted silences ≡ false
 none_named posted silences given id absent = ap (λ b. b && is_none (named_silence posted silences)) (sym id ∙ absent)
 
-after_decided : (now : Moment) (posted : PostedSilence) (silences : Silences) (posting : Option Posting) → IsDecision now posted silences posting
-    → after_post now posted silences ≡ with_decided posted silences (ok_or posting 17)
+after_decided : (now : Moment) (posted : PostedSilence) (silences : Silences) (silence_update : Option SilenceUpdate) → IsDecision now posted silences silence_update
+    → after_post now posted silences ≡ with_decided posted silences (ok_or silence_update 17)
 unfolding after_post
-after_decided now posted silences posting is = ap (with_decided posted silences) (sym is)
+after_decided now posted silences silence_update is = ap (with_decided posted silences) (sym is)
 
 -- the silence may not be posted
-pub bad_post : (now : Moment) (posted : PostedSilence) (silences : Silences) (posting : Option Posting) → IsDecision now posted silences posting → posting ≡ None
+pub bad_post : (now : Moment) (posted : PostedSilence) (silences : Silences) (silence_update : Option SilenceUpdate) → IsDecision now posted silences silence_update → silence_update ≡ None
     → Err 17 ≡ after_post now posted silences
-bad_post now posted silences posting is none =
-    sym (after_decided now posted silences posting is ∙ ap (λ (p : Option Posting). with_decided posted silences (ok_or p 17)) none)
+bad_post now posted silences silence_update is none =
+    sym (after_decided now posted silences silence_update is ∙ ap (λ (p : Option SilenceUpdate). with_decided posted silences (ok_or p 17)) none)
 
-some_post : (now : Moment) (posted : PostedSilence) (silences : Silences) (posting : Option Posting) (x : Posting) (b : Bool) → IsDecision now posted silences posting → posting ≡ Some x
-    → names_unknown posted silences ≡ b → after_post now posted silences ≡ (if b then Err 18 else with_posting posted silences x)
-some_post now posted silences posting x b is some unknown =
-    after_decided now posted silences posting is ∙ ap (λ (p : Option Posting). with_decided posted silences (ok_or p 17)) some
-    ∙ ap (λ (test : Bool). if test then Err 18 else with_posting posted silences x) unknown
+some_post : (now : Moment) (posted : PostedSilence) (silences : Silences) (silence_update : Option SilenceUpdate) (x : SilenceUpdate) (b : Bool) → IsDecision now posted silences silence_update → silence_update ≡ Some x
+    → names_unknown posted silences ≡ b → after_post now posted silences ≡ (if b then Err 18 else with_update posted silences x)
+some_post now posted silences silence_update x b is some unknown =
+    after_decided now posted silences silence_update is ∙ ap (λ (p : Option SilenceUpdate). with_decided posted silences (ok_or p 17)) some
+    ∙ ap (λ (test : Bool). if test then Err 18 else with_update posted silences x) unknown
 
 -- the post names a silence that isn't stored
-pub unknown_post : (now : Moment) (posted : PostedSilence) (silences : Silences) (posting : Option Posting) (x : Posting) → IsDecision now posted silences posting → posting ≡ Some x
+pub unknown_post : (now : Moment) (posted : PostedSilence) (silences : Silences) (silence_update : Option SilenceUpdate) (x : SilenceUpdate) → IsDecision now posted silences silence_update → silence_update ≡ Some x
     → names_unknown posted silences ≡ true → Err 18 ≡ after_post now posted silences
-unknown_post now posted silences posting x is some unknown = sym (some_post now posted silences posting x true is some unknown)
+unknown_post now posted silences silence_update x is some unknown = sym (some_post now posted silences silence_update x true is some unknown)
 
 -- the post names a stored silence, or none
-pub known_post : (now : Moment) (posted : PostedSilence) (silences : Silences) (posting : Option Posting) (x : Posting) → IsDecision now posted silences posting → posting ≡ Some x
-    → names_unknown posted silences ≡ false → with_posting posted silences x ≡ after_post now posted silences
-known_post now posted silences posting x is some known = sym (some_post now posted silences posting x false is some known)
+pub known_post : (now : Moment) (posted : PostedSilence) (silences : Silences) (silence_update : Option SilenceUpdate) (x : SilenceUpdate) → IsDecision now posted silences silence_update → silence_update ≡ Some x
+    → names_unknown posted silences ≡ false → with_update posted silences x ≡ after_post now posted silences
+known_post now posted silences silence_update x is some known = sym (some_post now posted silences silence_update x false is some known)

@@ -5,11 +5,11 @@ ghost use Rattle.std.specs.Prelude.{◌≡◌, IfOk};
 ghost use Rattle.std.specs.Option.{option_copied};
 ghost use Rattle.std.specs.Ordering.{nat_cmp};
 ghost use Rattle.amr_tables.specs.Numbered.{shown};
-ghost use Rattle.amr_rules.specs.Silences.{named_silence, with_posting, after_post};
+ghost use Rattle.amr_rules.specs.Silences.{named_silence, with_update, after_post};
 ghost use Rattle.amr_rules.specs.Silencing.{after_decision};
 
-use crate::posting::{Posting, decided_post};
 use crate::silence::Silence;
+use crate::silence_update::{SilenceUpdate, decided_post};
 use amr_events::{PostedSilence, Reason, SilenceId};
 use amr_tables::Keyed;
 use amr_time::Moment;
@@ -23,7 +23,7 @@ pub fn set_silence(
     now: Moment,
     posted: &PostedSilence,
     silences: &Keyed<SilenceId, Silence>,
-) -> Result<Result<Posting, Reason>, AllocError>
+) -> Result<Result<SilenceUpdate, Reason>, AllocError>
     ensures { IfOk result
         (λ decision. after_decision posted.now (shown nat_cmp silences.now) decision
         ≡ after_post now posted.now (shown nat_cmp silences.now)) }
@@ -31,11 +31,11 @@ pub fn set_silence(
     let old = named(silences, posted);
     match decided_post(alloc, now, posted, old)? {
         None => Ok(Err(Reason::BadSilence)),
-        Some(posting) => {
+        Some(silence_update) => {
             if posted.id.is_some() && old.is_none() {
                 Ok(Err(Reason::UnknownSilence))
             } else {
-                Ok(with_free_id(silences, posted, posting))
+                Ok(with_free_id(silences, posted, silence_update))
             }
         }
     }
@@ -52,18 +52,18 @@ fn named<'a>(silences: &'a Keyed<SilenceId, Silence>, posted: &PostedSilence) ->
 fn with_free_id(
     silences: &Keyed<SilenceId, Silence>,
     posted: &PostedSilence,
-    posting: Posting,
-) -> Result<Posting, Reason>
+    silence_update: SilenceUpdate,
+) -> Result<SilenceUpdate, Reason>
     ensures { after_decision posted.now (shown nat_cmp silences.now) result
-        ≡ with_posting posted.now (shown nat_cmp silences.now) posting }
+        ≡ with_update posted.now (shown nat_cmp silences.now) silence_update }
 {
-    match posting {
-        Posting::InPlace(silence) => Ok(Posting::InPlace(silence)),
-        Posting::New(silence, old) => {
+    match silence_update {
+        SilenceUpdate::InPlace(silence) => Ok(SilenceUpdate::InPlace(silence)),
+        SilenceUpdate::New(silence, old) => {
             if silences.get(&posted.new_id).is_some() {
                 Err(Reason::SilenceIdTaken)
             } else {
-                Ok(Posting::New(silence, old))
+                Ok(SilenceUpdate::New(silence, old))
             }
         }
     }

@@ -7,8 +7,8 @@ use Rattle.amr_labels.specs.Map.{set}
 use Rattle.amr_rules.specs.declared.alert.Alert.{Alert}
 use Rattle.amr_state.specs.declared.membership.Membership.{Membership}
 use Rattle.amr_state.specs.declared.displaced.Displaced.{Displaced}
-use Rattle.amr_state.specs.declared.displaced.Displaced.TheVariants.{WasMoment, WasConfig, WasAlert, WasSilence, WasPlacement, WasClock, WasLogged, WasNotes}
-use Rattle.amr_state.specs.State.{State, spot_of, group_spot}
+use Rattle.amr_state.specs.declared.displaced.Displaced.TheVariants.{WasMoment, WasConfig, WasAlert, WasSilence, WasPlacement, WasTimer, WasLogged, WasNotes}
+use Rattle.amr_state.specs.State.{State, member_on_route, group_key}
 use Rattle.amr_state.specs.Records.{put_back_one, put_back, has_entry, same_place}
 use Rattle.amr_state.specs.Fitting.{FitsOne, Fits, is_config, since_config}
 use Rattle.amr_state.proofs.Undoing.{put_back-push, covered, or_right, has_entry-after}
@@ -24,8 +24,8 @@ alike_one (WasMoment moment) s t h = h
 alike_one (WasConfig config) s t h = (refl, h.1)
 alike_one (WasAlert labels alert) s t h = h
 alike_one (WasSilence id silence) s t h = h
-alike_one (WasPlacement member alert) s t h = (h.0, ap (λ m. set m (spot_of member) alert) h.1)
-alike_one (WasClock group clock) s t h = h
+alike_one (WasPlacement member alert) s t h = (h.0, ap (λ m. set m (member_on_route member) alert) h.1)
+alike_one (WasTimer group timer) s t h = h
 alike_one (WasLogged key entry) s t h = h
 alike_one (WasNotes count) s t h = h
 
@@ -39,8 +39,8 @@ fits_one-alike (WasMoment moment) s t h fits = fits
 fits_one-alike (WasConfig config) s t h fits = sym h.1 ∙ fits
 fits_one-alike (WasAlert labels alert) s t h fits = fits
 fits_one-alike (WasSilence id silence) s t h fits = fits
-fits_one-alike (WasPlacement member alert) s t h fits = fits ∙ ap (λ config. group_spot config (spot_of member)) h.0
-fits_one-alike (WasClock group clock) s t h fits = fits
+fits_one-alike (WasPlacement member alert) s t h fits = fits ∙ ap (λ config. group_key config (member_on_route member)) h.0
+fits_one-alike (WasTimer group timer) s t h fits = fits
 fits_one-alike (WasLogged key entry) s t h fits = fits
 fits_one-alike (WasNotes count) s t h fits = fits
 
@@ -109,7 +109,7 @@ same_config (WasConfig config ∷ es) s none = absurd cc
 same_config (WasAlert labels alert ∷ es) s none = same_config es s none
 same_config (WasSilence id silence ∷ es) s none = same_config es s none
 same_config (WasPlacement member alert ∷ es) s none = same_config es s none
-same_config (WasClock group clock ∷ es) s none = same_config es s none
+same_config (WasTimer group timer ∷ es) s none = same_config es s none
 same_config (WasLogged key entry ∷ es) s none = same_config es s none
 same_config (WasNotes count ∷ es) s none = same_config es s none
 
@@ -122,8 +122,8 @@ fits-members (WasConfig config ∷ es) s t none same fits = absurd cc
 fits-members (WasAlert labels alert ∷ es) s t none same fits = (fits-members es s t none same fits.0, fits.1)
 fits-members (WasSilence id silence ∷ es) s t none same fits = (fits-members es s t none same fits.0, fits.1)
 fits-members (WasPlacement member alert ∷ es) s t none same fits =
-    (fits-members es s t none same fits.0, fits.1 ∙ ap (λ config. group_spot config (spot_of member)) (same_config es s none ∙ same ∙ sym (same_config es t none)))
-fits-members (WasClock group clock ∷ es) s t none same fits = (fits-members es s t none same fits.0, fits.1)
+    (fits-members es s t none same fits.0, fits.1 ∙ ap (λ config. group_key config (member_on_route member)) (same_config es s none ∙ same ∙ sym (same_config es t none)))
+fits-members (WasTimer group timer ∷ es) s t none same fits = (fits-members es s t none same fits.0, fits.1)
 fits-members (WasLogged key entry ∷ es) s t none same fits = (fits-members es s t none same fits.0, fits.1)
 fits-members (WasNotes count ∷ es) s t none same fits = (fits-members es s t none same fits.0, fits.1)
 

@@ -15,25 +15,25 @@ use Rattle.amr_config.specs.Routing.{chosen, group_wait_of}
 use Rattle.amr_config.specs.Groups.{groups_of, group_at}
 use Rattle.amr_config.specs.declared.router.RouteGroup.{RouteGroup}
 use Rattle.amr_rules.specs.declared.alert.Alert.{Alert}
-use Rattle.amr_state.specs.declared.note.Clock.{Clock}
-use Rattle.amr_state.specs.declared.spot.Spot.{Spot}
-use Rattle.amr_state.specs.State.{State, spot_at, group_spot, clock_with, place_on}
+use Rattle.amr_state.specs.declared.notification.GroupTimer.{GroupTimer}
+use Rattle.amr_state.specs.declared.route_labels.RouteLabels.{RouteLabels}
+use Rattle.amr_state.specs.State.{State, on_route, group_key, timer_with, place_on}
 
 -- what follows from the fact at a value
 pub on_ok : {T E : Type 0} (r : Result T E) (P Q : Type 0) → (P → Q) → OnOk r P → OnOk r Q
 on_ok (Ok x) P Q f p = f p
 on_ok (Err e) P Q f p = p
 
-pub placed : (s copied : State) (labels : LabelSet) (alert copy : Alert) (route : ℕ) (group spot : Spot) (clock : Clock)
-    → group ≡ group_spot s.config (spot_at route labels) → spot ≡ spot_at route labels → copy ≡ alert
-    → clock ≡ clock_with s.moment (group_wait_of s.config route) alert (get s.clocks group)
-    → copied ≡ record s { placements = insert s.placements spot copy }
-    → record copied { clocks = insert copied.clocks group clock } ≡ place_on labels alert s route
-placed s copied labels alert copy route group spot clock grouped at same wound is =
-    let by : clock ≡ clock_with s.moment (group_wait_of s.config route) alert (get s.clocks (group_spot s.config (spot_at route labels))) =
-    wound ∙ ap (λ (g : Spot). clock_with s.moment (group_wait_of s.config route) alert (get s.clocks g)) grouped in
-    ap (λ (x : State). record x { clocks = insert x.clocks group clock }) is
-    ∙ (λ i. record s { placements = insert s.placements (at i) (same i); clocks = insert s.clocks (grouped i) (by i) })
+pub placed : (s copied : State) (labels : LabelSet) (alert copy : Alert) (route : ℕ) (group route_labels : RouteLabels) (timer : GroupTimer)
+    → group ≡ group_key s.config (on_route route labels) → route_labels ≡ on_route route labels → copy ≡ alert
+    → timer ≡ timer_with s.moment (group_wait_of s.config route) alert (get s.timers group)
+    → copied ≡ record s { placements = insert s.placements route_labels copy }
+    → record copied { timers = insert copied.timers group timer } ≡ place_on labels alert s route
+placed s copied labels alert copy route group route_labels timer grouped at same reset is =
+    let by : timer ≡ timer_with s.moment (group_wait_of s.config route) alert (get s.timers (group_key s.config (on_route route labels))) =
+    reset ∙ ap (λ (g : RouteLabels). timer_with s.moment (group_wait_of s.config route) alert (get s.timers g)) grouped in
+    ap (λ (x : State). record x { timers = insert x.timers group timer }) is
+    ∙ (λ i. record s { placements = insert s.placements (at i) (same i); timers = insert s.timers (grouped i) (by i) })
 
 -- putting the value of a key under that key changes nothing
 pub put_as_it_is : {K X : Type 0} {R : K → K → Ordering} (o : IsTotalOrder R) → IsAntisymmetric R → (m : Map R X) (k : K) (v : X) → get m k ≡ Some v → insert m k v ≡ m

@@ -4,25 +4,25 @@ use Rattle.std.proofs.Math.Nat.{le_refl}
 use Rattle.std.specs.List.{AllByRecursion}
 use Rattle.amr_labels.specs.Labels.{LabelSet}
 use Rattle.amr_time.specs.Time.{latest_read}
-use Rattle.amr_state.specs.declared.spot.Spot.{Spot}
+use Rattle.amr_state.specs.declared.route_labels.RouteLabels.{RouteLabels}
 use Rattle.amr_state.specs.declared.membership.Membership.{Membership}
-use Rattle.amr_state.specs.declared.note.LogKey.{LogKey}
-use Rattle.amr_state.specs.declared.note.Clock.{Clock}
-use Rattle.amr_state.specs.declared.note.Note.{Note}
+use Rattle.amr_state.specs.declared.notification.LogKey.{LogKey}
+use Rattle.amr_state.specs.declared.notification.GroupTimer.{GroupTimer}
+use Rattle.amr_state.specs.declared.notification.Notification.{Notification}
 use Rattle.amr_config.specs.Config.{Config}
 use Rattle.amr_rules.specs.declared.alert.Alert.{Alert}
 use Rattle.amr_rules.specs.declared.silence.Silence.{Silence}
 use Rattle.amr_rules.specs.declared.update.LogEntry.{LogEntry}
 use Rattle.amr_state.specs.declared.displaced.Displaced.{Displaced}
-use Rattle.amr_state.specs.declared.displaced.Displaced.TheVariants.{WasMoment, WasConfig, WasAlert, WasSilence, WasPlacement, WasClock, WasLogged, WasNotes}
+use Rattle.amr_state.specs.declared.displaced.Displaced.TheVariants.{WasMoment, WasConfig, WasAlert, WasSilence, WasPlacement, WasTimer, WasLogged, WasNotes}
 use Rattle.amr_state.specs.declared.tables.Tables.{Tables}
-use Rattle.amr_state.specs.Records.{put_back_one, put_back, present, same_place, has_entry, IsNoNote, NotesEntered}
-use Rattle.amr_state.specs.State.{spot_of}
+use Rattle.amr_state.specs.Records.{put_back_one, put_back, present, same_place, has_entry, IsNoNotification, NotesEntered}
+use Rattle.amr_state.specs.State.{member_on_route}
 use Rattle.amr_state.specs.Fitting.{FitsOne, Fits, is_config, since_config}
 use Rattle.amr_state.specs.Kept.{undone}
 use Rattle.amr_state.specs.declared.store.Store.TheInside.{Inside}
 use Rattle.amr_state.specs.Stored.{state_of, kept_of, entries_of, IsSound, AreSound, MorePlaces, is_marked_at, IsUnmarked, IsKept}
-use Rattle.amr_state.proofs.Undoing.{put_back-push, put_back-entered, put_back-appended, covered, covered_note, notes_entered-more, notes_entered-push, has_entry-push, has_entry-last, same_undone}
+use Rattle.amr_state.proofs.Undoing.{put_back-push, put_back-entered, put_back-appended, covered, covered_notification, notes_entered-more, notes_entered-push, has_entry-push, has_entry-last, same_undone}
 use Rattle.amr_state.proofs.Fitting.{AreAlike, joined, fits-alike, fits-pushed, fits-pop, fits-rest, fits-covered, since_config-push, has_entry-since, joined-closed, joined-push}
 
 -- ---- places
@@ -32,8 +32,8 @@ sound-more a b more (WasMoment moment) h = h
 sound-more a b more (WasConfig config) h = h
 sound-more a b more (WasAlert labels alert) h = more.alerts labels h
 sound-more a b more (WasSilence id silence) h = more.silences id h
-sound-more a b more (WasPlacement member alert) h = more.placements (spot_of member) h
-sound-more a b more (WasClock group clock) h = more.clocks group h
+sound-more a b more (WasPlacement member alert) h = more.placements (member_on_route member) h
+sound-more a b more (WasTimer group timer) h = more.timers group h
 sound-more a b more (WasLogged key entry) h = more.log key h
 sound-more a b more (WasNotes count) h = h
 
@@ -57,14 +57,14 @@ all-pop P (y ∷ xs) x h = let rest = all-pop P xs x h.1 in ((h.0, rest.0), rest
 
 -- what holds at each kind of place holds at all
 pub by_place : (P : Displaced → Type 0) → ((m : ℕ) → P (WasMoment m)) → ((c : Config) → P (WasConfig c)) → ((k : LabelSet) (v : Option Alert) → P (WasAlert k v))
-    → ((k : ℕ) (v : Option Silence) → P (WasSilence k v)) → ((k : Membership) (v : Option Alert) → P (WasPlacement k v)) → ((k : Spot) (v : Option Clock) → P (WasClock k v))
+    → ((k : ℕ) (v : Option Silence) → P (WasSilence k v)) → ((k : Membership) (v : Option Alert) → P (WasPlacement k v)) → ((k : RouteLabels) (v : Option GroupTimer) → P (WasTimer k v))
     → ((k : LogKey) (v : Option LogEntry) → P (WasLogged k v)) → ((n : ℕ) → P (WasNotes n)) → (place : Displaced) → P place
 by_place P m c a s p k l n (WasMoment x) = m x
 by_place P m c a s p k l n (WasConfig x) = c x
 by_place P m c a s p k l n (WasAlert x v) = a x v
 by_place P m c a s p k l n (WasSilence x v) = s x v
 by_place P m c a s p k l n (WasPlacement x v) = p x v
-by_place P m c a s p k l n (WasClock x v) = k x v
+by_place P m c a s p k l n (WasTimer x v) = k x v
 by_place P m c a s p k l n (WasLogged x v) = l x v
 by_place P m c a s p k l n (WasNotes x) = n x
 
@@ -238,31 +238,31 @@ kept_forgotten a b kept tables moment closed current notes alike = record {
 -- ---- what the open record gives by being put back, after a change
 
 -- a place was changed, and its entry pushed
-pub undone_pushed : (a b : Inside) (change e : Displaced) → IsNoNote change → state_of b ≡ put_back_one (state_of a) change → e ≡ present (state_of a) change
+pub undone_pushed : (a b : Inside) (change e : Displaced) → IsNoNotification change → state_of b ≡ put_back_one (state_of a) change → e ≡ present (state_of a) change
     → b.journal.current ≡ a.journal.current ++ e ∷ [] → b.journal.closed ≡ a.journal.closed → b.journal.record_room ≡ a.journal.record_room → undone (kept_of b) ≡ undone (kept_of a)
 undone_pushed a b change e place state entry current closed room =
     same_undone (kept_of b) (kept_of a)
     ((λ i. put_back (current i) (state i)) ∙ ap (λ x. put_back (a.journal.current ++ x ∷ []) (put_back_one (state_of a) change)) entry ∙ put_back-entered a.journal.current (state_of a) change place) closed room
 
 -- a place was changed that has an entry
-pub undone_covered : (a b : Inside) (change : Displaced) → IsKept a → IsNoNote change → IsTrue (is_marked_at a.tables change) → state_of b ≡ put_back_one (state_of a) change
+pub undone_covered : (a b : Inside) (change : Displaced) → IsKept a → IsNoNotification change → IsTrue (is_marked_at a.tables change) → state_of b ≡ put_back_one (state_of a) change
     → b.journal.current ≡ a.journal.current → b.journal.closed ≡ a.journal.closed → b.journal.record_room ≡ a.journal.record_room → undone (kept_of b) ≡ undone (kept_of a)
 undone_covered a b change kept place marked state current closed room =
     same_undone (kept_of b) (kept_of a) ((λ i. put_back (current i) (state i)) ∙ covered a.journal.current change (state_of a) place (has_entry-since a.journal.current change (kept.marked change marked))) closed room
 
 -- the first notification of a record was appended, and their number before entered
-pub undone_appended : (a b : Inside) (note : Note) (count : ℕ) → state_of b ≡ record (state_of a) { notes = a.notes.items ++ note ∷ [] } → count ≡ length a.notes.items
+pub undone_appended : (a b : Inside) (notification : Notification) (count : ℕ) → state_of b ≡ record (state_of a) { notes = a.notes.items ++ notification ∷ [] } → count ≡ length a.notes.items
     → b.journal.current ≡ a.journal.current ++ WasNotes count ∷ [] → b.journal.closed ≡ a.journal.closed → b.journal.record_room ≡ a.journal.record_room → undone (kept_of b) ≡ undone (kept_of a)
-undone_appended a b note count state is current closed room =
+undone_appended a b notification count state is current closed room =
     same_undone (kept_of b) (kept_of a)
-    ((λ i. put_back (current i) (state i)) ∙ ap (λ n. put_back (a.journal.current ++ WasNotes n ∷ []) (record (state_of a) { notes = a.notes.items ++ note ∷ [] })) is
-    ∙ put_back-appended a.journal.current (state_of a) note) closed room
+    ((λ i. put_back (current i) (state i)) ∙ ap (λ n. put_back (a.journal.current ++ WasNotes n ∷ []) (record (state_of a) { notes = a.notes.items ++ notification ∷ [] })) is
+    ∙ put_back-appended a.journal.current (state_of a) notification) closed room
 
 -- a later one was appended
-pub undone_noted : (a b : Inside) (note : Note) → IsKept a → IsTrue a.tables.are_notes_entered → state_of b ≡ record (state_of a) { notes = a.notes.items ++ note ∷ [] }
+pub undone_noted : (a b : Inside) (notification : Notification) → IsKept a → IsTrue a.tables.are_notes_entered → state_of b ≡ record (state_of a) { notes = a.notes.items ++ notification ∷ [] }
     → b.journal.current ≡ a.journal.current → b.journal.closed ≡ a.journal.closed → b.journal.record_room ≡ a.journal.record_room → undone (kept_of b) ≡ undone (kept_of a)
-undone_noted a b note kept marked state current closed room =
-    same_undone (kept_of b) (kept_of a) ((λ i. put_back (current i) (state i)) ∙ covered_note a.journal.current (state_of a) note (kept.notes marked)) closed room
+undone_noted a b notification kept marked state current closed room =
+    same_undone (kept_of b) (kept_of a) ((λ i. put_back (current i) (state i)) ∙ covered_notification a.journal.current (state_of a) notification (kept.notes marked)) closed room
 
 -- an entry was put back
 pub undone_popped : (a b : Inside) (e : Displaced) → state_of b ≡ put_back_one (state_of a) e → a.journal.current ≡ b.journal.current ++ e ∷ [] → b.journal.closed ≡ a.journal.closed → b.journal.record_room ≡ a.journal.record_room
@@ -276,5 +276,5 @@ pub taken : {A : Type 0} (o : Option A) → ((x : A) → o ≡ Some x → ⊥) �
 taken None h = refl
 taken (Some x) h = absurd (h x refl)
 
-pub more_notes : (before after : List Note) (note : Note) → after ≡ before ++ note ∷ [] → length before ≤ length after
-more_notes before after note e = subst (λ items. length before ≤ length items) (sym e) (omega (arith, length-append before (note ∷ [])))
+pub more_notes : (before after : List Notification) (notification : Notification) → after ≡ before ++ notification ∷ [] → length before ≤ length after
+more_notes before after notification e = subst (λ items. length before ≤ length items) (sym e) (omega (arith, length-append before (notification ∷ [])))

@@ -22,13 +22,13 @@ use Rattle.amr_time.specs.Time.{Moment, second, next_multiple_of}
 use Rattle.amr_tables.specs.Numbered.{Numbered, shown, HasPlaces}
 use Rattle.amr_tables.specs.Queued.{Queued, has, in_order, count_of}
 use Rattle.amr_tables.proofs.Queueing.{sorted_inserted, sorted_in_order, sorted_without, has_inserted, has_in_order, has_without, same_from_members}
-use Rattle.amr_state.specs.declared.note.Clock.{Clock}
-use Rattle.amr_state.specs.declared.spot.Spot.{Spot}
+use Rattle.amr_state.specs.declared.notification.GroupTimer.{GroupTimer}
+use Rattle.amr_state.specs.declared.route_labels.RouteLabels.{RouteLabels}
 use Rattle.amr_state.specs.declared.due.Due.{Due}
 use Rattle.amr_state.specs.declared.due.Kind.{Kind}
 use Rattle.amr_state.specs.declared.due.Kind.TheVariants.{AlertRemoval, GroupRemoval, GroupFlush}
 use Rattle.amr_state.specs.declared.timetable.GroupMoments.{GroupMoments}
-use Rattle.amr_state.specs.State.{spot_at, spot_cmp, spot_cmp_total, spot_cmp-IsAntisymmetric}
+use Rattle.amr_state.specs.State.{on_route, route_labels_cmp, route_labels_cmp_total, route_labels_cmp-IsAntisymmetric}
 use Rattle.amr_state.specs.Dues.{kind_place, due_cmp, due_cmp_total, due_cmp-IsAntisymmetric, place_cmp_total, dues_of, alert_removal_at, alert_removal_of, group_removal_of, flush_of}
 use Rattle.amr_state.specs.Timed.{IsTimed, is_same, is_at, due_at, taken_at, put_at, moved, CanMove, CanMoveGroup, removal_of_alert, removal_of_group, flush_of_group, alert_moment, group_moments, flush_moved, group_moved}
 
@@ -239,14 +239,14 @@ module _ {K X : Type 0} {R : K → K → Ordering} (o : IsTotalOrder R) (exact :
 
 -- ---- what is due, by kind
 
-abbrev Clocks : Type 0
-Clocks = Map spot_cmp Clock
+abbrev GroupTimers : Type 0
+GroupTimers = Map route_labels_cmp GroupTimer
 
 abbrev due_with : ℕ → Kind → ℕ → LabelSet → Due
 due_with moment kind route labels = record { moment = moment; kind = kind; route = route; labels = labels }
 
 -- the dues, where removals of groups are of the first timers, and flushes of the second
-abbrev pub dues_between : Alerts → Clocks → Clocks → List Due
+abbrev pub dues_between : Alerts → GroupTimers → GroupTimers → List Due
 dues_between alerts before after = map alert_removal_of (entries alerts) ++ filter_map group_removal_of (entries before) ++ map flush_of (entries after)
 
 -- by the kind, and by how the route compares to 0
@@ -257,23 +257,23 @@ alert_pick AlertRemoval Greater alert = None
 alert_pick GroupRemoval z alert = None
 alert_pick GroupFlush z alert = None
 
-abbrev removal_pick : Kind → Option Clock → Option Moment
-removal_pick AlertRemoval clock = None
-removal_pick GroupRemoval clock = (group_moments clock).removal
-removal_pick GroupFlush clock = None
+abbrev removal_pick : Kind → Option GroupTimer → Option Moment
+removal_pick AlertRemoval timer = None
+removal_pick GroupRemoval timer = (group_moments timer).removal
+removal_pick GroupFlush timer = None
 
-abbrev flush_pick : Kind → Option Clock → Option Moment
-flush_pick AlertRemoval clock = None
-flush_pick GroupRemoval clock = None
-flush_pick GroupFlush clock = (group_moments clock).flush
+abbrev flush_pick : Kind → Option GroupTimer → Option Moment
+flush_pick AlertRemoval timer = None
+flush_pick GroupRemoval timer = None
+flush_pick GroupFlush timer = (group_moments timer).flush
 
-abbrev due_moment : Alerts → Clocks → Clocks → Kind → ℕ → LabelSet → Option Moment
+abbrev due_moment : Alerts → GroupTimers → GroupTimers → Kind → ℕ → LabelSet → Option Moment
 due_moment a r f AlertRemoval route labels = alert_pick AlertRemoval (nat_cmp route 0) (get a labels)
-due_moment a r f GroupRemoval route labels = removal_pick GroupRemoval (get r (spot_at route labels))
-due_moment a r f GroupFlush route labels = flush_pick GroupFlush (get f (spot_at route labels))
+due_moment a r f GroupRemoval route labels = removal_pick GroupRemoval (get r (on_route route labels))
+due_moment a r f GroupFlush route labels = flush_pick GroupFlush (get f (on_route route labels))
 
-of_one_kind : (a : Alerts) (r f : Clocks) (n : ℕ) (kind : Kind) (route : ℕ) (labels : LabelSet)
-    → ((is_at n (alert_pick kind (nat_cmp route 0) (get a labels)) || is_at n (removal_pick kind (get r (spot_at route labels)))) || is_at n (flush_pick kind (get f (spot_at route labels))))
+of_one_kind : (a : Alerts) (r f : GroupTimers) (n : ℕ) (kind : Kind) (route : ℕ) (labels : LabelSet)
+    → ((is_at n (alert_pick kind (nat_cmp route 0) (get a labels)) || is_at n (removal_pick kind (get r (on_route route labels)))) || is_at n (flush_pick kind (get f (on_route route labels))))
     ≡ is_at n (due_moment a r f kind route labels)
 of_one_kind a r f n AlertRemoval route labels = or_false _ ∙ or_false _
 of_one_kind a r f n GroupRemoval route labels = or_false _
@@ -294,35 +294,35 @@ alert_tied n AlertRemoval Greater labels (Some x) = then_greater (nat_cmp n (ale
 alert_tied n GroupRemoval z labels (Some x) = then_greater (nat_cmp n (alert_removal_at x))
 alert_tied n GroupFlush z labels (Some x) = then_greater (nat_cmp n (alert_removal_at x))
 
-flush_tied : (n : ℕ) (kind : Kind) (route : ℕ) (labels : LabelSet) (clock : Option Clock)
-    → option_map_or (λ x. tied (due_with n kind route labels) (Some (flush_of (spot_at route labels, x)))) clock false ≡ is_at n (flush_pick kind clock)
+flush_tied : (n : ℕ) (kind : Kind) (route : ℕ) (labels : LabelSet) (timer : Option GroupTimer)
+    → option_map_or (λ x. tied (due_with n kind route labels) (Some (flush_of (on_route route labels, x)))) timer false ≡ is_at n (flush_pick kind timer)
 flush_tied n AlertRemoval route labels None = refl
 flush_tied n GroupRemoval route labels None = refl
 flush_tied n GroupFlush route labels None = refl
 flush_tied n AlertRemoval route labels (Some x) = then_less (nat_cmp n x.next_flush)
 flush_tied n GroupRemoval route labels (Some x) = then_less (nat_cmp n x.next_flush)
 flush_tied n GroupFlush route labels (Some x) =
-    ap (λ w. is_eq (ordering_then (nat_cmp n x.next_flush) w)) (tied_itself spot_cmp_total (spot_at route labels)) ∙ then_equal (nat_cmp n x.next_flush)
+    ap (λ w. is_eq (ordering_then (nat_cmp n x.next_flush) w)) (tied_itself route_labels_cmp_total (on_route route labels)) ∙ then_equal (nat_cmp n x.next_flush)
 
-abbrev removal_with : Spot → ℕ → Due
-removal_with spot moment = record { moment = moment; kind = GroupRemoval; route = spot.route; labels = spot.labels }
+abbrev removal_with : RouteLabels → ℕ → Due
+removal_with route_labels moment = record { moment = moment; kind = GroupRemoval; route = route_labels.route; labels = route_labels.labels }
 
 -- the removal of a group since a moment
-abbrev removal_since : Spot → Option Moment → Option Due
-removal_since spot since = option_map (λ since. removal_with spot (next_multiple_of since (30 * second))) since
+abbrev removal_since : RouteLabels → Option Moment → Option Due
+removal_since route_labels since = option_map (λ since. removal_with route_labels (next_multiple_of since (30 * second))) since
 
-since_tied : (n : ℕ) (kind : Kind) (route : ℕ) (labels : LabelSet) (clock : Clock) (since : Option Moment) → clock.empty_since ≡ since
-    → tied (due_with n kind route labels) (removal_since (spot_at route labels) since) ≡ is_at n (removal_pick kind (Some (record clock { empty_since = since })))
-since_tied n AlertRemoval route labels clock None e = refl
-since_tied n GroupRemoval route labels clock None e = refl
-since_tied n GroupFlush route labels clock None e = refl
-since_tied n AlertRemoval route labels clock (Some x) e = then_less (nat_cmp n (next_multiple_of x (30 * second)))
-since_tied n GroupRemoval route labels clock (Some x) e =
-    ap (λ w. is_eq (ordering_then (nat_cmp n (next_multiple_of x (30 * second))) w)) (tied_itself spot_cmp_total (spot_at route labels)) ∙ then_equal (nat_cmp n (next_multiple_of x (30 * second)))
-since_tied n GroupFlush route labels clock (Some x) e = then_greater (nat_cmp n (next_multiple_of x (30 * second)))
+since_tied : (n : ℕ) (kind : Kind) (route : ℕ) (labels : LabelSet) (timer : GroupTimer) (since : Option Moment) → timer.empty_since ≡ since
+    → tied (due_with n kind route labels) (removal_since (on_route route labels) since) ≡ is_at n (removal_pick kind (Some (record timer { empty_since = since })))
+since_tied n AlertRemoval route labels timer None e = refl
+since_tied n GroupRemoval route labels timer None e = refl
+since_tied n GroupFlush route labels timer None e = refl
+since_tied n AlertRemoval route labels timer (Some x) e = then_less (nat_cmp n (next_multiple_of x (30 * second)))
+since_tied n GroupRemoval route labels timer (Some x) e =
+    ap (λ w. is_eq (ordering_then (nat_cmp n (next_multiple_of x (30 * second))) w)) (tied_itself route_labels_cmp_total (on_route route labels)) ∙ then_equal (nat_cmp n (next_multiple_of x (30 * second)))
+since_tied n GroupFlush route labels timer (Some x) e = then_greater (nat_cmp n (next_multiple_of x (30 * second)))
 
-removal_tied : (n : ℕ) (kind : Kind) (route : ℕ) (labels : LabelSet) (clock : Option Clock)
-    → option_map_or (λ x. tied (due_with n kind route labels) (group_removal_of (spot_at route labels, x))) clock false ≡ is_at n (removal_pick kind clock)
+removal_tied : (n : ℕ) (kind : Kind) (route : ℕ) (labels : LabelSet) (timer : Option GroupTimer)
+    → option_map_or (λ x. tied (due_with n kind route labels) (group_removal_of (on_route route labels, x))) timer false ≡ is_at n (removal_pick kind timer)
 removal_tied n AlertRemoval route labels None = refl
 removal_tied n GroupRemoval route labels None = refl
 removal_tied n GroupFlush route labels None = refl
@@ -331,25 +331,25 @@ removal_tied n kind route labels (Some x) = since_tied n kind route labels x x.e
 alert_apart : (d : Due) (e : LabelSet × Alert) → tied d (Some (alert_removal_of e)) ≡ true → eq_by_cmp label_set_cmp d.labels e.0 ≡ true
 alert_apart d e h = second_of (nat_cmp d.route 0) _ (second_of _ _ (second_of (nat_cmp d.moment (alert_removal_at e.1)) _ h))
 
-flush_apart : (d : Due) (e : Spot × Clock) → tied d (Some (flush_of e)) ≡ true → eq_by_cmp spot_cmp (spot_at d.route d.labels) e.0 ≡ true
+flush_apart : (d : Due) (e : RouteLabels × GroupTimer) → tied d (Some (flush_of e)) ≡ true → eq_by_cmp route_labels_cmp (on_route d.route d.labels) e.0 ≡ true
 flush_apart d e h = second_of _ _ (second_of (nat_cmp d.moment e.1.next_flush) _ h)
 
-since_apart : (d : Due) (spot : Spot) (since : Option Moment) → tied d (removal_since spot since) ≡ true → eq_by_cmp spot_cmp (spot_at d.route d.labels) spot ≡ true
-since_apart d spot None h = absurd (true≢false (sym h))
-since_apart d spot (Some x) h = second_of _ _ (second_of (nat_cmp d.moment (next_multiple_of x (30 * second))) _ h)
+since_apart : (d : Due) (route_labels : RouteLabels) (since : Option Moment) → tied d (removal_since route_labels since) ≡ true → eq_by_cmp route_labels_cmp (on_route d.route d.labels) route_labels ≡ true
+since_apart d route_labels None h = absurd (true≢false (sym h))
+since_apart d route_labels (Some x) h = second_of _ _ (second_of (nat_cmp d.moment (next_multiple_of x (30 * second))) _ h)
 
 -- a due is in the list where it is at its moment
-pub members : (a : Alerts) (r f : Clocks) (d : Due) → has due_cmp (dues_between a r f) d ≡ is_at d.moment (due_moment a r f d.kind d.route d.labels)
+pub members : (a : Alerts) (r f : GroupTimers) (d : Due) → has due_cmp (dues_between a r f) d ≡ is_at d.moment (due_moment a r f d.kind d.route d.labels)
 members a r f d =
     let alerts : has due_cmp (map alert_removal_of (entries a)) d ≡ is_at d.moment (alert_pick d.kind (nat_cmp d.route 0) (get a d.labels)) =
     ap (λ l. has due_cmp l d) (map_is alert_removal_of (entries a))
     ∙ found_of label_set_cmp_total label_set_cmp-IsAntisymmetric (λ e. Some (alert_removal_of e)) d d.labels (alert_apart d) a ∙ alert_tied d.moment d.kind (nat_cmp d.route 0) d.labels (get a d.labels) in
-    let removals : has due_cmp (filter_map group_removal_of (entries r)) d ≡ is_at d.moment (removal_pick d.kind (get r (spot_at d.route d.labels))) =
-    found_of spot_cmp_total spot_cmp-IsAntisymmetric group_removal_of d (spot_at d.route d.labels) (λ e. since_apart d e.0 e.1.empty_since) r
-    ∙ removal_tied d.moment d.kind d.route d.labels (get r (spot_at d.route d.labels)) in
-    let flushes : has due_cmp (map flush_of (entries f)) d ≡ is_at d.moment (flush_pick d.kind (get f (spot_at d.route d.labels))) =
+    let removals : has due_cmp (filter_map group_removal_of (entries r)) d ≡ is_at d.moment (removal_pick d.kind (get r (on_route d.route d.labels))) =
+    found_of route_labels_cmp_total route_labels_cmp-IsAntisymmetric group_removal_of d (on_route d.route d.labels) (λ e. since_apart d e.0 e.1.empty_since) r
+    ∙ removal_tied d.moment d.kind d.route d.labels (get r (on_route d.route d.labels)) in
+    let flushes : has due_cmp (map flush_of (entries f)) d ≡ is_at d.moment (flush_pick d.kind (get f (on_route d.route d.labels))) =
     ap (λ l. has due_cmp l d) (map_is flush_of (entries f))
-    ∙ found_of spot_cmp_total spot_cmp-IsAntisymmetric (λ e. Some (flush_of e)) d (spot_at d.route d.labels) (flush_apart d) f ∙ flush_tied d.moment d.kind d.route d.labels (get f (spot_at d.route d.labels)) in
+    ∙ found_of route_labels_cmp_total route_labels_cmp-IsAntisymmetric (λ e. Some (flush_of e)) d (on_route d.route d.labels) (flush_apart d) f ∙ flush_tied d.moment d.kind d.route d.labels (get f (on_route d.route d.labels)) in
     list_any-append (eq_by_cmp due_cmp d) (map alert_removal_of (entries a) ++ filter_map group_removal_of (entries r)) (map flush_of (entries f))
     ∙ ap (λ b. b || has due_cmp (map flush_of (entries f)) d) (list_any-append (eq_by_cmp due_cmp d) (map alert_removal_of (entries a)) (filter_map group_removal_of (entries r)))
     ∙ (λ i. (alerts i || removals i) || flushes i) ∙ of_one_kind a r f d.moment d.kind d.route d.labels
@@ -360,7 +360,7 @@ of_either : {A B : Type 0} (g : A → B) (b : Bool) (x y : A) → g (cond b x y)
 of_either g true x y = refl
 of_either g false x y = refl
 
-alert_set : (a : Alerts) (r f : Clocks) (k : LabelSet) (w : Option Alert) → Replaces (dues_between a r f) (dues_between (set a k w) r f) (removal_of_alert k) (alert_moment w)
+alert_set : (a : Alerts) (r f : GroupTimers) (k : LabelSet) (w : Option Alert) → Replaces (dues_between a r f) (dues_between (set a k w) r f) (removal_of_alert k) (alert_moment w)
 alert_set a r f k w d =
     members (set a k w) r f d ∙ by d.moment d.kind d.route d.labels ∙ ap (λ b. cond (is_same d (removal_of_alert k)) (is_at d.moment (alert_moment w)) b) (sym (members a r f d))
   where
@@ -378,7 +378,7 @@ alert_set a r f k w d =
     by n GroupRemoval route labels = refl
     by n GroupFlush route labels = refl
 
-alert_was : (a : Alerts) (r f : Clocks) (k : LabelSet) → IsDueAt (dues_between a r f) (removal_of_alert k) (alert_moment (get a k))
+alert_was : (a : Alerts) (r f : GroupTimers) (k : LabelSet) → IsDueAt (dues_between a r f) (removal_of_alert k) (alert_moment (get a k))
 alert_was a r f k d same = members a r f d ∙ by d.moment d.kind d.route d.labels same
   where
     picked : (n : ℕ) (z : Ordering) (labels : LabelSet) → is_eq (ordering_then z (label_set_cmp labels k)) ≡ true → is_at n (alert_pick AlertRemoval z (get a labels)) ≡ is_at n (alert_moment (get a k))
@@ -391,7 +391,7 @@ alert_was a r f k d same = members a r f d ∙ by d.moment d.kind d.route d.labe
     by n GroupRemoval route labels same = absurd (true≢false (sym same))
     by n GroupFlush route labels same = absurd (true≢false (sym same))
 
-flush_set : (a : Alerts) (r f : Clocks) (k : Spot) (w : Option Clock) → Replaces (dues_between a r f) (dues_between a r (set f k w)) (flush_of_group k) (group_moments w).flush
+flush_set : (a : Alerts) (r f : GroupTimers) (k : RouteLabels) (w : Option GroupTimer) → Replaces (dues_between a r f) (dues_between a r (set f k w)) (flush_of_group k) (group_moments w).flush
 flush_set a r f k w d =
     members a r (set f k w) d ∙ by d.moment d.kind d.route d.labels ∙ ap (λ b. cond (is_same d (flush_of_group k)) (is_at d.moment (group_moments w).flush) b) (sym (members a r f d))
   where
@@ -400,18 +400,18 @@ flush_set a r f k w d =
     by n AlertRemoval route labels = refl
     by n GroupRemoval route labels = refl
     by n GroupFlush route labels =
-        ap (λ clock. is_at n (group_moments clock).flush) (get-set spot_cmp_total f k w (spot_at route labels))
-        ∙ of_either (λ clock. is_at n (group_moments clock).flush) (eq_by_cmp spot_cmp (spot_at route labels) k) w (get f (spot_at route labels))
+        ap (λ timer. is_at n (group_moments timer).flush) (get-set route_labels_cmp_total f k w (on_route route labels))
+        ∙ of_either (λ timer. is_at n (group_moments timer).flush) (eq_by_cmp route_labels_cmp (on_route route labels) k) w (get f (on_route route labels))
 
-flush_was : (a : Alerts) (r f : Clocks) (k : Spot) → IsDueAt (dues_between a r f) (flush_of_group k) (group_moments (get f k)).flush
+flush_was : (a : Alerts) (r f : GroupTimers) (k : RouteLabels) → IsDueAt (dues_between a r f) (flush_of_group k) (group_moments (get f k)).flush
 flush_was a r f k d same = members a r f d ∙ by d.moment d.kind d.route d.labels same
   where
     by : (n : ℕ) (kind : Kind) (route : ℕ) (labels : LabelSet) → is_same (due_with n kind route labels) (flush_of_group k) ≡ true → is_at n (due_moment a r f kind route labels) ≡ is_at n (group_moments (get f k)).flush
     by n AlertRemoval route labels same = absurd (true≢false (sym same))
     by n GroupRemoval route labels same = absurd (true≢false (sym same))
-    by n GroupFlush route labels same = ap (λ q. is_at n (group_moments (get f q)).flush) (spot_cmp-IsAntisymmetric (spot_at route labels) k (equal_of _ same))
+    by n GroupFlush route labels same = ap (λ q. is_at n (group_moments (get f q)).flush) (route_labels_cmp-IsAntisymmetric (on_route route labels) k (equal_of _ same))
 
-removal_set : (a : Alerts) (r f : Clocks) (k : Spot) (w : Option Clock) → Replaces (dues_between a r f) (dues_between a (set r k w) f) (removal_of_group k) (group_moments w).removal
+removal_set : (a : Alerts) (r f : GroupTimers) (k : RouteLabels) (w : Option GroupTimer) → Replaces (dues_between a r f) (dues_between a (set r k w) f) (removal_of_group k) (group_moments w).removal
 removal_set a r f k w d =
     members a (set r k w) f d ∙ by d.moment d.kind d.route d.labels ∙ ap (λ b. cond (is_same d (removal_of_group k)) (is_at d.moment (group_moments w).removal) b) (sym (members a r f d))
   where
@@ -419,16 +419,16 @@ removal_set a r f k w d =
         ≡ cond (is_same (due_with n kind route labels) (removal_of_group k)) (is_at n (group_moments w).removal) (is_at n (due_moment a r f kind route labels))
     by n AlertRemoval route labels = refl
     by n GroupRemoval route labels =
-        ap (λ clock. is_at n (group_moments clock).removal) (get-set spot_cmp_total r k w (spot_at route labels))
-        ∙ of_either (λ clock. is_at n (group_moments clock).removal) (eq_by_cmp spot_cmp (spot_at route labels) k) w (get r (spot_at route labels))
+        ap (λ timer. is_at n (group_moments timer).removal) (get-set route_labels_cmp_total r k w (on_route route labels))
+        ∙ of_either (λ timer. is_at n (group_moments timer).removal) (eq_by_cmp route_labels_cmp (on_route route labels) k) w (get r (on_route route labels))
     by n GroupFlush route labels = refl
 
-removal_was : (a : Alerts) (r f : Clocks) (k : Spot) → IsDueAt (dues_between a r f) (removal_of_group k) (group_moments (get r k)).removal
+removal_was : (a : Alerts) (r f : GroupTimers) (k : RouteLabels) → IsDueAt (dues_between a r f) (removal_of_group k) (group_moments (get r k)).removal
 removal_was a r f k d same = members a r f d ∙ by d.moment d.kind d.route d.labels same
   where
     by : (n : ℕ) (kind : Kind) (route : ℕ) (labels : LabelSet) → is_same (due_with n kind route labels) (removal_of_group k) ≡ true → is_at n (due_moment a r f kind route labels) ≡ is_at n (group_moments (get r k)).removal
     by n AlertRemoval route labels same = absurd (true≢false (sym same))
-    by n GroupRemoval route labels same = ap (λ q. is_at n (group_moments (get r q)).removal) (spot_cmp-IsAntisymmetric (spot_at route labels) k (equal_of _ same))
+    by n GroupRemoval route labels same = ap (λ q. is_at n (group_moments (get r q)).removal) (route_labels_cmp-IsAntisymmetric (on_route route labels) k (equal_of _ same))
     by n GroupFlush route labels same = absurd (true≢false (sym same))
 
 -- ---- the same of a list in order
@@ -457,7 +457,7 @@ length-filter_map-le {B = B} h (x ∷ xs) =
     let rest = length-filter_map-le h xs in
     elim (h x) as (λ (o : Option B). length (cons_option o (filter_map h xs)) ≤ suc (length xs)) [ None ↦ omega (arith, rest) | Some y ↦ omega (arith, rest) ]
 
-length_between : (a : Alerts) (r f : Clocks) → length (dues_between a r f) ≤ len a + len r + len f
+length_between : (a : Alerts) (r f : GroupTimers) → length (dues_between a r f) ≤ len a + len r + len f
 length_between a r f =
     let alerts = length-map alert_removal_of (entries a) in
     let removals = length-filter_map-le group_removal_of (entries r) in
@@ -468,7 +468,7 @@ length_between a r f =
 
 -- ---- the queue after a change of an alert
 
-module _ (a : Alerts) (c : Clocks) (k : LabelSet) (w : Option Alert) where
+module _ (a : Alerts) (c : GroupTimers) (k : LabelSet) (w : Option Alert) where
   pub alert_is_moved : moved (in_order due_cmp (dues_of a c)) (removal_of_alert k) (alert_moment (get a k)) (alert_moment w) ≡ in_order due_cmp (dues_of (set a k w) c)
   alert_is_moved =
       moved_in_order (dues_of a c) (dues_of (set a k w) c) (removal_of_alert k) (alert_moment (get a k)) (alert_moment w) (alert_was a c c k) (alert_set a c c k w)
@@ -481,7 +481,7 @@ module _ (a : Alerts) (c : Clocks) (k : LabelSet) (w : Option Alert) where
 
 -- ---- and of a group's timer
 
-module _ (a : Alerts) (c : Clocks) (k : Spot) (w : Option Clock) where
+module _ (a : Alerts) (c : GroupTimers) (k : RouteLabels) (w : Option GroupTimer) where
   flush_is_moved : flush_moved (in_order due_cmp (dues_of a c)) k (group_moments (get c k)) (group_moments w) ≡ in_order due_cmp (dues_between a c (set c k w))
   flush_is_moved =
       moved_in_order (dues_of a c) (dues_between a c (set c k w)) (flush_of_group k) (group_moments (get c k)).flush (group_moments w).flush (flush_was a c c k) (flush_set a c c k w)
@@ -504,45 +504,45 @@ module _ (a : Alerts) (c : Clocks) (k : Spot) (w : Option Clock) where
 
 -- ---- the tables and the queue after a change
 
-module _ (a b : Numbered LabelSet Alert) (c : Numbered Spot Clock) (q r : Queued Due) (timed : IsTimed a c q) (due : Due) (k : LabelSet) (w : Option Alert) (old new : Option Moment) (n : ℕ)
+module _ (a b : Numbered LabelSet Alert) (c : Numbered RouteLabels GroupTimer) (q r : Queued Due) (timed : IsTimed a c q) (due : Due) (k : LabelSet) (w : Option Alert) (old new : Option Moment) (n : ℕ)
     (due_is : due ≡ removal_of_alert k) (old_is : old ≡ alert_moment (get (shown label_set_cmp a) k)) (new_is : new ≡ alert_moment w) (shows : shown label_set_cmp b ≡ set (shown label_set_cmp a) k w)
     (keys : length b.numbers ≤ length a.numbers + n) (enough : HasPlaces label_set_cmp b) (same : r.dues ≡ q.dues) (room : q.room + n ≤ r.room) where
   pub alert_may_move : CanMove r.dues r.room due old new
   alert_may_move =
-      let before : r.dues ≡ in_order due_cmp (dues_of (shown label_set_cmp a) (shown spot_cmp c)) = same ∙ timed.dues in
+      let before : r.dues ≡ in_order due_cmp (dues_of (shown label_set_cmp a) (shown route_labels_cmp c)) = same ∙ timed.dues in
       subst (λ (x : List Due × (Due × (Option Moment × Option Moment))). CanMove x.0 r.room x.1.0 x.1.1.0 x.1.1.1) (λ i. (sym before i, (sym due_is i, (sym old_is i, sym new_is i))))
-      (alert_can_move (shown label_set_cmp a) (shown spot_cmp c) k w r.room
-      (omega (arith, ap (λ (m : Alerts). len m) shows, keys, enough, timed.clock_places, timed.room, room, ap length timed.dues)))
+      (alert_can_move (shown label_set_cmp a) (shown route_labels_cmp c) k w r.room
+      (omega (arith, ap (λ (m : Alerts). len m) shows, keys, enough, timed.timer_places, timed.room, room, ap length timed.dues)))
 
   pub alert_timed : (s : Queued Due) → s.dues ≡ moved r.dues due old new → s.room + length s.dues ≡ r.room + length r.dues → IsTimed b c s
   alert_timed s is all = record {
-    dues = is ∙ (λ i. moved ((same ∙ timed.dues) i) (due_is i) (old_is i) (new_is i)) ∙ alert_is_moved (shown label_set_cmp a) (shown spot_cmp c) k w
-        ∙ ap (λ (m : Alerts). in_order due_cmp (dues_of m (shown spot_cmp c))) (sym shows);
+    dues = is ∙ (λ i. moved ((same ∙ timed.dues) i) (due_is i) (old_is i) (new_is i)) ∙ alert_is_moved (shown label_set_cmp a) (shown route_labels_cmp c) k w
+        ∙ ap (λ (m : Alerts). in_order due_cmp (dues_of m (shown route_labels_cmp c))) (sym shows);
     room = omega (arith, keys, timed.room, room, all, ap length same);
     alert_places = enough;
-    clock_places = timed.clock_places;
+    timer_places = timed.timer_places;
   }
 
-module _ (a : Numbered LabelSet Alert) (b c : Numbered Spot Clock) (q r : Queued Due) (timed : IsTimed a b q) (group k : Spot) (w : Option Clock) (old new : GroupMoments) (n : ℕ)
-    (group_is : group ≡ k) (old_is : old ≡ group_moments (get (shown spot_cmp b) k)) (new_is : new ≡ group_moments w) (shows : shown spot_cmp c ≡ set (shown spot_cmp b) k w)
-    (keys : length c.numbers ≤ length b.numbers + n) (enough : HasPlaces spot_cmp c) (same : r.dues ≡ q.dues) (room : q.room + 2 * n ≤ r.room) where
+module _ (a : Numbered LabelSet Alert) (b c : Numbered RouteLabels GroupTimer) (q r : Queued Due) (timed : IsTimed a b q) (group k : RouteLabels) (w : Option GroupTimer) (old new : GroupMoments) (n : ℕ)
+    (group_is : group ≡ k) (old_is : old ≡ group_moments (get (shown route_labels_cmp b) k)) (new_is : new ≡ group_moments w) (shows : shown route_labels_cmp c ≡ set (shown route_labels_cmp b) k w)
+    (keys : length c.numbers ≤ length b.numbers + n) (enough : HasPlaces route_labels_cmp c) (same : r.dues ≡ q.dues) (room : q.room + 2 * n ≤ r.room) where
   pub group_may_move : CanMoveGroup r.dues r.room group old new
   group_may_move =
-      let before : r.dues ≡ in_order due_cmp (dues_of (shown label_set_cmp a) (shown spot_cmp b)) = same ∙ timed.dues in
-      let len_is = ap (λ (m : Clocks). len m) shows in
+      let before : r.dues ≡ in_order due_cmp (dues_of (shown label_set_cmp a) (shown route_labels_cmp b)) = same ∙ timed.dues in
+      let len_is = ap (λ (m : GroupTimers). len m) shows in
       let now = ap length timed.dues in
-      subst (λ (x : List Due × (Spot × (GroupMoments × GroupMoments))). CanMoveGroup x.0 r.room x.1.0 x.1.1.0 x.1.1.1) (λ i. (sym before i, (sym group_is i, (sym old_is i, sym new_is i))))
-      (group_can_move (shown label_set_cmp a) (shown spot_cmp b) k w r.room
-      (omega (arith, len_is, keys, enough, timed.alert_places, timed.clock_places, timed.room, room, now))
-      (omega (arith, len_is, keys, enough, timed.alert_places, timed.clock_places, timed.room, room, now)))
+      subst (λ (x : List Due × (RouteLabels × (GroupMoments × GroupMoments))). CanMoveGroup x.0 r.room x.1.0 x.1.1.0 x.1.1.1) (λ i. (sym before i, (sym group_is i, (sym old_is i, sym new_is i))))
+      (group_can_move (shown label_set_cmp a) (shown route_labels_cmp b) k w r.room
+      (omega (arith, len_is, keys, enough, timed.alert_places, timed.timer_places, timed.room, room, now))
+      (omega (arith, len_is, keys, enough, timed.alert_places, timed.timer_places, timed.room, room, now)))
 
   pub group_timed : (s : Queued Due) → s.dues ≡ group_moved r.dues group old new → s.room + length s.dues ≡ r.room + length r.dues → IsTimed a c s
   group_timed s is all = record {
-    dues = is ∙ (λ i. group_moved ((same ∙ timed.dues) i) (group_is i) (old_is i) (new_is i)) ∙ group_is_moved (shown label_set_cmp a) (shown spot_cmp b) k w
-        ∙ ap (λ (m : Clocks). in_order due_cmp (dues_of (shown label_set_cmp a) m)) (sym shows);
+    dues = is ∙ (λ i. group_moved ((same ∙ timed.dues) i) (group_is i) (old_is i) (new_is i)) ∙ group_is_moved (shown label_set_cmp a) (shown route_labels_cmp b) k w
+        ∙ ap (λ (m : GroupTimers). in_order due_cmp (dues_of (shown label_set_cmp a) m)) (sym shows);
     room = omega (arith, keys, timed.room, room, all, ap length same);
     alert_places = timed.alert_places;
-    clock_places = enough;
+    timer_places = enough;
   }
 
 pub twice_as_many : (b : Bool) → cond b 0 2 ≡ 2 * cond b 0 1

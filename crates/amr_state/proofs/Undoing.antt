@@ -15,12 +15,12 @@ use Rattle.amr_rules.specs.declared.alert.Alert.{Alert}
 use Rattle.amr_rules.specs.declared.update.LogEntry.{LogEntry}
 use Rattle.amr_rules.specs.Silences.{Silences}
 use Rattle.amr_rules.specs.Muting.{Alerts}
-use Rattle.amr_state.specs.declared.note.Clock.{Clock}
-use Rattle.amr_state.specs.declared.note.Note.{Note}
+use Rattle.amr_state.specs.declared.notification.GroupTimer.{GroupTimer}
+use Rattle.amr_state.specs.declared.notification.Notification.{Notification}
 use Rattle.amr_state.specs.declared.displaced.Displaced.{Displaced}
-use Rattle.amr_state.specs.declared.displaced.Displaced.TheVariants.{WasMoment, WasConfig, WasAlert, WasSilence, WasPlacement, WasClock, WasLogged, WasNotes}
-use Rattle.amr_state.specs.State.{State, spot_of, spot_cmp, spot_cmp_total, spot_cmp-IsAntisymmetric, log_key_cmp, log_key_cmp_total, log_key_cmp-IsAntisymmetric}
-use Rattle.amr_state.specs.Records.{put_back_one, put_back, present, same_place, has_entry, IsNoNote, NotesEntered, befores, before_all}
+use Rattle.amr_state.specs.declared.displaced.Displaced.TheVariants.{WasMoment, WasConfig, WasAlert, WasSilence, WasPlacement, WasTimer, WasLogged, WasNotes}
+use Rattle.amr_state.specs.State.{State, member_on_route, route_labels_cmp, route_labels_cmp_total, route_labels_cmp-IsAntisymmetric, log_key_cmp, log_key_cmp_total, log_key_cmp-IsAntisymmetric}
+use Rattle.amr_state.specs.Records.{put_back_one, put_back, present, same_place, has_entry, IsNoNotification, NotesEntered, befores, before_all}
 use Rattle.amr_state.specs.Kept.{Kept, undone}
 
 -- a record with one more entry is put back from that entry on
@@ -30,26 +30,26 @@ put_back-push [] last s = refl
 put_back-push (first ∷ rest) last s = ap (λ (x : State). put_back_one x first) (put_back-push rest last s)
 
 -- a change of one place is put back by the value that the place had
-pub put_back-change : (s : State) (change : Displaced) → IsNoNote change → put_back_one (put_back_one s change) (present s change) ≡ s
+pub put_back-change : (s : State) (change : Displaced) → IsNoNotification change → put_back_one (put_back_one s change) (present s change) ≡ s
 put_back-change s (WasMoment now) h = refl
 put_back-change s (WasConfig config) h = refl
 put_back-change s (WasAlert labels alert) h = ap (λ (m : Alerts). record s { alerts = m }) (set-back label_set_cmp_total label_set_cmp-IsAntisymmetric s.alerts labels alert)
 put_back-change s (WasSilence id silence) h = ap (λ (m : Silences). record s { silences = m }) (set-back nat_cmp_total nat_cmp-IsAntisymmetric s.silences id silence)
-put_back-change s (WasPlacement member alert) h = ap (λ (m : Map spot_cmp Alert). record s { placements = m }) (set-back spot_cmp_total spot_cmp-IsAntisymmetric s.placements (spot_of member) alert)
-put_back-change s (WasClock group clock) h = ap (λ (m : Map spot_cmp Clock). record s { clocks = m }) (set-back spot_cmp_total spot_cmp-IsAntisymmetric s.clocks group clock)
+put_back-change s (WasPlacement member alert) h = ap (λ (m : Map route_labels_cmp Alert). record s { placements = m }) (set-back route_labels_cmp_total route_labels_cmp-IsAntisymmetric s.placements (member_on_route member) alert)
+put_back-change s (WasTimer group timer) h = ap (λ (m : Map route_labels_cmp GroupTimer). record s { timers = m }) (set-back route_labels_cmp_total route_labels_cmp-IsAntisymmetric s.timers group timer)
 put_back-change s (WasLogged key entry) h = ap (λ (m : Map log_key_cmp LogEntry). record s { log = m }) (set-back log_key_cmp_total log_key_cmp-IsAntisymmetric s.log key entry)
 put_back-change s (WasNotes count) h = absurd h
 
 -- so is a notification that is appended
-pub put_back-note : (s : State) (note : Note) → put_back_one (record s { notes = s.notes ++ note ∷ [] }) (WasNotes (length s.notes)) ≡ s
-put_back-note s note = ap (λ (notes : List Note). record s { notes = notes }) (take-append_seam s.notes (note ∷ []))
+pub put_back-notification : (s : State) (notification : Notification) → put_back_one (record s { notes = s.notes ++ notification ∷ [] }) (WasNotes (length s.notes)) ≡ s
+put_back-notification s notification = ap (λ (notes : List Notification). record s { notes = notes }) (take-append_seam s.notes (notification ∷ []))
 
 -- a change that is entered leaves what the open record gives
-pub put_back-entered : (entries : List Displaced) (s : State) (change : Displaced) → IsNoNote change → put_back (entries ++ present s change ∷ []) (put_back_one s change) ≡ put_back entries s
+pub put_back-entered : (entries : List Displaced) (s : State) (change : Displaced) → IsNoNotification change → put_back (entries ++ present s change ∷ []) (put_back_one s change) ≡ put_back entries s
 put_back-entered entries s change h = put_back-push entries (present s change) (put_back_one s change) ∙ ap (put_back entries) (put_back-change s change h)
 
-pub put_back-appended : (entries : List Displaced) (s : State) (note : Note) → put_back (entries ++ WasNotes (length s.notes) ∷ []) (record s { notes = s.notes ++ note ∷ [] }) ≡ put_back entries s
-put_back-appended entries s note = put_back-push entries (WasNotes (length s.notes)) (record s { notes = s.notes ++ note ∷ [] }) ∙ ap (put_back entries) (put_back-note s note)
+pub put_back-appended : (entries : List Displaced) (s : State) (notification : Notification) → put_back (entries ++ WasNotes (length s.notes) ∷ []) (record s { notes = s.notes ++ notification ∷ [] }) ≡ put_back entries s
+put_back-appended entries s notification = put_back-push entries (WasNotes (length s.notes)) (record s { notes = s.notes ++ notification ∷ [] }) ∙ ap (put_back entries) (put_back-notification s notification)
 
 -- ---- a second change of a place
 
@@ -86,13 +86,13 @@ module _ {K X : Type 0} {R : K → K → Ordering} (o : IsTotalOrder R) (same : 
       ∙ sym (get-set o (set m b w) a v q ∙ ap (cond (eq_by_cmp R q a) v) (get-set o m b w q)))
 
 -- of two values of one place the second counts
-pub overwrite : (s : State) (first second : Displaced) → same_place first second ≡ true → IsNoNote first → put_back_one (put_back_one s first) second ≡ put_back_one s second
+pub overwrite : (s : State) (first second : Displaced) → same_place first second ≡ true → IsNoNotification first → put_back_one (put_back_one s first) second ≡ put_back_one s second
 overwrite s (WasMoment a) (WasMoment b) t h = refl
 overwrite s (WasConfig a) (WasConfig b) t h = refl
 overwrite s (WasAlert a v) (WasAlert b w) t h = ap (λ (m : Alerts). record s { alerts = m }) (set-set label_set_cmp_total label_set_cmp-IsAntisymmetric s.alerts a b v w t)
 overwrite s (WasSilence a v) (WasSilence b w) t h = ap (λ (m : Silences). record s { silences = m }) (set-set nat_cmp_total nat_cmp-IsAntisymmetric s.silences a b v w t)
-overwrite s (WasPlacement a v) (WasPlacement b w) t h = ap (λ (m : Map spot_cmp Alert). record s { placements = m }) (set-set spot_cmp_total spot_cmp-IsAntisymmetric s.placements (spot_of a) (spot_of b) v w t)
-overwrite s (WasClock a v) (WasClock b w) t h = ap (λ (m : Map spot_cmp Clock). record s { clocks = m }) (set-set spot_cmp_total spot_cmp-IsAntisymmetric s.clocks a b v w t)
+overwrite s (WasPlacement a v) (WasPlacement b w) t h = ap (λ (m : Map route_labels_cmp Alert). record s { placements = m }) (set-set route_labels_cmp_total route_labels_cmp-IsAntisymmetric s.placements (member_on_route a) (member_on_route b) v w t)
+overwrite s (WasTimer a v) (WasTimer b w) t h = ap (λ (m : Map route_labels_cmp GroupTimer). record s { timers = m }) (set-set route_labels_cmp_total route_labels_cmp-IsAntisymmetric s.timers a b v w t)
 overwrite s (WasLogged a v) (WasLogged b w) t h = ap (λ (m : Map log_key_cmp LogEntry). record s { log = m }) (set-set log_key_cmp_total log_key_cmp-IsAntisymmetric s.log a b v w t)
 overwrite s (WasNotes a) second t h = absurd h
 overwrite s first second t h = absurd (unlike t)
@@ -103,8 +103,8 @@ commute s (WasMoment a) (WasMoment b) f = absurd (unlike (sym f))
 commute s (WasConfig a) (WasConfig b) f = absurd (unlike (sym f))
 commute s (WasAlert a v) (WasAlert b w) f = ap (λ (m : Alerts). record s { alerts = m }) (set-swap label_set_cmp_total label_set_cmp-IsAntisymmetric s.alerts a b v w f)
 commute s (WasSilence a v) (WasSilence b w) f = ap (λ (m : Silences). record s { silences = m }) (set-swap nat_cmp_total nat_cmp-IsAntisymmetric s.silences a b v w f)
-commute s (WasPlacement a v) (WasPlacement b w) f = ap (λ (m : Map spot_cmp Alert). record s { placements = m }) (set-swap spot_cmp_total spot_cmp-IsAntisymmetric s.placements (spot_of a) (spot_of b) v w f)
-commute s (WasClock a v) (WasClock b w) f = ap (λ (m : Map spot_cmp Clock). record s { clocks = m }) (set-swap spot_cmp_total spot_cmp-IsAntisymmetric s.clocks a b v w f)
+commute s (WasPlacement a v) (WasPlacement b w) f = ap (λ (m : Map route_labels_cmp Alert). record s { placements = m }) (set-swap route_labels_cmp_total route_labels_cmp-IsAntisymmetric s.placements (member_on_route a) (member_on_route b) v w f)
+commute s (WasTimer a v) (WasTimer b w) f = ap (λ (m : Map route_labels_cmp GroupTimer). record s { timers = m }) (set-swap route_labels_cmp_total route_labels_cmp-IsAntisymmetric s.timers a b v w f)
 commute s (WasLogged a v) (WasLogged b w) f = ap (λ (m : Map log_key_cmp LogEntry). record s { log = m }) (set-swap log_key_cmp_total log_key_cmp-IsAntisymmetric s.log a b v w f)
 commute s (WasNotes a) (WasNotes b) f = absurd (unlike (sym f))
 commute s a b f = refl
@@ -118,15 +118,15 @@ take-swap (suc m) (suc n) (x ∷ xs) = ap (λ ys. x ∷ ys) (take-swap m n xs)
 
 passes_same : (e q : Displaced) (s t : State) → same_place e q ≡ true → put_back_one s q ≡ put_back_one t q → put_back_one (put_back_one s e) q ≡ put_back_one (put_back_one t e) q
 passes_same (WasNotes a) (WasNotes b) s t is h =
-    ap (λ (notes : List Note). record s { notes = notes }) (take-swap b a s.notes) ∙ ap (λ (x : State). put_back_one x (WasNotes a)) h
-    ∙ ap (λ (notes : List Note). record t { notes = notes }) (take-swap a b t.notes)
+    ap (λ (notes : List Notification). record s { notes = notes }) (take-swap b a s.notes) ∙ ap (λ (x : State). put_back_one x (WasNotes a)) h
+    ∙ ap (λ (notes : List Notification). record t { notes = notes }) (take-swap a b t.notes)
 passes_same (WasNotes a) q s t is h = absurd (unlike is)
 passes_same (WasMoment a) q s t is h = overwrite s (WasMoment a) q is tt ∙ h ∙ sym (overwrite t (WasMoment a) q is tt)
 passes_same (WasConfig a) q s t is h = overwrite s (WasConfig a) q is tt ∙ h ∙ sym (overwrite t (WasConfig a) q is tt)
 passes_same (WasAlert a v) q s t is h = overwrite s (WasAlert a v) q is tt ∙ h ∙ sym (overwrite t (WasAlert a v) q is tt)
 passes_same (WasSilence a v) q s t is h = overwrite s (WasSilence a v) q is tt ∙ h ∙ sym (overwrite t (WasSilence a v) q is tt)
 passes_same (WasPlacement a v) q s t is h = overwrite s (WasPlacement a v) q is tt ∙ h ∙ sym (overwrite t (WasPlacement a v) q is tt)
-passes_same (WasClock a v) q s t is h = overwrite s (WasClock a v) q is tt ∙ h ∙ sym (overwrite t (WasClock a v) q is tt)
+passes_same (WasTimer a v) q s t is h = overwrite s (WasTimer a v) q is tt ∙ h ∙ sym (overwrite t (WasTimer a v) q is tt)
 passes_same (WasLogged a v) q s t is h = overwrite s (WasLogged a v) q is tt ∙ h ∙ sym (overwrite t (WasLogged a v) q is tt)
 
 -- states that one entry makes alike it makes alike after another, too
@@ -143,7 +143,7 @@ passes_all [] q s t h = h
 passes_all (first ∷ rest) q s t h = passes first q (put_back rest s) (put_back rest t) (passes_all rest q s t h)
 
 -- a change of a place that has an entry adds nothing to what is put back
-pub covered : (entries : List Displaced) (change : Displaced) (s : State) → IsNoNote change → has_entry entries change ≡ true → put_back entries (put_back_one s change) ≡ put_back entries s
+pub covered : (entries : List Displaced) (change : Displaced) (s : State) → IsNoNotification change → has_entry entries change ≡ true → put_back entries (put_back_one s change) ≡ put_back entries s
 unfolding put_back has_entry
 covered [] change s h t = absurd (unlike t)
 covered (first ∷ rest) change s h t =
@@ -153,13 +153,13 @@ covered (first ∷ rest) change s h t =
     ] refl t
 
 -- nor does a notification after those that the record counts
-pub covered_note : (entries : List Displaced) (s : State) (note : Note) → NotesEntered entries (length s.notes) → put_back entries (record s { notes = s.notes ++ note ∷ [] }) ≡ put_back entries s
+pub covered_notification : (entries : List Displaced) (s : State) (notification : Notification) → NotesEntered entries (length s.notes) → put_back entries (record s { notes = s.notes ++ notification ∷ [] }) ≡ put_back entries s
 unfolding put_back NotesEntered
-covered_note [] s note h = absurd h
-covered_note (first ∷ rest) s note (inr h) = ap (λ (x : State). put_back_one x first) (covered_note rest s note h)
-covered_note (WasNotes count ∷ rest) s note (inl within) =
-    passes_all rest (WasNotes count) (record s { notes = s.notes ++ note ∷ [] }) s (ap (λ (notes : List Note). record s { notes = notes }) (take-append-le count s.notes (note ∷ []) within))
-covered_note (first ∷ rest) s note (inl h) = absurd h
+covered_notification [] s notification h = absurd h
+covered_notification (first ∷ rest) s notification (inr h) = ap (λ (x : State). put_back_one x first) (covered_notification rest s notification h)
+covered_notification (WasNotes count ∷ rest) s notification (inl within) =
+    passes_all rest (WasNotes count) (record s { notes = s.notes ++ notification ∷ [] }) s (ap (λ (notes : List Notification). record s { notes = notes }) (take-append-le count s.notes (notification ∷ []) within))
+covered_notification (first ∷ rest) s notification (inl h) = absurd h
 
 -- a record that has entered the notifications keeps that with more notifications and more entries
 pub notes_entered-more : (entries : List Displaced) (m n : ℕ) → m ≤ n → NotesEntered entries m → NotesEntered entries n

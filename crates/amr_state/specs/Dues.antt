@@ -13,12 +13,12 @@ use Rattle.amr_labels.specs.Labels.{LabelSet, label_set_cmp, label_set_cmp_total
 use Rattle.amr_time.specs.Time.{Moment, second, minute, next_multiple_of}
 use Rattle.amr_rules.specs.declared.alert.Alert.{Alert}
 use Rattle.amr_rules.specs.Muting.{Alerts}
-use Rattle.amr_state.specs.declared.note.Clock.{Clock}
+use Rattle.amr_state.specs.declared.notification.GroupTimer.{GroupTimer}
 use Rattle.amr_state.specs.declared.due.Due.{Due}
 use Rattle.amr_state.specs.declared.due.Kind.{Kind}
 use Rattle.amr_state.specs.declared.due.Kind.TheVariants.{AlertRemoval, GroupRemoval, GroupFlush}
-use Rattle.amr_state.specs.declared.spot.Spot.{Spot}
-use Rattle.amr_state.specs.State.{State, spot_at, spot_cmp, spot_cmp-IsAntisymmetric}
+use Rattle.amr_state.specs.declared.route_labels.RouteLabels.{RouteLabels}
+use Rattle.amr_state.specs.State.{State, on_route, route_labels_cmp, route_labels_cmp-IsAntisymmetric}
 
 -- the rank of a kind among the timers of one moment
 abbrev pub kind_place : Kind → ℕ
@@ -57,17 +57,17 @@ kind_at_its_place AlertRemoval = refl
 kind_at_its_place GroupRemoval = refl
 kind_at_its_place GroupFlush = refl
 
-abbrev due_parts : Due → Moment × (ℕ × Spot)
-due_parts due = (due.moment, (kind_place due.kind, spot_at due.route due.labels))
+abbrev due_parts : Due → Moment × (ℕ × RouteLabels)
+due_parts due = (due.moment, (kind_place due.kind, on_route due.route due.labels))
 
 -- timers that compare equal are the same
 pub due_cmp-IsAntisymmetric : IsAntisymmetric due_cmp
 due_cmp-IsAntisymmetric a b tie =
     let parts : due_parts a ≡ due_parts b =
-    exact_pairs nat_cmp (λ (x y : ℕ × Spot). ordering_then (nat_cmp x.0 y.0) (spot_cmp x.1 y.1)) exact_unsigned (exact_pairs nat_cmp spot_cmp exact_unsigned spot_cmp-IsAntisymmetric)
+    exact_pairs nat_cmp (λ (x y : ℕ × RouteLabels). ordering_then (nat_cmp x.0 y.0) (route_labels_cmp x.1 y.1)) exact_unsigned (exact_pairs nat_cmp route_labels_cmp exact_unsigned route_labels_cmp-IsAntisymmetric)
     (due_parts a) (due_parts b) tie in
     let kinds : a.kind ≡ b.kind =
-    sym (kind_at_its_place a.kind) ∙ ap (λ (x : Moment × (ℕ × Spot)). kind_at x.1.0) parts ∙ kind_at_its_place b.kind in
+    sym (kind_at_its_place a.kind) ∙ ap (λ (x : Moment × (ℕ × RouteLabels)). kind_at x.1.0) parts ∙ kind_at_its_place b.kind in
     λ i. record { moment = (parts i).0; kind = kinds i; route = (parts i).1.1.route; labels = (parts i).1.1.labels }
 
 -- a stored alert is removed at the first multiple of half an hour that is after its last post and
@@ -84,23 +84,23 @@ alert_removal_of alert = record {
 }
 
 -- an empty group is removed at the first multiple of half a minute after it became empty
-abbrev pub group_removal_at : Clock → Option Moment
-group_removal_at clock = option_map (λ since. next_multiple_of since (30 * second)) clock.empty_since
+abbrev pub group_removal_at : GroupTimer → Option Moment
+group_removal_at timer = option_map (λ since. next_multiple_of since (30 * second)) timer.empty_since
 
-abbrev pub group_removal_of : Spot × Clock → Option Due
+abbrev pub group_removal_of : RouteLabels × GroupTimer → Option Due
 group_removal_of group =
     option_map (λ since. record { moment = next_multiple_of since (30 * second); kind = GroupRemoval; route = group.0.route; labels = group.0.labels }) group.1.empty_since
 
 -- a group is flushed when its timer says
-abbrev pub flush_of : Spot × Clock → Due
+abbrev pub flush_of : RouteLabels × GroupTimer → Due
 flush_of group = record { moment = group.1.next_flush; kind = GroupFlush; route = group.0.route; labels = group.0.labels }
 
-abbrev pub dues_of : Alerts → Map spot_cmp Clock → List Due
-dues_of alerts clocks = map alert_removal_of (entries alerts) ++ filter_map group_removal_of (entries clocks) ++ map flush_of (entries clocks)
+abbrev pub dues_of : Alerts → Map route_labels_cmp GroupTimer → List Due
+dues_of alerts timers = map alert_removal_of (entries alerts) ++ filter_map group_removal_of (entries timers) ++ map flush_of (entries timers)
 
 -- all pending timers, at whatever moment
 unfoldable pub dues : State → List Due
-dues s = dues_of s.alerts s.clocks
+dues s = dues_of s.alerts s.timers
 
 -- the earlier of a timer and another, if there is another
 abbrev pub lesser_due : Due → Option Due → Due

@@ -4,14 +4,14 @@ use Rattle.std.specs.List.{list_any}
 use Rattle.amr_labels.specs.Map.{empty}
 use Rattle.amr_state.specs.declared.displaced.Displaced.{Displaced}
 use Rattle.amr_state.specs.declared.displaced.Displaced.TheVariants.{WasConfig, WasPlacement}
-use Rattle.amr_state.specs.State.{State, spot_of, group_spot}
+use Rattle.amr_state.specs.State.{State, member_on_route, group_key}
 use Rattle.amr_state.specs.Records.{put_back}
 
 -- a configuration is put back while no group has members, and a member into the group that the
 -- configuration in force gives it
 abbrev pub FitsOne : State → Displaced → Type 0
 FitsOne s (WasConfig config) = s.placements ≡ empty
-FitsOne s (WasPlacement member alert) = member.group ≡ group_spot s.config (spot_of member)
+FitsOne s (WasPlacement member alert) = member.group ≡ group_key s.config (member_on_route member)
 FitsOne s _ = Unit {0}
 
 -- each entry of a record fits the state in which it is put back, which is after the entries behind

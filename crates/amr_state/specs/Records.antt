@@ -5,8 +5,8 @@ use Rattle.std.specs.Ordering.{nat_cmp, eq_by_cmp}
 use Rattle.amr_labels.specs.Map.{get, set}
 use Rattle.amr_labels.specs.Labels.{label_set_cmp}
 use Rattle.amr_state.specs.declared.displaced.Displaced.{Displaced}
-use Rattle.amr_state.specs.declared.displaced.Displaced.TheVariants.{WasMoment, WasConfig, WasAlert, WasSilence, WasPlacement, WasClock, WasLogged, WasNotes}
-use Rattle.amr_state.specs.State.{State, spot_of, spot_cmp, log_key_cmp}
+use Rattle.amr_state.specs.declared.displaced.Displaced.TheVariants.{WasMoment, WasConfig, WasAlert, WasSilence, WasPlacement, WasTimer, WasLogged, WasNotes}
+use Rattle.amr_state.specs.State.{State, member_on_route, route_labels_cmp, log_key_cmp}
 
 -- the state with the entry's value at its place
 abbrev pub put_back_one : State → Displaced → State
@@ -14,8 +14,8 @@ put_back_one s (WasMoment moment) = record s { moment = moment }
 put_back_one s (WasConfig config) = record s { config = config }
 put_back_one s (WasAlert labels alert) = record s { alerts = set s.alerts labels alert }
 put_back_one s (WasSilence id silence) = record s { silences = set s.silences id silence }
-put_back_one s (WasPlacement member alert) = record s { placements = set s.placements (spot_of member) alert }
-put_back_one s (WasClock group clock) = record s { clocks = set s.clocks group clock }
+put_back_one s (WasPlacement member alert) = record s { placements = set s.placements (member_on_route member) alert }
+put_back_one s (WasTimer group timer) = record s { timers = set s.timers group timer }
 put_back_one s (WasLogged key entry) = record s { log = set s.log key entry }
 put_back_one s (WasNotes count) = record s { notes = take count s.notes }
 
@@ -30,8 +30,8 @@ present s (WasMoment moment) = WasMoment s.moment
 present s (WasConfig config) = WasConfig s.config
 present s (WasAlert labels alert) = WasAlert labels (get s.alerts labels)
 present s (WasSilence id silence) = WasSilence id (get s.silences id)
-present s (WasPlacement member alert) = WasPlacement member (get s.placements (spot_of member))
-present s (WasClock group clock) = WasClock group (get s.clocks group)
+present s (WasPlacement member alert) = WasPlacement member (get s.placements (member_on_route member))
+present s (WasTimer group timer) = WasTimer group (get s.timers group)
 present s (WasLogged key entry) = WasLogged key (get s.log key)
 present s (WasNotes count) = WasNotes (length s.notes)
 
@@ -41,8 +41,8 @@ same_place (WasMoment a) (WasMoment b) = true
 same_place (WasConfig a) (WasConfig b) = true
 same_place (WasAlert a v) (WasAlert b w) = eq_by_cmp label_set_cmp a b
 same_place (WasSilence a v) (WasSilence b w) = eq_by_cmp nat_cmp a b
-same_place (WasPlacement a v) (WasPlacement b w) = eq_by_cmp spot_cmp (spot_of a) (spot_of b)
-same_place (WasClock a v) (WasClock b w) = eq_by_cmp spot_cmp a b
+same_place (WasPlacement a v) (WasPlacement b w) = eq_by_cmp route_labels_cmp (member_on_route a) (member_on_route b)
+same_place (WasTimer a v) (WasTimer b w) = eq_by_cmp route_labels_cmp a b
 same_place (WasLogged a v) (WasLogged b w) = eq_by_cmp log_key_cmp a b
 same_place (WasNotes a) (WasNotes b) = true
 same_place _ _ = false
@@ -52,9 +52,9 @@ unfoldable pub has_entry : List Displaced → Displaced → Bool
 has_entry entries place = list_any (same_place place) entries
 
 -- the entry is of another place than the notifications
-abbrev pub IsNoNote : Displaced → Type 0
-IsNoNote (WasNotes count) = ⊥
-IsNoNote _ = Unit {0}
+abbrev pub IsNoNotification : Displaced → Type 0
+IsNoNotification (WasNotes count) = ⊥
+IsNoNotification _ = Unit {0}
 
 -- the entry is of the notifications, made when there were at most n
 abbrev pub IsNotesWithin : ℕ → Displaced → Type 0

@@ -15,59 +15,59 @@ use Rattle.amr_config.specs.Config.{Config}
 use Rattle.amr_rules.specs.declared.alert.Alert.{Alert}
 use Rattle.amr_tables.specs.Numbered.{Numbered, shown, entry_of, HasPlaces}
 use Rattle.amr_tables.specs.Queued.{Queued, has, in_order, without}
-use Rattle.amr_state.specs.declared.spot.Spot.{Spot}
+use Rattle.amr_state.specs.declared.route_labels.RouteLabels.{RouteLabels}
 use Rattle.amr_state.specs.declared.membership.Membership.{Membership}
-use Rattle.amr_state.specs.State.{spot_of, spot_cmp, spot_cmp_total, spot_cmp-IsAntisymmetric, group_spot}
+use Rattle.amr_state.specs.State.{member_on_route, route_labels_cmp, route_labels_cmp_total, route_labels_cmp-IsAntisymmetric, group_key}
 
 -- memberships are ordered by group, then by labels
 abbrev pub membership_cmp : Membership → Membership → Ordering
-membership_cmp a b = ordering_then (spot_cmp a.group b.group) (label_set_cmp a.labels b.labels)
+membership_cmp a b = ordering_then (route_labels_cmp a.group b.group) (label_set_cmp a.labels b.labels)
 
 pub membership_cmp_total : IsTotalOrder membership_cmp
 membership_cmp_total =
-    then_total (on_total (λ (member : Membership). member.group) spot_cmp_total) (on_total (λ (member : Membership). member.labels) label_set_cmp_total)
+    then_total (on_total (λ (member : Membership). member.group) route_labels_cmp_total) (on_total (λ (member : Membership). member.labels) label_set_cmp_total)
 
 pub membership_cmp-IsAntisymmetric : IsAntisymmetric membership_cmp
 membership_cmp-IsAntisymmetric a b tie =
-    ap (λ (p : Spot × LabelSet). record { group = p.0; labels = p.1 })
-    (exact_pairs spot_cmp label_set_cmp spot_cmp-IsAntisymmetric label_set_cmp-IsAntisymmetric (a.group, a.labels) (b.group, b.labels) tie)
+    ap (λ (p : RouteLabels × LabelSet). record { group = p.0; labels = p.1 })
+    (exact_pairs route_labels_cmp label_set_cmp route_labels_cmp-IsAntisymmetric label_set_cmp-IsAntisymmetric (a.group, a.labels) (b.group, b.labels) tie)
 
 -- the membership of a label set on a route: its group, and its labels
-abbrev pub membership_of : Config → Spot → Membership
-membership_of config spot = record { group = group_spot config spot; labels = spot.labels }
+abbrev pub membership_of : Config → RouteLabels → Membership
+membership_of config route_labels = record { group = group_key config route_labels; labels = route_labels.labels }
 
 -- the membership of the same label set in a given group
-abbrev pub in_group : Spot → Spot → Membership
-in_group group spot = record { group = group; labels = spot.labels }
+abbrev pub in_group : RouteLabels → RouteLabels → Membership
+in_group group route_labels = record { group = group; labels = route_labels.labels }
 
 -- the memberships of all members
-abbrev pub memberships : Config → Map spot_cmp Alert → List Membership
+abbrev pub memberships : Config → Map route_labels_cmp Alert → List Membership
 memberships config placements = map (membership_of config) (keys placements)
 
 -- the members of a group, by labels
-abbrev pub members_among : Config → Map spot_cmp Alert → Spot → List (LabelSet × Alert)
+abbrev pub members_among : Config → Map route_labels_cmp Alert → RouteLabels → List (LabelSet × Alert)
 members_among config placements group =
-    map (λ placement. (placement.0.labels, placement.1)) (filter (λ placement. eq_by_cmp spot_cmp (group_spot config placement.0) group) (entries placements))
+    map (λ placement. (placement.0.labels, placement.1)) (filter (λ placement. eq_by_cmp route_labels_cmp (group_key config placement.0) group) (entries placements))
 
 -- the labels of a member with its alert, if it has one
-abbrev pub with_alert : Map spot_cmp Alert → Membership → Option (LabelSet × Alert)
-with_alert placements member = option_map (λ alert. (member.labels, alert)) (get placements (spot_of member))
+abbrev pub with_alert : Map route_labels_cmp Alert → Membership → Option (LabelSet × Alert)
+with_alert placements member = option_map (λ alert. (member.labels, alert)) (get placements (member_on_route member))
 
 pub record Rostered : Type 0 where
   pub config : Config
-  pub placements : Numbered Spot Alert
+  pub placements : Numbered RouteLabels Alert
 
 -- The index is the sorted list of the memberships. Its items and its spare room together are enough
 -- for one membership of each place.
-pub record IsIndexed (config : Config) (placements : Numbered Spot Alert) (index : Queued Membership) : Type 0 where
-  pub dues : index.dues ≡ in_order membership_cmp (memberships config (shown spot_cmp placements))
+pub record IsIndexed (config : Config) (placements : Numbered RouteLabels Alert) (index : Queued Membership) : Type 0 where
+  pub dues : index.dues ≡ in_order membership_cmp (memberships config (shown route_labels_cmp placements))
   pub room : length placements.numbers ≤ index.room + length index.dues
-  pub places : HasPlaces spot_cmp placements
+  pub places : HasPlaces route_labels_cmp placements
 
 -- the entry for a change of a member: the membership with its present alert, unless the place is
 -- entered already
-abbrev pub member_entry_of : Config → Numbered Spot Alert → Spot → Option (Membership × Option Alert)
-member_entry_of config placements spot = option_map (λ entry. (membership_of config entry.0, entry.1)) (entry_of spot_cmp placements spot)
+abbrev pub member_entry_of : Config → Numbered RouteLabels Alert → RouteLabels → Option (Membership × Option Alert)
+member_entry_of config placements route_labels = option_map (λ entry. (membership_of config entry.0, entry.1)) (entry_of route_labels_cmp placements route_labels)
 
 -- the index after a member came, left, or did neither
 abbrev pub enrolled : List Membership → Membership → Bool → Bool → List Membership

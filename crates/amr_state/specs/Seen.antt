@@ -1,13 +1,13 @@
 -- What the program lists of the state.
 use Rattle.std.specs.Prelude.{List, map}
 use Rattle.amr_labels.specs.Map.{entries}
-use Rattle.amr_state.specs.declared.note.Clock.{Clock}
-use Rattle.amr_state.specs.declared.spot.Spot.{Spot}
+use Rattle.amr_state.specs.declared.notification.GroupTimer.{GroupTimer}
+use Rattle.amr_state.specs.declared.route_labels.RouteLabels.{RouteLabels}
 use Rattle.amr_state.specs.declared.views.Group.{Group}
 use Rattle.amr_state.specs.State.{State, members}
 
 -- a group with its timer and the label sets of its members
-abbrev pub group_seen : State → Spot × Clock → Group
+abbrev pub group_seen : State → RouteLabels × GroupTimer → Group
 group_seen s group = record {
   route = group.0.route;
   labels = group.0.labels;
@@ -19,4 +19,4 @@ group_seen s group = record {
 
 -- the groups, by route and labels
 abbrev pub groups_of : State → List Group
-groups_of s = map (group_seen s) (entries s.clocks)
+groups_of s = map (group_seen s) (entries s.timers)

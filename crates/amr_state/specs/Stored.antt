@@ -5,12 +5,12 @@ use Rattle.std.specs.Ordering.{nat_cmp}
 use Rattle.amr_labels.specs.Labels.{LabelSet, label_set_cmp}
 use Rattle.amr_time.specs.Time.{latest_read}
 use Rattle.amr_tables.specs.Numbered.{shown, has_place, is_entered}
-use Rattle.amr_state.specs.declared.spot.Spot.{Spot}
-use Rattle.amr_state.specs.declared.note.LogKey.{LogKey}
+use Rattle.amr_state.specs.declared.route_labels.RouteLabels.{RouteLabels}
+use Rattle.amr_state.specs.declared.notification.LogKey.{LogKey}
 use Rattle.amr_state.specs.declared.displaced.Displaced.{Displaced}
-use Rattle.amr_state.specs.declared.displaced.Displaced.TheVariants.{WasMoment, WasConfig, WasAlert, WasSilence, WasPlacement, WasClock, WasLogged, WasNotes}
+use Rattle.amr_state.specs.declared.displaced.Displaced.TheVariants.{WasMoment, WasConfig, WasAlert, WasSilence, WasPlacement, WasTimer, WasLogged, WasNotes}
 use Rattle.amr_state.specs.declared.tables.Tables.{Tables}
-use Rattle.amr_state.specs.State.{State, spot_of, spot_cmp, log_key_cmp}
+use Rattle.amr_state.specs.State.{State, member_on_route, route_labels_cmp, log_key_cmp}
 use Rattle.amr_state.specs.Records.{has_entry, NotesEntered}
 use Rattle.amr_state.specs.Fitting.{Fits, since_config}
 use Rattle.amr_state.specs.Kept.{Kept}
@@ -23,8 +23,8 @@ state_of store = record {
   config = store.tables.roster.config;
   alerts = shown label_set_cmp store.tables.timetable.alerts;
   silences = shown nat_cmp store.tables.silences;
-  placements = shown spot_cmp store.tables.roster.placements;
-  clocks = shown spot_cmp store.tables.timetable.clocks;
+  placements = shown route_labels_cmp store.tables.roster.placements;
+  timers = shown route_labels_cmp store.tables.timetable.timers;
   log = shown log_key_cmp store.tables.log;
   notes = store.notes.items;
 }
@@ -44,8 +44,8 @@ IsSound tables (WasMoment moment) = moment ≤ latest_read
 IsSound tables (WasConfig config) = Unit {0}
 IsSound tables (WasAlert labels alert) = IsTrue (has_place label_set_cmp tables.timetable.alerts labels)
 IsSound tables (WasSilence id silence) = IsTrue (has_place nat_cmp tables.silences id)
-IsSound tables (WasPlacement member alert) = IsTrue (has_place spot_cmp tables.roster.placements (spot_of member))
-IsSound tables (WasClock group clock) = IsTrue (has_place spot_cmp tables.timetable.clocks group)
+IsSound tables (WasPlacement member alert) = IsTrue (has_place route_labels_cmp tables.roster.placements (member_on_route member))
+IsSound tables (WasTimer group timer) = IsTrue (has_place route_labels_cmp tables.timetable.timers group)
 IsSound tables (WasLogged key entry) = IsTrue (has_place log_key_cmp tables.log key)
 IsSound tables (WasNotes count) = Unit {0}
 
@@ -59,8 +59,8 @@ is_marked_at tables (WasMoment moment) = tables.is_moment_entered
 is_marked_at tables (WasConfig config) = false
 is_marked_at tables (WasAlert labels alert) = is_entered label_set_cmp tables.timetable.alerts labels
 is_marked_at tables (WasSilence id silence) = is_entered nat_cmp tables.silences id
-is_marked_at tables (WasPlacement member alert) = is_entered spot_cmp tables.roster.placements (spot_of member)
-is_marked_at tables (WasClock group clock) = is_entered spot_cmp tables.timetable.clocks group
+is_marked_at tables (WasPlacement member alert) = is_entered route_labels_cmp tables.roster.placements (member_on_route member)
+is_marked_at tables (WasTimer group timer) = is_entered route_labels_cmp tables.timetable.timers group
 is_marked_at tables (WasLogged key entry) = is_entered log_key_cmp tables.log key
 is_marked_at tables (WasNotes count) = tables.are_notes_entered
 
@@ -72,8 +72,8 @@ IsUnmarked tables = (place : Displaced) → is_marked_at tables place ≡ false
 pub record MorePlaces (a b : Tables) : Type 0 where
   pub alerts : (k : LabelSet) → IsTrue (has_place label_set_cmp a.timetable.alerts k) → IsTrue (has_place label_set_cmp b.timetable.alerts k)
   pub silences : (k : ℕ) → IsTrue (has_place nat_cmp a.silences k) → IsTrue (has_place nat_cmp b.silences k)
-  pub placements : (k : Spot) → IsTrue (has_place spot_cmp a.roster.placements k) → IsTrue (has_place spot_cmp b.roster.placements k)
-  pub clocks : (k : Spot) → IsTrue (has_place spot_cmp a.timetable.clocks k) → IsTrue (has_place spot_cmp b.timetable.clocks k)
+  pub placements : (k : RouteLabels) → IsTrue (has_place route_labels_cmp a.roster.placements k) → IsTrue (has_place route_labels_cmp b.roster.placements k)
+  pub timers : (k : RouteLabels) → IsTrue (has_place route_labels_cmp a.timetable.timers k) → IsTrue (has_place route_labels_cmp b.timetable.timers k)
   pub log : (k : LogKey) → IsTrue (has_place log_key_cmp a.log k) → IsTrue (has_place log_key_cmp b.log k)
 
 -- both tables have the same values
@@ -81,8 +81,8 @@ pub record SameValues (a b : Tables) : Type 0 where
   pub config : b.roster.config ≡ a.roster.config
   pub alerts : shown label_set_cmp b.timetable.alerts ≡ shown label_set_cmp a.timetable.alerts
   pub silences : shown nat_cmp b.silences ≡ shown nat_cmp a.silences
-  pub placements : shown spot_cmp b.roster.placements ≡ shown spot_cmp a.roster.placements
-  pub clocks : shown spot_cmp b.timetable.clocks ≡ shown spot_cmp a.timetable.clocks
+  pub placements : shown route_labels_cmp b.roster.placements ≡ shown route_labels_cmp a.roster.placements
+  pub timers : shown route_labels_cmp b.timetable.timers ≡ shown route_labels_cmp a.timetable.timers
   pub log : shown log_key_cmp b.log ≡ shown log_key_cmp a.log
 
 -- the entries of all records, the oldest first

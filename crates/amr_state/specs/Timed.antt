@@ -9,25 +9,25 @@ use Rattle.amr_time.specs.Time.{Moment}
 use Rattle.amr_rules.specs.declared.alert.Alert.{Alert}
 use Rattle.amr_tables.specs.Numbered.{Numbered, shown, HasPlaces}
 use Rattle.amr_tables.specs.Queued.{Queued, has, in_order, without, count_of}
-use Rattle.amr_state.specs.declared.note.Clock.{Clock}
-use Rattle.amr_state.specs.declared.spot.Spot.{Spot}
+use Rattle.amr_state.specs.declared.notification.GroupTimer.{GroupTimer}
+use Rattle.amr_state.specs.declared.route_labels.RouteLabels.{RouteLabels}
 use Rattle.amr_state.specs.declared.due.Due.{Due}
 use Rattle.amr_state.specs.declared.due.Kind.TheVariants.{AlertRemoval, GroupRemoval, GroupFlush}
 use Rattle.amr_state.specs.declared.timetable.GroupMoments.{GroupMoments}
-use Rattle.amr_state.specs.State.{spot_cmp}
+use Rattle.amr_state.specs.State.{route_labels_cmp}
 use Rattle.amr_state.specs.Dues.{due_cmp, place_cmp, dues_of, alert_removal_at, group_removal_at}
 
 pub record Timed : Type 0 where
   pub alerts : Numbered LabelSet Alert
-  pub clocks : Numbered Spot Clock
+  pub timers : Numbered RouteLabels GroupTimer
 
 -- The queue is the sorted list of pending timers. Its timers and its spare room together are enough
 -- for one timer of each alert's place and two of each group's.
-pub record IsTimed (alerts : Numbered LabelSet Alert) (clocks : Numbered Spot Clock) (queue : Queued Due) : Type 0 where
-  pub dues : queue.dues ≡ in_order due_cmp (dues_of (shown label_set_cmp alerts) (shown spot_cmp clocks))
-  pub room : length alerts.numbers + 2 * length clocks.numbers ≤ queue.room + length queue.dues
+pub record IsTimed (alerts : Numbered LabelSet Alert) (timers : Numbered RouteLabels GroupTimer) (queue : Queued Due) : Type 0 where
+  pub dues : queue.dues ≡ in_order due_cmp (dues_of (shown label_set_cmp alerts) (shown route_labels_cmp timers))
+  pub room : length alerts.numbers + 2 * length timers.numbers ≤ queue.room + length queue.dues
   pub alert_places : HasPlaces label_set_cmp alerts
-  pub clock_places : HasPlaces spot_cmp clocks
+  pub timer_places : HasPlaces route_labels_cmp timers
 
 -- ---- a timer at another moment
 
@@ -68,10 +68,10 @@ pub record CanMove (dues : List Due) (spare : ℕ) (due : Due) (old new : Option
 abbrev pub removal_of_alert : LabelSet → Due
 removal_of_alert labels = record { moment = 0; kind = AlertRemoval; route = 0; labels = labels }
 
-abbrev pub removal_of_group : Spot → Due
+abbrev pub removal_of_group : RouteLabels → Due
 removal_of_group group = record { moment = 0; kind = GroupRemoval; route = group.route; labels = group.labels }
 
-abbrev pub flush_of_group : Spot → Due
+abbrev pub flush_of_group : RouteLabels → Due
 flush_of_group group = record { moment = 0; kind = GroupFlush; route = group.route; labels = group.labels }
 
 -- when an alert is removed
@@ -79,18 +79,18 @@ abbrev pub alert_moment : Option Alert → Option Moment
 alert_moment = option_map alert_removal_at
 
 -- when a group is flushed and removed
-abbrev pub group_moments : Option Clock → GroupMoments
-group_moments clock = record { flush = option_map (λ clock. clock.next_flush) clock; removal = option_and_then group_removal_at clock }
+abbrev pub group_moments : Option GroupTimer → GroupMoments
+group_moments timer = record { flush = option_map (λ timer. timer.next_flush) timer; removal = option_and_then group_removal_at timer }
 
 -- the list with the group's flush moved
-abbrev pub flush_moved : List Due → Spot → GroupMoments → GroupMoments → List Due
+abbrev pub flush_moved : List Due → RouteLabels → GroupMoments → GroupMoments → List Due
 flush_moved dues group old new = moved dues (flush_of_group group) old.flush new.flush
 
 -- the list with the group's flush and removal moved
-abbrev pub group_moved : List Due → Spot → GroupMoments → GroupMoments → List Due
+abbrev pub group_moved : List Due → RouteLabels → GroupMoments → GroupMoments → List Due
 group_moved dues group old new = moved (flush_moved dues group old new) (removal_of_group group) old.removal new.removal
 
 -- the flush can be moved, and after it the removal
-pub record CanMoveGroup (dues : List Due) (spare : ℕ) (group : Spot) (old new : GroupMoments) : Type 0 where
+pub record CanMoveGroup (dues : List Due) (spare : ℕ) (group : RouteLabels) (old new : GroupMoments) : Type 0 where
   pub flush : CanMove dues spare (flush_of_group group) old.flush new.flush
   pub removal : (left : ℕ) → left + length (flush_moved dues group old new) ≡ spare + length dues → CanMove (flush_moved dues group old new) left (removal_of_group group) old.removal new.removal

@@ -1,8 +1,8 @@
 //! An entry of a record: a place of the state and the value that an event displaced there. `Store`
 //! writes the entries, and puts them back when an event is undone.
 use crate::membership::Membership;
-use crate::note::{Clock, LogKey};
-use crate::spot::TimedGroup;
+use crate::notification::{GroupTimer, LogKey};
+use crate::route_labels::TimedGroup;
 use amr_config::Router;
 use amr_events::SilenceId;
 use amr_labels::Labels;
@@ -23,7 +23,7 @@ pub enum Displaced {
     /// The member of a group with these labels.
     WasPlacement(Membership, Option<Alert>),
     /// The timer of a group.
-    WasClock(TimedGroup, Option<Clock>),
+    WasTimer(TimedGroup, Option<GroupTimer>),
     /// The entry of the notification log under this key.
     WasLogged(LogKey, Option<LogEntry>),
     /// The number of notifications before the event.

@@ -5,7 +5,7 @@ ghost use Rattle.std.specs.Prelude.{◌≡◌, ◌≤◌, ℕ, IfOk, IfSome};
 ghost use Rattle.amr_time.specs.Time.{latest_read};
 ghost use Rattle.amr_state.specs.Dues.{kind_place, next_due, alert_removal_at, group_removal_at};
 
-use crate::note::Clock;
+use crate::notification::GroupTimer;
 use crate::store::Store;
 use amr_labels::Labels;
 use amr_rules::Alert;
@@ -82,10 +82,10 @@ pub(crate) fn alert_removal(alert: &Alert) -> u128
 /// Returns when an empty group is removed, in nanoseconds since 1970: at the first multiple of 30
 /// seconds, the interval of the dispatcher's maintenance, after it became empty. Returns `None` if
 /// the group has members.
-pub(crate) fn group_removal(clock: &Clock) -> Option<u128>
-    ensures { result ≡ group_removal_at clock.now }
+pub(crate) fn group_removal(timer: &GroupTimer) -> Option<u128>
+    ensures { result ≡ group_removal_at timer.now }
 {
-    let since = clock.empty_since?;
+    let since = timer.empty_since?;
     Some(next_multiple(since, Span::from_seconds(30)))
 }
 

@@ -2,7 +2,7 @@
 ghost use Rattle.std.specs.Prelude.{◌≡◌, IfOk};
 ghost use Rattle.amr_state.specs.State.{members};
 
-use crate::spot::Spot;
+use crate::route_labels::RouteLabels;
 use crate::store::Store;
 use amr_labels::Labels;
 use amr_rules::Alert;
@@ -12,7 +12,7 @@ use std::alloc::AllocError;
 pub type Member = (Labels, Alert);
 
 /// Returns the members of a group, by labels.
-pub fn members_of(store: &Store, group: &Spot) -> Result<Vec<Member>, AllocError>
+pub fn members_of(store: &Store, group: &RouteLabels) -> Result<Vec<Member>, AllocError>
     ensures { IfOk result (λ found. found.items ≡ members store.now.state group.now) }
 {
     store.members_of(group)

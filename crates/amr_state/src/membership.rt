@@ -2,7 +2,7 @@
 //! index; the alerts themselves are in its table.
 ghost use Rattle.std.specs.Prelude.{◌≡◌};
 
-use crate::spot::Spot;
+use crate::route_labels::RouteLabels;
 use amr_labels::Labels;
 use amr_tables::InParts;
 use std::cmp::Ordering;
@@ -10,7 +10,7 @@ use std::cmp::Ordering;
 /// A label set in a group. Memberships are ordered by group, then by labels.
 #[derive(PartialEq, Eq, PartialOrd, Ord, Drop)]
 pub struct Membership {
-    pub group: Spot,
+    pub group: RouteLabels,
     /// The labels of the alert.
     pub labels: Labels,
 }
@@ -20,15 +20,15 @@ impl InParts for Membership {
     ghost use Rattle.amr_labels.specs.Labels.{label_set_cmp};
     ghost use Rattle.amr_tables.specs.InParts.{IsInParts-by_first};
     ghost use Rattle.amr_state.specs.declared.membership.Membership.{Membership};
-    ghost use Rattle.amr_state.specs.State.{spot_cmp, spot_cmp_total};
+    ghost use Rattle.amr_state.specs.State.{route_labels_cmp, route_labels_cmp_total};
 
-    type Part = Spot;
+    type Part = RouteLabels;
 
-    ghost part_cmp = { λ member group. spot_cmp member.group group };
+    ghost part_cmp = { λ member group. route_labels_cmp member.group group };
 
-    ghost in_parts = { IsInParts-by_first spot_cmp_total (λ (member : Membership). member.group) (λ a b. label_set_cmp a.labels b.labels) };
+    ghost in_parts = { IsInParts-by_first route_labels_cmp_total (λ (member : Membership). member.group) (λ a b. label_set_cmp a.labels b.labels) };
 
-    fn part_cmp(&self, part: &Spot) -> Ordering {
+    fn part_cmp(&self, part: &RouteLabels) -> Ordering {
         self.group.cmp(part)
     }
 }

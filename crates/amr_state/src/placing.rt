@@ -6,11 +6,11 @@ ghost use Rattle.amr_config.specs.Routing.{chosen};
 ghost use Rattle.amr_config.specs.Groups.{group_at};
 ghost use Rattle.amr_labels.specs.Map as map;
 ghost use Rattle.amr_time.specs.Time.{latest_read};
-ghost use Rattle.amr_state.specs.State.{spot_at, group_spot, clock_with, place_on, place};
+ghost use Rattle.amr_state.specs.State.{on_route, group_key, timer_with, place_on, place};
 ghost use Rattle.amr_state.specs.Kept.{GrownBy, undone};
 
-use crate::note::Clock;
-use crate::spot::Spot;
+use crate::notification::GroupTimer;
+use crate::route_labels::RouteLabels;
 use crate::store::Store;
 use amr_config::{Config, RouteGroup};
 use amr_labels::Labels;
@@ -28,17 +28,17 @@ fn has_waited(starts_at: Moment, wait: Span, now: Moment) -> bool
 /// Returns the group timer after an alert is inserted. A new group is flushed first after
 /// `group_wait`. If the alert's own wait is over, a group that was never flushed is flushed now, as
 /// in Alertmanager's dispatcher.
-fn clock_with(now: Moment, wait: Span, alert: &Alert, clock: Option<Clock>) -> Clock
+fn timer_with(now: Moment, wait: Span, alert: &Alert, timer: Option<GroupTimer>) -> GroupTimer
     requires { now ≤ latest_read }
-    ensures { result ≡ clock_with now wait alert.now clock }
+    ensures { result ≡ timer_with now wait alert.now timer }
 {
     let is_over = has_waited(alert.starts_at, wait, now);
-    let (flush, flushed) = match clock {
+    let (flush, flushed) = match timer {
         None => (now.plus(wait), false),
-        Some(clock) => (clock.next_flush, clock.flushed),
+        Some(timer) => (timer.next_flush, timer.flushed),
     };
     let next_flush = if !flushed && is_over { now } else { flush };
-    Clock {
+    GroupTimer {
         next_flush,
         flushed,
         empty_since: None,
@@ -46,16 +46,16 @@ fn clock_with(now: Moment, wait: Span, alert: &Alert, clock: Option<Clock>) -> C
 }
 
 /// Returns the group of an alert on a route.
-pub fn group_spot(
+pub fn group_key(
     alloc: Global,
     config: &Config,
     route: usize,
     labels: &Labels,
-) -> Result<Spot, AllocError>
-    ensures { IfOk result (λ group. group ≡ group_spot config.now (spot_at route labels.now)) }
+) -> Result<RouteLabels, AllocError>
+    ensures { IfOk result (λ group. group ≡ group_key config.now (on_route route labels.now)) }
 {
     let labels = config.group_of(alloc, route, labels)?;
-    Ok(Spot { route, labels })
+    Ok(RouteLabels { route, labels })
 }
 
 /// Inserts an alert into a group, and sets the group timer.
@@ -72,44 +72,44 @@ fn place_on(
     ensures grown { GrownBy 2 store.old store.new }
 {
     let route = group.route;
-    let group = Spot {
+    let group = RouteLabels {
         route,
         labels: group.labels.clone()?,
     };
     let wait = store.config().group_wait(route);
-    let before = store.clocks().get(&group).copied();
-    let after = clock_with(store.moment(), wait, alert, before);
-    let spot = Spot {
+    let before = store.timers().get(&group).copied();
+    let after = timer_with(store.moment(), wait, alert, before);
+    let route_labels = RouteLabels {
         route,
         labels: labels.clone()?,
     };
-    store.place_copy(&group, &spot, alert.clone()?)?;
-    change_clock(store, &group, before, after)
+    store.place_copy(&group, &route_labels, alert.clone()?)?;
+    change_timer(store, &group, before, after)
 }
 
 /// Sets a group timer that is `before` now. Does nothing if it stays, as at most posts of an alert
 /// that the group has.
-fn change_clock(
+fn change_timer(
     store: &mut Store,
-    group: &Spot,
-    before: Option<Clock>,
-    after: Clock,
+    group: &RouteLabels,
+    before: Option<GroupTimer>,
+    after: GroupTimer,
 ) -> Result<(), AllocError>
-    requires { before ≡ map.get store.old.state.clocks group.now }
+    requires { before ≡ map.get store.old.state.timers group.now }
     ensures ok { OnOk result (store.new.state
         ≡ record store.old.state
-        { clocks = map.insert store.old.state.clocks group.now after }) }
+        { timers = map.insert store.old.state.timers group.now after }) }
     ensures kept { undone store.new ≡ undone store.old }
     ensures grown { GrownBy 1 store.old store.new }
 {
     if stays(&before, &after) {
         return Ok(());
     }
-    store.set_clock(group, after)
+    store.set_timer(group, after)
 }
 
 /// Returns whether a group timer stays as it was. `before` is `None` if there was none.
-fn stays(before: &Option<Clock>, after: &Clock) -> bool
+fn stays(before: &Option<GroupTimer>, after: &GroupTimer) -> bool
     ensures { result ≡ true → before.now ≡ Some after.now }
 {
     match before {

@@ -8,12 +8,12 @@ ghost use Rattle.amr_config.specs.RuleMatches.{rule_matches};
 ghost use Rattle.amr_tables.specs.Numbered.{shown, has_place, Enters, KeepsPlaces, SamePlaces, SameEntered, NoneEntered, IsUnchanged};
 ghost use Rattle.std.specs.List.{filter_map, cons_option};
 ghost use Rattle.amr_tables.specs.Queued.{values_of};
-ghost use Rattle.amr_state.specs.State.{spot_of, spot_cmp, group_spot};
+ghost use Rattle.amr_state.specs.State.{member_on_route, route_labels_cmp, group_key};
 ghost use Rattle.amr_state.specs.Rostered.{in_group, member_entry_of, members_among, with_alert, enrolled, CanEnrol};
 
 use crate::members::Member;
 use crate::membership::Membership;
-use crate::spot::Spot;
+use crate::route_labels::RouteLabels;
 use crate::timetable::{make_room, put_back};
 use amr_config::{Config, RouteGroup, Router, RuleMatch};
 use amr_labels::{Labels, Listing, Shared};
@@ -29,7 +29,7 @@ use std::mem;
 pub(crate) struct Roster {
     alloc: Global,
     config: Router,
-    placements: Keyed<Spot, Alert>,
+    placements: Keyed<RouteLabels, Alert>,
     index: Queue<Membership>,
 }
 
@@ -51,8 +51,8 @@ impl Roster {
     /// Builds a roster without members.
     pub(crate) fn new(alloc: Global, config: Config) -> Roster
         ensures config { result.config ≡ config }
-        ensures shown { shown spot_cmp result.placements ≡ map.empty }
-        ensures entered { NoneEntered spot_cmp result.placements }
+        ensures shown { shown route_labels_cmp result.placements ≡ map.empty }
+        ensures entered { NoneEntered route_labels_cmp result.placements }
     {
         Roster {
             alloc,
@@ -91,7 +91,7 @@ impl Roster {
     }
 
     /// Returns the members of all groups, by route and labels.
-    pub(crate) fn placements(&self) -> &Keyed<Spot, Alert>
+    pub(crate) fn placements(&self) -> &Keyed<RouteLabels, Alert>
         ensures { result.now ≡ self.now.placements }
     {
         &self.placements
@@ -99,9 +99,9 @@ impl Roster {
 
     /// Returns the members of a group, by labels. Its time doesn't grow with the number of members
     /// of other groups, apart from a logarithm.
-    pub(crate) fn members_of(&self, group: &Spot) -> Result<Vec<Member>, AllocError>
+    pub(crate) fn members_of(&self, group: &RouteLabels) -> Result<Vec<Member>, AllocError>
         ensures { IfOk result (λ found. found.items
-            ≡ members_among self.now.config (shown spot_cmp self.now.placements) group.now) }
+            ≡ members_among self.now.config (shown route_labels_cmp self.now.placements) group.now) }
     {
         let members = self.index.part(group)?;
         with_alerts(self.alloc, &self.placements, members.as_slice())
@@ -110,9 +110,9 @@ impl Roster {
     /// Clears the marks of all places, so that the open record takes their next change again. It
     /// takes no memory.
     pub(crate) fn clear_entered(&mut self)
-        ensures shown { shown spot_cmp self.new.placements ≡ shown spot_cmp self.old.placements }
-        ensures places { SamePlaces spot_cmp self.old.placements self.new.placements }
-        ensures entered { NoneEntered spot_cmp self.new.placements }
+        ensures shown { shown route_labels_cmp self.new.placements ≡ shown route_labels_cmp self.old.placements }
+        ensures places { SamePlaces route_labels_cmp self.old.placements self.new.placements }
+        ensures entered { NoneEntered route_labels_cmp self.new.placements }
         ensures config { self.new.config ≡ self.old.config }
     {
         self.placements.clear_entered();
@@ -123,20 +123,20 @@ impl Roster {
     pub(crate) fn change_member<E>(
         &mut self,
         journal: &mut Journal<E>,
-        group: &Spot,
-        spot: &Spot,
+        group: &RouteLabels,
+        route_labels: &RouteLabels,
         alert: Option<Alert>,
     ) -> Result<Option<(Membership, Option<Alert>)>, AllocError>
-        requires { group.now ≡ group_spot self.old.config spot.now }
+        requires { group.now ≡ group_key self.old.config route_labels.now }
         ensures entry { IfOk result (λ entry. entry
-            ≡ member_entry_of self.old.config self.old.placements spot.now) }
-        ensures shown { OnOk result (shown spot_cmp self.new.placements ≡
-            map.set (shown spot_cmp self.old.placements) spot.now alert) }
+            ≡ member_entry_of self.old.config self.old.placements route_labels.now) }
+        ensures shown { OnOk result (shown route_labels_cmp self.new.placements ≡
+            map.set (shown route_labels_cmp self.old.placements) route_labels.now alert) }
         ensures entered { OnOk result
-            (Enters spot_cmp self.old.placements self.new.placements spot.now) }
-        ensures made { OnOk result (IsTrue (has_place spot_cmp self.new.placements spot.now)) }
-        ensures err { OnErr result (IsUnchanged spot_cmp self.old.placements self.new.placements) }
-        ensures places { KeepsPlaces spot_cmp self.old.placements self.new.placements }
+            (Enters route_labels_cmp self.old.placements self.new.placements route_labels.now) }
+        ensures made { OnOk result (IsTrue (has_place route_labels_cmp self.new.placements route_labels.now)) }
+        ensures err { OnErr result (IsUnchanged route_labels_cmp self.old.placements self.new.placements) }
+        ensures places { KeepsPlaces route_labels_cmp self.old.placements self.new.placements }
         ensures config { self.new.config ≡ self.old.config }
         ensures room { IfOk result (λ entry. IsTrue (is_some entry) → 0 < journal.new.entry_room) }
         ensures closed { journal.new.closed ≡ journal.old.closed }
@@ -145,37 +145,37 @@ impl Roster {
     {
         let member = Membership {
             group: group.clone()?,
-            labels: spot.labels.clone()?,
+            labels: route_labels.labels.clone()?,
         };
         let group = group.clone()?;
-        make_room(&mut self.index, self.placements.has_place(spot), 1)?;
-        let was = is_placed(&self.placements, spot);
+        make_room(&mut self.index, self.placements.has_place(route_labels), 1)?;
+        let was = is_placed(&self.placements, route_labels);
         let is = alert.is_some();
-        let entry = change(&mut self.placements, journal, spot, alert)?;
+        let entry = change(&mut self.placements, journal, route_labels, alert)?;
         enrol(&mut self.index, member, was, is);
         Ok(member_entry(group, entry))
     }
 
     /// Restores a member of its group, or its absence. It takes no memory.
     pub(crate) fn put_back_member(&mut self, member: Membership, alert: Option<Alert>)
-        requires place { IsTrue (has_place spot_cmp self.old.placements (spot_of member)) }
-        requires group { member.group ≡ group_spot self.old.config (spot_of member) }
-        ensures shown { shown spot_cmp self.new.placements ≡
-            map.set (shown spot_cmp self.old.placements) (spot_of member) alert }
-        ensures places { SamePlaces spot_cmp self.old.placements self.new.placements }
-        ensures entered { SameEntered spot_cmp self.old.placements self.new.placements }
+        requires place { IsTrue (has_place route_labels_cmp self.old.placements (member_on_route member)) }
+        requires group { member.group ≡ group_key self.old.config (member_on_route member) }
+        ensures shown { shown route_labels_cmp self.new.placements ≡
+            map.set (shown route_labels_cmp self.old.placements) (member_on_route member) alert }
+        ensures places { SamePlaces route_labels_cmp self.old.placements self.new.placements }
+        ensures entered { SameEntered route_labels_cmp self.old.placements self.new.placements }
         ensures config { self.new.config ≡ self.old.config }
     {
-        let spot = Spot {
+        let route_labels = RouteLabels {
             route: member.group.route,
             labels: member.labels,
         };
-        let was = is_placed(&self.placements, &spot);
+        let was = is_placed(&self.placements, &route_labels);
         let is = alert.is_some();
-        put_back(&mut self.placements, &spot, alert);
+        put_back(&mut self.placements, &route_labels, alert);
         let member = Membership {
             group: member.group,
-            labels: spot.labels,
+            labels: route_labels.labels,
         };
         enrol(&mut self.index, member, was, is);
     }
@@ -183,7 +183,7 @@ impl Roster {
     /// Replaces the configuration, while no group has members, and returns the one before. It takes
     /// no memory.
     pub(crate) fn replace_config(&mut self, config: Router) -> Router
-        requires { shown spot_cmp self.old.placements ≡ map.empty }
+        requires { shown route_labels_cmp self.old.placements ≡ map.empty }
         ensures before { result ≡ self.old.config }
         ensures config { self.new.config ≡ config }
         ensures placements { self.new.placements ≡ self.old.placements }
@@ -195,11 +195,11 @@ impl Roster {
 /// Returns copies of the labels and alerts of memberships.
 fn with_alerts(
     alloc: Global,
-    placements: &Keyed<Spot, Alert>,
+    placements: &Keyed<RouteLabels, Alert>,
     members: &[&Membership],
 ) -> Result<Vec<Member>, AllocError>
     ensures { IfOk result (λ found. found.items
-        ≡ filter_map (with_alert (shown spot_cmp placements.now)) (values_of members.now)) }
+        ≡ filter_map (with_alert (shown route_labels_cmp placements.now)) (values_of members.now)) }
 {
     let mut found = Vec::new(alloc);
     for member in members {
@@ -211,42 +211,42 @@ fn with_alerts(
 /// Appends a copy of a member's labels and alert, if it has an alert.
 fn push_member(
     found: &mut Vec<Member>,
-    placements: &Keyed<Spot, Alert>,
+    placements: &Keyed<RouteLabels, Alert>,
     member: &Membership,
 ) -> Result<(), AllocError>
     ensures { OnOk result (found.new.items ≡ found.old.items ++
-        cons_option (with_alert (shown spot_cmp placements.now) member.now) []) }
+        cons_option (with_alert (shown route_labels_cmp placements.now) member.now) []) }
 {
-    let spot = Spot {
+    let route_labels = RouteLabels {
         route: member.group.route,
         labels: member.labels.clone()?,
     };
-    if let Some(alert) = placements.get(&spot) {
-        found.push((spot.labels, alert.clone()?))?;
+    if let Some(alert) = placements.get(&route_labels) {
+        found.push((route_labels.labels, alert.clone()?))?;
     }
     Ok(())
 }
 
 /// Turns the entry of a place into the entry of a member of the group.
 fn member_entry(
-    group: Spot,
-    entry: Option<(Spot, Option<Alert>)>,
+    group: RouteLabels,
+    entry: Option<(RouteLabels, Option<Alert>)>,
 ) -> Option<(Membership, Option<Alert>)>
     ensures { result ≡ option_map (λ entry. (in_group group entry.0, entry.1)) entry }
 {
-    let (spot, alert) = entry?;
+    let (route_labels, alert) = entry?;
     let member = Membership {
         group,
-        labels: spot.labels,
+        labels: route_labels.labels,
     };
     Some((member, alert))
 }
 
 /// Returns whether this label set is a member on this route.
-fn is_placed(placements: &Keyed<Spot, Alert>, spot: &Spot) -> bool
-    ensures { result ≡ is_some (map.get (shown spot_cmp placements.now) spot.now) }
+fn is_placed(placements: &Keyed<RouteLabels, Alert>, route_labels: &RouteLabels) -> bool
+    ensures { result ≡ is_some (map.get (shown route_labels_cmp placements.now) route_labels.now) }
 {
-    match placements.get(spot) {
+    match placements.get(route_labels) {
         None => false,
         Some(_) => true,
     }

@@ -13,7 +13,7 @@ ghost use Rattle.amr_tables.specs.Numbered.{shown};
 ghost use Rattle.amr_tables.specs.Queued.{in_order};
 ghost use Rattle.amr_time.specs.Time.{latest_read};
 ghost use Rattle.amr_rules.specs.Muting.{is_silenced, silencer_of};
-ghost use Rattle.amr_state.specs.State.{start, members, group_spot, spot_cmp, log_key_cmp};
+ghost use Rattle.amr_state.specs.State.{start, members, group_key, route_labels_cmp, log_key_cmp};
 ghost use Rattle.amr_state.specs.Dues.{due_cmp, dues};
 ghost use Rattle.amr_state.specs.Kept.{GrownBy, undone};
 
@@ -21,11 +21,11 @@ use crate::alert_table::AlertTable;
 use crate::displaced::Displaced;
 use crate::due::Due;
 use crate::members::Member;
-use crate::note::{Clock, LogKey, Note};
-use crate::placing::group_spot;
+use crate::notification::{GroupTimer, LogKey, Notification};
+use crate::placing::group_key;
 use crate::roster::Roster;
+use crate::route_labels::{RouteLabels, TimedGroup};
 use crate::silence_table::SilenceTable;
-use crate::spot::{Spot, TimedGroup};
 use crate::tables::Tables;
 use crate::timetable::Timetable;
 use amr_config::{Config, RouteGroup, Router, RuleMatch};
@@ -47,7 +47,7 @@ pub struct Store {
     alloc: Global,
     moment: Moment,
     tables: Tables,
-    notes: Vec<Shared<Note>>,
+    notes: Vec<Shared<Notification>>,
     journal: Journal<Displaced>,
 }
 
@@ -138,7 +138,7 @@ impl Store {
             Displaced::WasAlert(labels, was) => self.tables.timetable.put_back_alert(labels, was),
             Displaced::WasSilence(id, was) => self.tables.silences.put_back(&id, was),
             Displaced::WasPlacement(member, was) => self.tables.roster.put_back_member(member, was),
-            Displaced::WasClock(group, was) => self.tables.timetable.put_back_clock(group, was),
+            Displaced::WasTimer(group, was) => self.tables.timetable.put_back_timer(group, was),
             Displaced::WasLogged(key, was) => drop(self.tables.log.displace(&key, was)),
             Displaced::WasNotes(count) => self.notes.truncate(count),
         }
@@ -247,25 +247,25 @@ impl Store {
     }
 
     /// Returns the members of all groups, by route and labels.
-    pub(crate) fn placements(&self) -> &Keyed<Spot, Alert>
-        ensures { shown spot_cmp result.now ≡ self.now.state.placements }
+    pub(crate) fn placements(&self) -> &Keyed<RouteLabels, Alert>
+        ensures { shown route_labels_cmp result.now ≡ self.now.state.placements }
     {
         self.tables.roster.placements()
     }
 
     /// Returns the members of a group, by labels.
     #[tactic(auto, unfolding(crate::specs::State::members))]
-    pub(crate) fn members_of(&self, group: &Spot) -> Result<Vec<Member>, AllocError>
+    pub(crate) fn members_of(&self, group: &RouteLabels) -> Result<Vec<Member>, AllocError>
         ensures { IfOk result (λ found. found.items ≡ members self.now.state group.now) }
     {
         self.tables.roster.members_of(group)
     }
 
     /// Returns the group timers, by group.
-    pub fn clocks(&self) -> &Keyed<Spot, Clock>
-        ensures { shown spot_cmp result.now ≡ self.now.state.clocks }
+    pub fn timers(&self) -> &Keyed<RouteLabels, GroupTimer>
+        ensures { shown route_labels_cmp result.now ≡ self.now.state.timers }
     {
-        self.tables.timetable.clocks()
+        self.tables.timetable.timers()
     }
 
     /// Returns the notification log.
@@ -284,7 +284,7 @@ impl Store {
     }
 
     /// Returns all notifications so far, in order.
-    pub fn notes(&self) -> &[Shared<Note>]
+    pub fn notes(&self) -> &[Shared<Notification>]
         ensures { result.now ≡ self.now.state.notes }
     {
         self.notes.as_slice()
@@ -351,50 +351,55 @@ impl Store {
     /// Sets the copy of an alert that its group on this route holds.
     pub(crate) fn place_copy(
         &mut self,
-        group: &Spot,
-        spot: &Spot,
+        group: &RouteLabels,
+        route_labels: &RouteLabels,
         alert: Alert,
     ) -> Result<(), AllocError>
-        requires { group.now ≡ group_spot self.old.state.config spot.now }
+        requires { group.now ≡ group_key self.old.state.config route_labels.now }
         ensures ok { OnOk result (self.new.state
             ≡ record self.old.state
-            { placements = map.insert self.old.state.placements spot.now alert }) }
+            { placements = map.insert self.old.state.placements route_labels.now alert }) }
         ensures kept { undone self.new ≡ undone self.old }
         ensures grown { GrownBy 1 self.old self.new }
     {
-        self.set_placement(group, spot, Some(alert))
+        self.set_placement(group, route_labels, Some(alert))
     }
 
     /// Removes an alert from its group on this route.
-    pub fn remove_copy(&mut self, spot: &Spot) -> Result<(), AllocError>
+    pub fn remove_copy(&mut self, route_labels: &RouteLabels) -> Result<(), AllocError>
         ensures ok { OnOk result (self.new.state
             ≡ record self.old.state
-            { placements = map.remove self.old.state.placements spot.now }) }
+            { placements = map.remove self.old.state.placements route_labels.now }) }
         ensures kept { undone self.new ≡ undone self.old }
         ensures grown { GrownBy 1 self.old self.new }
     {
-        let group = group_spot(self.alloc, self.config(), spot.route, &spot.labels)?;
-        self.set_placement(&group, spot, None)
+        let group = group_key(
+            self.alloc,
+            self.config(),
+            route_labels.route,
+            &route_labels.labels,
+        )?;
+        self.set_placement(&group, route_labels, None)
     }
 
     /// Sets a group timer, and adds the group if it is new.
-    pub fn set_clock(&mut self, group: &Spot, clock: Clock) -> Result<(), AllocError>
+    pub fn set_timer(&mut self, group: &RouteLabels, timer: GroupTimer) -> Result<(), AllocError>
         ensures ok { OnOk result (self.new.state
-            ≡ record self.old.state { clocks = map.insert self.old.state.clocks group.now clock }) }
+            ≡ record self.old.state { timers = map.insert self.old.state.timers group.now timer }) }
         ensures kept { undone self.new ≡ undone self.old }
         ensures grown { GrownBy 1 self.old self.new }
     {
-        self.change_clock(group, Some(clock))
+        self.change_timer(group, Some(timer))
     }
 
     /// Removes a group with its timer.
-    pub fn remove_clock(&mut self, group: &Spot) -> Result<(), AllocError>
+    pub fn remove_timer(&mut self, group: &RouteLabels) -> Result<(), AllocError>
         ensures ok { OnOk result (self.new.state
-            ≡ record self.old.state { clocks = map.remove self.old.state.clocks group.now }) }
+            ≡ record self.old.state { timers = map.remove self.old.state.timers group.now }) }
         ensures kept { undone self.new ≡ undone self.old }
         ensures grown { GrownBy 1 self.old self.new }
     {
-        self.change_clock(group, None)
+        self.change_timer(group, None)
     }
 
     /// Stores a silence.
@@ -411,13 +416,13 @@ impl Store {
     pub fn replace_config(&mut self, config: Config) -> Result<(), AllocError>
         ensures ok { OnOk result (self.new.state
             ≡ record self.old.state
-            { config = config; placements = map.empty; clocks = map.empty }) }
+            { config = config; placements = map.empty; timers = map.empty }) }
         ensures kept { undone self.new ≡ undone self.old }
-        ensures grown { GrownBy (1 + len self.old.state.clocks + len self.old.state.placements)
+        ensures grown { GrownBy (1 + len self.old.state.timers + len self.old.state.placements)
             self.old self.new }
     {
         self.clear_placements()?;
-        self.clear_clocks()?;
+        self.clear_timers()?;
         self.change_config(config)
     }
 
@@ -436,20 +441,20 @@ impl Store {
     }
 
     /// Appends a notification.
-    pub fn append_note(&mut self, note: Note) -> Result<(), AllocError>
+    pub fn append_notification(&mut self, notification: Notification) -> Result<(), AllocError>
         ensures ok { OnOk result (self.new.state
-            ≡ record self.old.state { notes = self.old.state.notes ++ note ∷ [] }) }
+            ≡ record self.old.state { notes = self.old.state.notes ++ notification ∷ [] }) }
         ensures kept { undone self.new ≡ undone self.old }
         ensures grown { GrownBy 1 self.old self.new }
     {
-        let note = Shared::new(self.alloc, note)?;
+        let notification = Shared::new(self.alloc, notification)?;
         self.notes.reserve(1)?;
         if !self.tables.are_notes_entered {
             self.journal.reserve_entry()?;
             self.journal.push(Displaced::WasNotes(self.notes.len()));
             self.tables.are_notes_entered = true;
         }
-        self.notes.push_reserved(note);
+        self.notes.push_reserved(notification);
         Ok(())
     }
 
@@ -500,21 +505,21 @@ impl Store {
     /// former one into the open record.
     fn set_placement(
         &mut self,
-        group: &Spot,
-        spot: &Spot,
+        group: &RouteLabels,
+        route_labels: &RouteLabels,
         alert: Option<Alert>,
     ) -> Result<(), AllocError>
-        requires { group.now ≡ group_spot self.old.state.config spot.now }
+        requires { group.now ≡ group_key self.old.state.config route_labels.now }
         ensures ok { OnOk result (self.new.state
             ≡ record self.old.state
-            { placements = map.set self.old.state.placements spot.now alert }) }
+            { placements = map.set self.old.state.placements route_labels.now alert }) }
         ensures kept { undone self.new ≡ undone self.old }
         ensures grown { GrownBy 1 self.old self.new }
     {
         let entry = self
             .tables
             .roster
-            .change_member(&mut self.journal, group, spot, alert)?;
+            .change_member(&mut self.journal, group, route_labels, alert)?;
         if let Some((member, was)) = entry {
             self.journal.push(Displaced::WasPlacement(member, was));
         }
@@ -522,9 +527,13 @@ impl Store {
     }
 
     /// Sets or removes a group timer, and enters the former one into the open record.
-    fn change_clock(&mut self, group: &Spot, clock: Option<Clock>) -> Result<(), AllocError>
+    fn change_timer(
+        &mut self,
+        group: &RouteLabels,
+        timer: Option<GroupTimer>,
+    ) -> Result<(), AllocError>
         ensures ok { OnOk result (self.new.state
-            ≡ record self.old.state { clocks = map.set self.old.state.clocks group.now clock }) }
+            ≡ record self.old.state { timers = map.set self.old.state.timers group.now timer }) }
         ensures kept { undone self.new ≡ undone self.old }
         ensures grown { GrownBy 1 self.old self.new }
     {
@@ -532,9 +541,9 @@ impl Store {
         let entry = self
             .tables
             .timetable
-            .change_clock(&mut self.journal, group, clock)?;
-        if let Some((_spot, was)) = entry {
-            self.journal.push(Displaced::WasClock(copy, was));
+            .change_timer(&mut self.journal, group, timer)?;
+        if let Some((_route_labels, was)) = entry {
+            self.journal.push(Displaced::WasTimer(copy, was));
         }
         Ok(())
     }
@@ -546,22 +555,22 @@ impl Store {
         ensures kept { undone self.new ≡ undone self.old }
         ensures grown { GrownBy (len self.old.state.placements) self.old self.new }
     {
-        let spots = keys_of(self.alloc, self.tables.roster.placements())?;
-        for spot in &spots {
-            self.remove_copy(spot)?;
+        let placed_keys = keys_of(self.alloc, self.tables.roster.placements())?;
+        for route_labels in &placed_keys {
+            self.remove_copy(route_labels)?;
         }
         Ok(())
     }
 
     /// Removes all groups with their timers.
-    fn clear_clocks(&mut self) -> Result<(), AllocError>
-        ensures ok { OnOk result (self.new.state ≡ record self.old.state { clocks = map.empty }) }
+    fn clear_timers(&mut self) -> Result<(), AllocError>
+        ensures ok { OnOk result (self.new.state ≡ record self.old.state { timers = map.empty }) }
         ensures kept { undone self.new ≡ undone self.old }
-        ensures grown { GrownBy (len self.old.state.clocks) self.old self.new }
+        ensures grown { GrownBy (len self.old.state.timers) self.old self.new }
     {
-        let groups = keys_of(self.alloc, self.tables.timetable.clocks())?;
+        let groups = keys_of(self.alloc, self.tables.timetable.timers())?;
         for group in &groups {
-            self.change_clock(group, None)?;
+            self.change_timer(group, None)?;
         }
         Ok(())
     }
@@ -586,12 +595,15 @@ impl Store {
 }
 
 /// Returns the keys of a table that have a value.
-fn keys_of<V: Drop>(alloc: Global, table: &Keyed<Spot, V>) -> Result<Vec<Spot>, AllocError>
-    ensures { IfOk result (λ found. found.items ≡ map.keys (shown spot_cmp table.now)) }
+fn keys_of<V: Drop>(
+    alloc: Global,
+    table: &Keyed<RouteLabels, V>,
+) -> Result<Vec<RouteLabels>, AllocError>
+    ensures { IfOk result (λ found. found.items ≡ map.keys (shown route_labels_cmp table.now)) }
 {
     let mut found = Vec::new(alloc);
-    for (spot, _) in table.iter() {
-        found.push(spot.clone()?)?;
+    for (route_labels, _) in table.iter() {
+        found.push(route_labels.clone()?)?;
     }
     Ok(found)
 }

@@ -2,7 +2,7 @@
 //! them.
 ghost use Rattle.amr_state.specs.Stored.{SameValues, MorePlaces, IsUnmarked};
 
-use crate::note::LogKey;
+use crate::notification::LogKey;
 use crate::roster::Roster;
 use crate::silence_table::SilenceTable;
 use crate::timetable::Timetable;

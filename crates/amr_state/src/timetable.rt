@@ -6,15 +6,15 @@ ghost use Rattle.amr_labels.specs.Labels.{LabelSet, label_set_cmp};
 ghost use Rattle.amr_labels.specs.Map as map;
 ghost use Rattle.amr_tables.specs.Numbered.{shown, has_place, entry_of, Enters, KeepsPlaces, SamePlaces, SameEntered, NoneEntered, IsUnchanged, HasPlaces};
 ghost use Rattle.amr_tables.specs.Queued.{in_order, count_of};
-ghost use Rattle.amr_state.specs.declared.spot.Spot as spots;
-ghost use Rattle.amr_state.specs.State.{spot_cmp};
+ghost use Rattle.amr_state.specs.declared.route_labels.RouteLabels as placed_keys;
+ghost use Rattle.amr_state.specs.State.{route_labels_cmp};
 ghost use Rattle.amr_state.specs.Dues.{due_cmp, dues_of};
 ghost use Rattle.amr_state.specs.Timed.{put_at, moved, CanMove, CanMoveGroup, group_moved, removal_of_alert, alert_moment, group_moments};
 
 use crate::alert_table::AlertTable;
 use crate::due::{Due, Kind, alert_removal, group_removal};
-use crate::note::Clock;
-use crate::spot::{Spot, TimedGroup};
+use crate::notification::GroupTimer;
+use crate::route_labels::{RouteLabels, TimedGroup};
 use amr_config::RuleMatch;
 use amr_labels::Labels;
 use amr_rules::Alert;
@@ -28,7 +28,7 @@ use std::marker::Model;
 #[derive(Drop)]
 pub(crate) struct Timetable {
     alerts: AlertTable,
-    clocks: Keyed<Spot, Clock>,
+    timers: Keyed<RouteLabels, GroupTimer>,
     queue: Queue<Due>,
 }
 
@@ -41,22 +41,22 @@ impl Model for Timetable {
 
     ghost coded = { Prim.hlevel (codes, map.code) };
 
-    ghost view = { λ t. record { alerts = t.alerts; clocks = t.clocks } };
+    ghost view = { λ t. record { alerts = t.alerts; timers = t.timers } };
 
-    ghost invariant = { λ t. IsTimed t.alerts t.clocks t.queue };
+    ghost invariant = { λ t. IsTimed t.alerts t.timers t.queue };
 }
 
 impl Timetable {
     /// Builds a timetable without alerts and groups.
     pub(crate) fn new(alloc: Global) -> Timetable
         ensures alerts { shown label_set_cmp result.alerts ≡ map.empty }
-        ensures clocks { shown spot_cmp result.clocks ≡ map.empty }
+        ensures timers { shown route_labels_cmp result.timers ≡ map.empty }
         ensures alerts_entered { NoneEntered label_set_cmp result.alerts }
-        ensures clocks_entered { NoneEntered spot_cmp result.clocks }
+        ensures timers_entered { NoneEntered route_labels_cmp result.timers }
     {
         Timetable {
             alerts: AlertTable::new(alloc),
-            clocks: Keyed::new(alloc),
+            timers: Keyed::new(alloc),
             queue: Queue::new(alloc),
         }
     }
@@ -69,17 +69,17 @@ impl Timetable {
     }
 
     /// Returns the group timers, by group.
-    pub(crate) fn clocks(&self) -> &Keyed<Spot, Clock>
-        ensures { result.now ≡ self.now.clocks }
+    pub(crate) fn timers(&self) -> &Keyed<RouteLabels, GroupTimer>
+        ensures { result.now ≡ self.now.timers }
     {
-        &self.clocks
+        &self.timers
     }
 
     /// Returns the queue of pending timers.
     pub(crate) fn queue(&self) -> &Queue<Due>
         ensures { result.now.dues ≡
             in_order due_cmp
-            (dues_of (shown label_set_cmp self.now.alerts) (shown spot_cmp self.now.clocks)) }
+            (dues_of (shown label_set_cmp self.now.alerts) (shown route_labels_cmp self.now.timers)) }
     {
         &self.queue
     }
@@ -100,14 +100,14 @@ impl Timetable {
     /// takes no memory.
     pub(crate) fn clear_entered(&mut self)
         ensures alerts { shown label_set_cmp self.new.alerts ≡ shown label_set_cmp self.old.alerts }
-        ensures clocks { shown spot_cmp self.new.clocks ≡ shown spot_cmp self.old.clocks }
+        ensures timers { shown route_labels_cmp self.new.timers ≡ shown route_labels_cmp self.old.timers }
         ensures alert_places { SamePlaces label_set_cmp self.old.alerts self.new.alerts }
-        ensures clock_places { SamePlaces spot_cmp self.old.clocks self.new.clocks }
+        ensures timer_places { SamePlaces route_labels_cmp self.old.timers self.new.timers }
         ensures alerts_entered { NoneEntered label_set_cmp self.new.alerts }
-        ensures clocks_entered { NoneEntered spot_cmp self.new.clocks }
+        ensures timers_entered { NoneEntered route_labels_cmp self.new.timers }
     {
         self.alerts.clear_entered();
-        self.clocks.clear_entered();
+        self.timers.clear_entered();
     }
 
     /// Sets or removes a stored alert. Returns the entry that the open record needs, and leaves
@@ -127,7 +127,7 @@ impl Timetable {
         ensures made { OnOk result (IsTrue (has_place label_set_cmp self.new.alerts labels.now)) }
         ensures err { OnErr result (IsUnchanged label_set_cmp self.old.alerts self.new.alerts) }
         ensures places { KeepsPlaces label_set_cmp self.old.alerts self.new.alerts }
-        ensures clocks { self.new.clocks ≡ self.old.clocks }
+        ensures timers { self.new.timers ≡ self.old.timers }
         ensures room { IfOk result (λ entry. IsTrue (is_some entry) → 0 < journal.new.entry_room) }
         ensures closed { journal.new.closed ≡ journal.old.closed }
         ensures current { journal.new.current ≡ journal.old.current }
@@ -144,19 +144,19 @@ impl Timetable {
 
     /// Sets or removes a group timer. Returns the entry that the open record needs, and leaves room
     /// for it there.
-    pub(crate) fn change_clock<E>(
+    pub(crate) fn change_timer<E>(
         &mut self,
         journal: &mut Journal<E>,
-        group: &Spot,
-        clock: Option<Clock>,
-    ) -> Result<Option<(Spot, Option<Clock>)>, AllocError>
-        ensures entry { IfOk result (λ entry. entry ≡ entry_of spot_cmp self.old.clocks group.now) }
-        ensures shown { OnOk result (shown spot_cmp self.new.clocks ≡
-            map.set (shown spot_cmp self.old.clocks) group.now clock) }
-        ensures entered { OnOk result (Enters spot_cmp self.old.clocks self.new.clocks group.now) }
-        ensures made { OnOk result (IsTrue (has_place spot_cmp self.new.clocks group.now)) }
-        ensures err { OnErr result (IsUnchanged spot_cmp self.old.clocks self.new.clocks) }
-        ensures places { KeepsPlaces spot_cmp self.old.clocks self.new.clocks }
+        group: &RouteLabels,
+        timer: Option<GroupTimer>,
+    ) -> Result<Option<(RouteLabels, Option<GroupTimer>)>, AllocError>
+        ensures entry { IfOk result (λ entry. entry ≡ entry_of route_labels_cmp self.old.timers group.now) }
+        ensures shown { OnOk result (shown route_labels_cmp self.new.timers ≡
+            map.set (shown route_labels_cmp self.old.timers) group.now timer) }
+        ensures entered { OnOk result (Enters route_labels_cmp self.old.timers self.new.timers group.now) }
+        ensures made { OnOk result (IsTrue (has_place route_labels_cmp self.new.timers group.now)) }
+        ensures err { OnErr result (IsUnchanged route_labels_cmp self.old.timers self.new.timers) }
+        ensures places { KeepsPlaces route_labels_cmp self.old.timers self.new.timers }
         ensures alerts { self.new.alerts ≡ self.old.alerts }
         ensures room { IfOk result (λ entry. IsTrue (is_some entry) → 0 < journal.new.entry_room) }
         ensures closed { journal.new.closed ≡ journal.old.closed }
@@ -164,10 +164,10 @@ impl Timetable {
         ensures record_room { journal.new.record_room ≡ journal.old.record_room }
     {
         let copy = TimedGroup::of(group)?;
-        make_room(&mut self.queue, self.clocks.has_place(group), 2)?;
-        let old = moments_at(&self.clocks, group);
-        let new = group_moments(&clock);
-        let entry = change(&mut self.clocks, journal, group, clock)?;
+        make_room(&mut self.queue, self.timers.has_place(group), 2)?;
+        let old = moments_at(&self.timers, group);
+        let new = group_moments(&timer);
+        let entry = change(&mut self.timers, journal, group, timer)?;
         move_group(&mut self.queue, copy, old, new);
         Ok(entry)
     }
@@ -179,7 +179,7 @@ impl Timetable {
             map.set (shown label_set_cmp self.old.alerts) labels alert }
         ensures places { SamePlaces label_set_cmp self.old.alerts self.new.alerts }
         ensures entered { SameEntered label_set_cmp self.old.alerts self.new.alerts }
-        ensures clocks { self.new.clocks ≡ self.old.clocks }
+        ensures timers { self.new.timers ≡ self.old.timers }
     {
         let old = moment_at(&self.alerts, &labels);
         let new = alert_moment(&alert);
@@ -188,19 +188,19 @@ impl Timetable {
     }
 
     /// Restores a group timer, or its absence. It takes no memory.
-    pub(crate) fn put_back_clock(&mut self, group: TimedGroup, clock: Option<Clock>)
-        requires { IsTrue (has_place spot_cmp self.old.clocks group) }
-        ensures shown { shown spot_cmp self.new.clocks ≡
-            map.set (shown spot_cmp self.old.clocks) group clock }
-        ensures places { SamePlaces spot_cmp self.old.clocks self.new.clocks }
-        ensures entered { SameEntered spot_cmp self.old.clocks self.new.clocks }
+    pub(crate) fn put_back_timer(&mut self, group: TimedGroup, timer: Option<GroupTimer>)
+        requires { IsTrue (has_place route_labels_cmp self.old.timers group) }
+        ensures shown { shown route_labels_cmp self.new.timers ≡
+            map.set (shown route_labels_cmp self.old.timers) group timer }
+        ensures places { SamePlaces route_labels_cmp self.old.timers self.new.timers }
+        ensures entered { SameEntered route_labels_cmp self.old.timers self.new.timers }
         ensures alerts { self.new.alerts ≡ self.old.alerts }
     {
-        let old = moments_at(&self.clocks, group.spot());
-        let new = group_moments(&clock);
+        let old = moments_at(&self.timers, group.route_labels());
+        let new = group_moments(&timer);
         // The prover needs to see the type of moments here.
         let _start = Moment::START;
-        put_back(&mut self.clocks, group.spot(), clock);
+        put_back(&mut self.timers, group.route_labels(), timer);
         move_group(&mut self.queue, group, old, new);
     }
 }
@@ -341,13 +341,13 @@ fn move_group(queue: &mut Queue<Due>, group: TimedGroup, old: GroupMoments, new:
     ensures dues { queue.new.dues ≡ group_moved queue.old.dues group old new }
     ensures all { queue.new.room + length queue.new.dues ≡ queue.old.room + length queue.old.dues }
 {
-    let (spot, labels) = group.into_parts();
-    let route = spot.route;
+    let (route_labels, labels) = group.into_parts();
+    let route = route_labels.route;
     let flush = Due {
         moment: 0,
         kind: Kind::GroupFlush,
         route,
-        labels: spot.labels,
+        labels: route_labels.labels,
     };
     let removal = Due {
         moment: 0,
@@ -360,37 +360,37 @@ fn move_group(queue: &mut Queue<Due>, group: TimedGroup, old: GroupMoments, new:
 }
 
 /// Returns when a group is flushed and removed, by the group timers.
-fn moments_at(clocks: &Keyed<Spot, Clock>, group: &Spot) -> GroupMoments
-    ensures { result ≡ group_moments (map.get (shown spot_cmp clocks.now) group.now) }
+fn moments_at(timers: &Keyed<RouteLabels, GroupTimer>, group: &RouteLabels) -> GroupMoments
+    ensures { result ≡ group_moments (map.get (shown route_labels_cmp timers.now) group.now) }
 {
-    match clocks.get(group) {
+    match timers.get(group) {
         None => GroupMoments {
             flush: None,
             removal: None,
         },
-        Some(clock) => timer_moments(clock),
+        Some(timer) => timer_moments(timer),
     }
 }
 
 /// Returns when a group with this timer is flushed and removed; never, without a timer.
-fn group_moments(clock: &Option<Clock>) -> GroupMoments
-    ensures { result ≡ group_moments clock.now }
+fn group_moments(timer: &Option<GroupTimer>) -> GroupMoments
+    ensures { result ≡ group_moments timer.now }
 {
-    match clock {
+    match timer {
         None => GroupMoments {
             flush: None,
             removal: None,
         },
-        Some(clock) => timer_moments(clock),
+        Some(timer) => timer_moments(timer),
     }
 }
 
 /// Returns when a group with this timer is flushed and removed.
-fn timer_moments(clock: &Clock) -> GroupMoments
-    ensures { result ≡ group_moments (Some clock.now) }
+fn timer_moments(timer: &GroupTimer) -> GroupMoments
+    ensures { result ≡ group_moments (Some timer.now) }
 {
     GroupMoments {
-        flush: Some(clock.next_flush.nanoseconds()),
-        removal: group_removal(clock),
+        flush: Some(timer.next_flush.nanoseconds()),
+        removal: group_removal(timer),
     }
 }

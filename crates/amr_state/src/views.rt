@@ -6,8 +6,8 @@ ghost use Rattle.amr_labels.specs.Map.{entries};
 ghost use Rattle.amr_state.specs.State.{members};
 
 use crate::members::members_of;
-use crate::note::{Clock, LogKey};
-use crate::spot::Spot;
+use crate::notification::{GroupTimer, LogKey};
+use crate::route_labels::RouteLabels;
 use crate::store::Store;
 use amr_events::SilenceId;
 use amr_labels::{Labels, Listing};
@@ -68,7 +68,7 @@ pub fn log(store: &Store) -> Result<Vec<(LogKey, LogEntry)>, AllocError>
 }
 
 /// Returns the label sets of the members of a group.
-fn member_labels(store: &Store, group: &Spot) -> Result<Listing<Labels>, AllocError>
+fn member_labels(store: &Store, group: &RouteLabels) -> Result<Listing<Labels>, AllocError>
     ensures { IfOk result (λ found. found
         ≡ map (λ member. member.0) (members store.now.state group.now)) }
 {
@@ -81,16 +81,20 @@ fn member_labels(store: &Store, group: &Spot) -> Result<Listing<Labels>, AllocEr
 }
 
 /// Returns a group with its members.
-fn group_at(store: &Store, spot: &Spot, clock: &Clock) -> Result<Group, AllocError>
-    ensures { IfOk result (λ group. group ≡ group_seen store.now.state (spot.now, clock.now)) }
+fn group_at(
+    store: &Store,
+    route_labels: &RouteLabels,
+    timer: &GroupTimer,
+) -> Result<Group, AllocError>
+    ensures { IfOk result (λ group. group ≡ group_seen store.now.state (route_labels.now, timer.now)) }
 {
     Ok(Group {
-        route: spot.route,
-        labels: spot.labels.clone()?,
-        next_flush: clock.next_flush,
-        flushed: clock.flushed,
-        empty_since: clock.empty_since,
-        members: member_labels(store, spot)?,
+        route: route_labels.route,
+        labels: route_labels.labels.clone()?,
+        next_flush: timer.next_flush,
+        flushed: timer.flushed,
+        empty_since: timer.empty_since,
+        members: member_labels(store, route_labels)?,
     })
 }
 
@@ -99,8 +103,8 @@ pub fn groups(store: &Store) -> Result<Vec<Group>, AllocError>
     ensures { IfOk result (λ found. found.items ≡ groups_of store.now.state) }
 {
     let mut found = Vec::new(store.alloc());
-    for (spot, clock) in store.clocks().iter() {
-        found.push(group_at(store, spot, clock)?)?;
+    for (route_labels, timer) in store.timers().iter() {
+        found.push(group_at(store, route_labels, timer)?)?;
     }
     Ok(found)
 }

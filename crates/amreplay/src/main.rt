@@ -6,7 +6,7 @@ ghost use Rattle.std.specs.Prelude.{◌≡◌};
 
 use amr_lines::{Inlet, Outlet};
 use amr_program::{
-    Command, Fault, LONGEST_CONFIG, Unread, check_config, command_of, read_whole, run_script,
+    Command, Fault, InputError, LONGEST_CONFIG, check_config, command_of, read_whole, run_script,
     run_session, status_of, write_fault,
 };
 use std::alloc::AllocError;
@@ -100,27 +100,31 @@ fn words_of(rt: &(impl Env + AllocGlobal)) -> Result<Vec<String>, Fault> {
 }
 
 /// Reads a file, up to `most` bytes.
-fn read_file(rt: &(impl Files + AllocGlobal), path: &str, most: u64) -> Result<Vec<u8>, Unread> {
+fn read_file(
+    rt: &(impl Files + AllocGlobal),
+    path: &str,
+    most: u64,
+) -> Result<Vec<u8>, InputError> {
     let file = fs::open(rt, path).map_err(|e| unopened(&e))?;
     read_whole(rt.alloc(), &mut Inlet::new(file.take(most)))
 }
 
 /// Returns why a file that couldn't be opened isn't read.
-fn unopened(error: &Error) -> Unread {
+fn unopened(error: &Error) -> InputError {
     if error.kind() == ErrorKind::OutOfMemory {
-        Unread::OutOfMemory
+        InputError::OutOfMemory
     } else {
-        Unread::CannotRead
+        InputError::CannotRead
     }
 }
 
 /// Returns the fault for a file that isn't read: `OutOfMemory`, or else the given fault.
-fn fault_of(unread: Unread, otherwise: Fault) -> Fault
-    ensures memory { unread ≡ Unread.OutOfMemory → result ≡ Fault.OutOfMemory }
-    ensures reading { unread ≡ Unread.CannotRead → result ≡ otherwise }
+fn fault_of(unread: InputError, otherwise: Fault) -> Fault
+    ensures memory { unread ≡ InputError.OutOfMemory → result ≡ Fault.OutOfMemory }
+    ensures reading { unread ≡ InputError.CannotRead → result ≡ otherwise }
 {
     match unread {
-        Unread::OutOfMemory => Fault::OutOfMemory,
-        Unread::CannotRead => otherwise,
+        InputError::OutOfMemory => Fault::OutOfMemory,
+        InputError::CannotRead => otherwise,
     }
 }

@@ -5,7 +5,7 @@ use Rattle.amr_labels.specs.Labels.{Text}
 use Rattle.amr_time.specs.Time.{second, hour}
 use Rattle.amr_events.specs.Events.{Event}
 use Rattle.amr_engine.specs.Events.{run_of, replaying}
-use Rattle.amr_replay.proofs.worked.Setting.{ten, config_ops, alert, posts, ticks, told}
+use Rattle.amr_replay.proofs.worked.Setting.{ten, config_ops, alert, posts, ticks, notified}
 
 abbrev disk_full : List (Text × Text)
 disk_full = (codes "alertname", codes "DiskFull") ∷ []
@@ -27,6 +27,6 @@ pub nothing_is_told_before_the_wait_is_over : (run_of config_ops early).notes �
 unfolding replaying
 nothing_is_told_before_the_wait_is_over = refl
 
-pub the_first_page : map told (run_of config_ops script).notes ≡ (ten + 30 * second, (disk_full ∷ [], [])) ∷ []
+pub the_first_page : map notified (run_of config_ops script).notes ≡ (ten + 30 * second, (disk_full ∷ [], [])) ∷ []
 unfolding replaying
 the_first_page = refl

@@ -40,7 +40,7 @@ unfolding replaying
 a_post_without_a_valid_alert_is_refused = refl
 
 abbrev shown : Outcome → Option (ℕ × (List Moment × List ℕ))
-shown (Outcome.Accepted moves notes skipped) = Some (moves, (map (λ note. note.at) notes, skipped))
+shown (Outcome.Accepted moves notes skipped) = Some (moves, (map (λ notification. notification.at) notes, skipped))
 shown (Outcome.Refused reason) = None
 
 abbrev two : List Event

@@ -16,7 +16,7 @@ first = ten + 30 * second
 abbrev a_day : List Event
 a_day = posts ten (alert x (Some ten) (Some (ten + 48 * hour)) ∷ []) ∷ ticks first ∷ ticks (first + 24 * hour) ∷ []
 
-pub six_pages_in_a_day : map (λ note. note.at) (run_of config_ops a_day).notes
+pub six_pages_in_a_day : map (λ notification. notification.at) (run_of config_ops a_day).notes
     ≡ first ∷ (first + 4 * hour + 5 * minute) ∷ (first + 8 * hour + 10 * minute) ∷ (first + 12 * hour + 15 * minute) ∷ (first + 16 * hour + 20 * minute) ∷ (first + 20 * hour + 25 * minute) ∷ []
 unfolding replaying
 six_pages_in_a_day = refl

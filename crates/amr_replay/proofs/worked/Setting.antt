@@ -8,7 +8,7 @@ use Rattle.amr_stated.specs.declared.route.Grouping.TheVariants.{Named}
 use Rattle.amr_config.specs.Config.{Config}
 use Rattle.amr_events.specs.declared.event.PostedAlert.{PostedAlert}
 use Rattle.amr_events.specs.Events.{Event, Act}
-use Rattle.amr_state.specs.declared.note.Note.{Note}
+use Rattle.amr_state.specs.declared.notification.Notification.{Notification}
 
 abbrev pub ten : Moment
 ten = 1714557600 * second
@@ -46,5 +46,5 @@ abbrev pub ticks : Moment → Event
 ticks at = record { at = at; act = Act.Tick }
 
 -- a notification as its moment, its route, and the labels of what fires and what is resolved
-abbrev pub told : Note → Moment × (List (List (Text × Text)) × List (List (Text × Text)))
-told note = (note.at, (map (λ member. entries member.labels) note.firing, map (λ member. entries member.labels) note.resolved))
+abbrev pub notified : Notification → Moment × (List (List (Text × Text)) × List (List (Text × Text)))
+notified notification = (notification.at, (map (λ member. entries member.labels) notification.firing, map (λ member. entries member.labels) notification.resolved))

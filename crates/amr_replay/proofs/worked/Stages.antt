@@ -13,9 +13,9 @@ use Rattle.amr_config.specs.Routing.{chosen, routing}
 use Rattle.amr_events.specs.Events.{Event, Act}
 use Rattle.amr_rules.specs.declared.silence.Silence.{Silence}
 use Rattle.amr_rules.specs.declared.update.LogEntry.{LogEntry}
-use Rattle.amr_state.specs.declared.note.LogKey.{LogKey}
+use Rattle.amr_state.specs.declared.notification.LogKey.{LogKey}
 use Rattle.amr_engine.specs.Events.{run_of, replaying}
-use Rattle.amr_replay.proofs.worked.Setting.{ten, root, config_ops, alert, posts, ticks, told}
+use Rattle.amr_replay.proofs.worked.Setting.{ten, root, config_ops, alert, posts, ticks, notified}
 
 abbrev is : Text → Text → Matcher
 is name value = record { name = name; operator = operator.Equal; value = value }
@@ -33,7 +33,7 @@ config_by_severity = record config_ops {
 abbrev severity : Text → List (Text × Text)
 severity level = (codes "severity", level) ∷ []
 
-pub an_inhibited_alert_is_not_told : map told (run_of config_by_severity (posts ten (
+pub an_inhibited_alert_is_not_told : map notified (run_of config_by_severity (posts ten (
     alert (severity (codes "critical")) (Some ten) (Some (ten + 10 * hour)) ∷ alert (severity (codes "warning")) (Some ten) (Some (ten + 10 * hour)) ∷ [])
     ∷ ticks (ten + 30 * second) ∷ [])).notes ≡ (ten + 30 * second, (severity (codes "critical") ∷ [], [])) ∷ []
 unfolding replaying
@@ -52,7 +52,7 @@ config_on_both_sides = record config_ops {
 abbrev both : List (Text × Text)
 both = (codes "a", codes "1") ∷ (codes "alertname", codes "X") ∷ []
 
-pub an_alert_does_not_inhibit_itself : map told (run_of config_on_both_sides (posts ten (alert both (Some ten) (Some (ten + 10 * hour)) ∷ []) ∷ ticks (ten + 30 * second) ∷ [])).notes
+pub an_alert_does_not_inhibit_itself : map notified (run_of config_on_both_sides (posts ten (alert both (Some ten) (Some (ten + 10 * hour)) ∷ []) ∷ ticks (ten + 30 * second) ∷ [])).notes
     ≡ (ten + 30 * second, (both ∷ [], [])) ∷ []
 unfolding replaying
 an_alert_does_not_inhibit_itself = refl
@@ -101,7 +101,7 @@ short_page = posts ten (alert x (Some ten) (Some (ten + 3 * minute)) ∷ []) ∷
 abbrev logged : LogKey × LogEntry → Moment × (List (List (Text × Text)) × List (List (Text × Text)))
 logged entry = (entry.1.time, (map (λ e. entries e.0) (entries entry.1.firing), map (λ e. entries e.0) (entries entry.1.resolved)))
 
-pub mail_is_not_told_of_the_end : map told (run_of config_mail short_page).notes ≡ (ten + 30 * second, (x ∷ [], [])) ∷ []
+pub mail_is_not_told_of_the_end : map notified (run_of config_mail short_page).notes ≡ (ten + 30 * second, (x ∷ [], [])) ∷ []
 unfolding replaying
 mail_is_not_told_of_the_end = refl
 
@@ -109,7 +109,7 @@ pub the_log_keeps_what_mail_is_not_told : map logged (entries (run_of config_mai
 unfolding replaying
 the_log_keeps_what_mail_is_not_told = refl
 
-pub a_webhook_is_told_of_the_end : map told (run_of config_ops short_page).notes ≡ (ten + 30 * second, (x ∷ [], [])) ∷ (ten + 5 * minute + 30 * second, ([], x ∷ [])) ∷ []
+pub a_webhook_is_told_of_the_end : map notified (run_of config_ops short_page).notes ≡ (ten + 30 * second, (x ∷ [], [])) ∷ (ten + 5 * minute + 30 * second, ([], x ∷ [])) ∷ []
 unfolding replaying
 a_webhook_is_told_of_the_end = refl
 
@@ -117,7 +117,7 @@ a_webhook_is_told_of_the_end = refl
 abbrev short_alert : List Event
 short_alert = posts ten (alert x (Some ten) (Some (ten + 20 * second)) ∷ []) ∷ ticks (ten + minute) ∷ []
 
-pub a_short_alert_leaves_no_group : length (entries (run_of config_ops short_alert).clocks) ≡ 0
+pub a_short_alert_leaves_no_group : length (entries (run_of config_ops short_alert).timers) ≡ 0
 unfolding replaying
 a_short_alert_leaves_no_group = refl
 

@@ -5,21 +5,21 @@ use Rattle.amr_labels.specs.Map.{entries}
 use Rattle.amr_labels.specs.Labels.{Text, LabelSet}
 use Rattle.amr_time.specs.Time.{Moment, second, minute, hour}
 use Rattle.amr_events.specs.declared.event.PostedAlert.{PostedAlert}
-use Rattle.amr_state.specs.declared.note.Clock.{Clock}
-use Rattle.amr_state.specs.declared.spot.Spot.{Spot}
+use Rattle.amr_state.specs.declared.notification.GroupTimer.{GroupTimer}
+use Rattle.amr_state.specs.declared.route_labels.RouteLabels.{RouteLabels}
 use Rattle.amr_engine.specs.Events.{run_of, replaying}
-use Rattle.amr_replay.proofs.worked.Setting.{ten, config_ops, alert, posts, ticks, told}
+use Rattle.amr_replay.proofs.worked.Setting.{ten, config_ops, alert, posts, ticks, notified}
 
 abbrev named : Text → List (Text × Text)
 named name = (codes "alertname", name) ∷ []
 
-abbrev dues_of : Spot × Clock → List (Text × Text) × Moment
+abbrev dues_of : RouteLabels × GroupTimer → List (Text × Text) × Moment
 dues_of group = (entries group.0.labels, group.1.next_flush)
 
 -- P is due after the wait, and Q at once
 pub an_old_alert_is_due_at_once : map dues_of (entries (run_of config_ops (posts ten (
     alert (named (codes "P")) (Some (ten - 30 * second)) (Some (ten + 10 * hour))
-    ∷ alert (named (codes "Q")) (Some (ten - 31 * second)) (Some (ten + 10 * hour)) ∷ []) ∷ [])).clocks)
+    ∷ alert (named (codes "Q")) (Some (ten - 31 * second)) (Some (ten + 10 * hour)) ∷ []) ∷ [])).timers)
     ≡ (named (codes "P"), ten + 30 * second) ∷ (named (codes "Q"), ten) ∷ []
 unfolding replaying
 an_old_alert_is_due_at_once = refl
@@ -47,7 +47,7 @@ unfolding replaying
 a_stated_end_that_is_later_is_kept = refl
 
 -- the notifications after 49 moves
-pub a_page_is_repeated_after_more_than_the_interval : map told (run_of config_ops (posts ten (x (Some ten) (Some (ten + 10 * hour)) ∷ []) ∷ ticks (ten + 4 * hour + 5 * minute + 30 * second + second) ∷ [])).notes
+pub a_page_is_repeated_after_more_than_the_interval : map notified (run_of config_ops (posts ten (x (Some ten) (Some (ten + 10 * hour)) ∷ []) ∷ ticks (ten + 4 * hour + 5 * minute + 30 * second + second) ∷ [])).notes
     ≡ (ten + 30 * second, (named (codes "X") ∷ [], [])) ∷ (ten + 4 * hour + 5 * minute + 30 * second, (named (codes "X") ∷ [], [])) ∷ []
 unfolding replaying
 a_page_is_repeated_after_more_than_the_interval = refl

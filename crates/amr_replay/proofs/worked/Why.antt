@@ -9,8 +9,8 @@ use Rattle.amr_time.specs.Time.{Moment, second, minute, hour}
 use Rattle.amr_stated.specs.declared.route.Grouping.TheVariants.{Named}
 use Rattle.amr_config.specs.Config.{Config}
 use Rattle.amr_events.specs.Events.{Event, Act}
-use Rattle.amr_state.specs.declared.note.Clock.{Clock}
-use Rattle.amr_state.specs.declared.spot.Spot.{Spot}
+use Rattle.amr_state.specs.declared.notification.GroupTimer.{GroupTimer}
+use Rattle.amr_state.specs.declared.route_labels.RouteLabels.{RouteLabels}
 use Rattle.amr_engine.specs.Events.{run_of, replaying}
 use Rattle.amr_engine.specs.declared.explain.Finding.TheVariants as finding
 use Rattle.amr_engine.specs.declared.explain.Verdict.TheVariants as verdict
@@ -82,13 +82,13 @@ by_team = record config_ops { routes = record (root (codes "ops")) { group_by = 
 abbrev reloaded : List Event
 reloaded = posts ten (alert xa (Some ten) (Some (ten + 10 * hour)) ∷ []) ∷ ticks (ten + 30 * second) ∷ record { at = ten + 2 * minute; act = Act.Reload (Ok by_team) } ∷ []
 
-abbrev clock_shown : Spot × Clock → List (Text × Text) × (Bool × Moment)
-clock_shown group = (entries group.0.labels, (group.1.flushed, group.1.next_flush))
+abbrev timer_shown : RouteLabels × GroupTimer → List (Text × Text) × (Bool × Moment)
+timer_shown group = (entries group.0.labels, (group.1.flushed, group.1.next_flush))
 
-pub a_reload_makes_the_groups_anew : map clock_shown (entries (run_of config_ops reloaded).clocks) ≡ ((codes "team", codes "a") ∷ [], (false, ten + 2 * minute)) ∷ []
+pub a_reload_makes_the_groups_anew : map timer_shown (entries (run_of config_ops reloaded).timers) ≡ ((codes "team", codes "a") ∷ [], (false, ten + 2 * minute)) ∷ []
 unfolding replaying
 a_reload_makes_the_groups_anew = refl
 
-pub the_group_before_a_reload : map clock_shown (entries (run_of config_ops (take 2 reloaded)).clocks) ≡ ((codes "alertname", codes "X") ∷ [], (true, ten + 5 * minute + 30 * second)) ∷ []
+pub the_group_before_a_reload : map timer_shown (entries (run_of config_ops (take 2 reloaded)).timers) ≡ ((codes "alertname", codes "X") ∷ [], (true, ten + 5 * minute + 30 * second)) ∷ []
 unfolding replaying
 the_group_before_a_reload = refl

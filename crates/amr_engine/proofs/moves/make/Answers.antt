@@ -17,8 +17,8 @@ returns-in-GroupRemoval-clause-ok c = search rules
 
 pub returns-in-GroupRemoval-clause-memory : goal.returns-in-GroupRemoval-clause-memory
 returns-in-GroupRemoval-clause-memory c =
-    true_then c.remove_clock.result c.args.memory.now _ c.remove_clock.new.self.state
-    (stays_true c.args.store.now.state c.args.store.now.state.moment _ c.args.store.now.state.notes c.args.memory.now c.requires.memory) c.remove_clock.ensures.ok
+    true_then c.remove_timer.result c.args.memory.now _ c.remove_timer.new.self.state
+    (stays_true c.args.store.now.state c.args.store.now.state.moment _ c.args.store.now.state.notes c.args.memory.now c.requires.memory) c.remove_timer.ensures.ok
 
 pub returns-in-GroupFlush-clause-ok : goal.returns-in-GroupFlush-clause-ok
 unfolding move

@@ -6,4 +6,4 @@ pub returns-in-Err : goal.returns-in-Err
 returns-in-Err c = no_silence c.args.store.now.state c.args.at c.args.posted.now (reason_number c.in-Err.reason) (rw c.silences.ensures at (rw c.in-Err.is at c.in_ok-reason.ensures))
 
 pub returns-in-Ok : goal.returns-in-Ok
-returns-in-Ok c = some_silence c.args.store.now.state c.args.at c.args.posted.now c.in-Ok.posting (rw c.silences.ensures at (rw c.in-Ok.is at c.in_ok-reason.ensures))
+returns-in-Ok c = some_silence c.args.store.now.state c.args.at c.args.posted.now c.in-Ok.silence_update (rw c.silences.ensures at (rw c.in-Ok.is at c.in_ok-reason.ensures))

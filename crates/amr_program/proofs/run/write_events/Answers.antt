@@ -13,7 +13,7 @@ loop-number-preserved g c =
     record {
       state = c.in_ok-pass_event.ensures.passed ∙ ap (λ s. after_event s e) c.loop-number.invariant.state ∙ run_more c.args.engine.now.state.config c.args.script.now c.loop-number.number e c.event.ensures;
       written = Appends-next _ _ _ _ _ _ e _ c.event.ensures (ap (λ s. outcome_of s e) c.loop-number.invariant.state) c.loop-number.invariant.written c.in_ok-pass_event.ensures.left;
-      failed = c.in_ok-pass_event.ensures.stopped ∙ c.loop-number.invariant.failed;
+      failed = c.in_ok-pass_event.ensures.error ∙ c.loop-number.invariant.failed;
     }
 
 pub returns-in_err-pass_event-clause-left : goal.returns-in_err-pass_event-clause-left

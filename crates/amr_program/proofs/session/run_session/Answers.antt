@@ -1,18 +1,18 @@
 use Rattle.std.proofs.lemmas.Result.{err_from_is_err_and}
-use Rattle.amr_program.proofs.Stopping.{SessionLeaves-broken, FaultOfReading-broken, FaultBy-broken}
+use Rattle.amr_program.proofs.Stopping.{SessionLeaves-error, FaultOfReading-error, FaultBy-error}
 use Rattle.amr_program.proofs.session.run_session.Goals as goal
 
 pub returns-in_err-converse-clause-left : goal.returns-in_err-converse-clause-left
 returns-in_err-converse-clause-left g c =
     let p = err_from_is_err_and c.from_residual-in_err-converse.result c.from_residual-in_err-converse.ensures.1 in
-    rw (p.1, p.2) (SessionLeaves-broken _ _ _ _ _ _ c.in_ok-session.session.config c.in_ok-session.session.events _ c.in_ok-session.ensures.0 c.in_err-converse.ensures.conversed)
+    rw (p.1, p.2) (SessionLeaves-error _ _ _ _ _ _ c.in_ok-session.session.config c.in_ok-session.session.events _ c.in_ok-session.ensures.0 c.in_err-converse.ensures.conversed)
 
 pub returns-in_err-converse-clause-read : goal.returns-in_err-converse-clause-read
 returns-in_err-converse-clause-read g c =
     let p = err_from_is_err_and c.from_residual-in_err-converse.result c.from_residual-in_err-converse.ensures.1 in
-    rw (p.1, p.2) (FaultOfReading-broken _ _ _ _ _ _ c.in_err-converse.ensures.ended)
+    rw (p.1, p.2) (FaultOfReading-error _ _ _ _ _ _ c.in_err-converse.ensures.ended)
 
 pub returns-in_err-converse-clause-written : goal.returns-in_err-converse-clause-written
 returns-in_err-converse-clause-written g c =
     let p = err_from_is_err_and c.from_residual-in_err-converse.result c.from_residual-in_err-converse.ensures.1 in
-    rw (p.1, p.2) (FaultBy-broken _ _ _ _ _ _ c.in_err-converse.ensures.ended)
+    rw (p.1, p.2) (FaultBy-error _ _ _ _ _ _ c.in_err-converse.ensures.ended)

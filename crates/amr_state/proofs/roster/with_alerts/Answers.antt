@@ -1,9 +1,9 @@
 use Rattle.amr_tables.specs.Numbered.{shown}
-use Rattle.amr_state.specs.State.{spot_cmp}
+use Rattle.amr_state.specs.State.{route_labels_cmp}
 use Rattle.amr_state.proofs.Rostering.{member_more}
 use Rattle.amr_state.proofs.roster.with_alerts.Goals as goal
 
 pub loop-member-preserved : goal.loop-member-preserved
 loop-member-preserved c =
-    member_more (shown spot_cmp c.args.placements.now) c.args.members.now c.loop-member.member-index c.member-item.result c.loop-member.found.items c.push_member.new.found.items _
+    member_more (shown route_labels_cmp c.args.placements.now) c.args.members.now c.loop-member.member-index c.member-item.result c.loop-member.found.items c.push_member.new.found.items _
     c.loop-member-test.true c.member-item.is c.in_ok-push_member.ensures c.loop-member.invariant

@@ -2,5 +2,5 @@ use Rattle.std.proofs.Common.{◌≡◌, ◌++◌, map}
 use Rattle.amr_state.specs.Seen.{group_seen, groups_of}
 use Rattle.amr_state.proofs.views.groups.Given as goal
 
-abbrev pub invariant-loop-spot : goal.invariant-loop-spot
-invariant-loop-spot l = l.found.items ++ map (group_seen l.fn.store.state) l.spot-iterator ≡ groups_of l.fn.store.state
+abbrev pub invariant-loop-route_labels : goal.invariant-loop-route_labels
+invariant-loop-route_labels l = l.found.items ++ map (group_seen l.fn.store.state) l.route_labels-iterator ≡ groups_of l.fn.store.state

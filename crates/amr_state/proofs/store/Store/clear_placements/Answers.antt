@@ -3,14 +3,14 @@ use Rattle.amr_labels.specs.Map as map
 use Rattle.amr_tables.specs.Numbered.{shown}
 use Rattle.amr_state.specs.Kept.{Kept}
 use Rattle.std.specs.List.{fold}
-use Rattle.amr_state.specs.State.{spot_cmp, spot_cmp_total, spot_cmp-IsAntisymmetric}
+use Rattle.amr_state.specs.State.{route_labels_cmp, route_labels_cmp_total, route_labels_cmp-IsAntisymmetric}
 use Rattle.amr_state.proofs.Emptied.{removed_all}
 use Rattle.amr_state.proofs.store.Store.clear_placements.Goals as goal
 
-pub loop-spot-init : goal.loop-spot-init
-loop-spot-init c = (
+pub loop-route_labels-init : goal.loop-route_labels-init
+loop-route_labels-init c = (
   ap (λ m. record c.args.self.now.state { placements = m }) (
-      ap (fold map.remove c.args.self.now.state.placements) (c.deref-spot-items.ensures.value ∙ c.in_ok-spots.ensures ∙ ap (λ t. map.keys (shown spot_cmp t)) c.placements.ensures ∙ ap map.keys (ap (λ (k : Kept). k.state.placements) c.self.view_is))
-      ∙ removed_all spot_cmp_total spot_cmp-IsAntisymmetric c.args.self.now.state.placements),
+      ap (fold map.remove c.args.self.now.state.placements) (c.deref-route_labels-items.ensures.value ∙ c.in_ok-placed_keys.ensures ∙ ap (λ t. map.keys (shown route_labels_cmp t)) c.placements.ensures ∙ ap map.keys (ap (λ (k : Kept). k.state.placements) c.self.view_is))
+      ∙ removed_all route_labels_cmp_total route_labels_cmp-IsAntisymmetric c.args.self.now.state.placements),
   (refl, omega arith),
 )

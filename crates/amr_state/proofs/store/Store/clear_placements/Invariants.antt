@@ -5,7 +5,7 @@ use Rattle.amr_state.specs.Kept.{GrownBy, undone}
 use Rattle.amr_state.proofs.store.Store.clear_placements.Given as goal
 
 -- what is left is removed as all are
-abbrev pub invariant-loop-spot : goal.invariant-loop-spot
-invariant-loop-spot l =
-    (record l.self.state { placements = fold map.remove l.self.state.placements (drop l.spot-index l.spot-items) } ≡ record l.fn.self.state { placements = map.empty })
-    × ((undone l.self ≡ undone l.fn.self) × GrownBy l.spot-index l.fn.self l.self)
+abbrev pub invariant-loop-route_labels : goal.invariant-loop-route_labels
+invariant-loop-route_labels l =
+    (record l.self.state { placements = fold map.remove l.self.state.placements (drop l.route_labels-index l.route_labels-items) } ≡ record l.fn.self.state { placements = map.empty })
+    × ((undone l.self ≡ undone l.fn.self) × GrownBy l.route_labels-index l.fn.self l.self)

@@ -1,5 +1,5 @@
 use Rattle.std.proofs.Common.{IsTrue, refl, sym, subst}
-use Rattle.amr_state.specs.State.{spot_of}
+use Rattle.amr_state.specs.State.{member_on_route}
 use Rattle.amr_state.proofs.Soundness.{by_place}
 use Rattle.amr_state.proofs.tables.Tables.clear_entered.Goals as goal
 
@@ -8,11 +8,11 @@ returns-clause-places c = record {
   alerts = λ k h. subst IsTrue (sym (c.clear_entered.ensures.alert_places k)) h;
   silences = λ k h. subst IsTrue (sym (c.clear_entered-2.ensures.places k)) h;
   placements = λ k h. subst IsTrue (sym (c.clear_entered-3.ensures.places k)) h;
-  clocks = λ k h. subst IsTrue (sym (c.clear_entered.ensures.clock_places k)) h;
+  timers = λ k h. subst IsTrue (sym (c.clear_entered.ensures.timer_places k)) h;
   log = λ k h. subst IsTrue (sym (c.clear_entered-4.ensures.places k)) h;
 }
 
 pub returns-clause-marks : goal.returns-clause-marks
 returns-clause-marks c =
-    by_place _ (λ x. refl) (λ x. refl) (λ k v. c.clear_entered.ensures.alerts_entered k) (λ k v. c.clear_entered-2.ensures.entered k) (λ k v. c.clear_entered-3.ensures.entered (spot_of k))
-    (λ k v. c.clear_entered.ensures.clocks_entered k) (λ k v. c.clear_entered-4.ensures.entered k) (λ x. refl)
+    by_place _ (λ x. refl) (λ x. refl) (λ k v. c.clear_entered.ensures.alerts_entered k) (λ k v. c.clear_entered-2.ensures.entered k) (λ k v. c.clear_entered-3.ensures.entered (member_on_route k))
+    (λ k v. c.clear_entered.ensures.timers_entered k) (λ k v. c.clear_entered-4.ensures.entered k) (λ x. refl)

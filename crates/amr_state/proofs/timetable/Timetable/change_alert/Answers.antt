@@ -10,7 +10,7 @@ move_due-requires g c =
     let t = c.self.inside in
     let n = places_for label_set_cmp t.alerts c.args.labels.now in
     let room : t.queue.room + n ≤ c.make_room.new.queue.room = subst (λ b. t.queue.room + cond b 0 1 ≤ c.make_room.new.queue.room) c.has_place.ensures c.in_ok-make_room.ensures.room in
-    alert_may_move t.alerts c.change.new.self t.clocks t.queue c.make_room.new.queue c.self.invariant c.alert_due-due.result c.args.labels.now c.args.alert c.moment_at-old.result c.alert_moment-new.result n
+    alert_may_move t.alerts c.change.new.self t.timers t.queue c.make_room.new.queue c.self.invariant c.alert_due-due.result c.args.labels.now c.args.alert c.moment_at-old.result c.alert_moment-new.result n
     (c.alert_due-due.ensures ∙ ap removal_of_alert c.in_ok-clone.ensures.cases) c.moment_at-old.ensures c.alert_moment-new.ensures c.in_ok-entry.ensures.shown c.change.ensures.keys.1 c.in_ok-entry.ensures.enough
     c.make_room.ensures.dues room
 
@@ -19,6 +19,6 @@ invariant_of-self-2 g c =
     let t = c.self.inside in
     let n = places_for label_set_cmp t.alerts c.args.labels.now in
     let room : t.queue.room + n ≤ c.make_room.new.queue.room = subst (λ b. t.queue.room + cond b 0 1 ≤ c.make_room.new.queue.room) c.has_place.ensures c.in_ok-make_room.ensures.room in
-    alert_timed t.alerts c.change.new.self t.clocks t.queue c.make_room.new.queue c.self.invariant c.alert_due-due.result c.args.labels.now c.args.alert c.moment_at-old.result c.alert_moment-new.result n
+    alert_timed t.alerts c.change.new.self t.timers t.queue c.make_room.new.queue c.self.invariant c.alert_due-due.result c.args.labels.now c.args.alert c.moment_at-old.result c.alert_moment-new.result n
     (c.alert_due-due.ensures ∙ ap removal_of_alert c.in_ok-clone.ensures.cases) c.moment_at-old.ensures c.alert_moment-new.ensures c.in_ok-entry.ensures.shown c.change.ensures.keys.1 c.in_ok-entry.ensures.enough
     c.make_room.ensures.dues room c.move_due.new.queue c.move_due.ensures.dues c.move_due.ensures.all

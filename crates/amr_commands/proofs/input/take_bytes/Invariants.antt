@@ -1,0 +1,15 @@
+use Rattle.std.proofs.Common.{◌≡◌, List, ℕ, Option, ◌++◌, take}
+use Rattle.amr_commands.specs.Replies.{incident_of}
+use Rattle.amr_commands.specs.Talk.{Progress}
+use Rattle.amr_command_lines.specs.Line.{Holds}
+use Rattle.amr_commands.specs.Converse.{Stands}
+use Rattle.amr_commands.proofs.input.take_bytes.Given as goal
+
+abbrev pub invariant-loop-b : goal.invariant-loop-b
+invariant-loop-b g l = record {
+  kept : (incident_of l.session) ≡ (incident_of l.initial.session);
+  stands : (start : Option (List ℕ)) (before rest : List ℕ)
+      → Progress (incident_of l.initial.session) start (g.W.Write.contents l.initial.out.writer) before l.initial.session.cursor rest → Holds l.initial.line rest
+      → Stands (incident_of l.initial.session) start (g.W.Write.contents l.out.writer) (before ++ take l.b-index l.bytes) l.session.cursor l.line;
+  failed : l.out.failed ≡ l.initial.out.failed;
+}

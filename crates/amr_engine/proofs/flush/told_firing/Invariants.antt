@@ -1,6 +1,0 @@
-use Rattle.std.proofs.Common.{◌≡◌, map, take}
-use Rattle.amr_engine.specs.Flush.{told_firing}
-use Rattle.amr_engine.proofs.flush.told_firing.Given as goal
-
-abbrev pub invariant-loop-labels : goal.invariant-loop-labels
-invariant-loop-labels l = l.told ≡ map told_firing (take l.labels-index l.members)
