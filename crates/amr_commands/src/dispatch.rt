@@ -56,7 +56,8 @@ fn answer_parsed(alloc: Global, session: &mut Session, parsed: ParsedLine) -> An
 fn answer_bytes(alloc: Global, session: &mut Session, bytes: &[u8]) -> Answer
     ensures kept { incident_of session.new ≡ incident_of session.old }
     ensures has_line_outcome { length bytes.now ≤ longest
-        → HasLineOutcome (incident_of session.old) session.old.cursor session.new.cursor bytes.now result }
+        → HasLineOutcome (incident_of session.old) session.old.cursor session.new.cursor
+        bytes.now result }
 {
     match ParsedLine::read(alloc, bytes) {
         Ok(parsed) => answer_parsed(alloc, session, parsed),
@@ -68,7 +69,8 @@ fn answer_bytes(alloc: Global, session: &mut Session, bytes: &[u8]) -> Answer
 fn answer(alloc: Global, session: &mut Session, line: &Line) -> Answer
     ensures kept { incident_of session.new ≡ incident_of session.old }
     ensures has_line_outcome { (bytes : List ℕ) → Holds line.now bytes
-        → HasLineOutcome (incident_of session.old) session.old.cursor session.new.cursor bytes result }
+        → HasLineOutcome (incident_of session.old) session.old.cursor session.new.cursor
+        bytes result }
 {
     match line.content() {
         Content::TooLong => Answer::Refused(Word::Unknown, Refusal::LineTooLong),

@@ -88,7 +88,8 @@ fn run_pipeline(
     group: &RouteLabels,
     members: &[Member],
 ) -> Result<(), AllocError>
-    ensures ok { OnOk result (store.new.state ≡ run_pipeline at group.now members.now store.old.state) }
+    ensures ok { OnOk result (store.new.state
+        ≡ run_pipeline at group.now members.now store.old.state) }
     ensures kept { undone store.new ≡ undone store.old }
     ensures grown { GrownBy (1 + 2 * turns store.old.state group.now + length members.now)
         store.old store.new }
@@ -254,7 +255,8 @@ fn needs_notification(
     parted: &Parted,
     integration: &Integration,
 ) -> bool
-    ensures { result ≡ needs_notification store.now.state at group.now key.now parted.now integration.now }
+    ensures { result
+        ≡ needs_notification store.now.state at group.now key.now parted.now integration.now }
 {
     needs_update(
         store.log().get(key),

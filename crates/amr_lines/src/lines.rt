@@ -1,6 +1,6 @@
 //! The lines of an event: its notifications, then the alerts that it skipped; or its refusal.
-//! Notifications are written in `notification_text.rt`; the other values are made in `values.rt`, and
-//! here they become text.
+//! Notifications are written in `notification_text.rt`; the other values are made in `values.rt`,
+//! and here they become text.
 ghost use Rattle.std.specs.Prelude.{◌≡◌, ◌∷◌, [], ◌++◌, false, length, ◌<◌, IfOk, string_bytes};
 ghost use Rattle.std.specs.List.{flat_map};
 ghost use Rattle.serde_json.specs.Written.{has_float, compact_text};

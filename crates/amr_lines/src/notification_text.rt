@@ -19,7 +19,8 @@ pub(crate) fn append_notification(
     alloc: Global,
     notification: &Notification,
 ) -> Result<Vec<u8>, AllocError>
-    ensures line { IfOk result (λ more. more.items ≡ lines.items ++ notification_line notification.now) }
+    ensures line { IfOk result (λ more. more.items
+        ≡ lines.items ++ notification_line notification.now) }
     ensures utf8 { IfOk result (λ more. IsUtf8 lines.items → IsUtf8 more.items) }
 {
     let mut out = Writer::new(lines);
@@ -35,7 +36,8 @@ fn write_notification(
     alloc: Global,
     notification: &Notification,
 ) -> Result<(), AllocError>
-    ensures { OnOk result (Adds out.old out.new (data_tokens (notification_data notification.now))) }
+    ensures { OnOk result
+        (Adds out.old out.new (data_tokens (notification_data notification.now))) }
 {
     let key = &notification.key;
     out.begin_object()?;

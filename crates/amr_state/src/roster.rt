@@ -101,7 +101,8 @@ impl Roster {
     /// of other groups, apart from a logarithm.
     pub(crate) fn members_of(&self, group: &RouteLabels) -> Result<Vec<Member>, AllocError>
         ensures { IfOk result (λ found. found.items
-            ≡ members_among self.now.config (shown route_labels_cmp self.now.placements) group.now) }
+            ≡ members_among self.now.config (shown route_labels_cmp self.now.placements)
+            group.now) }
     {
         let members = self.index.part(group)?;
         with_alerts(self.alloc, &self.placements, members.as_slice())
@@ -110,7 +111,8 @@ impl Roster {
     /// Clears the marks of all places, so that the open record takes their next change again. It
     /// takes no memory.
     pub(crate) fn clear_entered(&mut self)
-        ensures shown { shown route_labels_cmp self.new.placements ≡ shown route_labels_cmp self.old.placements }
+        ensures shown { shown route_labels_cmp self.new.placements
+            ≡ shown route_labels_cmp self.old.placements }
         ensures places { SamePlaces route_labels_cmp self.old.placements self.new.placements }
         ensures entered { NoneEntered route_labels_cmp self.new.placements }
         ensures config { self.new.config ≡ self.old.config }
@@ -134,8 +136,10 @@ impl Roster {
             map.set (shown route_labels_cmp self.old.placements) route_labels.now alert) }
         ensures entered { OnOk result
             (Enters route_labels_cmp self.old.placements self.new.placements route_labels.now) }
-        ensures made { OnOk result (IsTrue (has_place route_labels_cmp self.new.placements route_labels.now)) }
-        ensures err { OnErr result (IsUnchanged route_labels_cmp self.old.placements self.new.placements) }
+        ensures made { OnOk result
+            (IsTrue (has_place route_labels_cmp self.new.placements route_labels.now)) }
+        ensures err { OnErr result
+            (IsUnchanged route_labels_cmp self.old.placements self.new.placements) }
         ensures places { KeepsPlaces route_labels_cmp self.old.placements self.new.placements }
         ensures config { self.new.config ≡ self.old.config }
         ensures room { IfOk result (λ entry. IsTrue (is_some entry) → 0 < journal.new.entry_room) }
@@ -158,7 +162,8 @@ impl Roster {
 
     /// Restores a member of its group, or its absence. It takes no memory.
     pub(crate) fn put_back_member(&mut self, member: Membership, alert: Option<Alert>)
-        requires place { IsTrue (has_place route_labels_cmp self.old.placements (member_on_route member)) }
+        requires place { IsTrue
+            (has_place route_labels_cmp self.old.placements (member_on_route member)) }
         requires group { member.group ≡ group_key self.old.config (member_on_route member) }
         ensures shown { shown route_labels_cmp self.new.placements ≡
             map.set (shown route_labels_cmp self.old.placements) (member_on_route member) alert }

@@ -79,7 +79,8 @@ impl Timetable {
     pub(crate) fn queue(&self) -> &Queue<Due>
         ensures { result.now.dues ≡
             in_order due_cmp
-            (dues_of (shown label_set_cmp self.now.alerts) (shown route_labels_cmp self.now.timers)) }
+            (dues_of (shown label_set_cmp self.now.alerts)
+            (shown route_labels_cmp self.now.timers)) }
     {
         &self.queue
     }
@@ -100,7 +101,8 @@ impl Timetable {
     /// takes no memory.
     pub(crate) fn clear_entered(&mut self)
         ensures alerts { shown label_set_cmp self.new.alerts ≡ shown label_set_cmp self.old.alerts }
-        ensures timers { shown route_labels_cmp self.new.timers ≡ shown route_labels_cmp self.old.timers }
+        ensures timers { shown route_labels_cmp self.new.timers
+            ≡ shown route_labels_cmp self.old.timers }
         ensures alert_places { SamePlaces label_set_cmp self.old.alerts self.new.alerts }
         ensures timer_places { SamePlaces route_labels_cmp self.old.timers self.new.timers }
         ensures alerts_entered { NoneEntered label_set_cmp self.new.alerts }
@@ -150,10 +152,12 @@ impl Timetable {
         group: &RouteLabels,
         timer: Option<GroupTimer>,
     ) -> Result<Option<(RouteLabels, Option<GroupTimer>)>, AllocError>
-        ensures entry { IfOk result (λ entry. entry ≡ entry_of route_labels_cmp self.old.timers group.now) }
+        ensures entry { IfOk result (λ entry. entry
+            ≡ entry_of route_labels_cmp self.old.timers group.now) }
         ensures shown { OnOk result (shown route_labels_cmp self.new.timers ≡
             map.set (shown route_labels_cmp self.old.timers) group.now timer) }
-        ensures entered { OnOk result (Enters route_labels_cmp self.old.timers self.new.timers group.now) }
+        ensures entered { OnOk result
+            (Enters route_labels_cmp self.old.timers self.new.timers group.now) }
         ensures made { OnOk result (IsTrue (has_place route_labels_cmp self.new.timers group.now)) }
         ensures err { OnErr result (IsUnchanged route_labels_cmp self.old.timers self.new.timers) }
         ensures places { KeepsPlaces route_labels_cmp self.old.timers self.new.timers }

@@ -86,7 +86,8 @@ fn group_at(
     route_labels: &RouteLabels,
     timer: &GroupTimer,
 ) -> Result<Group, AllocError>
-    ensures { IfOk result (λ group. group ≡ group_seen store.now.state (route_labels.now, timer.now)) }
+    ensures { IfOk result (λ group. group
+        ≡ group_seen store.now.state (route_labels.now, timer.now)) }
 {
     Ok(Group {
         route: route_labels.route,
