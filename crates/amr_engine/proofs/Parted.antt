@@ -77,9 +77,9 @@ marked at group [] s = refl
 marked at group (member ∷ members) s = marked_one at group member members s (is_resolved_at at member.1) (marked at group members s)
 
 -- what is left of the group if all of its members are resolved, and if some member isn't
-pub dropped : (at : Moment) (group : RouteLabels) (members : Members) (s dropped : State) (b : Bool) → b ≡ all_resolved at members
-    → dropped ≡ fold (drop_member group) s (resolved_of at members)
-    → (if b then emptied at group dropped else dropped) ≡ drop_resolved at group members s
+pub dropped : (at : Moment) (group : RouteLabels) (members : Members) (s kept : State) (b : Bool) → b ≡ all_resolved at members
+    → kept ≡ fold (drop_member group) s (resolved_of at members)
+    → (if b then emptied at group kept else kept) ≡ drop_resolved at group members s
 unfolding drop_resolved
-dropped at group members s dropped b test is =
+dropped at group members s kept b test is =
     (λ i. if test i then emptied at group (is i) else is i) ∙ sym (marked at group members (fold (drop_member group) s (resolved_of at members)))
