@@ -2,6 +2,7 @@ pub mod Answered
 pub mod Chosen
 pub mod Inherited
 pub mod Lines
+pub mod NameSets
 pub mod Parents
 pub mod Placing
 pub mod Ranges

@@ -9,8 +9,8 @@ ghost use Rattle.amr_labels.specs.Labels.{text_cmp};
 ghost use Rattle.amr_config.specs.Routing.{group_wait_of, group_interval_of, repeat_interval_of, receiver_name_of, integrations_of, path_of, group_of, grouped_by, is_within, is_active_at, is_muted_at};
 ghost use Rattle.amr_config.specs.Settled.{settings_of, stated_config, AreParentsFirst};
 
+use crate::inherit::inherit;
 use crate::settings::Settings;
-use crate::settle::settle;
 use amr_labels::{Exact, Labels, Listing, Text};
 use amr_matchers::Matchers;
 use amr_stated::{Grouping, InhibitRule, Integration, NamedInterval, Receiver, Stated};
@@ -67,7 +67,7 @@ impl Config {
         requires { AreParentsFirst (stated_config stated) }
         ensures { IfOk result (λ config. config ≡ stated_config stated) }
     {
-        let settings = settle(alloc, &stated)?;
+        let settings = inherit(alloc, &stated)?;
         Ok(Config {
             shared: Rc::new(alloc, Parts { stated, settings })?,
         })

@@ -5,7 +5,7 @@ ghost use Rattle.amr_stated.specs.Answers.{Answers};
 ghost use Rattle.amr_config.specs.Reading.{ConfigIs};
 
 use crate::config::Config;
-use crate::judge::refusal;
+use crate::validate::refusal;
 use amr_stated::{ConfigError, Refusal, is_too_deep, walk};
 use serde_json::Value;
 use std::alloc::Global;
@@ -26,7 +26,7 @@ impl Config {
             return Err(ConfigError::Refused(Refusal::TooDeep));
         }
         let stated = walk(alloc, value)?;
-        if let Some(refusal) = refusal(&stated) {
+        if let Some(refusal) = refusal(alloc, &stated)? {
             return Err(ConfigError::Refused(refusal));
         }
         Ok(Config::from_stated(alloc, stated)?)

@@ -1,4 +1,4 @@
-//! The settings of a route, its own and inherited ones. `settle.rt` makes them, once for each
+//! The settings of a route, its own and inherited ones. `inherit.rt` makes them, once for each
 //! configuration.
 
 use amr_labels::{Listing, Text};

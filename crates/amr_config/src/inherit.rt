@@ -106,7 +106,7 @@ fn above<'a>(settings: &'a [Settings], parent: Option<usize>) -> Option<&'a Sett
 }
 
 /// Returns the settings of all routes. A parent comes before its children, so one pass is enough.
-pub(crate) fn settle(alloc: Global, stated: &Stated) -> Result<Listing<Settings>, AllocError>
+pub(crate) fn inherit(alloc: Global, stated: &Stated) -> Result<Listing<Settings>, AllocError>
     requires { AreParentsFirst (stated_config stated.now) }
     ensures { IfOk result (λ settings. settings ≡ settled (stated_config stated.now)) }
 {

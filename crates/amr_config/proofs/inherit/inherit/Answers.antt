@@ -1,7 +1,7 @@
 use Rattle.std.proofs.Common.{◌≡◌, length, option_and_then, slice_get, ap, ◌∙◌, arith}
 use Rattle.amr_config.specs.Settled.{stated_config, settled_to}
 use Rattle.amr_config.proofs.Settling.{settled_more, settled_all}
-use Rattle.amr_config.proofs.settle.settle.Goals as goal
+use Rattle.amr_config.proofs.inherit.inherit.Goals as goal
 
 pub loop-route-init : goal.loop-route-init
 unfolding settled_to
