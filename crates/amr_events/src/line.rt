@@ -13,6 +13,7 @@ use crate::event::{Act, Event};
 use crate::posted::alerts;
 use crate::posted_silence::{id, silence};
 use crate::reason::Reason;
+use crate::seen_texts::SeenTexts;
 use crate::shapes::moment;
 use amr_config::Config;
 use amr_stated::ConfigError;
@@ -79,7 +80,7 @@ fn reload(alloc: Global, value: &Value) -> Result<Result<Config, Reason>, AllocE
 
 /// Reads the action of the object. It fails unless there is exactly one.
 #[tactic(auto, unfolding(crate::specs::Lines::act_in, crate::specs::Lines::post_of, crate::specs::Lines::silencing_of, crate::specs::Lines::expiry_of))]
-fn act(alloc: Global, line: &Value) -> Result<Act, LineError>
+fn act(alloc: Global, seen: &mut SeenTexts, line: &Value) -> Result<Act, LineError>
     ensures { ReadsSuch (λ act. ActIs (view line.now) (act_of act)) result
         (act_in (view line.now)) }
 {
@@ -87,7 +88,7 @@ fn act(alloc: Global, line: &Value) -> Result<Act, LineError>
         return Err(LineError::Faulty);
     }
     if let Some(stated) = line.get("alerts") {
-        return Ok(Act::Post(alerts(alloc, stated)?));
+        return Ok(Act::Post(alerts(alloc, seen, stated)?));
     }
     if let Some(stated) = line.get("silence") {
         return Ok(Act::Silence(silence(alloc, line, stated)?));
@@ -105,19 +106,31 @@ fn act(alloc: Global, line: &Value) -> Result<Act, LineError>
 
 /// Reads an event from its JSON value.
 #[tactic(auto, unfolding(crate::specs::Lines::event_in))]
-fn event(alloc: Global, line: &Value) -> Result<Event, LineError>
+fn event(alloc: Global, seen: &mut SeenTexts, line: &Value) -> Result<Event, LineError>
     ensures { ReadsSuch (λ event. EventIs (view line.now) event) result (event_in (view line.now)) }
 {
     let at = moment(line, "at")?;
-    let act = act(alloc, line)?;
+    let act = act(alloc, seen, line)?;
     Ok(Event::new(at, act))
 }
 
-/// Reads the event of a line.
+/// Reads the event of a line. It shares the texts of its alerts with those that were seen.
 #[tactic(auto, unfolding(crate::specs::Lines::event_of_line))]
-pub(crate) fn read_line(alloc: Global, line: &[u8]) -> Result<Event, LineError>
+pub(crate) fn read_line(
+    alloc: Global,
+    seen: &mut SeenTexts,
+    line: &[u8],
+) -> Result<Event, LineError>
     ensures { ReadsSuch (λ event. LineIs line.now event) result (event_of_line line.now) }
 {
     let stated = json(alloc, line)?;
-    event(alloc, &stated)
+    event(alloc, seen, &stated)
+}
+
+/// Reads the event of a line that is in no script.
+pub(crate) fn read_single_line(alloc: Global, line: &[u8]) -> Result<Event, LineError>
+    ensures { ReadsSuch (λ event. LineIs line.now event) result (event_of_line line.now) }
+{
+    let mut seen = SeenTexts::new(alloc);
+    read_line(alloc, &mut seen, line)
 }

@@ -8,6 +8,7 @@ ghost use Rattle.amr_events.specs.Posted.{is_missing as is_missing_text, time_of
 
 use crate::error::LineError;
 use crate::event::PostedAlert;
+use crate::seen_texts::SeenTexts;
 use crate::shapes::{member, texts};
 use amr_labels::{Listing, TextMap};
 use amr_time::{BadTime, Moment, read_moment};
@@ -61,11 +62,11 @@ fn time(alert: &Value, key: &str) -> Result<Option<Moment>, BadTime>
 
 /// Reads the annotations of an alert; there may be none.
 #[tactic(auto, unfolding(crate::specs::Posted::annotations_in))]
-fn annotations(alloc: Global, alert: &Value) -> Result<TextMap, LineError>
+fn annotations(alloc: Global, seen: &mut SeenTexts, alert: &Value) -> Result<TextMap, LineError>
     ensures { Reads (λ a. a) result (annotations_in (view alert.now)) }
 {
     let texts = match member(alert, "annotations") {
-        Some(value) => texts(alloc, value)?,
+        Some(value) => texts(alloc, seen, value)?,
         None => Vec::new(alloc),
     };
     Ok(TextMap::from_pairs(alloc, &texts)?)
@@ -73,12 +74,12 @@ fn annotations(alloc: Global, alert: &Value) -> Result<TextMap, LineError>
 
 /// Reads a posted alert.
 #[tactic(auto, unfolding(crate::specs::Posted::alert_of))]
-fn alert(alloc: Global, alert: &Value) -> Result<PostedAlert, LineError>
+fn alert(alloc: Global, seen: &mut SeenTexts, alert: &Value) -> Result<PostedAlert, LineError>
     ensures { Reads (λ a. a) result (alert_of (view alert.now)) }
 {
     let stated = alert.get("labels").ok_or(LineError::Faulty)?;
-    let labels = Listing::from_vec(texts(alloc, stated)?);
-    let annotations = annotations(alloc, alert)?;
+    let labels = Listing::from_vec(texts(alloc, seen, stated)?);
+    let annotations = annotations(alloc, seen, alert)?;
     let starts_at = time(alert, "startsAt")?;
     let ends_at = time(alert, "endsAt")?;
     Ok(PostedAlert {
@@ -91,13 +92,17 @@ fn alert(alloc: Global, alert: &Value) -> Result<PostedAlert, LineError>
 
 /// Reads a list of posted alerts, in order.
 #[tactic(auto, unfolding(crate::specs::Posted::alerts_of))]
-pub(crate) fn alerts(alloc: Global, value: &Value) -> Result<Listing<PostedAlert>, LineError>
+pub(crate) fn alerts(
+    alloc: Global,
+    seen: &mut SeenTexts,
+    value: &Value,
+) -> Result<Listing<PostedAlert>, LineError>
     ensures { Reads (λ alerts. alerts) result (alerts_of (view value.now)) }
 {
     let items = value.as_array().ok_or(LineError::Faulty)?;
     let mut alerts = Vec::new(alloc);
     for item in items {
-        alerts.push(alert(alloc, item)?)?;
+        alerts.push(alert(alloc, seen, item)?)?;
     }
     Ok(Listing::from_vec(alerts))
 }

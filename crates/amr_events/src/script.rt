@@ -9,7 +9,8 @@ ghost use Rattle.amr_events.specs.Scripts.{is_blank as is_blank_line, HasFault, 
 
 use crate::error::{Fault, LineError, ScriptError};
 use crate::event::Event;
-use crate::line::read_line;
+use crate::line::{read_line, read_single_line};
+use crate::seen_texts::SeenTexts;
 use amr_labels::Listing;
 use std::alloc::Global;
 use std::marker::Model;
@@ -50,6 +51,7 @@ fn is_blank(line: &[u8]) -> bool
 /// Reads one more line, and appends its event unless it is blank.
 fn add_line(
     alloc: Global,
+    seen: &mut SeenTexts,
     number: u64,
     line: &[u8],
     events: &mut Vec<Event>,
@@ -66,7 +68,7 @@ fn add_line(
     if events.len() >= MOST_EVENTS {
         return Err(ScriptError::Refused(Fault::TooManyEvents));
     }
-    match read_line(alloc, line) {
+    match read_line(alloc, seen, line) {
         Ok(event) => {
             events.push(event)?;
             Ok(())
@@ -98,7 +100,7 @@ impl Event {
     pub fn read(alloc: Global, line: &[u8]) -> Result<Event, ScriptError>
         ensures { Answers (OnlyLineIs line.now) result }
     {
-        match read_line(alloc, line) {
+        match read_single_line(alloc, line) {
             Ok(event) => Ok(event),
             Err(LineError::Memory) => Err(ScriptError::Memory),
             Err(LineError::Faulty) => Err(ScriptError::Refused(Fault::BadLine { line: 1 })),
@@ -116,10 +118,11 @@ impl Script {
     pub fn read(alloc: Global, bytes: &[u8]) -> Result<Script, ScriptError>
         ensures { Answers (ScriptIs bytes.now) result }
     {
+        let mut seen = SeenTexts::new(alloc);
         let mut events = Vec::new(alloc);
         let mut number = 1;
         for line in bytes.split(|byte| *byte == b'\n') {
-            add_line(alloc, number, line, &mut events)?;
+            add_line(alloc, &mut seen, number, line, &mut events)?;
             number += 1;
         }
         Ok(Script {

@@ -9,7 +9,7 @@ use Rattle.amr_events.proofs.shapes.texts.Goals as goal
 
 pub loop-name-init : goal.loop-name-init
 unfolding texts_in
-loop-name-init c = rw (c.new-texts.ensures.items, ahead_none) (search rules)
+loop-name-init c = rw (c.in_ok-texts.ensures.items, ahead_none) (search rules)
 
 pub returns-in_err-named_text : goal.returns-in_err-named_text
 returns-in_err-named_text c =
