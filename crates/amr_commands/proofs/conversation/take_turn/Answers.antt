@@ -27,10 +27,10 @@ returns-in-Err-finish-clause-turned g c = λ source start bytes consumed stands.
 pub returns-in-Ok-take_bytes-clause-turned : goal.returns-in-Ok-take_bytes-clause-turned
 returns-in-Ok-take_bytes-clause-turned g c = λ source start bytes consumed stands.
     let read = c.in-Ok.ensures.read in
-    Stands-heard _ source _ _ start _ _ bytes _ _ _ _ c.take_bytes.result _ _ _ refl c.take_bytes.ensures.heard c.in-Ok-hear.is read.1 consumed stands
+    Stands-heard _ source _ _ start _ _ bytes _ _ _ _ c.take_bytes.result _ _ _ refl c.take_bytes.ensures.heard c.in-Ok-take_bytes.is read.1 consumed stands
 
 pub returns-in-Err-take_bytes-clause-turned : goal.returns-in-Err-take_bytes-clause-turned
 returns-in-Err-take_bytes-clause-turned g c = λ source start bytes consumed stands.
     let read = c.in-Ok.ensures.read in
-    let (bytes', consumed', stops) = StopsInside-heard _ source _ _ start _ _ bytes _ _ _ _ c.take_bytes.result _ _ _ refl c.take_bytes.ensures.heard c.in-Err-hear.is read.1 consumed stands in
+    let (bytes', consumed', stops) = StopsInside-heard _ source _ _ start _ _ bytes _ _ _ _ c.take_bytes.result _ _ _ refl c.take_bytes.ensures.heard c.in-Err-take_bytes.is read.1 consumed stands in
     (bytes', consumed', inl stops)
