@@ -25,9 +25,9 @@ pub FilesLeave-error : (a b : Option Text) (bytes script : List ℕ) (config : C
 FilesLeave-error a b bytes script config events s error hold is left =
     inr (config, events, hold, StopLeaves-error a b config events error (subst (λ (t : State). RunLeavesAt a b t.config events error) is left))
 
-pub FaultBy-error : (failed failed' : Bool) (error : RunError) → StoppedAt failed failed' error → FaultBy failed failed' (stop_fault error)
-FaultBy-error failed failed' OutOfMemory h = h
-FaultBy-error failed failed' CannotWrite h = h
+pub FaultBy-run_error : (failed failed' : Bool) (error : RunError) → StoppedAt failed failed' error → FaultBy failed failed' (stop_fault error)
+FaultBy-run_error failed failed' OutOfMemory h = h
+FaultBy-run_error failed failed' CannotWrite h = h
 
 -- an end of a session over two files fails
 pub SessionLeaves-error : (source left old new : Option Text) (bytes script : List ℕ) (config : Config) (events : List Event) (error : ConversationError)
@@ -38,6 +38,6 @@ pub FaultOfReading-error : (error : ConversationError) (read read' : Bool) (call
 FaultOfReading-error Reading read read' calls written written' h = h.0
 FaultOfReading-error Writing read read' calls written written' h = h.0
 
-pub FaultBy-error : (error : ConversationError) (read read' : Bool) (calls : ℕ) (written written' : Bool) → BreaksBy error read read' calls written written' → FaultBy written written' (broken_fault error)
-FaultBy-error Reading read read' calls written written' h = h.1
-FaultBy-error Writing read read' calls written written' h = h.1
+pub FaultBy-conversation_error : (error : ConversationError) (read read' : Bool) (calls : ℕ) (written written' : Bool) → BreaksBy error read read' calls written written' → FaultBy written written' (broken_fault error)
+FaultBy-conversation_error Reading read read' calls written written' h = h.1
+FaultBy-conversation_error Writing read read' calls written written' h = h.1

@@ -2,14 +2,14 @@
 use Rattle.std.specs.Prelude.{◌≡◌, ℕ, Bool, true, Result, MatchResult}
 use Rattle.amr_lines.specs.Inlet.{HasEnded}
 use Rattle.amr_program.specs.declared.run.RunError.{RunError}
-use Rattle.amr_program.specs.declared.run.RunError.TheVariants as error
+use Rattle.amr_program.specs.declared.run.RunError.TheVariants as run_error
 use Rattle.amr_program.specs.declared.fault.Fault.{Fault}
 use Rattle.amr_program.specs.declared.fault.Fault.TheVariants.{Config, Script, CannotReadConfig, CannotReadScript, CannotReadCommands, CannotWrite, OutOfMemory, Usage}
 
 -- the writer failed, or it didn't and memory ran out
 abbrev pub StoppedAt : Bool → Bool → RunError → Type 0
-StoppedAt failed failed' error.OutOfMemory = failed' ≡ failed
-StoppedAt failed failed' error.CannotWrite = failed' ≡ true
+StoppedAt failed failed' run_error.OutOfMemory = failed' ≡ failed
+StoppedAt failed failed' run_error.CannotWrite = failed' ≡ true
 
 abbrev pub StoppedBy : {T : Type 0} → Result T RunError → Bool → Bool → Type 0
 StoppedBy r failed failed' = MatchResult r (λ _. failed' ≡ failed) (StoppedAt failed failed')

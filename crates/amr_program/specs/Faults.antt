@@ -9,9 +9,9 @@ use Rattle.amr_events.specs.declared.error.Fault.TheVariants.{BadLine, LineTooLo
 use Rattle.amr_events.specs.declared.error.ScriptError.{ScriptError}
 use Rattle.amr_events.specs.declared.error.ScriptError.TheVariants as script_error
 use Rattle.amr_commands.specs.declared.conversation.ConversationError.{ConversationError}
-use Rattle.amr_commands.specs.declared.conversation.ConversationError.TheVariants as error
+use Rattle.amr_commands.specs.declared.conversation.ConversationError.TheVariants as conversation_error
 use Rattle.amr_program.specs.declared.run.RunError.{RunError}
-use Rattle.amr_program.specs.declared.run.RunError.TheVariants as error
+use Rattle.amr_program.specs.declared.run.RunError.TheVariants as run_error
 use Rattle.amr_program.specs.declared.fault.Fault.{Fault}
 use Rattle.amr_program.specs.declared.fault.Fault.TheVariants.{Config, Script, CannotReadConfig, CannotReadScript, CannotReadCommands, CannotWrite, OutOfMemory, Usage}
 use Rattle.amr_program.specs.declared.fault.Place.{Place}
@@ -27,12 +27,12 @@ script_fault script_error.Memory = OutOfMemory
 script_fault (script_error.Refused fault) = Script fault
 
 abbrev pub stop_fault : RunError → Fault
-stop_fault error.OutOfMemory = OutOfMemory
-stop_fault error.CannotWrite = CannotWrite
+stop_fault run_error.OutOfMemory = OutOfMemory
+stop_fault run_error.CannotWrite = CannotWrite
 
 abbrev pub broken_fault : ConversationError → Fault
-broken_fault error.Reading = CannotReadCommands
-broken_fault error.Writing = CannotWrite
+broken_fault conversation_error.Reading = CannotReadCommands
+broken_fault conversation_error.Writing = CannotWrite
 
 abbrev pub config_name : Refusal → List ℕ
 config_name (BadConfig path) = codes "amreplay: config: 5 BadConfig"

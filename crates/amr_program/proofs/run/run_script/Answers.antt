@@ -1,5 +1,5 @@
 use Rattle.std.proofs.lemmas.Result.{err_from_is_err_and}
-use Rattle.amr_program.proofs.Stopping.{FilesLeave-error, FaultBy-error}
+use Rattle.amr_program.proofs.Stopping.{FilesLeave-error, FaultBy-run_error}
 use Rattle.amr_program.proofs.run.run_script.Goals as goal
 
 pub returns-in_err-write_run-clause-left : goal.returns-in_err-write_run-clause-left
@@ -10,4 +10,4 @@ returns-in_err-write_run-clause-left g c =
 pub returns-in_err-write_run-clause-ended : goal.returns-in_err-write_run-clause-ended
 returns-in_err-write_run-clause-ended g c =
     let p = err_from_is_err_and c.from_residual-in_err-write_run.result c.from_residual-in_err-write_run.ensures.1 in
-    rw (p.1, p.2) (FaultBy-error _ _ _ c.in_err-write_run.ensures.error)
+    rw (p.1, p.2) (FaultBy-run_error _ _ _ c.in_err-write_run.ensures.error)

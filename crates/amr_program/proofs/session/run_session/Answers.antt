@@ -1,5 +1,5 @@
 use Rattle.std.proofs.lemmas.Result.{err_from_is_err_and}
-use Rattle.amr_program.proofs.Stopping.{SessionLeaves-error, FaultOfReading-error, FaultBy-error}
+use Rattle.amr_program.proofs.Stopping.{SessionLeaves-error, FaultOfReading-error, FaultBy-conversation_error}
 use Rattle.amr_program.proofs.session.run_session.Goals as goal
 
 pub returns-in_err-converse-clause-left : goal.returns-in_err-converse-clause-left
@@ -15,4 +15,4 @@ returns-in_err-converse-clause-read g c =
 pub returns-in_err-converse-clause-written : goal.returns-in_err-converse-clause-written
 returns-in_err-converse-clause-written g c =
     let p = err_from_is_err_and c.from_residual-in_err-converse.result c.from_residual-in_err-converse.ensures.1 in
-    rw (p.1, p.2) (FaultBy-error _ _ _ _ _ _ c.in_err-converse.ensures.ended)
+    rw (p.1, p.2) (FaultBy-conversation_error _ _ _ _ _ _ c.in_err-converse.ensures.ended)
