@@ -11,7 +11,7 @@ Note = dict[str, Any]
 
 @dataclass(frozen=True)
 class Comparison:
-    """Places in the two lists of notifications. What stands in none of them is in both runs, at one moment."""
+    """Places in the two lists of notifications. What is in none of them is in both runs, at one moment."""
 
     first_alone: list[int]
     second_alone: list[int]

@@ -1,4 +1,4 @@
-"""How one listing differs from another. Lines go in the same order in both, and no line stands twice."""
+"""How one listing differs from another. Lines are in the same order in both, and no line is in one twice."""
 from __future__ import annotations
 
 from dataclasses import dataclass

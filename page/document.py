@@ -31,7 +31,7 @@ def page(title: str, data: dict[str, Any]) -> str:
 
 
 def embedded(data: Any) -> str:
-    """Returns JSON that stands safely in a page, whatever its texts hold."""
+    """Returns JSON that is safe in a page, whatever its texts hold."""
     text = json.dumps(data, ensure_ascii=False, separators=(",", ":"))
     for character, number in BY_NUMBER.items():
         text = text.replace(character, number)

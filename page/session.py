@@ -16,7 +16,7 @@ PIPE_BYTES = 1 << 20
 
 
 class Fault(Exception):
-    """A fault that the program told: its own line on standard error, and its status."""
+    """A fault that the program reported: its own line on standard error, and its status."""
 
     def __init__(self, line: str, status: int) -> None:
         super().__init__(line, status)
@@ -46,16 +46,16 @@ class Answer:
 
 
 def converse(source: Source, commands: Iterable[str]) -> Iterator[Answer]:
-    """Yields the answer to each command, in order. Raises the program's fault where it ends otherwise than well."""
-    with tempfile.TemporaryFile() as told:
-        process = _start(source, told)
+    """Yields the answer to each command, in order. Raises the program's fault if it fails."""
+    with tempfile.TemporaryFile() as errors:
+        process = _start(source, errors)
         feeder = threading.Thread(target=_feed, args=(process.stdin, commands), daemon=True)
         feeder.start()
         try:
             yield from _answers(process.stdout)
             status = process.wait()
             if status != 0:
-                raise _fault(told, status)
+                raise _fault(errors, status)
         finally:
             process.stdout.close()
             process.kill()
@@ -71,10 +71,10 @@ def answers_of(source: Source, commands: list[str]) -> list[Answer]:
     return answers
 
 
-def _start(source: Source, told: Any) -> subprocess.Popen[bytes]:
+def _start(source: Source, errors: Any) -> subprocess.Popen[bytes]:
     words = [source.program, "session", source.config, source.script]
     try:
-        process = subprocess.Popen(words, stdin=subprocess.PIPE, stdout=subprocess.PIPE, stderr=told, bufsize=PIPE_BYTES)
+        process = subprocess.Popen(words, stdin=subprocess.PIPE, stdout=subprocess.PIPE, stderr=errors, bufsize=PIPE_BYTES)
     except OSError as error:
         raise Fault(f"incident-page: cannot run {source.program}: {error.strerror}", 1) from error
     _widen(process.stdout)
@@ -90,7 +90,7 @@ def _widen(pipe: Any) -> None:
 
 
 def _feed(pipe: Any, commands: Iterable[str]) -> None:
-    """Writes the commands. A program that ended early tells of it by its status."""
+    """Writes the commands. The status of a program that ended early says so."""
     try:
         for command in commands:
             pipe.write(command.encode() + b"\n")
@@ -113,9 +113,9 @@ def _answers(pipe: Any) -> Iterator[Answer]:
         searched = start if start >= 0 else max(0, len(held) - len(LAST_LINE))
 
 
-def _fault(told: Any, status: int) -> Fault:
-    told.seek(0)
-    text = told.read().decode("utf-8", "replace").rstrip("\n")
+def _fault(errors: Any, status: int) -> Fault:
+    errors.seek(0)
+    text = errors.read().decode("utf-8", "replace").rstrip("\n")
     if status < 0:
         return Fault(text or f"incident-page: the program was ended by signal {-status}", 1)
     return Fault(text or f"incident-page: the program ended with status {status}", status)

@@ -16,7 +16,7 @@ function filled(element, attributes, children) {
 const el = (tag, attributes, ...children) => filled(document.createElement(tag), attributes, children);
 const svg = (tag, attributes, ...children) => filled(document.createElementNS(SVG, tag), attributes, children);
 
-// A text of the incident, apart from what stands around it, and cut where it is very long.
+// A text of the incident, apart from the text around it, and cut if it is very long.
 function quoted(text) {
   const whole_ = seen(text);
   if (whole_.length <= LONGEST) return el("bdi", {}, whole_);

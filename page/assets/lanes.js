@@ -134,7 +134,7 @@ function spanText(from, to) {
 
 const isoOf = (time) => new Date(time).toISOString().replace(".000Z", "Z");
 
-// The flushes of a group: a next flush that was listed and then passed, those that were found between events, and those that told.
+// The flushes of a group: a next flush that was listed and then passed, those that were found between events, and those that notified.
 function flushesOf(run, entry) {
   const flushes = new Map();
   const add = (moment, cursor) => flushes.set(moment, mark(millisecondsOf(moment), "flush", `${when(moment)} flush of this group`, cursor));
@@ -148,7 +148,7 @@ function flushesOf(run, entry) {
   for (let i = 0; i < between.length; i += 2) add(textOf(between[i + 1]), between[i]);
   for (const note of run.notes) {
     if (note.route !== entry.route || note.group !== entry.set) continue;
-    flushes.set(note.at, mark(note.time, "told", `Flush of this group, told: ${noteText(note)}`, note.cursor, note));
+    flushes.set(note.at, mark(note.time, "notified", `Flush of this group, notified: ${noteText(note)}`, note.cursor, note));
   }
   return [...flushes.values()];
 }

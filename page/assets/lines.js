@@ -7,12 +7,12 @@ const json = (value) => JSON.stringify(value);
 const matcherJson = (m) => `{"isEqual":${m.isEqual},"isRegex":${m.isRegex},"name":${json(m.name)},"value":${json(m.value)}}`;
 const matchersJson = (matchers) => `[${matchers.map(matcherJson).join(",")}]`;
 
-const toldJson = (alert) => `{"annotations":${setJson(alert.annotations)},${alert.endsAt ? `"endsAt":${json(alert.endsAt)},` : ""}`
+const notifiedJson = (alert) => `{"annotations":${setJson(alert.annotations)},${alert.endsAt ? `"endsAt":${json(alert.endsAt)},` : ""}`
   + `"labels":${setJson(alert.set)},"startsAt":${json(alert.startsAt)}}`;
 
-const noteLine = (note) => `{"at":${json(note.at)},"firing":[${note.firing.map(toldJson).join(",")}],"groupLabels":${setJson(note.group)},`
+const noteLine = (note) => `{"at":${json(note.at)},"firing":[${note.firing.map(notifiedJson).join(",")}],"groupLabels":${setJson(note.group)},`
   + `"integration":${json(note.integration)},"place":${note.place},"receiver":${json(note.receiver)},`
-  + `"resolved":[${note.resolved.map(toldJson).join(",")}],"route":${note.route}}`;
+  + `"resolved":[${note.resolved.map(notifiedJson).join(",")}],"route":${note.route}}`;
 
 const ENTRY_LINES = {
   alerts: (entry, value) => `{"annotations":${setJson(value.annotations)},"endsAt":${json(value.endsAt)},"labels":${setJson(entry.set)},`

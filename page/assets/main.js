@@ -83,7 +83,7 @@ class App {
     acts[event.key]();
   }
 
-  // The event stands in the address, so that a place can be handed on.
+  // The address has the event, so that a place can be passed on.
   readPlace() {
     const found = /^#event=(\d{1,7})$/.exec(window.location.hash);
     if (found) this.go(Number(found[1]));
@@ -101,9 +101,9 @@ class App {
 // The alert that is chosen at first: one that --explain names, or one that no notification tells of.
 function firstChoice(run) {
   if (DATA.named.length) return DATA.named[0];
-  const told = new Set(run.notes.flatMap((note) => note.firing.map((alert) => alert.set)));
+  const notified = new Set(run.notes.flatMap((note) => note.firing.map((alert) => alert.set)));
   const sets = inOrder([...run.why.keys()]);
-  const never = sets.find((set) => !told.has(set));
+  const never = sets.find((set) => !notified.has(set));
   return never !== undefined ? never : sets.length ? sets[0] : null;
 }
 
@@ -159,7 +159,7 @@ function noticesOf(run) {
   if (first > 1 || last < DATA.total) notices.push(`This page is a part: events ${first} to ${last} of ${DATA.total}. What came before has happened, and isn't drawn.`);
   if (run.last < last && !run.tried) notices.push(`Left out: events ${run.last + 1} to ${last}. A page has at most ${run.events.length} events; --from ${run.last + 1} makes the next one.`);
   if (run.stops.length) notices.push(`Left out: the lists between ${run.stops.length} of the events. A page of a shorter part, by --from and --to, has them at each.`);
-  if (run.extent === "changed") notices.push("Explanations: at the events that changed an alert or told of it, and at every event for alerts that --explain names.");
+  if (run.extent === "changed") notices.push("Explanations: at the events that changed an alert or notified of it, and at every event for alerts that --explain names.");
   if (run.extent === "named") notices.push("Left out: the explanations of alerts that --explain doesn't name.");
   return notices;
 }

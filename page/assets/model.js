@@ -25,7 +25,7 @@ function matcherOf([name, value, isEqual, isRegex]) {
 }
 
 function noteOf([cursor, at, receiver, integration, place, route, group, firing, resolved], index) {
-  const told = (flat, count) => {
+  const notified = (flat, count) => {
     const alerts = [];
     for (let i = 0; i < flat.length; i += count) alerts.push(flat.slice(i, i + count));
     return alerts;
@@ -33,8 +33,8 @@ function noteOf([cursor, at, receiver, integration, place, route, group, firing,
   return {
     index, cursor, at: textOf(at), time: millisecondsOf(textOf(at)), receiver: textOf(receiver),
     integration: textOf(integration), place, route, group,
-    firing: told(firing, 3).map(([set, start, notes]) => ({ set, startsAt: textOf(start), annotations: notes })),
-    resolved: told(resolved, 4).map(([set, start, end, notes]) => (
+    firing: notified(firing, 3).map(([set, start, notes]) => ({ set, startsAt: textOf(start), annotations: notes })),
+    resolved: notified(resolved, 4).map(([set, start, end, notes]) => (
       { set, startsAt: textOf(start), endsAt: textOf(end), annotations: notes })),
   };
 }
@@ -93,7 +93,7 @@ const READERS = {
   ([at, firing, resolved]) => ({ at: textOf(at), firing, resolved })],
 };
 
-// The place of the last number that isn't greater, in a sorted list; -1 where there is none.
+// The place of the last number that isn't greater, in a sorted list; -1 if there is none.
 function lastUpTo(numbers, number) {
   let low = 0;
   let high = numbers.length;

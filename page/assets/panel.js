@@ -42,7 +42,7 @@ class Panel {
     return el("li", { class: "note" }, el("div", {}, momentEl(note.at), " ", el("b", {}, el("bdi", {}, whom(note))),
       el("span", { class: "quiet" }, ` route ${note.route}, group `), el("bdi", { class: "mono" }, groupText(note.group, 200)),
       compared && el("span", { class: "tag" }, compared.slice(2))),
-    toldEl(this.app, "firing", note.firing), toldEl(this.app, "resolved", note.resolved));
+    notifiedEl(this.app, "firing", note.firing), notifiedEl(this.app, "resolved", note.resolved));
   }
 }
 
@@ -64,9 +64,9 @@ function postedEl(app, event) {
   event.alerts.length > ROWS && el("li", { class: "quiet" }, `and ${event.alerts.length - ROWS} more`));
 }
 
-function toldEl(app, name, alerts) {
+function notifiedEl(app, name, alerts) {
   if (!alerts.length) return null;
-  return el("div", { class: `told ${name}` }, el("span", { class: `state ${name}` }, name), " ",
+  return el("div", { class: `notified ${name}` }, el("span", { class: `state ${name}` }, name), " ",
     alerts.slice(0, 12).map((alert) => [alertButton(app, alert.set), " "]), alerts.length > 12 && `and ${alerts.length - 12} more`);
 }
 
@@ -129,7 +129,7 @@ function pathEl(path) {
 }
 
 function setsEl(app, name, sets) {
-  return toldEl(app, name, sets.map((set) => ({ set })));
+  return notifiedEl(app, name, sets.map((set) => ({ set })));
 }
 
 function membersEl(app, value, before) {

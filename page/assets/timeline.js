@@ -370,7 +370,7 @@ class Timeline {
     this.draw();
   }
 
-  // Goes to the next or the previous mark of the lane, from the cursor's time or from the mark that was told last.
+  // Goes to the next or the previous mark of the lane, from the cursor's time or from the mark that was named last.
   toMark(by) {
     const each = this.shownLanes[this.laneAt];
     if (!each || each.title) return;
@@ -412,13 +412,13 @@ const SHAPES = {
   reload: (x, y) => svg("path", { class: "ink", d: `M${x} ${y - 7}l6 7l-6 7l-6-7z` }),
   refused: (x, y) => svg("path", { class: "line", d: `M${x - 5} ${y - 5}l10 10M${x + 5} ${y - 5}l-10 10` }),
   flush: (x, y) => svg("line", { class: "line", x1: x, x2: x, y1: y + 3, y2: y + 11 }),
-  told: (x, y) => svg("line", { class: "line", x1: x, x2: x, y1: y - 11, y2: y + 11 }),
+  notified: (x, y) => svg("line", { class: "line", x1: x, x2: x, y1: y - 11, y2: y + 11 }),
 };
 
 const shapeOf = (shape, x, y) => SHAPES[shape](x, y);
 
 function legend() {
-  const names = [["firing", "told: firing"], ["resolved", "told: resolved"], ["both", "told: both"], ["told", "flush that told"], ["flush", "other flush"],
+  const names = [["firing", "notified: firing"], ["resolved", "notified: resolved"], ["both", "notified: both"], ["notified", "flush that notified"], ["flush", "other flush"],
     ["post", "alerts posted"], ["silence", "silence posted"], ["expire", "silence expired"], ["reload", "reload"], ["tick", "time passes"], ["refused", "refused"]];
   return el("ul", { class: "keys", "aria-label": "What the marks mean" }, names.map(([shape, name]) => el("li", {},
     svg("svg", { width: 18, height: 18, viewBox: "0 0 18 18", "aria-hidden": "true" }, svg("g", { class: `mark ${shape}` }, shapeOf(shape, 9, 9))), name)));

@@ -1,4 +1,4 @@
-// What if: what would have been told under the other configuration, and what an event that never happened would have done.
+// What if: what would have been notified under the other configuration, and what an event that never happened would have done.
 const DIFFERENCES = 100;
 
 class WhatIf {
@@ -44,7 +44,7 @@ function trialEl(app) {
     el("p", {}, reason ? `It would be refused, ${reasonWords(reason)}.`
       : `It would make ${many(moves, "move")} and ${many(made.length, "notification")} at once${skipped.length ? `, and skip ${many(skipped.length, "alert")}` : ""}.`),
     made.length > 0 && el("ul", { class: "notes" }, made.slice(0, ROWS).map((note) => el("li", { class: "note" }, el("bdi", {}, noteText(note)),
-      toldEl(app, "firing", note.firing), toldEl(app, "resolved", note.resolved)))),
+      notifiedEl(app, "firing", note.firing), notifiedEl(app, "resolved", note.resolved)))),
     linesEl("What the session printed for the trial", () => [...made.map(noteLine), ...(reason ? [`{"event":0,"reason":${reason}}`] : []),
       ...(skipped.length ? [`{"event":0,"skipped":${json(skipped)}}`] : [])])];
 }

@@ -13,7 +13,7 @@ class WhyView {
     const { run, cursor, chosen } = this.app;
     const title = el("h2", { id: "why-title" }, "Why?");
     if (chosen === null) {
-      replace(this.root, title, el("p", { class: "quiet" }, "Choose an alert, in a list or in the timeline, to see why it was told or not."));
+      replace(this.root, title, el("p", { class: "quiet" }, "Choose an alert, in a list or in the timeline, to see why it was or wasn't notified."));
       return;
     }
     replace(this.root, title, this.chooser(), el("p", { class: "chosen-alert" }, labelsEl(chosen)), this.answer(run, cursor, chosen), this.turns(run, cursor, chosen));
@@ -50,7 +50,7 @@ class WhyView {
     el("span", { class: "turn-at" }, at < run.first ? "at first" : when(run.clock(at))), el("span", {}, summary(run, at, set)))));
     return [el("h3", {}, turns.length === 1 ? "The answer never changed" : `The answer changed ${many(turns.length - 1, "time")}`),
       el("ol", { class: "turns" }, items), turns.length > TURNS && el("p", { class: "quiet" }, `${TURNS} of ${turns.length} are shown.`),
-      !why.always && el("p", { class: "quiet" }, "Asked only at events that changed this alert or told of it. --explain asks at every event.")];
+      !why.always && el("p", { class: "quiet" }, "Asked only at events that changed this alert or notified of it. --explain asks at every event.")];
   }
 }
 

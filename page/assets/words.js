@@ -123,7 +123,7 @@ const VERDICTS = {
     const what = value ? `, until ${when(value.endsAt)}: ${matchersText(value.matchers)}` : "";
     return `silenced by ${verdict.get("id")}${what}`;
   },
-  Nowhere: () => "told nowhere: the receiver has no integration",
-  Told: (verdict) => `told at ${when(verdict.get("at"))}`,
-  Due: (verdict) => `not told yet; the group's next flush is at ${when(verdict.get("at"))}`,
+  Nowhere: () => "not notified: the receiver has no integration",
+  Told: (verdict) => `notified at ${when(verdict.get("at"))}`,
+  Due: (verdict) => `not notified yet; the group's next flush is at ${when(verdict.get("at"))}`,
 };

@@ -72,72 +72,12 @@ members_have_float-object_of (m ∷ ms) none = members_have_float-put m.0 m.1 (o
 has_float-labels : (labels : LabelSet) → has_float (labels_data labels) ≡ false
 has_float-labels labels = has_float-texts (entries labels)
 
-has_float-label_sets : (sets : List LabelSet) → has_float (label_sets_data sets) ≡ false
-has_float-label_sets sets = has_float-list labels_data has_float-labels sets
-
 has_float-moment : (m : Moment) → has_float (moment_data m) ≡ false
 unfolding moment_data
 has_float-moment m = refl
 
 pub has_float-skipped : (event : ℕ) (places : List ℕ) → has_float (skipped_data event places) ≡ false
 has_float-skipped event places = members_have_float-object_of (skipped_members event places) (refl, (has_float-list number_data (λ place. refl) places, tt))
-
-pub has_float-alert : (alert : LabelSet × Alert) → has_float (alert_data alert) ≡ false
-unfolding alert_data
-has_float-alert alert =
-    members_have_float-object_of (alert_members alert) (
-      has_float-texts (entries alert.1.annotations),
-      (
-        has_float-moment alert.1.ends_at,
-        (
-          has_float-labels alert.0,
-          (
-            has_float-moment alert.1.starts_at,
-            (refl, (has_float-moment alert.1.last_post, tt)),
-          ),
-        ),
-      ),
-    )
-
-has_float-matcher : (matcher : Matcher) → has_float (matcher_data matcher) ≡ false
-unfolding matcher_data
-has_float-matcher matcher = members_have_float-object_of (matcher_members matcher) (refl, (refl, (refl, (refl, tt))))
-
-has_float-matchers : (matchers : List Matcher) → has_float (matchers_data matchers) ≡ false
-has_float-matchers matchers = has_float-list matcher_data has_float-matcher matchers
-
-pub has_float-silence : (silence : ℕ × Silence) → has_float (silence_data silence) ≡ false
-unfolding silence_data
-has_float-silence silence =
-    members_have_float-object_of (silence_members silence)
-    (has_float-moment silence.1.ends_at, (refl, (has_float-matchers silence.1.matchers, (has_float-moment silence.1.starts_at, tt))))
-
-has_float-since : (since : Option Moment) → has_float (since_data since) ≡ false
-has_float-since None = refl
-has_float-since (Some m) = has_float-moment m
-
-pub has_float-group : (group : Group) → has_float (group_data group) ≡ false
-unfolding group_data
-has_float-group group =
-    members_have_float-object_of (group_members group)
-    (has_float-since group.empty_since, (refl, (has_float-labels group.labels, (has_float-label_sets group.members, (has_float-moment group.next_flush, (refl, tt))))))
-
-pub has_float-log : (entry : LogKey × LogEntry) → has_float (log_data entry) ≡ false
-unfolding log_data
-has_float-log entry =
-    members_have_float-object_of (log_members entry) (
-      has_float-moment entry.1.time,
-      (
-        has_float-label_sets (items entry.1.firing),
-        (
-          has_float-labels entry.0.group,
-          (
-            refl,
-            (has_float-list matchers_data has_float-matchers entry.0.path, (refl, (refl, (has_float-label_sets (items entry.1.resolved), tt)))),
-          ),
-        ),
-      ),
-    )
 
 pub has_float-place : (cursor events : ℕ) (now : Moment) → has_float (place_data cursor events now) ≡ false
 unfolding place_data

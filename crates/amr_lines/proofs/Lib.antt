@@ -4,3 +4,4 @@ pub mod LineParts
 pub mod ObjectMembers
 pub mod Tokens
 pub mod NotificationTokens
+pub mod ListedTokens

@@ -1,5 +1,6 @@
 -- The tokens of what is printed.
-use Rattle.std.proofs.Common.{◌≡◌, ℕ, List, [], ◌∷◌, ◌++◌, T, Bool, true, false, ◌&&◌, map, fold, flat_map, Result, Ok, OnOk, refl, rules, sym, ap, ap₂, subst, ◌∙◌, append_assoc}
+use Rattle.std.proofs.Common.{◌≡◌, ℕ, List, [], ◌∷◌, ◌++◌, T, Bool, true, false, ◌&&◌, map, fold, flat_map, Result, Ok, Err, IfOk, OnOk, refl, rules, sym, ap, ap₂, subst, ◌∙◌, append_assoc}
+use Rattle.std.specs.Global.{Vec}
 use Rattle.std.specs.Str.{IsUtf8, IsAscii}
 use Rattle.std.proofs.lemmas.Str.{IsUtf8-append, IsUtf8-from_ascii}
 use Rattle.std.proofs.lemmas.Str.Ascii.{IsAscii-from_all}
@@ -116,3 +117,16 @@ line_utf8 start end ts lines text more at added made ended is_printed is_text =
     let joined : more ≡ (lines ++ print end.tokens) ++ 10 ∷ [] = ended ∙ ap (λ t. t ++ 10 ∷ []) (made ∙ ap (λ b. b ++ print end.tokens) (added.before ∙ at)) in
     let fed : IsAscii (10 ∷ []) = IsAscii-from_all (10 ∷ []) (search rules) in
     subst IsUtf8 (sym joined) (IsUtf8-append _ _ (IsUtf8-append lines (print end.tokens) is_text is_printed) (IsUtf8-from_ascii (10 ∷ []) fed))
+
+-- the same of a result
+pub line_of_more : {E : Type 0} (d : Data) (start end : Written) (lines : List ℕ) (r : Result (Vec ℕ) E)
+    → start.before ≡ lines → start.tokens ≡ [] → Adds start end (data_tokens d) → IfOk r (λ more. more.items ≡ (end.before ++ print end.tokens) ++ 10 ∷ [])
+    → IfOk r (λ more. more.items ≡ lines ++ data_line d)
+line_of_more d start end lines (Ok more) at none added ended = line_added d start end lines (end.before ++ print end.tokens) more.items at none added refl ended
+line_of_more d start end lines (Err e) at none added ended = tt
+
+pub utf8_of_more : {E : Type 0} (ts : List Token) (start end : Written) (lines : List ℕ) (r : Result (Vec ℕ) E)
+    → start.before ≡ lines → Adds start end ts → IfOk r (λ more. more.items ≡ (end.before ++ print end.tokens) ++ 10 ∷ [])
+    → IsUtf8 (print end.tokens) → IfOk r (λ more. IsUtf8 lines → IsUtf8 more.items)
+utf8_of_more ts start end lines (Ok more) at added ended printed = λ is_text. line_utf8 start end ts lines (end.before ++ print end.tokens) more.items at added refl ended printed is_text
+utf8_of_more ts start end lines (Err e) at added ended printed = tt

@@ -6,7 +6,7 @@ mod inlet;
 mod json_text;
 mod last_lines;
 mod lines;
-mod listed;
+mod listed_text;
 mod listings;
 mod notification_text;
 mod outlet;

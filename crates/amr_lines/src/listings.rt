@@ -1,89 +1,110 @@
-//! The lines of listings, one for each thing listed. The values are made in `listed.rt`; here they
-//! become text.
-ghost use Rattle.std.specs.Prelude.{◌≡◌, IfOk, string_bytes};
+//! The lines of listings, one for each thing listed. `listed_text.rt` writes each; here they become
+//! lines.
+ghost use Rattle.std.specs.Prelude.{◌≡◌, ◌++◌, IfOk, IsUtf8, string_bytes};
 ghost use Rattle.std.specs.List.{flat_map};
 ghost use Rattle.amr_lines.specs.Printed.{alert_line, silence_line, group_seen_line, log_line};
 
-use crate::lines::line_text;
-use crate::listed::{alert_value, group_value, log_value, silence_value};
+use crate::json_text::{end_line, text_of};
+use crate::listed_text::{write_alert, write_entry, write_group, write_silence};
 use amr_events::SilenceId;
 use amr_labels::Labels;
 use amr_rules::{Alert, LogEntry, Silence};
 use amr_state::{Group, LogKey};
+use json::Writer;
 use std::alloc::{AllocError, Global};
 
-/// Returns the line of a stored alert.
-fn alert_text(alloc: Global, alert: &(Labels, Alert)) -> Result<String, AllocError>
-    ensures { IfOk result (λ text. string_bytes text ≡ alert_line alert.now) }
+/// Returns the lines with the line of a stored alert after them.
+fn append_alert(
+    lines: Vec<u8>,
+    alloc: Global,
+    alert: &(Labels, Alert),
+) -> Result<Vec<u8>, AllocError>
+    ensures line { IfOk result (λ more. more.items ≡ lines.items ++ alert_line alert.now) }
+    ensures utf8 { IfOk result (λ more. IsUtf8 lines.items → IsUtf8 more.items) }
 {
-    let value = alert_value(alloc, alert)?;
-    line_text(alloc, &value)
+    let mut out = Writer::new(lines);
+    write_alert(&mut out, alloc, alert)?;
+    end_line(out)
 }
 
 /// Returns the lines of stored alerts.
 pub fn alerts_text(alloc: Global, alerts: &[(Labels, Alert)]) -> Result<String, AllocError>
     ensures { IfOk result (λ text. string_bytes text ≡ flat_map alert_line alerts.now) }
 {
-    let mut text = String::new(alloc);
+    let mut lines = Vec::new(alloc);
     for alert in alerts {
-        text.push_str(alert_text(alloc, alert)?.as_str())?;
+        lines = append_alert(lines, alloc, alert)?;
     }
-    Ok(text)
+    Ok(text_of(lines))
 }
 
-/// Returns the line of a stored silence.
-fn silence_text(alloc: Global, silence: &(SilenceId, Silence)) -> Result<String, AllocError>
-    ensures { IfOk result (λ text. string_bytes text ≡ silence_line silence.now) }
+/// Returns the lines with the line of a stored silence after them.
+fn append_silence(
+    lines: Vec<u8>,
+    alloc: Global,
+    silence: &(SilenceId, Silence),
+) -> Result<Vec<u8>, AllocError>
+    ensures line { IfOk result (λ more. more.items ≡ lines.items ++ silence_line silence.now) }
+    ensures utf8 { IfOk result (λ more. IsUtf8 lines.items → IsUtf8 more.items) }
 {
-    let value = silence_value(alloc, silence)?;
-    line_text(alloc, &value)
+    let mut out = Writer::new(lines);
+    write_silence(&mut out, alloc, silence)?;
+    end_line(out)
 }
 
 /// Returns the lines of stored silences.
 pub fn silences_text(alloc: Global, silences: &[(SilenceId, Silence)]) -> Result<String, AllocError>
     ensures { IfOk result (λ text. string_bytes text ≡ flat_map silence_line silences.now) }
 {
-    let mut text = String::new(alloc);
+    let mut lines = Vec::new(alloc);
     for silence in silences {
-        text.push_str(silence_text(alloc, silence)?.as_str())?;
+        lines = append_silence(lines, alloc, silence)?;
     }
-    Ok(text)
+    Ok(text_of(lines))
 }
 
-/// Returns the line of a group.
-fn group_text(alloc: Global, group: &Group) -> Result<String, AllocError>
-    ensures { IfOk result (λ text. string_bytes text ≡ group_seen_line group.now) }
+/// Returns the lines with the line of a group after them.
+fn append_group(lines: Vec<u8>, alloc: Global, group: &Group) -> Result<Vec<u8>, AllocError>
+    ensures line { IfOk result (λ more. more.items ≡ lines.items ++ group_seen_line group.now) }
+    ensures utf8 { IfOk result (λ more. IsUtf8 lines.items → IsUtf8 more.items) }
 {
-    let value = group_value(alloc, group)?;
-    line_text(alloc, &value)
+    let mut out = Writer::new(lines);
+    write_group(&mut out, alloc, group)?;
+    end_line(out)
 }
 
 /// Returns the lines of groups.
 pub fn groups_text(alloc: Global, groups: &[Group]) -> Result<String, AllocError>
     ensures { IfOk result (λ text. string_bytes text ≡ flat_map group_seen_line groups.now) }
 {
-    let mut text = String::new(alloc);
+    let mut lines = Vec::new(alloc);
     for group in groups {
-        text.push_str(group_text(alloc, group)?.as_str())?;
+        lines = append_group(lines, alloc, group)?;
     }
-    Ok(text)
+    Ok(text_of(lines))
 }
 
-/// Returns the line of an entry of the notification log.
-fn entry_text(alloc: Global, entry: &(LogKey, LogEntry)) -> Result<String, AllocError>
-    ensures { IfOk result (λ text. string_bytes text ≡ log_line entry.now) }
+/// Returns the lines with the line of an entry of the notification log after them.
+fn append_entry(
+    lines: Vec<u8>,
+    alloc: Global,
+    entry: &(LogKey, LogEntry),
+) -> Result<Vec<u8>, AllocError>
+    ensures line { IfOk result (λ more. more.items ≡ lines.items ++ log_line entry.now) }
+    ensures utf8 { IfOk result (λ more. IsUtf8 lines.items → IsUtf8 more.items) }
 {
-    let value = log_value(alloc, entry)?;
-    line_text(alloc, &value)
+    let mut out = Writer::new(lines);
+    write_entry(&mut out, alloc, entry)?;
+    end_line(out)
 }
 
 /// Returns the lines of entries of the notification log.
 pub fn log_text(alloc: Global, entries: &[(LogKey, LogEntry)]) -> Result<String, AllocError>
     ensures { IfOk result (λ text. string_bytes text ≡ flat_map log_line entries.now) }
 {
-    let mut text = String::new(alloc);
+    let mut lines = Vec::new(alloc);
     for entry in entries {
-        text.push_str(entry_text(alloc, entry)?.as_str())?;
+        lines = append_entry(lines, alloc, entry)?;
     }
-    Ok(text)
+    Ok(text_of(lines))
 }

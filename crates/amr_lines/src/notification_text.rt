@@ -7,7 +7,7 @@ ghost use Rattle.amr_lines.specs.Printed.{firing_data, resolved_data, notificati
 ghost use Rattle.amr_lines.specs.Tokens.{data_tokens, member_tokens, Adds};
 
 use crate::json_text::{
-    write_annotations, write_labels, write_moment_member, write_number, write_text,
+    end_line, write_annotations, write_labels, write_moment_member, write_number, write_text,
 };
 use amr_state::{FiringAlert, Notification, ResolvedAlert};
 use json::Writer;
@@ -25,9 +25,7 @@ pub(crate) fn append_notification(
 {
     let mut out = Writer::new(lines);
     write_notification(&mut out, alloc, notification)?;
-    let mut more = out.into_inner();
-    more.push(b'\n')?;
-    Ok(more)
+    end_line(out)
 }
 
 /// Writes a notification.

@@ -1,5 +1,5 @@
-//! The JSON values of skipped alerts and refusals, and the small values that listings and verdicts
-//! share. Nothing here makes text.
+//! The JSON values of skipped alerts and refusals, and the small values that verdicts and the last
+//! lines of commands share. Nothing here makes text.
 ghost use Rattle.std.specs.Prelude.{◌≡◌, ℕ, map, IfOk, OnOk};
 ghost use Rattle.serde_json.specs.Data.{array, object, string, put as with_member};
 ghost use Rattle.serde_json.specs.View.{view, items_of, members_view};

@@ -1,7 +1,11 @@
-use Rattle.std.proofs.Common.{◌≡◌, take, string_bytes}
+use Rattle.std.proofs.Common.{◌≡◌, take}
 use Rattle.std.specs.List.{flat_map}
+use Rattle.std.specs.Str.{IsUtf8}
 use Rattle.amr_lines.specs.Printed.{group_seen_line}
 use Rattle.amr_lines.proofs.listings.groups_text.Given as goal
 
 abbrev pub invariant-loop-group : goal.invariant-loop-group
-invariant-loop-group l = string_bytes l.text ≡ flat_map group_seen_line (take l.group-index l.groups)
+invariant-loop-group l = record {
+  made : l.lines.items ≡ flat_map group_seen_line (take l.group-index l.groups);
+  utf8 : IsUtf8 l.lines.items;
+}

@@ -1,7 +1,11 @@
-use Rattle.std.proofs.Common.{◌≡◌, take, string_bytes}
+use Rattle.std.proofs.Common.{◌≡◌, take}
 use Rattle.std.specs.List.{flat_map}
+use Rattle.std.specs.Str.{IsUtf8}
 use Rattle.amr_lines.specs.Printed.{silence_line}
 use Rattle.amr_lines.proofs.listings.silences_text.Given as goal
 
 abbrev pub invariant-loop-silence : goal.invariant-loop-silence
-invariant-loop-silence l = string_bytes l.text ≡ flat_map silence_line (take l.silence-index l.silences)
+invariant-loop-silence l = record {
+  made : l.lines.items ≡ flat_map silence_line (take l.silence-index l.silences);
+  utf8 : IsUtf8 l.lines.items;
+}

@@ -1,8 +1,9 @@
-use Rattle.amr_lines.proofs.Tokens.{line_added, line_utf8}
+use Rattle.std.proofs.Common.{refl}
+use Rattle.amr_lines.proofs.Tokens.{line_of_more, utf8_of_more}
 use Rattle.amr_lines.proofs.notification_text.append_notification.Goals as goal
 
 pub returns-clause-line : goal.returns-clause-line
-returns-clause-line c = line_added _ _ _ _ _ _ c.new-out.ensures.before c.new-out.ensures.tokens c.in_ok-write_notification.ensures c.into_inner-more.ensures.items c.in_ok-push.ensures.items
+returns-clause-line c = line_of_more _ _ _ _ _ c.new-out.ensures.before c.new-out.ensures.tokens c.in_ok-write_notification.ensures c.end_line.ensures.line
 
 pub returns-clause-utf8 : goal.returns-clause-utf8
-returns-clause-utf8 c = line_utf8 _ _ _ _ _ _ c.new-out.ensures.before c.in_ok-write_notification.ensures c.into_inner-more.ensures.items c.in_ok-push.ensures.items c.into_inner-more.ensures.utf8
+returns-clause-utf8 c = utf8_of_more _ _ _ _ _ c.new-out.ensures.before c.in_ok-write_notification.ensures c.end_line.ensures.line c.end_line.ensures.utf8
