@@ -1,5 +1,6 @@
 pub mod Pairs
 pub mod Proper
 pub mod Searches
+pub mod SortKeys
 pub mod Sorted
 pub mod Trees

@@ -9,6 +9,8 @@ ghost use Rattle.std.specs.Ordering.{as_partial_cmp, eq_by_cmp};
 ghost use Rattle.amr_labels.specs.Map as map;
 ghost use Rattle.amr_labels.specs.Labels.{text_cmp, value_of, label_set_cmp, label_set_cmp_total, labels_of_pairs, IsLabelSet};
 
+use crate::keyed_texts::KeyedTexts;
+use crate::shared::Shared;
 use crate::text::Text;
 use crate::text_map::TextMap;
 use std::alloc::{AllocError, Global};
@@ -20,7 +22,7 @@ use std::marker::Model;
 /// label counts as empty. Clones share the texts.
 #[derive(Debug, Drop)]
 pub struct Labels {
-    texts: TextMap,
+    shared: Shared<KeyedTexts>,
 }
 
 impl Model for Labels {
@@ -33,7 +35,7 @@ impl Model for Labels {
 
     ghost coded = { map.code (coded_list coded_ℕ) (coded_list coded_ℕ) };
 
-    ghost view = { λ labels. labels.texts };
+    ghost view = { λ labels. labels.shared };
 }
 
 impl Labels {
@@ -41,9 +43,7 @@ impl Labels {
     pub fn empty(alloc: Global) -> Result<Labels, AllocError>
         ensures { IfOk result (λ labels. labels ≡ map.empty) }
     {
-        Ok(Labels {
-            texts: TextMap::empty(alloc)?,
-        })
+        Labels::of_texts(alloc, TextMap::empty(alloc)?)
     }
 
     /// Returns the label set of names and values. If a name is repeated, the last value counts;
@@ -57,42 +57,59 @@ impl Labels {
         if texts.get("").is_some() {
             return Ok(None);
         }
-        Ok(Some(Labels { texts }))
+        Ok(Some(Labels::of_texts(alloc, texts)?))
+    }
+
+    /// Returns the label set of these texts.
+    fn of_texts(alloc: Global, texts: TextMap) -> Result<Labels, AllocError>
+        ensures { IfOk result (λ labels. labels ≡ texts) }
+    {
+        let keyed = KeyedTexts::new(alloc, texts)?;
+        Ok(Labels {
+            shared: Shared::new(alloc, keyed)?,
+        })
+    }
+
+    /// Returns the texts.
+    fn texts(&self) -> &TextMap
+        ensures { result.now ≡ self.now }
+    {
+        self.shared.get().texts()
     }
 
     /// Returns the value of a label, if the set has it.
     pub fn get(&self, name: &str) -> Option<&Text>
         ensures { option_copied result ≡ map.get self.now name.now }
     {
-        self.texts.get(name)
+        self.texts().get(name)
     }
 
     /// Returns the value of a label; an absent label has the empty value.
     pub fn value_of(&self, name: &str) -> &str
         ensures { result.now ≡ value_of self.now name.now }
     {
-        self.texts.text_of(name)
+        self.texts().text_of(name)
     }
 
     /// Returns the names and values, in the order of the names.
     pub fn entries(&self) -> &[(Text, Text)]
         ensures { result.now ≡ map.entries self.now }
     {
-        self.texts.entries()
+        self.texts().entries()
     }
 
     /// Returns the number of labels.
     pub fn len(&self) -> usize
         ensures { result ≡ map.len self.now }
     {
-        self.texts.len()
+        self.texts().len()
     }
 
     /// Returns whether there is no label.
     pub fn is_empty(&self) -> bool
         ensures { result ≡ (map.len self.now == 0) }
     {
-        self.texts.is_empty()
+        self.texts().is_empty()
     }
 
     /// Returns an equal label set. It shares the texts.
@@ -107,9 +124,7 @@ impl Labels {
         ensures { IfOk result (λ kept. kept
             ≡ map.retain_keys self.now (λ name. list_any (eq_by_cmp text_cmp name) names.now)) }
     {
-        Ok(Labels {
-            texts: self.texts.kept_by_names(alloc, names)?,
-        })
+        Labels::of_texts(alloc, self.texts().kept_by_names(alloc, names)?)
     }
 }
 
@@ -118,7 +133,7 @@ impl Clone for Labels {
 
     fn clone(&self) -> Result<Labels, AllocError> {
         Ok(Labels {
-            texts: self.texts.clone()?,
+            shared: self.shared.clone()?,
         })
     }
 }
@@ -147,7 +162,7 @@ impl Ord for Labels {
     ghost matches_eq = { Prim.search (comparing, rules) };
 
     fn cmp(&self, other: &Labels) -> Ordering {
-        self.entries().cmp(other.entries())
+        self.shared.get().cmp(other.shared.get())
     }
 }
 

@@ -1,5 +1,6 @@
-use Rattle.std.proofs.Common.{◌≡◌, Bor, Option, Some, None, is_some, refl, sym, ap, ◌∙◌}
+use Rattle.std.proofs.Common.{◌≡◌, Bor, Option, Some, None, is_some, refl, sym, ap, subst, ◌∙◌}
 use Rattle.std.specs.Option.{option_copied}
+use Rattle.amr_labels.specs.Labels.{IsLabelSet}
 use Rattle.amr_labels.proofs.Proper.{proper}
 use Rattle.amr_labels.proofs.labels.Labels.of_pairs.Goals as goal
 
@@ -9,5 +10,6 @@ is_some-option_copied (Some x) = refl
 
 pub returns-clause-proper : goal.returns-clause-proper
 returns-clause-proper c =
-    proper c.in_ok-last.last c.in_ok-texts.texts c.in_ok-texts.ensures
-    (ap is_some (sym c.get.ensures) ∙ is_some-option_copied c.get.result ∙ sym c.is_some.ensures ∙ c.if-is_some.false)
+    subst IsLabelSet (sym c.in_ok-of_texts.ensures)
+    (proper c.in_ok-last.last c.in_ok-texts.texts c.in_ok-texts.ensures
+    (ap is_some (sym c.get.ensures) ∙ is_some-option_copied c.get.result ∙ sym c.is_some.ensures ∙ c.if-is_some.false))
