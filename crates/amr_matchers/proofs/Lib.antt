@@ -1,3 +1,4 @@
+pub mod Asking
 pub mod Finds
 pub mod Remembered
 pub mod MatcherRuns

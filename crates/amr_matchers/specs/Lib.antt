@@ -2,6 +2,7 @@ pub mod Patterns
 pub mod Questions
 pub mod Matchers
 pub mod Comparisons
+pub mod Candidates
 pub mod MatcherText
 pub mod MatcherReading
 pub mod MatcherRefusals

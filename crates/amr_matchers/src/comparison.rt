@@ -2,12 +2,14 @@
 //! is built here, once.
 ghost use Rattle.std.specs.Prelude.{◌≡◌, IfOk, IsErrOf, IsOk, false, true};
 ghost use Rattle.amr_matchers.specs.Matchers.{compares, takes_pattern};
+ghost use Rattle.amr_matchers.specs.Candidates.{kept_where};
 ghost use Rattle.amr_matchers.specs.Comparisons.{operator_of, own_value};
 ghost use Rattle.amr_matchers.specs.Patterns.{MayRefuse};
 ghost use Rattle.amr_matchers.specs.declared.pattern.MatcherError.TheVariants.{BadPattern};
 
 use crate::Operator;
 use crate::answers::Answers;
+use crate::candidates::Candidate;
 use crate::pattern::{MatcherError, Pattern};
 use amr_labels::{Shared, Text};
 use std::alloc::{AllocError, Global};
@@ -73,6 +75,45 @@ impl Comparison {
             Comparison::Matches(pattern) => pattern.get().text(),
             Comparison::MatchesNot(pattern) => pattern.get().text(),
         }
+    }
+
+    /// Compares the values of the label with this name in the candidates so far.
+    pub(crate) fn keep(
+        &self,
+        alloc: Global,
+        name: &str,
+        candidates: &[Candidate],
+    ) -> Result<Vec<Candidate>, AllocError>
+        ensures { IfOk result (λ kept. kept.items
+            ≡ kept_where (compares (operator_of self.now) (own_value self.now))
+            name.now candidates.now) }
+    {
+        match self {
+            Comparison::Is(_) => self.keep_equal(alloc, name, candidates),
+            Comparison::IsNot(_) => self.keep_equal(alloc, name, candidates),
+            Comparison::Matches(pattern) => pattern.get().keep(alloc, name, false, candidates),
+            Comparison::MatchesNot(pattern) => pattern.get().keep(alloc, name, true, candidates),
+        }
+    }
+
+    /// Compares the values of the label with this name one by one.
+    fn keep_equal(
+        &self,
+        alloc: Global,
+        name: &str,
+        candidates: &[Candidate],
+    ) -> Result<Vec<Candidate>, AllocError>
+        ensures { IfOk result (λ kept. kept.items
+            ≡ kept_where (compares (operator_of self.now) (own_value self.now))
+            name.now candidates.now) }
+    {
+        let mut answers = Answers::none(alloc);
+        let mut kept = Vec::new(alloc);
+        for (labels, matches) in candidates {
+            let found = *matches && self.compares(&mut answers, labels.value_of(name))?;
+            kept.push((labels.clone()?, found))?;
+        }
+        Ok(kept)
     }
 
     /// Returns whether a label's value passes the comparison. Only patterns' answers are remembered.

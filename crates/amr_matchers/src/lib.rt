@@ -3,6 +3,7 @@
 #![tactic(auto)]
 
 mod answers;
+mod candidates;
 mod comparison;
 pub mod laws;
 mod matcher;
@@ -13,6 +14,7 @@ mod parse;
 mod pattern;
 
 pub use answers::Answers;
+pub use candidates::Candidate;
 pub use matcher::{Matcher, all_match};
 pub use matchers::Matchers;
 pub use parse::ParseError;

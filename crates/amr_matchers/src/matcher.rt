@@ -5,12 +5,14 @@ ghost use Rattle.std.proofs.Common.{rules};
 ghost use Rattle.std.specs.Cmp.{partial_order_from_own_ties};
 ghost use Rattle.std.specs.Cmp.Rules.{comparing};
 ghost use Rattle.std.specs.Ordering.{as_partial_cmp, eq_by_cmp};
+ghost use Rattle.amr_matchers.specs.Candidates.{kept_by};
 ghost use Rattle.amr_matchers.specs.Matchers.{holds, all_hold, takes_pattern, operator_place, matcher_cmp, matcher_cmp_total};
 ghost use Rattle.amr_matchers.specs.Patterns.{MayRefuse};
 ghost use Rattle.amr_matchers.specs.declared.pattern.MatcherError.TheVariants.{BadPattern};
 
 use crate::Operator;
 use crate::answers::Answers;
+use crate::candidates::Candidate;
 use crate::comparison::Comparison;
 use crate::pattern::MatcherError;
 use amr_labels::{Exact, Labels, Text};
@@ -96,6 +98,17 @@ impl Matcher {
     {
         self.comparison
             .compares(answers, labels.value_of(self.name.as_str()))
+    }
+
+    /// Asks the matcher for each label set that all matchers so far match.
+    pub(crate) fn keep(
+        &self,
+        alloc: Global,
+        candidates: &[Candidate],
+    ) -> Result<Vec<Candidate>, AllocError>
+        ensures { IfOk result (λ kept. kept.items ≡ kept_by self.now candidates.now) }
+    {
+        self.comparison.keep(alloc, self.name.as_str(), candidates)
     }
 }
 

@@ -1,11 +1,15 @@
 //! Patterns that have to match a whole value. `regex` builds and runs them; a pattern that it
 //! refuses makes no matcher.
-ghost use Rattle.std.specs.Prelude.{◌≡◌, IfOk, IsErrOf};
-ghost use Rattle.amr_matchers.specs.Patterns.{pattern_matches, MayRefuse};
+ghost use Rattle.std.specs.Prelude.{◌≡◌, ◌&&◌, IfOk, IsErrOf};
+ghost use Rattle.amr_matchers.specs.Candidates.{kept_where, found_or_not};
+ghost use Rattle.regex.specs.Strings.{matcher_pattern};
+ghost use Rattle.amr_labels.specs.Labels.{value_of};
+ghost use Rattle.amr_matchers.specs.Patterns.{pattern_matches, IsSearchFor, MayRefuse};
 ghost use Rattle.amr_matchers.specs.declared.pattern.MatcherError.TheVariants.{BadPattern};
 
+use crate::candidates::Candidate;
 use amr_labels::Text;
-use regex::{Error, Regex};
+use regex::{Error, Matcher as Search, Regex};
 use std::alloc::{AllocError, AllocFailed, Global};
 use std::fmt;
 use std::marker::Model;
@@ -79,6 +83,63 @@ impl Pattern {
         ensures { result.now ≡ self.now }
     {
         &self.text
+    }
+
+    /// Compares the values of the label with this name in the candidates so far: keeps those that
+    /// the pattern matches, or those that it doesn't if `negated`. One search serves all of them,
+    /// because it takes longer to prepare a search than to run it.
+    pub(crate) fn keep(
+        &self,
+        alloc: Global,
+        name: &str,
+        negated: bool,
+        candidates: &[Candidate],
+    ) -> Result<Vec<Candidate>, AllocError>
+        ensures { IfOk result (λ kept. kept.items
+            ≡ kept_where (found_or_not negated self.now) name.now candidates.now) }
+    {
+        let mut search = self.regex.matcher(alloc)?;
+        let mut kept = Vec::new(alloc);
+        for candidate in candidates {
+            kept.push(self.ask(&mut search, name, negated, candidate)?)?;
+        }
+        Ok(kept)
+    }
+
+    /// Returns a candidate with the answer for its value of the label with this name. It doesn't
+    /// search if a matcher before didn't match.
+    fn ask(
+        &self,
+        search: &mut Search<'_>,
+        name: &str,
+        negated: bool,
+        candidate: &Candidate,
+    ) -> Result<Candidate, AllocError>
+        requires { IsSearchFor search.old self.now }
+        ensures asked { IfOk result (λ asked. asked ≡ (
+          candidate.now.0,
+          candidate.now.1 && found_or_not negated self.now
+              (value_of candidate.now.0 name.now),
+        )) }
+        ensures same { matcher_pattern search.new ≡ matcher_pattern search.old }
+    {
+        let labels = candidate.0.clone()?;
+        if !candidate.1 {
+            return Ok((labels, false));
+        }
+        let passes = self.passes(search, negated, labels.value_of(name));
+        Ok((labels, passes))
+    }
+
+    /// Returns whether the pattern matches the whole value, or whether it doesn't if `negated`.
+    #[tactic(auto, unfolding(crate::specs::Patterns::IsSearchFor))]
+    fn passes(&self, search: &mut Search<'_>, negated: bool, value: &str) -> bool
+        requires { IsSearchFor search.old self.now }
+        ensures found { result ≡ found_or_not negated self.now value.now }
+        ensures same { matcher_pattern search.new ≡ matcher_pattern search.old }
+    {
+        let found = search.is_match(value);
+        if negated { !found } else { found }
     }
 
     /// Returns whether the pattern matches the whole value.

@@ -4,7 +4,7 @@ use Rattle.std.proofs.lemmas.Iterator.{YieldsList-from_chars}
 use Rattle.std.proofs.lemmas.Iterator.Consumers.{YieldsList-turn, YieldsList-end}
 use Rattle.std.proofs.lemmas.List.{length_push}
 use Rattle.std.proofs.Math.Seq.{take-length}
-use Rattle.amr_matchers.specs.MatcherReading.{run, start, next, ended, matchers_of}
+use Rattle.amr_matchers.specs.MatcherReading.{run, start, ended, matchers_of}
 use Rattle.amr_matchers.proofs.MatcherRuns.{run_more, encoded_more, encoded_front, encoded}
 use Rattle.amr_matchers.proofs.MatcherFaults.{stops, cut_short}
 use Rattle.amr_matchers.proofs.parse.drafts_of.Goals as goal

@@ -1,4 +1,6 @@
 use Rattle.std.proofs.Common.{◌≡◌, ◌∙◌, ap, sym}
+use Rattle.std.specs.FinMap.{find}
+use Rattle.amr_labels.specs.Labels.{label_set_cmp}
 use Rattle.amr_config.specs.Config.{Config}
 use Rattle.amr_config.specs.Groups.{groups_of}
 use Rattle.amr_config.specs.RuleMatches.{rule_matches}
@@ -16,3 +18,8 @@ invariant_of-self-2 c =
     c.in_ok-rules.ensures ∙ ap (λ labels. rule_matches labels config.rules) labels in
     known_more config c.self.inside.known c.insert.new.self c.in_ok-clone.field-0 (record { groups = c.args.groups; rules = c.in_ok-rules.rules }) c.self.invariant
     (λ i. record { groups = groups i; rules = rules i }) c.in_ok-insert.ensures.entries
+
+-- nothing is inserted if memory runs out
+pub invariant_of-self-in_err-insert : goal.invariant_of-self-in_err-insert
+invariant_of-self-in_err-insert c = λ labels found at.
+    c.self.invariant labels found (ap (find label_set_cmp labels) (sym ?) ∙ at)
