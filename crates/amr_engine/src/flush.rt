@@ -14,7 +14,7 @@ ghost use Rattle.amr_engine.specs.Weight.{turns, flush_weight};
 
 use crate::stages::taken_away;
 use amr_config::Config;
-use amr_labels::{LabelMap, Listing};
+use amr_labels::{LabelMap, Labels, Listing};
 use amr_rules::{LogEntry, labels_of, needs_update};
 use amr_state::{
     FiringAlert, GroupTimer, LogKey, Member, Notification, ResolvedAlert, RouteLabels, Store,
@@ -115,14 +115,26 @@ pub(crate) fn let_through(
     ensures same { store.new ≡ store.old }
 {
     let mut through = Vec::new(store.alloc());
+    let label_sets = label_sets_of(store.alloc(), members)?;
+    store.learn_silences(at, label_sets.as_slice())?;
     for (labels, alert) in members {
-        store.learn_silences(at, labels)?;
         store.learn_sources(labels)?;
         if taken_away(store, at, route, labels)?.is_none() {
             through.push((labels.clone()?, alert.clone()?))?;
         }
     }
     Ok(through)
+}
+
+/// Returns the label sets of members.
+fn label_sets_of(alloc: Global, members: &[Member]) -> Result<Vec<Labels>, AllocError>
+    ensures { IfOk result (λ found. found.items ≡ map (λ member. member.0) members.now) }
+{
+    let mut label_sets = Vec::new(alloc);
+    for (labels, _) in members {
+        label_sets.push(labels.clone()?)?;
+    }
+    Ok(label_sets)
 }
 
 /// Runs the dedup check for each integration of the group's receiver, and notifies those that are

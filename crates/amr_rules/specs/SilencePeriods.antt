@@ -1,13 +1,15 @@
 -- From when to when the silences that match labels mute them, for a question that is asked at many
 -- moments.
-use Rattle.std.specs.Prelude.{ℕ, Bool, not, ◌&&◌, List, Option, map, option_map, nat_le, nat_lt}
+use Rattle.std.specs.Prelude.{ℕ, Bool, false, get_or, not, ◌&&◌, List, Option, map, option_map, nat_le, nat_lt}
 use Rattle.std.specs.List.{find, filter}
-use Rattle.amr_labels.specs.Map.{entries}
+use Rattle.amr_labels.specs.Map.{entries, empty}
 use Rattle.amr_labels.specs.Labels.{LabelSet}
 use Rattle.amr_matchers.specs.Matchers.{all_hold}
+use Rattle.amr_matchers.specs.Candidates.{with_matches}
 use Rattle.amr_time.specs.Time.{Moment}
 use Rattle.amr_rules.specs.declared.silence.Silence.{Silence}
 use Rattle.amr_rules.specs.declared.silence_period.SilencePeriod.{SilencePeriod}
+use Rattle.amr_rules.specs.declared.silence_row.SilenceRow.{SilenceRow}
 use Rattle.amr_rules.specs.Silences.{Silences, is_expired_at}
 
 -- the silence isn't expired at this moment, and all its matchers match the labels
@@ -21,6 +23,22 @@ period_of stored = record { id = stored.0; starts_at = stored.1.starts_at; ends_
 -- the periods of the silences that may mute the labels at this moment or later, in the order of ids
 abbrev pub silence_periods : Moment → LabelSet → Silences → List SilencePeriod
 silence_periods from labels silences = map period_of (filter (λ stored. may_silence from labels stored.1) (entries silences))
+
+-- a silence's period, and the label sets of a list with whether the silence matches them
+abbrev pub row_of : List LabelSet → ℕ × Silence → SilenceRow
+row_of label_sets stored = record { period = period_of stored; candidates = with_matches stored.1.matchers label_sets }
+
+-- a row for each silence that isn't expired at this moment, in the order of ids
+abbrev pub silence_rows : Moment → List LabelSet → Silences → List SilenceRow
+silence_rows from label_sets silences = map (row_of label_sets) (filter (λ stored. not (is_expired_at from stored.1)) (entries silences))
+
+-- whether the silence matches the label set at this place of the list
+abbrev pub matches_at : ℕ → SilenceRow → Bool
+matches_at place row = (get_or row.candidates place (empty, false)).1
+
+-- the periods of the silences that match the label set at this place of the list
+abbrev pub periods_at : ℕ → List SilenceRow → List SilencePeriod
+periods_at place rows = map (λ row. row.period) (filter (matches_at place) rows)
 
 -- a period goes from its start to just before its end
 abbrev pub covers : Moment → SilencePeriod → Bool

@@ -4,18 +4,28 @@ ghost use Rattle.std.specs.Prelude.{◌≡◌, ◌<◌, IsTrue, [], is_some, OnO
 ghost use Rattle.std.specs.Ordering.{nat_cmp};
 ghost use Rattle.amr_labels.specs.Map as map;
 ghost use Rattle.amr_rules.specs.Muting.{is_silenced, silencer_of};
-ghost use Rattle.amr_rules.specs.SilencePeriods.{silenced_in};
+ghost use Rattle.amr_rules.specs.SilencePeriods.{silence_periods, silence_rows, silenced_in};
 ghost use Rattle.amr_tables.specs.Numbered.{shown, has_place, entry_of, Enters, GrowsBy, KeepsPlaces, SamePlaces, SameEntered, NoneEntered, IsUnchanged, HasPlaces, places_for};
 
 use amr_events::SilenceId;
 use amr_labels::{Labels, Listing};
 use amr_matchers::Answers;
-use amr_rules::{Silence, SilencePeriod, silence_periods, silenced_by, silenced_in};
+use amr_rules::{
+    Silence, SilencePeriod, SilenceRow, periods_at, silence_periods, silence_rows, silenced_by,
+    silenced_in,
+};
 use amr_tables::{Journal, Keyed, change};
 use amr_time::Moment;
 use std::alloc::{AllocError, Global};
 use std::collections::BTreeMap;
 use std::marker::Model;
+
+/// How many label sets the silences are asked for at once at most. It bounds the memory that the
+/// answers take.
+const MOST_AT_ONCE: usize = 256;
+
+/// How many label sets the silences are asked for at once at least.
+const FEWEST_AT_ONCE: usize = 4;
 
 /// The silences by id. It remembers of label sets when silences that match them are active, and
 /// forgets all of that if a silence changes.
@@ -95,15 +105,88 @@ impl SilenceTable {
         }
     }
 
-    /// Works out when silences that match labels are active from a moment on, and remembers it.
-    /// Does nothing if that is known, or if no silence is stored.
-    pub(crate) fn learn(&mut self, at: Moment, labels: &Labels) -> Result<(), AllocError>
+    /// Works out when silences that match these label sets are active from a moment on, and
+    /// remembers it. Does nothing for those of which that is known, or if no silence is stored.
+    pub(crate) fn learn(&mut self, at: Moment, label_sets: &[Labels]) -> Result<(), AllocError>
         ensures { self.new ≡ self.old }
     {
-        if self.silences.iter().next().is_none() || self.periods(at, labels).is_some() {
+        if self.silences.iter().next().is_none() {
             return Ok(());
         }
-        let periods = silence_periods(self.alloc, &mut self.answers, &self.silences, at, labels)?;
+        let unknown = self.unknown(at, label_sets)?;
+        for some in unknown.as_slice().chunks(MOST_AT_ONCE) {
+            self.learn_some(at, some)?;
+        }
+        Ok(())
+    }
+
+    /// Returns those of the label sets of which nothing is known at a moment.
+    fn unknown(&self, at: Moment, label_sets: &[Labels]) -> Result<Vec<Labels>, AllocError> {
+        let mut unknown = Vec::new(self.alloc);
+        for labels in label_sets {
+            if self.periods(at, labels).is_none() {
+                unknown.push(labels.clone()?)?;
+            }
+        }
+        Ok(unknown)
+    }
+
+    /// Works out when silences that match these label sets are active, and remembers it. For few of
+    /// them, remembered answers are faster than preparing the search of each pattern.
+    fn learn_some(&mut self, at: Moment, label_sets: &[Labels]) -> Result<(), AllocError>
+        ensures { self.new ≡ self.old }
+    {
+        if label_sets.len() < FEWEST_AT_ONCE {
+            return self.learn_one_by_one(at, label_sets);
+        }
+        let rows = silence_rows(self.alloc, &self.silences, at, label_sets)?;
+        self.learn_rows(at, label_sets, rows.as_slice())
+    }
+
+    /// Remembers the silences that rows list for each of these label sets.
+    fn learn_rows(
+        &mut self,
+        at: Moment,
+        label_sets: &[Labels],
+        rows: &[SilenceRow],
+    ) -> Result<(), AllocError>
+        requires { rows.now ≡ silence_rows at label_sets.now (shown nat_cmp self.old) }
+        ensures { self.new ≡ self.old }
+    {
+        for (place, labels) in label_sets.iter().enumerate() {
+            let periods = periods_at(self.alloc, rows, place)?;
+            self.remember(at, labels, periods)?;
+        }
+        Ok(())
+    }
+
+    /// Asks the silences for each of these label sets, and remembers the answers of patterns.
+    fn learn_one_by_one(&mut self, at: Moment, label_sets: &[Labels]) -> Result<(), AllocError>
+        ensures { self.new ≡ self.old }
+    {
+        for labels in label_sets {
+            let periods = silence_periods(
+                self.alloc,
+                &mut self.answers,
+                &self.silences,
+                at,
+                labels,
+            )?;
+            self.remember(at, labels, periods)?;
+        }
+        Ok(())
+    }
+
+    /// Remembers when the silences that match labels are active from a moment on.
+    fn remember(
+        &mut self,
+        at: Moment,
+        labels: &Labels,
+        periods: Listing<SilencePeriod>,
+    ) -> Result<(), AllocError>
+        requires { periods ≡ silence_periods at labels.now (shown nat_cmp self.old) }
+        ensures { self.new ≡ self.old }
+    {
         let known = KnownPeriods { from: at, periods };
         self.known.insert(labels.clone()?, known)?;
         Ok(())

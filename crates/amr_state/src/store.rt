@@ -224,13 +224,13 @@ impl Store {
         self.tables.silences.silenced_by(at, labels)
     }
 
-    /// Works out when silences that match labels are active, so that `silenced_by` needn't ask
-    /// their matchers at this moment or later. It does so once for each label set until a silence
-    /// changes.
-    pub fn learn_silences(&mut self, at: Moment, labels: &Labels) -> Result<(), AllocError>
+    /// Works out when silences that match these label sets are active, so that `silenced_by`
+    /// needn't ask their matchers at this moment or later. It does so once for each label set until
+    /// a silence changes.
+    pub fn learn_silences(&mut self, at: Moment, label_sets: &[Labels]) -> Result<(), AllocError>
         ensures same { self.new ≡ self.old }
     {
-        self.tables.silences.learn(at, labels)
+        self.tables.silences.learn(at, label_sets)
     }
 
     /// Works out which label sets can be sources of the inhibition rules that have labels as a

@@ -22,4 +22,4 @@ invariant_of-self-2 c =
 -- nothing is inserted if memory runs out
 pub invariant_of-self-in_err-insert : goal.invariant_of-self-in_err-insert
 invariant_of-self-in_err-insert c = λ labels found at.
-    c.self.invariant labels found (ap (find label_set_cmp labels) (sym ?) ∙ at)
+    c.self.invariant labels found (ap (find label_set_cmp labels) (sym c.in_err-insert.ensures.err) ∙ at)

@@ -1,0 +1,100 @@
+//! The silences that match each of many label sets, for a flush of a group with many members. The
+//! state calls `silence_rows` once for all of them, and then `periods_at` for each.
+ghost use Rattle.std.specs.Prelude.{◌≡◌, ◌<◌, List, length, get_or, IfOk};
+ghost use Rattle.std.specs.Ordering.{nat_cmp};
+ghost use Rattle.amr_labels.specs.Labels.{LabelSet};
+ghost use Rattle.amr_labels.specs.Map as map;
+ghost use Rattle.amr_tables.specs.Numbered.{shown};
+ghost use Rattle.amr_time.specs.Time.{Moment};
+ghost use Rattle.amr_rules.specs.Silences.{Silences};
+
+use crate::silence::Silence;
+use crate::silence_period::SilencePeriod;
+use amr_events::SilenceId;
+use amr_labels::{Labels, Listing};
+use amr_matchers::Candidate;
+use amr_tables::Keyed;
+use amr_time::Moment;
+use std::alloc::{AllocError, Global};
+
+/// When a silence is active, and whether it matches each label set of a list.
+#[derive(Drop)]
+pub struct SilenceRow {
+    pub period: SilencePeriod,
+    pub candidates: Listing<Candidate>,
+}
+
+ghost use Rattle.amr_rules.specs.SilencePeriods.{row_of, silence_rows, matches_at, periods_at, silence_periods};
+
+/// Asks each silence that isn't expired at a moment whether it matches these label sets. It prepares
+/// a search for each pattern, which serves all label sets.
+pub fn silence_rows(
+    alloc: Global,
+    silences: &Keyed<SilenceId, Silence>,
+    from: Moment,
+    label_sets: &[Labels],
+) -> Result<Vec<SilenceRow>, AllocError>
+    ensures { IfOk result (λ rows. rows.items
+        ≡ silence_rows from label_sets.now (shown nat_cmp silences.now)) }
+{
+    let mut rows = Vec::new(alloc);
+    for (id, silence) in silences.iter() {
+        if !silence.is_expired_at(from) {
+            rows.push(row_of(alloc, *id, silence, label_sets)?)?;
+        }
+    }
+    Ok(rows)
+}
+
+/// Asks one silence.
+fn row_of(
+    alloc: Global,
+    id: SilenceId,
+    silence: &Silence,
+    label_sets: &[Labels],
+) -> Result<SilenceRow, AllocError>
+    ensures { IfOk result (λ row. row ≡ row_of label_sets.now (id, silence.now)) }
+{
+    Ok(SilenceRow {
+        period: SilencePeriod {
+            id,
+            starts_at: silence.starts_at,
+            ends_at: silence.ends_at,
+        },
+        candidates: Listing::from_vec(silence.matchers.match_each(alloc, label_sets)?),
+    })
+}
+
+/// Lists the periods of the silences that match the label set at a place of the list, in the order
+/// of their ids.
+pub fn periods_at(
+    alloc: Global,
+    rows: &[SilenceRow],
+    place: usize,
+) -> Result<Listing<SilencePeriod>, AllocError>
+    ensures at { IfOk result (λ periods. periods ≡ periods_at place rows.now) }
+    ensures known { IfOk result (λ periods. (from : Moment) (label_sets : List LabelSet)
+        (silences : Silences) → place < length label_sets
+        → rows.now ≡ silence_rows from label_sets silences
+        → periods ≡ silence_periods from (get_or label_sets place map.empty) silences) }
+{
+    let mut periods = Listing::new(alloc);
+    for row in rows {
+        if row.matches_at(place) {
+            periods.push(row.period)?;
+        }
+    }
+    Ok(periods)
+}
+
+impl SilenceRow {
+    /// Returns whether the silence matches the label set at a place of the list.
+    fn matches_at(&self, place: usize) -> bool
+        ensures { result ≡ matches_at place self.now }
+    {
+        match self.candidates.as_slice().get(place) {
+            Some((_, matches)) => *matches,
+            None => false,
+        }
+    }
+}
