@@ -23,7 +23,7 @@ use Rattle.amr_tables.proofs.Queueing.{sorted_inserted, sorted_in_order, sorted_
 use Rattle.amr_state.specs.declared.route_labels.RouteLabels.{RouteLabels}
 use Rattle.amr_state.specs.declared.membership.Membership.{Membership}
 use Rattle.amr_state.specs.State.{member_on_route, route_labels_cmp, route_labels_cmp_total, route_labels_cmp-IsAntisymmetric, group_key}
-use Rattle.amr_state.specs.Rostered.{membership_cmp, membership_cmp_total, membership_cmp-IsAntisymmetric, membership_of, in_group, member_entry_of, memberships, members_among, with_alert, IsIndexed, enrolled, CanEnrol}
+use Rattle.amr_state.specs.Rostered.{membership_cmp, membership_cmp_total, membership_cmp-IsAntisymmetric, membership_of, in_group, member_entry_of, memberships, members_among, labels_of_members, labels_of_memberships, with_alert, IsIndexed, enrolled, CanEnrol}
 
 -- ---- truth values
 
@@ -327,6 +327,21 @@ module _ (config : Config) (group : RouteLabels) where
   pub members_are : (m : Map route_labels_cmp Alert) → filter_map (with_alert m) (filter is_in (in_order membership_cmp (memberships config m))) ≡ members_among config m group
   members_are m = ap (filter_map (with_alert m)) (part_is m) ∙ looked_up m (entries m) (got m (entries m) (own_alerts (entries m) (entries-sorted m)))
 
+  -- the label sets of the members are those of the group's part of the index
+  labels_listed : (es : List (RouteLabels × Alert))
+      → labels_of_memberships (filter is_in (map (membership_of config) (map (λ e. e.0) es)))
+      ≡ labels_of_members (map (λ placement. (placement.0.labels, placement.1)) (filter (λ placement. eq_by_cmp route_labels_cmp (group_key config placement.0) group) es))
+  labels_listed [] = refl
+  labels_listed (e ∷ es) =
+      elim (is_in (membership_of config e.0)) as (λ b. labels_of_memberships (cond b (membership_of config e.0 ∷ filter is_in (map (membership_of config) (map (λ e. e.0) es))) (filter is_in (map (membership_of config) (map (λ e. e.0) es))))
+      ≡ labels_of_members (map (λ placement. (placement.0.labels, placement.1)) (cond b (e ∷ filter (λ placement. eq_by_cmp route_labels_cmp (group_key config placement.0) group) es) (filter (λ placement. eq_by_cmp route_labels_cmp (group_key config placement.0) group) es)))) [
+        | true ↦ ap (λ l. e.0.labels ∷ l) (labels_listed es)
+        | false ↦ labels_listed es
+      ]
+
+  pub labels_are : (m : Map route_labels_cmp Alert) → labels_of_memberships (filter is_in (in_order membership_cmp (memberships config m))) ≡ labels_of_members (members_among config m group)
+  labels_are m = ap labels_of_memberships (part_is m) ∙ labels_listed (entries m)
+
 -- what the group's part of the index gives
 pub members_found : (config : Config) (a : Numbered RouteLabels Alert) (q : Queued Membership) (group : RouteLabels) (members : List Membership) → IsIndexed config a q
     → members ≡ filter (λ member. eq_by_cmp route_labels_cmp member.group group) q.dues → filter_map (with_alert (shown route_labels_cmp a)) members ≡ members_among config (shown route_labels_cmp a) group
@@ -334,6 +349,11 @@ members_found config a q group members indexed is =
     ap (filter_map (with_alert (shown route_labels_cmp a))) (is ∙ ap (filter (λ (member : Membership). eq_by_cmp route_labels_cmp member.group group)) indexed.dues) ∙ members_are config group (shown route_labels_cmp a)
 
 -- one more member with its alert
+pub labels_found : (config : Config) (a : Numbered RouteLabels Alert) (q : Queued Membership) (group : RouteLabels) (members : List Membership) → IsIndexed config a q
+    → members ≡ filter (λ member. eq_by_cmp route_labels_cmp member.group group) q.dues → labels_of_memberships members ≡ labels_of_members (members_among config (shown route_labels_cmp a) group)
+labels_found config a q group members indexed is =
+    ap labels_of_memberships (is ∙ ap (filter (λ (member : Membership). eq_by_cmp route_labels_cmp member.group group)) indexed.dues) ∙ labels_are config group (shown route_labels_cmp a)
+
 pub member_more : (m : Map route_labels_cmp Alert) (members : List (Bor Membership)) (i : ℕ) (member : Bor Membership) (found more total : List (LabelSet × Alert)) → i < length members → member ≡ get_or members i member
     → more ≡ found ++ cons_option (with_alert m member.now) [] → found ++ filter_map (with_alert m) (values_of (drop i members)) ≡ total → more ++ filter_map (with_alert m) (values_of (drop (i + 1) members)) ≡ total
 member_more m members i member found more total less is gives so_far =

@@ -49,6 +49,13 @@ abbrev pub members_among : Config → Map route_labels_cmp Alert → RouteLabels
 members_among config placements group =
     map (λ placement. (placement.0.labels, placement.1)) (filter (λ placement. eq_by_cmp route_labels_cmp (group_key config placement.0) group) (entries placements))
 
+-- the label sets of members, and those of memberships
+abbrev pub labels_of_members : List (LabelSet × Alert) → List LabelSet
+labels_of_members members = map (λ member. member.0) members
+
+abbrev pub labels_of_memberships : List Membership → List LabelSet
+labels_of_memberships memberships = map (λ membership. membership.labels) memberships
+
 -- the labels of a member with its alert, if it has one
 abbrev pub with_alert : Map route_labels_cmp Alert → Membership → Option (LabelSet × Alert)
 with_alert placements member = option_map (λ alert. (member.labels, alert)) (get placements (member_on_route member))

@@ -72,6 +72,15 @@ impl AlertTable {
         self.alerts.get(labels)
     }
 
+    /// Returns whether this label set has a place, and the alert with these labels.
+    pub(crate) fn look_up(&self, labels: &Labels) -> (bool, Option<&Alert>)
+        ensures place { result.0 ≡ has_place label_set_cmp self.now labels.now }
+        ensures alert { option_copied result.1
+            ≡ map.get (shown label_set_cmp self.now) labels.now }
+    {
+        self.alerts.look_up(labels)
+    }
+
     /// Returns the alerts with their labels, in the order of the labels.
     pub fn iter(&self) -> Entries<'_, Labels, Alert>
         ensures { result ≡ map.entries (shown label_set_cmp self.now) }

@@ -2,6 +2,7 @@
 //! `Store` changes it. The group of a member depends on the configuration, so both are kept
 //! together.
 ghost use Rattle.std.specs.Prelude.{◌≡◌, ◌<◌, ◌+◌, ◌++◌, [], IsTrue, is_some, option_map, length, OnOk, OnErr, IfOk};
+ghost use Rattle.std.specs.Option.{option_copied};
 ghost use Rattle.amr_labels.specs.Map as map;
 ghost use Rattle.amr_config.specs.Groups.{groups_of};
 ghost use Rattle.amr_config.specs.RuleMatches.{rule_matches};
@@ -9,7 +10,7 @@ ghost use Rattle.amr_tables.specs.Numbered.{shown, has_place, Enters, KeepsPlace
 ghost use Rattle.std.specs.List.{filter_map, cons_option};
 ghost use Rattle.amr_tables.specs.Queued.{values_of};
 ghost use Rattle.amr_state.specs.State.{member_on_route, route_labels_cmp, group_key};
-ghost use Rattle.amr_state.specs.Rostered.{in_group, member_entry_of, members_among, with_alert, enrolled, CanEnrol};
+ghost use Rattle.amr_state.specs.Rostered.{in_group, member_entry_of, members_among, labels_of_members, labels_of_memberships, with_alert, enrolled, CanEnrol};
 
 use crate::members::Member;
 use crate::membership::Membership;
@@ -108,6 +109,19 @@ impl Roster {
         with_alerts(self.alloc, &self.placements, members.as_slice())
     }
 
+    /// Returns the label sets of the members of a group, in order. It looks up no alert.
+    pub(crate) fn member_labels_of(
+        &self,
+        group: &RouteLabels,
+    ) -> Result<Listing<Labels>, AllocError>
+        ensures { IfOk result (λ found. found ≡ labels_of_members
+            (members_among self.now.config (shown route_labels_cmp self.now.placements)
+            group.now)) }
+    {
+        let members = self.index.part(group)?;
+        labels_of(self.alloc, members.as_slice())
+    }
+
     /// Clears the marks of all places, so that the open record takes their next change again. It
     /// takes no memory.
     pub(crate) fn clear_entered(&mut self)
@@ -152,8 +166,9 @@ impl Roster {
             labels: route_labels.labels.clone()?,
         };
         let group = group.clone()?;
-        make_room(&mut self.index, self.placements.has_place(route_labels), 1)?;
-        let was = is_placed(&self.placements, route_labels);
+        let (is_there, former) = self.placements.look_up(route_labels);
+        let was = is_member(former);
+        make_room(&mut self.index, is_there, 1)?;
         let is = alert.is_some();
         let entry = change(&mut self.placements, journal, route_labels, alert)?;
         enrol(&mut self.index, member, was, is);
@@ -195,6 +210,17 @@ impl Roster {
     {
         mem::replace(&mut self.config, config)
     }
+}
+
+/// Returns copies of the labels of memberships.
+fn labels_of(alloc: Global, members: &[&Membership]) -> Result<Listing<Labels>, AllocError>
+    ensures { IfOk result (λ found. found ≡ labels_of_memberships (values_of members.now)) }
+{
+    let mut found = Listing::new(alloc);
+    for member in members {
+        found.push(member.labels.clone()?)?;
+    }
+    Ok(found)
 }
 
 /// Returns copies of the labels and alerts of memberships.
@@ -251,7 +277,14 @@ fn member_entry(
 fn is_placed(placements: &Keyed<RouteLabels, Alert>, route_labels: &RouteLabels) -> bool
     ensures { result ≡ is_some (map.get (shown route_labels_cmp placements.now) route_labels.now) }
 {
-    match placements.get(route_labels) {
+    is_member(placements.get(route_labels))
+}
+
+/// Returns whether there is an alert.
+fn is_member(alert: Option<&Alert>) -> bool
+    ensures { result ≡ is_some (option_copied alert.entry) }
+{
+    match alert {
         None => false,
         Some(_) => true,
     }

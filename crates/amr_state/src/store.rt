@@ -16,6 +16,7 @@ ghost use Rattle.amr_rules.specs.Muting.{is_silenced, silencer_of};
 ghost use Rattle.amr_state.specs.State.{start, members, group_key, route_labels_cmp, log_key_cmp};
 ghost use Rattle.amr_state.specs.Dues.{due_cmp, dues};
 ghost use Rattle.amr_state.specs.Kept.{GrownBy, undone};
+ghost use Rattle.amr_state.specs.Rostered.{labels_of_members};
 
 use crate::alert_table::AlertTable;
 use crate::displaced::Displaced;
@@ -259,6 +260,18 @@ impl Store {
         ensures { IfOk result (λ found. found.items ≡ members self.now.state group.now) }
     {
         self.tables.roster.members_of(group)
+    }
+
+    /// Returns the label sets of the members of a group, in order. It is faster than `members_of`.
+    #[tactic(auto, unfolding(crate::specs::State::members))]
+    pub(crate) fn member_labels_of(
+        &self,
+        group: &RouteLabels,
+    ) -> Result<Listing<Labels>, AllocError>
+        ensures { IfOk result (λ found. found
+            ≡ labels_of_members (members self.now.state group.now)) }
+    {
+        self.tables.roster.member_labels_of(group)
     }
 
     /// Returns the group timers, by group.

@@ -2,6 +2,7 @@
 //! here, and the queue follows: the removal of each alert, the flush of each group, and the removal
 //! of each empty group. Nothing is fired here.
 ghost use Rattle.std.specs.Prelude.{None, Some, ◌≡◌, ◌≤◌, ◌<◌, ◌+◌, ◌-◌, IsTrue, is_some, if◌then◌else◌, false, length, OnOk, OnErr, IfOk};
+ghost use Rattle.std.specs.Option.{option_copied};
 ghost use Rattle.amr_labels.specs.Labels.{LabelSet, label_set_cmp};
 ghost use Rattle.amr_labels.specs.Map as map;
 ghost use Rattle.amr_tables.specs.Numbered.{shown, has_place, entry_of, Enters, KeepsPlaces, SamePlaces, SameEntered, NoneEntered, IsUnchanged, HasPlaces};
@@ -136,8 +137,9 @@ impl Timetable {
         ensures record_room { journal.new.record_room ≡ journal.old.record_room }
     {
         let due = alert_due(labels.clone()?);
-        make_room(&mut self.queue, self.alerts.has_place(labels), 1)?;
-        let old = moment_at(&self.alerts, labels);
+        let (is_there, stored) = self.alerts.look_up(labels);
+        let old = moment_of(stored);
+        make_room(&mut self.queue, is_there, 1)?;
         let new = alert_moment(&alert);
         let entry = self.alerts.change(journal, labels, alert)?;
         move_due(&mut self.queue, due, old, new);
@@ -168,8 +170,9 @@ impl Timetable {
         ensures record_room { journal.new.record_room ≡ journal.old.record_room }
     {
         let copy = TimedGroup::of(group)?;
-        make_room(&mut self.queue, self.timers.has_place(group), 2)?;
-        let old = moments_at(&self.timers, group);
+        let (is_there, former) = self.timers.look_up(group);
+        let old = moments_of(former);
+        make_room(&mut self.queue, is_there, 2)?;
         let new = group_moments(&timer);
         let entry = change(&mut self.timers, journal, group, timer)?;
         move_group(&mut self.queue, copy, old, new);
@@ -273,7 +276,14 @@ pub(crate) fn make_room<D: Ord + Drop>(
 fn moment_at(alerts: &AlertTable, labels: &Labels) -> Option<u128>
     ensures { result ≡ alert_moment (map.get (shown label_set_cmp alerts.now) labels.now) }
 {
-    match alerts.get(labels) {
+    moment_of(alerts.get(labels))
+}
+
+/// Returns when an alert is removed, in nanoseconds since 1970, or `None` without an alert.
+fn moment_of(alert: Option<&Alert>) -> Option<u128>
+    ensures { result ≡ alert_moment (option_copied alert.entry) }
+{
+    match alert {
         None => None,
         Some(alert) => Some(alert_removal(alert)),
     }
@@ -367,7 +377,14 @@ fn move_group(queue: &mut Queue<Due>, group: TimedGroup, old: GroupMoments, new:
 fn moments_at(timers: &Keyed<RouteLabels, GroupTimer>, group: &RouteLabels) -> GroupMoments
     ensures { result ≡ group_moments (map.get (shown route_labels_cmp timers.now) group.now) }
 {
-    match timers.get(group) {
+    moments_of(timers.get(group))
+}
+
+/// Returns when a group with this timer is flushed and removed; never, without a timer.
+fn moments_of(timer: Option<&GroupTimer>) -> GroupMoments
+    ensures { result ≡ group_moments (option_copied timer.entry) }
+{
+    match timer {
         None => GroupMoments {
             flush: None,
             removal: None,

@@ -5,7 +5,6 @@ ghost use Rattle.std.specs.Prelude.{◌≡◌, IfOk, map};
 ghost use Rattle.amr_labels.specs.Map.{entries};
 ghost use Rattle.amr_state.specs.State.{members};
 
-use crate::members::members_of;
 use crate::notification::{GroupTimer, LogKey};
 use crate::route_labels::RouteLabels;
 use crate::store::Store;
@@ -72,12 +71,7 @@ fn member_labels(store: &Store, group: &RouteLabels) -> Result<Listing<Labels>, 
     ensures { IfOk result (λ found. found
         ≡ map (λ member. member.0) (members store.now.state group.now)) }
 {
-    let mut found = Listing::new(store.alloc());
-    let members = members_of(store, group)?;
-    for (labels, _) in &members {
-        found.push(labels.clone()?)?;
-    }
-    Ok(found)
+    store.member_labels_of(group)
 }
 
 /// Returns a group with its members.

@@ -1,7 +1,7 @@
 //! Values by key. Each key has a number, and its value is at the place with that number, so that a
 //! value can be swapped without memory. The state keeps alerts, silences, members, timers and the
 //! notification log in such tables.
-ghost use Rattle.std.specs.Prelude.{◌≡◌, [], IsTrue, Option, is_some, false, OnOk, OnErr, IfOk, ◌<◌};
+ghost use Rattle.std.specs.Prelude.{◌≡◌, [], IsTrue, Option, is_some, false, OnOk, OnErr, IfOk, IfErr, ◌<◌};
 ghost use Rattle.std.specs.Option.{option_copied};
 ghost use Rattle.std.specs.FinMap.{IsAntisymmetric};
 ghost use Rattle.amr_labels.specs.Map as map;
@@ -91,6 +91,18 @@ impl<K: Key + Drop, V: Drop> Keyed<K, V> {
         ensures { result ≡ has_place K.cmp self.now key.now }
     {
         self.numbers.contains_key(key)
+    }
+
+    /// Returns whether a key has a place, and its value. It looks for the key once, where
+    /// `has_place` and `get` look for it twice.
+    pub fn look_up(&self, key: &K) -> (bool, Option<&V>)
+        ensures place { result.0 ≡ has_place K.cmp self.now key.now }
+        ensures value { option_copied result.1 ≡ map.get (shown K.cmp self.now) key.now }
+    {
+        match self.numbers.get(key) {
+            None => (false, None),
+            Some(number) => (true, self.slots.look(*number)),
+        }
     }
 
     /// Returns the number that the next new key gets.
@@ -186,13 +198,36 @@ impl<K: Key + Drop, V: Drop> Keyed<K, V> {
         ensures keys { self.new.numbers ≡ self.old.numbers }
         ensures enough { HasPlaces K.cmp self.new }
     {
+        match self.try_exchange(key, value) {
+            Ok(was) => was,
+            Err(_) => unreachable!(),
+        }
+    }
+
+    /// Sets or removes the value of a key, and marks its place as entered. Returns the former value,
+    /// and whether the place was marked before. It takes no memory. Fails with the new value, and
+    /// changes nothing, if the key has no place.
+    fn try_exchange(&mut self, key: &K, value: Option<V>) -> Result<(Option<V>, bool), Option<V>>
+        ensures answer { IfOk result (λ was. was.0 ≡ map.get (shown K.cmp self.old) key.now) }
+        ensures was_entered { IfOk result (λ was. was.1 ≡ is_entered K.cmp self.old key.now) }
+        ensures shown { OnOk result
+            (shown K.cmp self.new ≡ map.set (shown K.cmp self.old) key.now value) }
+        ensures there { OnOk result (IsTrue (has_place K.cmp self.old key.now)) }
+        ensures places { SamePlaces K.cmp self.old self.new }
+        ensures entered { OnOk result (Enters K.cmp self.old self.new key.now) }
+        ensures keys { self.new.numbers ≡ self.old.numbers }
+        ensures enough { OnOk result (HasPlaces K.cmp self.new) }
+        ensures back { IfErr result (λ back. back ≡ value) }
+        ensures absent { OnErr result (has_place K.cmp self.old key.now ≡ false) }
+        ensures same { OnErr result (self.new ≡ self.old) }
+    {
         match self.numbers.get(key) {
             Some(number) => {
                 let was_entered = self.entered.is_marked(*number);
                 self.entered.mark(*number);
-                (self.slots.displace(*number, value), was_entered)
+                Ok((self.slots.displace(*number, value), was_entered))
             }
-            None => unreachable!(),
+            None => Err(value),
         }
     }
 
@@ -234,38 +269,42 @@ pub fn change<K: Key + Exact + Drop, V: Drop, E>(
     ensures current { journal.new.current ≡ journal.old.current }
     ensures record_room { journal.new.record_room ≡ journal.old.record_room }
 {
-    let copy = make_room(table, journal, key)?;
-    let (was, was_entered) = table.exchange(key, value);
+    journal.reserve_entry()?;
+    let copy = key.clone()?;
+    let (was, was_entered) = exchange_placed(table, key, value)?;
     if was_entered {
         return Ok(None);
     }
     Ok(Some((copy, was)))
 }
 
-/// Makes a place for a key, and room for its entry in the open record. Returns a copy of the key
-/// for the entry.
-fn make_room<K: Key + Exact + Drop, V: Drop, E>(
+/// Sets or removes the value of a key, and marks its place as entered. It makes a place for a new
+/// key. Returns the former value, and whether the place was marked before.
+fn exchange_placed<K: Key + Exact + Drop, V: Drop>(
     table: &mut Keyed<K, V>,
-    journal: &mut Journal<E>,
     key: &K,
-) -> Result<K, AllocError>
-    ensures key { IfOk result (λ copy. copy ≡ key.now) }
+    value: Option<V>,
+) -> Result<(Option<V>, bool), AllocError>
+    ensures answer { IfOk result (λ was. was.0 ≡ map.get (shown K.cmp table.old) key.now) }
+    ensures was_entered { IfOk result (λ was. was.1 ≡ is_entered K.cmp table.old key.now) }
+    ensures shown { OnOk result (shown K.cmp table.new
+        ≡ map.set (shown K.cmp table.old) key.now value) }
+    ensures entered { OnOk result (Enters K.cmp table.old table.new key.now) }
     ensures made { OnOk result (IsTrue (has_place K.cmp table.new key.now)) }
+    ensures err { OnErr result (IsUnchanged K.cmp table.old table.new) }
+    ensures keys { GrowsBy K.cmp (places_for K.cmp table.old key.now) table.old table.new }
+    ensures enough { OnOk result (HasPlaces K.cmp table.new) }
     ensures places { KeepsPlaces K.cmp table.old table.new }
     ensures no_new { IsTrue (has_place K.cmp table.old key.now)
         → SamePlaces K.cmp table.old table.new }
     ensures numbers { IsTrue (has_place K.cmp table.old key.now)
         → table.new.numbers ≡ table.old.numbers }
-    ensures same { IsUnchanged K.cmp table.old table.new }
-    ensures keys { GrowsBy K.cmp (places_for K.cmp table.old key.now) table.old table.new }
-    ensures room { OnOk result (0 < journal.new.entry_room) }
-    ensures closed { journal.new.closed ≡ journal.old.closed }
-    ensures current { journal.new.current ≡ journal.old.current }
-    ensures record_room { journal.new.record_room ≡ journal.old.record_room }
 {
-    journal.reserve_entry()?;
-    if !table.has_place(key) {
-        table.make_place(key.clone()?)?;
+    match table.try_exchange(key, value) {
+        Ok(was) => Ok(was),
+        Err(value) => {
+            table.make_place(key.clone()?)?;
+            Ok(table.exchange(key, value))
+        }
     }
-    key.clone()
 }

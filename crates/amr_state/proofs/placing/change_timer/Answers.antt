@@ -1,6 +1,5 @@
-use Rattle.std.proofs.Common.{◌≡◌, ◌∙◌, sym, ap}
-use Rattle.amr_labels.specs.Map.{insert}
-use Rattle.amr_state.specs.State.{State, route_labels_cmp_total, route_labels_cmp-IsAntisymmetric}
+use Rattle.std.proofs.Common.{◌∙◌, sym, ap}
+use Rattle.amr_state.specs.State.{route_labels_cmp_total, route_labels_cmp-IsAntisymmetric}
 use Rattle.amr_state.proofs.Placed.{put_as_it_is}
 use Rattle.amr_state.proofs.placing.change_timer.Goals as goal
 

@@ -8,13 +8,13 @@ pub returns-then-was_entered-clause-entry : goal.returns-then-was_entered-clause
 unfolding entry_of
 returns-then-was_entered-clause-entry g c =
     let R = g.K.Ord.cmp in
-    let yes = sym (c.make_room.ensures.same.1 c.args.key.now) ∙ sym c.exchange-was.ensures.was_entered ∙ c.if-was_entered.true in
+    let yes = sym c.in_ok-was.ensures.was_entered ∙ c.if-was_entered.true in
     sym (ap (λ b. if b then None else Some (c.args.key.now, map.get (shown R c.args.table.now) c.args.key.now)) yes)
 
 pub returns-clause-entry : goal.returns-clause-entry
 unfolding entry_of
 returns-clause-entry g c =
     let R = g.K.Ord.cmp in
-    let no = sym (c.make_room.ensures.same.1 c.args.key.now) ∙ sym c.exchange-was.ensures.was_entered ∙ c.if-was_entered.false in
-    (λ i. Some (c.in_ok-copy.ensures.key i, (c.exchange-was.ensures.answer ∙ ap (λ m. map.get m c.args.key.now) c.make_room.ensures.same.0) i))
+    let no = sym c.in_ok-was.ensures.was_entered ∙ c.if-was_entered.false in
+    (λ i. Some (g.met.K.Exact.exact c.args.key.now c.in_ok-copy.copy c.in_ok-copy.ensures.cases i, c.in_ok-was.ensures.answer i))
     ∙ sym (ap (λ b. if b then None else Some (c.args.key.now, map.get (shown R c.args.table.now) c.args.key.now)) no)

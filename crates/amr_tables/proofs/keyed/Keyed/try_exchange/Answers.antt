@@ -1,4 +1,4 @@
-use Rattle.std.proofs.Common.{◌≡◌, true, false, None, Some, sym, ap, subst, ◌∙◌, arith, is_some, IsTrue}
+use Rattle.std.proofs.Common.{◌≡◌, true, false, refl, None, Some, sym, ap, subst, ◌∙◌, arith, is_some, IsTrue}
 use Rattle.std.specs.Prelude.{option_and_then, ◌||◌}
 use Rattle.std.specs.Option.{option_copied, option_map_or}
 use Rattle.std.specs.Ordering.{eq_by_cmp}
@@ -10,7 +10,7 @@ use Rattle.amr_tables.specs.Places.{value_at}
 use Rattle.amr_tables.specs.Marked.{is_marked}
 use Rattle.amr_tables.specs.Numbered.{IsNumbering, shown, has_place, is_entered}
 use Rattle.amr_tables.proofs.Numbering.{get-shown, displaced_is, shown-displaced, enough_places, marked_is, entered-marked}
-use Rattle.amr_tables.proofs.keyed.Keyed.exchange.Goals as goal
+use Rattle.amr_tables.proofs.keyed.Keyed.try_exchange.Goals as goal
 
 pub is_marked-was_entered-requires : goal.is_marked-was_entered-requires
 is_marked-was_entered-requires g c =
@@ -35,34 +35,25 @@ displace-requires g c =
     let lt = c.self.invariant.within c.args.key.now c.in-Some.number.now at in
     grind (arith, nat_tests)
 
-pub unreachable-requires : goal.unreachable-requires
-unfolding has_place
-unreachable-requires g c =
-    let R = g.K.Ord.cmp in
-    let at : find R c.args.key.now c.self.inside.numbers.entries ≡ None = lookup_is R c.self.inside.numbers.entries c.args.key.now ∙ sym c.get.ensures.value ∙ ap option_copied c.in-None.is in
-    let no : has_place R c.args.self.now c.args.key.now ≡ false = sym (ap (λ v. has_place R v c.args.key.now) c.self.view_is) ∙ ap is_some at in
-    let yes : false ≡ true = subst IsTrue no c.requires in
-    absurd (cc)
-
-pub returns-clause-answer : goal.returns-clause-answer
-returns-clause-answer g c =
+pub returns-in-Some-clause-answer : goal.returns-in-Some-clause-answer
+returns-in-Some-clause-answer g c =
     let R = g.K.Ord.cmp in
     let at : find R c.args.key.now c.self.inside.numbers.entries ≡ Some c.in-Some.number.now = lookup_is R c.self.inside.numbers.entries c.args.key.now ∙ sym c.get.ensures.value ∙ ap option_copied c.in-Some.is in
     c.displace.ensures.answer
     ∙ sym (get-shown R g.met.K.Ord.total _ c.args.key.now c.self.invariant ∙ ap (option_and_then (value_at c.self.inside.slots)) at)
     ∙ ap (λ v. map.get (shown R v) c.args.key.now) c.self.view_is
 
-pub returns-clause-was_entered : goal.returns-clause-was_entered
+pub returns-in-Some-clause-was_entered : goal.returns-in-Some-clause-was_entered
 unfolding is_entered
-returns-clause-was_entered g c =
+returns-in-Some-clause-was_entered g c =
     let R = g.K.Ord.cmp in
     let at : find R c.args.key.now c.self.inside.numbers.entries ≡ Some c.in-Some.number.now = lookup_is R c.self.inside.numbers.entries c.args.key.now ∙ sym c.get.ensures.value ∙ ap option_copied c.in-Some.is in
     c.is_marked-was_entered.ensures ∙ ap (λ x. option_map_or (is_marked c.self.inside.entered) x false) (sym at)
     ∙ ap (λ v. is_entered R v c.args.key.now) c.self.view_is
 
-pub returns-clause-shown : goal.returns-clause-shown
+pub returns-in-Some-clause-shown : goal.returns-in-Some-clause-shown
 unfolding shown
-returns-clause-shown g c =
+returns-in-Some-clause-shown g c =
     let R = g.K.Ord.cmp in
     let t = c.self.inside in
     let at : find R c.args.key.now t.numbers.entries ≡ Some c.in-Some.number.now = lookup_is R t.numbers.entries c.args.key.now ∙ sym c.get.ensures.value ∙ ap option_copied c.in-Some.is in
@@ -70,13 +61,28 @@ returns-clause-shown g c =
     ∙ shown-displaced g.met.K.Ord.total g.met.K.Key.exact (record { numbers = t.numbers.entries; cells = t.slots; marks = t.entered }) c.args.key.now c.in-Some.number.now c.args.value c.self.invariant at
     ∙ ap (λ v. map.set (shown R v) c.args.key.now c.args.value) c.self.view_is
 
-pub returns-clause-places : goal.returns-clause-places
+pub returns-in-Some-clause-there : goal.returns-in-Some-clause-there
 unfolding has_place
-returns-clause-places g c = λ other. ap (λ v. has_place g.K.Ord.cmp v other) c.self.view_is
+returns-in-Some-clause-there g c =
+    let R = g.K.Ord.cmp in
+    let at : find R c.args.key.now c.self.inside.numbers.entries ≡ Some c.in-Some.number.now = lookup_is R c.self.inside.numbers.entries c.args.key.now ∙ sym c.get.ensures.value ∙ ap option_copied c.in-Some.is in
+    let yes : has_place R c.args.self.now c.args.key.now ≡ true = sym (ap (λ v. has_place R v c.args.key.now) c.self.view_is) ∙ ap is_some at in
+    subst IsTrue (sym yes) refl
 
-pub returns-clause-entered : goal.returns-clause-entered
+pub returns-in-None-clause-absent : goal.returns-in-None-clause-absent
+unfolding has_place
+returns-in-None-clause-absent g c =
+    let R = g.K.Ord.cmp in
+    let at : find R c.args.key.now c.self.inside.numbers.entries ≡ None = lookup_is R c.self.inside.numbers.entries c.args.key.now ∙ sym c.get.ensures.value ∙ ap option_copied c.in-None.is in
+    sym (ap (λ v. has_place R v c.args.key.now) c.self.view_is) ∙ ap is_some at
+
+pub returns-in-Some-clause-places : goal.returns-in-Some-clause-places
+unfolding has_place
+returns-in-Some-clause-places g c = λ other. ap (λ v. has_place g.K.Ord.cmp v other) c.self.view_is
+
+pub returns-in-Some-clause-entered : goal.returns-in-Some-clause-entered
 unfolding is_entered
-returns-clause-entered g c = λ other.
+returns-in-Some-clause-entered g c = λ other.
     let R = g.K.Ord.cmp in
     let t = c.self.inside in
     let at : find R c.args.key.now t.numbers.entries ≡ Some c.in-Some.number.now = lookup_is R t.numbers.entries c.args.key.now ∙ sym c.get.ensures.value ∙ ap option_copied c.in-Some.is in
@@ -94,5 +100,5 @@ invariant_of-self g c =
     (subst (λ m. IsNumbering R (record { numbers = t.numbers.entries; cells = t.slots; marks = m })) (sym c.mark.ensures)
     (marked_is g.met.K.Ord.total (record { numbers = t.numbers.entries; cells = t.slots; marks = t.entered }) c.in-Some.number.now (c.self.invariant.within c.args.key.now c.in-Some.number.now at) c.self.invariant)))
 
-pub returns-clause-enough : goal.returns-clause-enough
-returns-clause-enough g c = enough_places g.K.Ord.cmp _ (invariant_of-self g c)
+pub returns-in-Some-clause-enough : goal.returns-in-Some-clause-enough
+returns-in-Some-clause-enough g c = enough_places g.K.Ord.cmp _ (invariant_of-self g c)
