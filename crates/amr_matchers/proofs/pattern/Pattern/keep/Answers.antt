@@ -18,10 +18,9 @@ ask-requires c = λ value bytes.
 -- src/pattern.rt:103:9
 pub loop-candidate-preserved : goal.loop-candidate-preserved
 loop-candidate-preserved c =
-    let asked : Candidate → Candidate = λ candidate. (candidate.0, candidate.1 && found_or_not c.args.negated c.args.self.now (value_of candidate.0 c.args.name.now)) in
-    (
+    let asked : Candidate → Candidate = λ candidate. (candidate.0, candidate.1 && found_or_not c.args.negated c.args.self.now (value_of candidate.0 c.args.name.now)) in (
       c.in_ok-ask.ensures.same ∙ c.loop-candidate.invariant.0,
       c.in_ok-push.ensures.items
-      ∙ (λ i. c.loop-candidate.invariant.1 i ++ (c.in_ok-ask.ensures.asked ∙ ap asked c.candidate-item.is) i ∷ [])
-      ∙ sym (map_more asked c.args.candidates.now c.loop-candidate.candidate-index c.candidate-item.result c.loop-candidate-test.true),
+          ∙ (λ i. c.loop-candidate.invariant.1 i ++ (c.in_ok-ask.ensures.asked ∙ ap asked c.candidate-item.is) i ∷ [])
+          ∙ sym (map_more asked c.args.candidates.now c.loop-candidate.candidate-index c.candidate-item.result c.loop-candidate-test.true),
     )
