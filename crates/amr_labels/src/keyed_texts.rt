@@ -1,8 +1,8 @@
 //! The texts of a label set with their sort key, by which label sets are compared. `Labels` shares
 //! one of these between its clones.
-ghost use Rattle.std.specs.Prelude.{◌≡◌, ◌+◌, ◌++◌, [], map, IfOk, OnOk};
+ghost use Rattle.std.specs.Prelude.{◌≡◌, ◌++◌, false, string_bytes, IfOk, IfSome, OnOk};
 ghost use Rattle.amr_labels.specs.Labels.{label_set_cmp};
-ghost use Rattle.amr_labels.specs.SortKey.{key_of_text, key_of_label, sort_key};
+ghost use Rattle.amr_labels.specs.SortKey.{key_of_text, key_of_label, sort_key, has_zero, label_has_zero, has_zeros};
 
 use crate::text::Text;
 use crate::text_map::TextMap;
@@ -14,18 +14,18 @@ use std::marker::Model;
 #[derive(Debug, Drop)]
 pub(crate) struct KeyedTexts {
     texts: TextMap,
-    /// The bytes of all names and values, each plus one, with a 0 after each text. Most label sets
-    /// differ only in their last labels, so comparing one run of numbers is much faster than
-    /// following the texts one by one.
-    key: Vec<u16>,
+    /// All names and values, with a zero byte after each, or `None` if one of them has a zero byte
+    /// itself. Most label sets differ only in their last labels, so comparing one text is much
+    /// faster than following the texts one by one.
+    key: Option<String>,
 }
 
 impl Model for KeyedTexts {
-    ghost use Rattle.std.specs.Prelude.{◌≡◌, List, ℕ};
+    ghost use Rattle.std.specs.Prelude.{◌≡◌, List, ℕ, IfSome, false, string_bytes};
     ghost use Rattle.std.specs.Coded.{coded_ℕ, coded_list};
     ghost use Rattle.amr_labels.specs.Map as map;
     ghost use Rattle.amr_labels.specs.Labels.{text_cmp};
-    ghost use Rattle.amr_labels.specs.SortKey.{sort_key};
+    ghost use Rattle.amr_labels.specs.SortKey.{sort_key, has_zeros};
 
     ghost Value = { map.Map text_cmp (List ℕ) };
 
@@ -33,7 +33,9 @@ impl Model for KeyedTexts {
 
     ghost view = { λ keyed. keyed.texts };
 
-    ghost invariant = { λ keyed. keyed.key.items ≡ sort_key (map.entries keyed.texts) };
+    ghost invariant = { λ keyed. IfSome keyed.key (λ key.
+        (string_bytes key ≡ sort_key (map.entries keyed.texts))
+        × (has_zeros (map.entries keyed.texts) ≡ false)) };
 }
 
 impl KeyedTexts {
@@ -56,15 +58,51 @@ impl KeyedTexts {
     pub(crate) fn cmp(&self, other: &KeyedTexts) -> Ordering
         ensures { result ≡ label_set_cmp self.now other.now }
     {
-        self.key.as_slice().cmp(other.key.as_slice())
+        match (&self.key, &other.key) {
+            (Some(key), Some(other_key)) => key.as_str().cmp(other_key.as_str()),
+            _ => self.texts.entries().cmp(other.texts.entries()),
+        }
     }
 }
 
-/// Returns the sort key of names and values.
-fn sort_key(alloc: Global, labels: &[(Text, Text)]) -> Result<Vec<u16>, AllocError>
-    ensures { IfOk result (λ key. key.items ≡ sort_key labels.now) }
+/// Returns the sort key of names and values, or `None` if one of them has a zero byte.
+fn sort_key(alloc: Global, labels: &[(Text, Text)]) -> Result<Option<String>, AllocError>
+    ensures key { IfOk result (λ found. IfSome found (λ key.
+        string_bytes key ≡ sort_key labels.now)) }
+    ensures zeros { IfOk result (λ found. IfSome found (λ key. has_zeros labels.now ≡ false)) }
 {
-    let mut key = Vec::new(alloc);
+    if has_zeros(labels) {
+        return Ok(None);
+    }
+    Ok(Some(joined(alloc, labels)?))
+}
+
+/// Returns whether a name or a value has a zero byte.
+fn has_zeros(labels: &[(Text, Text)]) -> bool
+    ensures { result ≡ has_zeros labels.now }
+{
+    labels.iter().any(|label| label_has_zero(label))
+}
+
+/// Returns whether the name or the value of a label has a zero byte.
+fn label_has_zero(label: &(Text, Text)) -> bool
+    ensures { result ≡ label_has_zero label.now }
+{
+    has_zero(&label.0) || has_zero(&label.1)
+}
+
+/// Returns whether a text has a zero byte.
+fn has_zero(text: &Text) -> bool
+    ensures { result ≡ has_zero text.now }
+{
+    text.as_str().as_bytes().contains(&0)
+}
+
+/// Joins names and values, with a zero byte after each.
+fn joined(alloc: Global, labels: &[(Text, Text)]) -> Result<String, AllocError>
+    ensures { IfOk result (λ key. string_bytes key ≡ sort_key labels.now) }
+{
+    let mut key = String::new(alloc);
     for label in labels {
         push_label(&mut key, label)?;
     }
@@ -72,29 +110,17 @@ fn sort_key(alloc: Global, labels: &[(Text, Text)]) -> Result<Vec<u16>, AllocErr
 }
 
 /// Appends the key of a name and its value.
-fn push_label(key: &mut Vec<u16>, label: &(Text, Text)) -> Result<(), AllocError>
-    ensures { OnOk result (key.new.items ≡ key.old.items ++ key_of_label label.now) }
+fn push_label(key: &mut String, label: &(Text, Text)) -> Result<(), AllocError>
+    ensures { OnOk result (string_bytes key.new ≡ string_bytes key.old ++ key_of_label label.now) }
 {
     push_text(key, &label.0)?;
     push_text(key, &label.1)
 }
 
 /// Appends the key of a text.
-fn push_text(key: &mut Vec<u16>, text: &Text) -> Result<(), AllocError>
-    ensures { OnOk result (key.new.items ≡ key.old.items ++ key_of_text text.now) }
+fn push_text(key: &mut String, text: &Text) -> Result<(), AllocError>
+    ensures { OnOk result (string_bytes key.new ≡ string_bytes key.old ++ key_of_text text.now) }
 {
-    push_bytes(key, text.as_str().as_bytes())?;
-    key.push(0)?;
-    Ok(())
-}
-
-/// Appends bytes, each plus one.
-fn push_bytes(key: &mut Vec<u16>, bytes: &[u8]) -> Result<(), AllocError>
-    ensures { OnOk result
-        (key.new.items ≡ key.old.items ++ map (λ byte. byte + 1) bytes.now) }
-{
-    for byte in bytes {
-        key.push(*byte as u16 + 1)?;
-    }
-    Ok(())
+    key.push_str(text.as_str())?;
+    key.push('\0')
 }

@@ -1,16 +1,24 @@
-use Rattle.std.proofs.Common.{◌∙◌}
+use Rattle.std.proofs.Common.{◌≡◌, ◌∙◌, false, string_bytes, subst}
+use Rattle.std.specs.Prelude.{IfSome}
 use Rattle.std.specs.Cmp.Lexicographic.{slice_cmp}
 use Rattle.std.specs.Ordering.{nat_cmp}
 use Rattle.amr_labels.specs.Labels.{label_set_cmp}
 use Rattle.amr_labels.specs.Map.{entries}
+use Rattle.amr_labels.specs.SortKey.{sort_key, has_zeros}
 use Rattle.amr_labels.proofs.SortKeys.{by_sort_key}
 use Rattle.amr_labels.proofs.keyed_texts.KeyedTexts.cmp.Goals as goal
 
--- the two keys are those of the texts, by the invariant
-pub returns : goal.returns
-returns c =
+-- both keys are those of the texts, by the invariant
+pub returns-in-Some-Some : goal.returns-in-Some-Some
+returns-in-Some-Some c =
+    let mine = subst (λ found. IfSome found (λ key.
+    (string_bytes key ≡ sort_key (entries c.self.inside.texts)) × (has_zeros (entries c.self.inside.texts) ≡ false)))
+    c.in-Some-Some.is-0 c.self.invariant in
+    let others = subst (λ found. IfSome found (λ key.
+    (string_bytes key ≡ sort_key (entries c.other.inside.texts)) × (has_zeros (entries c.other.inside.texts) ≡ false)))
+    c.in-Some-Some.is-1 c.other.invariant in
     c.cmp.ensures
-    ∙ (λ i. slice_cmp nat_cmp (c.as_slice.ensures.value i) (c.as_slice-2.ensures.value i))
-    ∙ (λ i. slice_cmp nat_cmp (c.self.invariant i) (c.other.invariant i))
-    ∙ by_sort_key (entries c.self.inside.texts) (entries c.other.inside.texts)
+    ∙ (λ i. slice_cmp nat_cmp (c.as_str.ensures.value i) (c.as_str-in-Some-Some.ensures.value i))
+    ∙ (λ i. slice_cmp nat_cmp (mine.0 i) (others.0 i))
+    ∙ by_sort_key (entries c.self.inside.texts) (entries c.other.inside.texts) mine.1 others.1
     ∙ (λ i. label_set_cmp (c.self.view_is i) (c.other.view_is i))
