@@ -40,7 +40,7 @@ pub(crate) fn sift(
     let mut valid = Vec::new(alloc);
     let mut skipped = Listing::new(alloc);
     for (index, alert) in posted.iter().enumerate() {
-        match complete_alert(alloc, now, timeout, alert)? {
+        match complete_alert(now, timeout, alert)? {
             Some(alert) => valid.push(alert)?,
             None => skipped.push(index + 1)?,
         }

@@ -3,10 +3,11 @@
 ghost use Rattle.std.specs.Prelude.{◌≡◌, ◌≤◌};
 ghost use Rattle.amr_time.specs.Time.{latest_read};
 
+use crate::posted_labels::PostedLabels;
 use crate::reason::Reason;
 use crate::silence_id::SilenceId;
 use amr_config::Config;
-use amr_labels::{Listing, Text, TextMap};
+use amr_labels::{Listing, TextMap};
 use amr_matchers::Matchers;
 use amr_time::Moment;
 use std::marker::Model;
@@ -16,7 +17,7 @@ use std::marker::Model;
 pub struct PostedAlert {
     /// The names with their values, in the byte order of the names. Empty values are kept here;
     /// they are dropped when the post is made.
-    pub labels: Listing<(Text, Text)>,
+    pub labels: PostedLabels,
     pub annotations: TextMap,
     /// The start, if the post gives one.
     pub starts_at: Option<Moment>,

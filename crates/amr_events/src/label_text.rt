@@ -5,7 +5,6 @@ ghost use Rattle.amr_events.specs.LabelTexts.{labels_in};
 
 use crate::error::LineError;
 use crate::line::json;
-use crate::seen_texts::SeenTexts;
 use crate::shapes::texts;
 use amr_labels::Labels;
 use std::alloc::Global;
@@ -18,7 +17,6 @@ pub fn read_labels(alloc: Global, text: &[u8]) -> Result<Labels, LineError>
     ensures { Reads (λ labels. labels) result (labels_in text.now) }
 {
     let object = json(alloc, text)?;
-    let mut seen = SeenTexts::new(alloc);
-    let pairs = texts(alloc, &mut seen, &object)?;
+    let pairs = texts(alloc, &object)?;
     Labels::of_pairs(alloc, pairs.as_slice())?.ok_or(LineError::Faulty)
 }

@@ -66,10 +66,11 @@ fn annotations(alloc: Global, seen: &mut SeenTexts, alert: &Value) -> Result<Tex
     ensures { Reads (λ a. a) result (annotations_in (view alert.now)) }
 {
     let texts = match member(alert, "annotations") {
-        Some(value) => texts(alloc, seen, value)?,
+        Some(value) => texts(alloc, value)?,
         None => Vec::new(alloc),
     };
-    Ok(TextMap::from_pairs(alloc, &texts)?)
+    let shared = seen.share_pairs(alloc, texts.as_slice())?;
+    Ok(TextMap::from_pairs(alloc, shared.as_slice())?)
 }
 
 /// Reads a posted alert.
@@ -78,7 +79,7 @@ fn alert(alloc: Global, seen: &mut SeenTexts, alert: &Value) -> Result<PostedAle
     ensures { Reads (λ a. a) result (alert_of (view alert.now)) }
 {
     let stated = alert.get("labels").ok_or(LineError::Faulty)?;
-    let labels = Listing::from_vec(texts(alloc, seen, stated)?);
+    let labels = seen.share_labels(alloc, texts(alloc, stated)?)?;
     let annotations = annotations(alloc, seen, alert)?;
     let starts_at = time(alert, "startsAt")?;
     let ends_at = time(alert, "endsAt")?;

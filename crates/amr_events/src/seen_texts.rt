@@ -1,34 +1,103 @@
-//! The texts of a script that were read before. Names and values of labels are repeated in most
-//! lines, so `Script::read` shares them: it holds each text once, however often it is posted.
-ghost use Rattle.std.specs.Prelude.{◌≡◌, IfOk};
+//! The texts and the labels of a script that were read before. Names and values of labels are
+//! repeated in most lines, and most alerts are posted again, so `Script::read` shares them: it holds
+//! each text once, and the labels of an alert once, however often they are posted.
+ghost use Rattle.std.specs.Prelude.{◌≡◌, true, IfOk, IfSome};
 
-use amr_labels::Text;
+use crate::posted_labels::PostedLabels;
+use amr_labels::{LabelMap, Text};
 use std::alloc::{AllocError, Global};
+use std::cmp::Ordering;
 use std::collections::BTreeSet;
 
-/// Texts that were read before. Looking one up takes about the logarithm of their number.
+/// Texts and labels that were read before. Looking one up takes about the logarithm of their number.
 #[derive(Drop)]
 pub(crate) struct SeenTexts {
     texts: BTreeSet<Text>,
+    posted: LabelMap<PostedLabels>,
 }
 
 impl SeenTexts {
-    /// Returns a memory of texts that holds none.
+    /// Returns a memory of texts and labels that holds none.
     pub(crate) fn new(alloc: Global) -> SeenTexts {
         SeenTexts {
             texts: BTreeSet::new(alloc),
+            posted: LabelMap::new(alloc),
         }
     }
 
     /// Returns the text. It shares its bytes with an equal text that was returned before.
-    pub(crate) fn share(&mut self, alloc: Global, text: &str) -> Result<Text, AllocError>
+    fn share(&mut self, text: &Text) -> Result<Text, AllocError>
         ensures { IfOk result (λ shared. shared ≡ text.now) }
     {
-        let copy = Text::from_str(alloc, text)?;
-        if let Some(known) = self.texts.get(&copy) {
+        if let Some(known) = self.texts.get(text) {
             return Ok(known.clone()?);
         }
-        self.texts.insert(copy.clone()?)?;
-        Ok(copy)
+        self.texts.insert(text.clone()?)?;
+        Ok(text.clone()?)
+    }
+
+    /// Returns the names and values, each shared with an equal text that was returned before.
+    pub(crate) fn share_pairs(
+        &mut self,
+        alloc: Global,
+        pairs: &[(Text, Text)],
+    ) -> Result<Vec<(Text, Text)>, AllocError>
+        ensures { IfOk result (λ shared. shared.items ≡ pairs.now) }
+    {
+        let mut shared = Vec::with_capacity(alloc, pairs.len())?;
+        for (name, value) in pairs {
+            shared.push((self.share(name)?, self.share(value)?))?;
+        }
+        Ok(shared)
+    }
+
+    /// Returns the posted labels of names and values. They are shared with equal labels that were
+    /// returned before.
+    pub(crate) fn share_labels(
+        &mut self,
+        alloc: Global,
+        pairs: Vec<(Text, Text)>,
+    ) -> Result<PostedLabels, AllocError>
+        ensures { IfOk result (λ posted. posted ≡ pairs.items) }
+    {
+        let posted = PostedLabels::new(alloc, pairs)?;
+        match self.known(&posted) {
+            Some(known) => Ok(known.clone()?),
+            None => self.remember(alloc, &posted),
+        }
+    }
+
+    /// Returns equal labels that were returned before.
+    fn known(&self, posted: &PostedLabels) -> Option<&PostedLabels>
+        ensures { IfSome result (λ known. known.now ≡ posted.now) }
+    {
+        let known = self.posted.get(posted.label_set()?)?;
+        if are_same(known, posted) {
+            return Some(known);
+        }
+        None
+    }
+
+    /// Returns the labels with their texts shared, and returns them again for equal labels, if they
+    /// make a label set.
+    fn remember(&mut self, alloc: Global, posted: &PostedLabels) -> Result<PostedLabels, AllocError>
+        ensures { IfOk result (λ shared. shared ≡ posted.now) }
+    {
+        let pairs = self.share_pairs(alloc, posted.pairs())?;
+        let shared = PostedLabels::new(alloc, pairs)?;
+        if let Some(labels) = shared.label_set() {
+            self.posted.insert(labels.clone()?, shared.clone()?)?;
+        }
+        Ok(shared)
+    }
+}
+
+/// Returns whether the names and values are the same, also those with an empty value.
+fn are_same(known: &PostedLabels, posted: &PostedLabels) -> bool
+    ensures { result ≡ true → known.now ≡ posted.now }
+{
+    match known.pairs().cmp(posted.pairs()) {
+        Ordering::Equal => true,
+        _ => false,
     }
 }

@@ -9,7 +9,6 @@ ghost use Rattle.amr_stated.specs.Members.{present};
 ghost use Rattle.amr_events.specs.Shapes.{named_text, texts_in, text_under, flag_under, moment_under};
 
 use crate::error::LineError;
-use crate::seen_texts::SeenTexts;
 use amr_labels::Text;
 use amr_time::{Moment, read_moment};
 use serde_json::Value;
@@ -27,31 +26,22 @@ pub(crate) fn member<'v>(value: &'v Value, key: &str) -> Option<&'v Value>
 
 /// Reads a text, and returns it with its name.
 #[tactic(auto, unfolding(crate::specs::Shapes::named_text))]
-fn named_text(
-    alloc: Global,
-    seen: &mut SeenTexts,
-    name: &str,
-    value: &Value,
-) -> Result<(Text, Text), LineError>
+fn named_text(alloc: Global, name: &str, value: &Value) -> Result<(Text, Text), LineError>
     ensures { Reads (λ pair. pair) result (named_text name.now (view value.now)) }
 {
     let text = value.as_str().ok_or(LineError::Faulty)?;
-    Ok((seen.share(alloc, name)?, seen.share(alloc, text)?))
+    Ok((Text::from_str(alloc, name)?, Text::from_str(alloc, text)?))
 }
 
 /// Reads an object of texts, and returns its names and texts in the order of the names.
 #[tactic(auto, unfolding(crate::specs::Shapes::texts_in))]
-pub(crate) fn texts(
-    alloc: Global,
-    seen: &mut SeenTexts,
-    value: &Value,
-) -> Result<Vec<(Text, Text)>, LineError>
+pub(crate) fn texts(alloc: Global, value: &Value) -> Result<Vec<(Text, Text)>, LineError>
     ensures { Reads (λ v. v.items) result (texts_in (view value.now)) }
 {
     let members = value.as_object().ok_or(LineError::Faulty)?;
     let mut texts = Vec::with_capacity(alloc, members.len())?;
     for (name, value) in members {
-        texts.push(named_text(alloc, seen, name, value)?)?;
+        texts.push(named_text(alloc, name, value)?)?;
     }
     Ok(texts)
 }

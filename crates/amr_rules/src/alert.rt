@@ -8,7 +8,7 @@ ghost use Rattle.amr_time.specs.Time.{before_year_10000};
 use amr_events::PostedAlert;
 use amr_labels::{Exact, Labels, TextMap};
 use amr_time::{Moment, Span};
-use std::alloc::{AllocError, Global};
+use std::alloc::AllocError;
 
 /// A stored alert without its labels.
 #[derive(Drop)]
@@ -73,7 +73,6 @@ fn with_times(now: Moment, timeout: Span, posted: &PostedAlert) -> Result<Alert,
 /// API v2).
 #[tactic(auto, unfolding(crate::specs::Alerts::completed))]
 pub fn complete_alert(
-    alloc: Global,
     now: Moment,
     timeout: Span,
     posted: &PostedAlert,
@@ -82,13 +81,13 @@ pub fn complete_alert(
     ensures { IfOk result (λ alert. alert ≡ completed now timeout posted.now) }
 {
     let alert = with_times(now, timeout, posted)?;
-    match Labels::of_pairs(alloc, posted.labels.as_slice())? {
+    match posted.labels.label_set() {
         None => Ok(None),
         Some(labels) => {
             if labels.is_empty() || alert.ends_at < alert.starts_at {
                 Ok(None)
             } else {
-                Ok(Some((labels, alert)))
+                Ok(Some((labels.clone()?, alert)))
             }
         }
     }
