@@ -4,10 +4,10 @@ pub mod Inherited
 pub mod Lines
 pub mod NameSets
 pub mod Parents
-pub mod Placing
 pub mod Ranges
 pub mod Refused
 pub mod Remembered
 pub mod Settling
+pub mod Sorting
 pub mod TreeOrder
 pub mod Whole
