@@ -6,13 +6,14 @@ use Rattle.amr_events.specs.Events.{Event}
 use Rattle.amr_events.specs.Refused.{LineIs}
 use Rattle.amr_lines.specs.declared.word.Word.{Word}
 use Rattle.amr_lines.specs.declared.word.Word.TheVariants as word
+use Rattle.amr_command_lines.specs.declared.command.Query.TheVariants.{Explain}
 use Rattle.amr_command_lines.specs.declared.command.Command.{Command}
 use Rattle.amr_command_lines.specs.declared.command.Command.TheVariants as command
 use Rattle.amr_command_lines.specs.declared.command.ParsedLine.{ParsedLine}
 use Rattle.amr_command_lines.specs.declared.command.ParsedLine.TheVariants.{Nothing, Asks, Malformed, BadMoment, BadArgument}
 use Rattle.amr_command_lines.specs.declared.command.Unread.{Unread}
 use Rattle.amr_command_lines.specs.Parts.{trimmed, word_in, argument_in}
-use Rattle.amr_command_lines.specs.Command.{word_named, said_by, said_in, said_of}
+use Rattle.amr_command_lines.specs.Command.{word_named, word_of_command, said_by, said_in, said_of}
 
 -- the event of a trial is one that its text may be read as, given what `regex` refuses in it
 abbrev pub Tries : Text → ParsedLine → Type 0
@@ -31,20 +32,6 @@ TextSays text parsed = (parsed ≡ said_in text) ⊎ ((word_named (word_in text)
 abbrev pub LineSays : Text → ParsedLine → Type 0
 LineSays line parsed = (parsed ≡ said_of line) ⊎ ((is_utf8 line ≡ true) × (word_named (word_in (trimmed line)) ≡ word.Trial) × Tries (argument_in (trimmed line)) parsed)
 
-abbrev pub word_of_command : Command → Word
-word_of_command command.Step = word.Step
-word_of_command command.Back = word.Back
-word_of_command (command.Seek n) = word.Seek
-word_of_command (command.SeekTime moment) = word.SeekTime
-word_of_command (command.Trial event) = word.Trial
-word_of_command (command.Explain labels) = word.Explain
-word_of_command command.Alerts = word.Alerts
-word_of_command command.Silences = word.Silences
-word_of_command command.Groups = word.Groups
-word_of_command command.Log = word.Log
-word_of_command command.Transcript = word.Transcript
-word_of_command command.Cursor = word.Cursor
-
 -- the word that a refusal names
 abbrev pub word_of : ParsedLine → Word
 word_of Nothing = word.Unknown
@@ -53,24 +40,16 @@ word_of (Malformed word) = word
 word_of BadMoment = word.SeekTime
 word_of (BadArgument word) = word
 
-abbrev pub ArgumentTakesMemory : Command → Type 0
-ArgumentTakesMemory command.Step = ⊥
-ArgumentTakesMemory command.Back = ⊥
-ArgumentTakesMemory (command.Seek n) = ⊥
-ArgumentTakesMemory (command.SeekTime moment) = ⊥
-ArgumentTakesMemory (command.Trial event) = ⊤
-ArgumentTakesMemory (command.Explain labels) = ⊤
-ArgumentTakesMemory command.Alerts = ⊥
-ArgumentTakesMemory command.Silences = ⊥
-ArgumentTakesMemory command.Groups = ⊥
-ArgumentTakesMemory command.Log = ⊥
-ArgumentTakesMemory command.Transcript = ⊥
-ArgumentTakesMemory command.Cursor = ⊥
+-- the argument of the command is JSON
+abbrev pub HasJson : Command → Type 0
+HasJson (command.Trial event) = ⊤
+HasJson (command.Query (Explain labels)) = ⊤
+HasJson command = ⊥
 
 -- parsing it takes memory, because the argument is JSON
 abbrev pub ReadingTakesMemory : ParsedLine → Type 0
 ReadingTakesMemory Nothing = ⊥
-ReadingTakesMemory (Asks command) = ArgumentTakesMemory command
+ReadingTakesMemory (Asks command) = HasJson command
 ReadingTakesMemory (Malformed word) = ⊥
 ReadingTakesMemory BadMoment = ⊥
 ReadingTakesMemory (BadArgument word) = ⊤

@@ -2,7 +2,7 @@
 //! `ParsedLine::read` for each line. Nothing here is executed.
 ghost use Rattle.std.specs.Prelude.{◌≡◌, MatchResult};
 ghost use Rattle.std.specs.Str.{is_utf8};
-ghost use Rattle.amr_command_lines.specs.Command.{word_named, said_alone, seek_said, seek_time_said, trial_said, explain_said, with_argument, said_by, said_in, said_of, moment_in};
+ghost use Rattle.amr_command_lines.specs.Command.{word_named, word_of_move, word_of_query, word_of_command, said_alone, seek_said, seek_time_said, trial_said, explain_said, with_argument, said_by, said_in, said_of, moment_in};
 ghost use Rattle.amr_command_lines.specs.ParsedLine.{FailsToRead, LineSays, Reads, ReadsSuch, TextSays, WordSays};
 
 use crate::digits::{all_digits, number};
@@ -14,23 +14,79 @@ use amr_time::{Moment, read_moment};
 use std::alloc::Global;
 use std::str::from_utf8;
 
-/// A command of a session, with its argument.
+/// A command that moves the cursor.
 #[derive(Drop)]
-pub enum Command {
+pub enum Move {
     Step,
     Back,
     /// Moves the cursor to this many events from the start. A number too large for a `usize` is
     /// read as the greatest.
     Seek(usize),
     SeekTime(Moment),
-    Trial(Event),
+}
+
+/// A command that lists what the state holds.
+#[derive(Drop)]
+pub enum Query {
     Explain(Labels),
     Alerts,
     Silences,
     Groups,
     Log,
     Transcript,
+}
+
+/// A command of a session, with its argument.
+#[derive(Drop)]
+pub enum Command {
+    Move(Move),
+    Trial(Event),
+    Query(Query),
     Cursor,
+}
+
+impl Move {
+    /// Returns the word of the command.
+    fn word(&self) -> Word
+        ensures { result ≡ word_of_move self.now }
+    {
+        match self {
+            Move::Step => Word::Step,
+            Move::Back => Word::Back,
+            Move::Seek(_) => Word::Seek,
+            Move::SeekTime(_) => Word::SeekTime,
+        }
+    }
+}
+
+impl Query {
+    /// Returns the word of the command.
+    pub fn word(&self) -> Word
+        ensures { result ≡ word_of_query self.now }
+    {
+        match self {
+            Query::Explain(_) => Word::Explain,
+            Query::Alerts => Word::Alerts,
+            Query::Silences => Word::Silences,
+            Query::Groups => Word::Groups,
+            Query::Log => Word::Log,
+            Query::Transcript => Word::Transcript,
+        }
+    }
+}
+
+impl Command {
+    /// Returns the word of the command.
+    fn word(&self) -> Word
+        ensures { result ≡ word_of_command self.now }
+    {
+        match self {
+            Command::Move(movement) => movement.word(),
+            Command::Trial(_) => Word::Trial,
+            Command::Query(query) => query.word(),
+            Command::Cursor => Word::Cursor,
+        }
+    }
 }
 
 /// What a line was parsed as.
@@ -83,13 +139,13 @@ fn word_of(text: &[u8]) -> Word
 }
 
 /// Parses a command that takes no argument.
-fn alone(word: Word, command: Command, argument: &[u8]) -> ParsedLine
-    ensures { result ≡ said_alone word command argument.now }
+fn alone(command: Command, argument: &[u8]) -> ParsedLine
+    ensures { result ≡ said_alone command argument.now }
 {
     if argument.is_empty() {
         ParsedLine::Asks(command)
     } else {
-        ParsedLine::Malformed(word)
+        ParsedLine::Malformed(command.word())
     }
 }
 
@@ -100,7 +156,7 @@ fn seek(argument: &[u8]) -> ParsedLine
     if argument.is_empty() || !all_digits(argument) {
         return ParsedLine::Malformed(Word::Seek);
     }
-    ParsedLine::Asks(Command::Seek(number(argument)))
+    ParsedLine::Asks(Command::Move(Move::Seek(number(argument))))
 }
 
 /// Reads a moment, in RFC 3339.
@@ -122,7 +178,7 @@ fn seek_time(argument: &[u8]) -> ParsedLine
         return ParsedLine::Malformed(Word::SeekTime);
     }
     match moment(argument) {
-        Some(moment) => ParsedLine::Asks(Command::SeekTime(moment)),
+        Some(moment) => ParsedLine::Asks(Command::Move(Move::SeekTime(moment))),
         None => ParsedLine::BadMoment,
     }
 }
@@ -151,7 +207,7 @@ fn explain(alloc: Global, argument: &[u8]) -> Result<ParsedLine, Unread>
         return Ok(ParsedLine::Malformed(Word::Explain));
     }
     match read_labels(alloc, argument) {
-        Ok(labels) => Ok(ParsedLine::Asks(Command::Explain(labels))),
+        Ok(labels) => Ok(ParsedLine::Asks(Command::Query(Query::Explain(labels)))),
         Err(LineError::Faulty) => Ok(ParsedLine::BadArgument(Word::Explain)),
         Err(LineError::Memory) => Err(Unread {
             word: Word::Explain,
@@ -165,18 +221,18 @@ fn read_argument(alloc: Global, word: Word, argument: &[u8]) -> Result<ParsedLin
     ensures { ReadsSuch (WordSays word argument.now) (said_by word argument.now) result }
 {
     match word {
-        Word::Step => Ok(alone(word, Command::Step, argument)),
-        Word::Back => Ok(alone(word, Command::Back, argument)),
+        Word::Step => Ok(alone(Command::Move(Move::Step), argument)),
+        Word::Back => Ok(alone(Command::Move(Move::Back), argument)),
         Word::Seek => Ok(seek(argument)),
         Word::SeekTime => Ok(seek_time(argument)),
         Word::Trial => trial(alloc, argument),
         Word::Explain => explain(alloc, argument),
-        Word::Alerts => Ok(alone(word, Command::Alerts, argument)),
-        Word::Silences => Ok(alone(word, Command::Silences, argument)),
-        Word::Groups => Ok(alone(word, Command::Groups, argument)),
-        Word::Log => Ok(alone(word, Command::Log, argument)),
-        Word::Transcript => Ok(alone(word, Command::Transcript, argument)),
-        Word::Cursor => Ok(alone(word, Command::Cursor, argument)),
+        Word::Alerts => Ok(alone(Command::Query(Query::Alerts), argument)),
+        Word::Silences => Ok(alone(Command::Query(Query::Silences), argument)),
+        Word::Groups => Ok(alone(Command::Query(Query::Groups), argument)),
+        Word::Log => Ok(alone(Command::Query(Query::Log), argument)),
+        Word::Transcript => Ok(alone(Command::Query(Query::Transcript), argument)),
+        Word::Cursor => Ok(alone(Command::Cursor, argument)),
         Word::Unknown => Ok(ParsedLine::Malformed(word)),
     }
 }

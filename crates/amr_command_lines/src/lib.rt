@@ -7,5 +7,5 @@ mod digits;
 mod line;
 mod parts;
 
-pub use command::{Command, ParsedLine, Unread};
+pub use command::{Command, Move, ParsedLine, Query, Unread};
 pub use line::{Content, LONGEST, Line};

@@ -25,17 +25,9 @@ outcome_done i n n' line parsed answer short says (inr w) = record { line_outcom
 -- memory may run out for what takes memory to parse
 reading_may_fail : (i : Incident) (n : ℕ) (parsed : ParsedLine) → ReadingTakesMemory parsed → MayFindNoMemory i n parsed
 reading_may_fail i n Nothing h = h
-reading_may_fail i n (Asks command.Step) h = absurd h
-reading_may_fail i n (Asks command.Back) h = absurd h
-reading_may_fail i n (Asks (command.Seek to)) h = absurd h
-reading_may_fail i n (Asks (command.SeekTime at)) h = absurd h
+reading_may_fail i n (Asks (command.Move move)) h = absurd h
 reading_may_fail i n (Asks (command.Trial event)) h = tt
-reading_may_fail i n (Asks (command.Explain labels)) h = tt
-reading_may_fail i n (Asks command.Alerts) h = absurd h
-reading_may_fail i n (Asks command.Silences) h = absurd h
-reading_may_fail i n (Asks command.Groups) h = absurd h
-reading_may_fail i n (Asks command.Log) h = absurd h
-reading_may_fail i n (Asks command.Transcript) h = absurd h
+reading_may_fail i n (Asks (command.Query query)) h = tt
 reading_may_fail i n (Asks command.Cursor) h = absurd h
 reading_may_fail i n (Malformed word) h = h
 reading_may_fail i n BadMoment h = h

@@ -1,5 +1,5 @@
 -- An empty line prints nothing.
-use Rattle.std.proofs.Common.{◌≡◌, ℕ, [], ap, sym, subst, inl, inr, refl, arith}
+use Rattle.std.proofs.Common.{◌≡◌, [], ap, sym, subst, inl, inr, refl, arith}
 use Rattle.std.specs.Prelude.{if◌then◌else◌}
 use Rattle.std.proofs.lemmas.Str.{IsUtf8-nil, is_utf8-from_IsUtf8}
 use Rattle.amr_lines.specs.declared.word.Word.TheVariants as word
@@ -8,9 +8,9 @@ use Rattle.amr_command_lines.specs.declared.command.ParsedLine.TheVariants.{Noth
 use Rattle.amr_command_lines.specs.Parts.{word_in, trimmed}
 use Rattle.amr_command_lines.specs.Command.{word_named, said_in, said_of}
 use Rattle.amr_command_lines.specs.ParsedLine.{LineSays}
-use Rattle.amr_commands.specs.Replies.{Incident, MayFindNoMemory, reply_of}
-use Rattle.amr_commands.specs.Talk.{LineOutcome, TooLong, NoMemory, Undone, Done, MayBe}
-use Rattle.amr_commands.specs.Laws.{nothing_at, EmptyIsSilent}
+use Rattle.amr_commands.specs.Replies.{MayFindNoMemory, reply_of}
+use Rattle.amr_commands.specs.Talk.{TooLong, NoMemory, Undone, Done}
+use Rattle.amr_commands.specs.Laws.{EmptyIsSilent}
 
 empty_says : said_of [] ≡ Nothing
 unfolding said_of said_in

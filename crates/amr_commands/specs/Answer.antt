@@ -1,7 +1,5 @@
 -- What is written for a line, and what was done for it.
-use Rattle.std.specs.Prelude.{◌≡◌, ℕ, ◌<◌, [], ◌⊎◌, Result, IsOkAnd, String, string_bytes}
-use Rattle.std.specs.declared.alloc.Global.{Global}
-use Rattle.std.specs.declared.alloc.AllocError.{AllocError}
+use Rattle.std.specs.Prelude.{◌≡◌, ℕ, ◌<◌, [], ◌⊎◌, string_bytes}
 use Rattle.amr_labels.specs.Labels.{Text}
 use Rattle.amr_lines.specs.declared.word.Word.{Word}
 use Rattle.amr_lines.specs.declared.word.Word.TheVariants as word
@@ -9,7 +7,7 @@ use Rattle.amr_lines.specs.LastLines.{moves_line, cursor_line, refused_line}
 use Rattle.amr_command_lines.specs.declared.command.ParsedLine.{ParsedLine}
 use Rattle.amr_command_lines.specs.ParsedLine.{word_of}
 use Rattle.amr_replay.specs.Session.{View}
-use Rattle.amr_commands.specs.Replies.{Incident, incident_of, Reply, reply_of, moved, listed, MayFindNoMemory}
+use Rattle.amr_commands.specs.Replies.{Incident, incident_of, Reply, reply_of, moved, MayFindNoMemory}
 use Rattle.amr_commands.specs.Talk.{LineOutcome, reply, MayBe}
 use Rattle.amr_commands.specs.declared.answer.Refusal.{Refusal}
 use Rattle.amr_commands.specs.declared.answer.Refusal.TheVariants.{Memory, BadTime, BadLine, LineTooLong, AtEnd, AtStart, OutOfRange}
@@ -59,9 +57,3 @@ abbrev pub Moves : Incident → ℕ → Word → ℕ → ℕ → Answer → Type
 Moves incident from word to cursor' answer =
     (moved incident from word to ≡ left cursor' answer)
     ⊎ ((from < to) × (left cursor' answer ≡ left from (Refused word Memory)))
-
--- lines are listed, or memory ran out for them
-abbrev pub Lists : ℕ → Word → Result (String Global) AllocError → Answer → Type 0
-Lists cursor word lines answer =
-    IsOkAnd lines (λ text. listed cursor word (string_bytes text) ≡ left cursor answer)
-    ⊎ (left cursor answer ≡ left cursor (Refused word Memory))

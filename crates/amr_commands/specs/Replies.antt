@@ -15,8 +15,12 @@ use Rattle.amr_lines.specs.declared.word.Word.TheVariants as word
 use Rattle.amr_lines.specs.Printed.{event_lines, notification_line, alert_line, silence_line, group_seen_line, log_line}
 use Rattle.amr_lines.specs.Verdicts.{verdict_line}
 use Rattle.amr_lines.specs.LastLines.{moves_line, cursor_line, place_line, refused_line}
+use Rattle.amr_command_lines.specs.Command.{word_of_query}
+use Rattle.amr_command_lines.specs.declared.command.Move.TheVariants.{Step, Back, Seek, SeekTime}
+use Rattle.amr_command_lines.specs.declared.command.Query.{Query}
+use Rattle.amr_command_lines.specs.declared.command.Query.TheVariants.{Explain, Alerts, Silences, Groups, Log, Transcript}
 use Rattle.amr_command_lines.specs.declared.command.Command.{Command}
-use Rattle.amr_command_lines.specs.declared.command.Command.TheVariants.{Step, Back, Seek, SeekTime, Trial, Explain, Alerts, Silences, Groups, Log, Transcript, Cursor}
+use Rattle.amr_command_lines.specs.declared.command.Command.TheVariants as command
 use Rattle.amr_command_lines.specs.declared.command.ParsedLine.{ParsedLine}
 use Rattle.amr_command_lines.specs.declared.command.ParsedLine.TheVariants.{Nothing, Asks, Malformed, BadMoment, BadArgument}
 
@@ -58,8 +62,18 @@ unfoldable pub moved : Incident → ℕ → Word → ℕ → Reply
 moved incident cursor word to =
     record { cursor = to; text = passing_text cursor word to (outcomes_passed incident.config incident.events cursor to) }
 
-abbrev pub listed : ℕ → Word → Text → Reply
-listed cursor word lines = record { cursor = cursor; text = lines ++ cursor_line word cursor }
+-- the lines that a query lists, of a state
+abbrev pub lines_of : Query → State → Text
+lines_of (Explain labels) s = flat_map verdict_line (verdicts s labels)
+lines_of Alerts s = flat_map alert_line (entries s.alerts)
+lines_of Silences s = flat_map silence_line (entries s.silences)
+lines_of Groups s = flat_map group_seen_line (groups_of s)
+lines_of Log s = flat_map log_line (entries s.log)
+lines_of Transcript s = flat_map notification_line s.notes
+
+-- those lines and a last one
+abbrev pub listed : ℕ → Query → State → Text
+listed cursor query s = lines_of query s ++ cursor_line (word_of_query query) cursor
 
 -- an event that is tried has the number 0
 abbrev pub tried_lines : ℕ → Outcome → Text
@@ -67,33 +81,23 @@ tried_lines cursor outcome = event_lines 0 outcome ++ moves_line word.Trial curs
 
 -- what a command leaves if memory doesn't run out
 unfoldable pub reply_to : Incident → ℕ → Command → Reply
-reply_to incident n Step = if nat_lt n (length incident.events) then moved incident n word.Step (n + 1) else refused n word.Step 22
-reply_to incident n Back = if nat_lt 0 n then record { cursor = n - 1; text = cursor_line word.Back (n - 1) } else refused n word.Back 23
-reply_to incident n (Seek to) = if nat_le to (length incident.events) then moved incident n word.Seek to else refused n word.Seek 24
-reply_to incident n (SeekTime at) = moved incident n word.SeekTime (events_until at incident.events)
-reply_to incident n (Trial event) = record { cursor = n; text = tried_lines n (outcome_of (state_in incident n) event) }
-reply_to incident n (Explain labels) = listed n word.Explain (flat_map verdict_line (verdicts (state_in incident n) labels))
-reply_to incident n Alerts = listed n word.Alerts (flat_map alert_line (entries (state_in incident n).alerts))
-reply_to incident n Silences = listed n word.Silences (flat_map silence_line (entries (state_in incident n).silences))
-reply_to incident n Groups = listed n word.Groups (flat_map group_seen_line (groups_of (state_in incident n)))
-reply_to incident n Log = listed n word.Log (flat_map log_line (entries (state_in incident n).log))
-reply_to incident n Transcript = listed n word.Transcript (flat_map notification_line (state_in incident n).notes)
-reply_to incident n Cursor = record { cursor = n; text = place_line n (length incident.events) (state_in incident n).moment }
+reply_to incident n (command.Move Step) = if nat_lt n (length incident.events) then moved incident n word.Step (n + 1) else refused n word.Step 22
+reply_to incident n (command.Move Back) = if nat_lt 0 n then record { cursor = n - 1; text = cursor_line word.Back (n - 1) } else refused n word.Back 23
+reply_to incident n (command.Move (Seek to)) = if nat_le to (length incident.events) then moved incident n word.Seek to else refused n word.Seek 24
+reply_to incident n (command.Move (SeekTime at)) = moved incident n word.SeekTime (events_until at incident.events)
+reply_to incident n (command.Trial event) = record { cursor = n; text = tried_lines n (outcome_of (state_in incident n) event) }
+reply_to incident n (command.Query query) = record { cursor = n; text = listed n query (state_in incident n) }
+reply_to incident n command.Cursor = record { cursor = n; text = place_line n (length incident.events) (state_in incident n).moment }
 
 -- the command takes memory there, so memory may run out
 abbrev pub TakesMemory : Incident → ℕ → Command → Type 0
-TakesMemory incident n Step = n < length incident.events
-TakesMemory incident n Back = ⊥
-TakesMemory incident n (Seek to) = (n < to) × (to ≤ length incident.events)
-TakesMemory incident n (SeekTime at) = n < events_until at incident.events
-TakesMemory incident n (Trial event) = ⊤
-TakesMemory incident n (Explain labels) = ⊤
-TakesMemory incident n Alerts = ⊤
-TakesMemory incident n Silences = ⊤
-TakesMemory incident n Groups = ⊤
-TakesMemory incident n Log = ⊤
-TakesMemory incident n Transcript = ⊤
-TakesMemory incident n Cursor = ⊤
+TakesMemory incident n (command.Move Step) = n < length incident.events
+TakesMemory incident n (command.Move Back) = ⊥
+TakesMemory incident n (command.Move (Seek to)) = (n < to) × (to ≤ length incident.events)
+TakesMemory incident n (command.Move (SeekTime at)) = n < events_until at incident.events
+TakesMemory incident n (command.Trial event) = ⊤
+TakesMemory incident n (command.Query query) = ⊤
+TakesMemory incident n command.Cursor = ⊤
 
 -- what a line leaves that was parsed as this
 abbrev pub reply_of : Incident → ℕ → ParsedLine → Reply

@@ -9,8 +9,8 @@ ghost use Rattle.amr_commands.specs.Answer.{AnsweredBy, HasLineOutcome};
 ghost use Rattle.amr_commands.specs.Talk.{Answers};
 
 use crate::answer::{Answer, Refusal, write_answer};
-use crate::navigation::{back, seek, seek_time, step, trial};
-use crate::queries::{alerts, explain, groups, log, place, silences, transcript};
+use crate::navigation::{move_cursor, trial};
+use crate::queries::{list, place};
 use amr_command_lines::{Command, Content, Line, ParsedLine};
 use amr_lines::{Outlet, Word, WriteFailed, flush};
 use amr_replay::Session;
@@ -23,17 +23,9 @@ fn answer_command(alloc: Global, session: &mut Session, command: Command) -> Ans
     ensures answered { AnsweredBy session.old session.new (Asks command) result }
 {
     match command {
-        Command::Step => step(alloc, session),
-        Command::Back => back(session),
-        Command::Seek(to) => seek(alloc, session, to),
-        Command::SeekTime(at) => seek_time(alloc, session, at),
+        Command::Move(movement) => move_cursor(alloc, session, movement),
         Command::Trial(event) => trial(alloc, session, &event),
-        Command::Explain(labels) => explain(alloc, session, &labels),
-        Command::Alerts => alerts(alloc, session),
-        Command::Silences => silences(alloc, session),
-        Command::Groups => groups(alloc, session),
-        Command::Log => log(alloc, session),
-        Command::Transcript => transcript(alloc, session),
+        Command::Query(query) => list(alloc, session, &query),
         Command::Cursor => place(alloc, session),
     }
 }

@@ -9,9 +9,11 @@ ghost use Rattle.amr_replay.specs.Session.{outcomes_passed};
 ghost use Rattle.amr_commands.specs.Replies.{incident_of, state_in, numbered_lines, moves_in, passing_text, tried_lines};
 ghost use Rattle.amr_commands.specs.Answer.{Moves, AnsweredBy};
 ghost use Rattle.amr_command_lines.specs.declared.command.ParsedLine.TheVariants.{Asks};
+ghost use Rattle.amr_command_lines.specs.declared.command.Move.TheVariants.{Step, Back, Seek, SeekTime};
 ghost use Rattle.amr_command_lines.specs.declared.command.Command.TheVariants as command;
 
 use crate::answer::{Answer, Refusal};
+use amr_command_lines::Move;
 use amr_engine::Outcome;
 use amr_events::Event;
 use amr_lines::{Word, event_text, moves_text};
@@ -106,9 +108,9 @@ fn moved(
 }
 
 /// Executes `step`, which passes the next event.
-pub(crate) fn step(alloc: Global, session: &mut Session) -> Answer
+fn step(alloc: Global, session: &mut Session) -> Answer
     ensures kept { incident_of session.new ≡ incident_of session.old }
-    ensures answered { AnsweredBy session.old session.new (Asks command.Step) result }
+    ensures answered { AnsweredBy session.old session.new (Asks (command.Move Step)) result }
 {
     let from = session.cursor();
     if from == session.events() {
@@ -121,9 +123,9 @@ pub(crate) fn step(alloc: Global, session: &mut Session) -> Answer
 }
 
 /// Executes `back`, which undoes the last event. It takes no memory.
-pub(crate) fn back(session: &mut Session) -> Answer
+fn back(session: &mut Session) -> Answer
     ensures kept { incident_of session.new ≡ incident_of session.old }
-    ensures answered { AnsweredBy session.old session.new (Asks command.Back) result }
+    ensures answered { AnsweredBy session.old session.new (Asks (command.Move Back)) result }
 {
     if session.cursor() == 0 {
         return Answer::Refused(Word::Back, Refusal::AtStart);
@@ -135,9 +137,9 @@ pub(crate) fn back(session: &mut Session) -> Answer
 }
 
 /// Executes `seek`, which moves the cursor to `to` events from the start.
-pub(crate) fn seek(alloc: Global, session: &mut Session, to: usize) -> Answer
+fn seek(alloc: Global, session: &mut Session, to: usize) -> Answer
     ensures kept { incident_of session.new ≡ incident_of session.old }
-    ensures answered { AnsweredBy session.old session.new (Asks (command.Seek to)) result }
+    ensures answered { AnsweredBy session.old session.new (Asks (command.Move (Seek to))) result }
 {
     let from = session.cursor();
     if session.events() < to {
@@ -151,14 +153,27 @@ pub(crate) fn seek(alloc: Global, session: &mut Session, to: usize) -> Answer
 
 /// Executes `seek-time`, which moves the cursor after the first events that are all at or before a
 /// moment.
-pub(crate) fn seek_time(alloc: Global, session: &mut Session, at: Moment) -> Answer
+fn seek_time(alloc: Global, session: &mut Session, at: Moment) -> Answer
     ensures kept { incident_of session.new ≡ incident_of session.old }
-    ensures answered { AnsweredBy session.old session.new (Asks (command.SeekTime at)) result }
+    ensures answered { AnsweredBy session.old session.new (Asks (command.Move (SeekTime at))) result }
 {
     let from = session.cursor();
     match session.seek_time(at) {
         Ok(outcomes) => moved(alloc, session, Word::SeekTime, from, outcomes.as_slice()),
         Err(_) => Answer::Refused(Word::SeekTime, Refusal::Memory),
+    }
+}
+
+/// Executes a command that moves the cursor.
+pub(crate) fn move_cursor(alloc: Global, session: &mut Session, movement: Move) -> Answer
+    ensures kept { incident_of session.new ≡ incident_of session.old }
+    ensures answered { AnsweredBy session.old session.new (Asks (command.Move movement)) result }
+{
+    match movement {
+        Move::Step => step(alloc, session),
+        Move::Back => back(session),
+        Move::Seek(to) => seek(alloc, session, to),
+        Move::SeekTime(at) => seek_time(alloc, session, at),
     }
 }
 

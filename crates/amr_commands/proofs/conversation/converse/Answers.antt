@@ -1,6 +1,6 @@
 use Rattle.std.proofs.Common.{[], ◌∙◌, refl}
 use Rattle.std.proofs.KnownBytes.{Consumes-nil}
-use Rattle.std.proofs.lemmas.Result.{MatchResult-at_ok, MatchResult-at_err}
+use Rattle.std.proofs.lemmas.Result.{MatchResult-at_err}
 use Rattle.amr_commands.specs.Replies.{incident_of}
 use Rattle.amr_commands.specs.declared.conversation.Turn.TheVariants.{More, Ended}
 use Rattle.amr_commands.proofs.Printing.{Stands-new, Turned-at_ok, PrintedAt-at_err}
