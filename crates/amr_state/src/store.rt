@@ -236,10 +236,13 @@ impl Store {
 
     /// Works out which label sets can be sources of the inhibition rules that have labels as a
     /// target, so that inhibition needn't look for them among all stored alerts. It asks the source
-    /// matchers of such a rule once for each label set.
+    /// matchers of such a rule once for each label set. Does nothing without rules.
     pub fn learn_sources(&mut self, labels: &Labels) -> Result<(), AllocError>
         ensures same { self.new ≡ self.old }
     {
+        if self.tables.roster.config().rules().is_empty() {
+            return Ok(());
+        }
         let matched = self.tables.roster.rule_matches(labels)?;
         self.tables.timetable.learn_sources(
             self.tables.roster.config().rules(),
