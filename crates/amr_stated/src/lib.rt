@@ -19,6 +19,7 @@ mod receiver;
 mod route;
 mod rule;
 mod stated;
+mod whole;
 
 pub use error::{ConfigError, Refusal};
 pub use interval::NamedInterval;
