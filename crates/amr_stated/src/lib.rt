@@ -6,6 +6,7 @@
 mod error;
 mod interval;
 mod interval_names;
+mod known_intervals;
 pub mod laws;
 mod members;
 mod place;
