@@ -1,4 +1,5 @@
 pub mod Answers
+pub mod DefinedNames
 pub mod Faults
 pub mod Keys
 pub mod Levels

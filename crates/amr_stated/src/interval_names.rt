@@ -3,16 +3,16 @@
 //! themselves are read in `read_intervals.rt`.
 #![tactic(auto, unfolding(crate::specs::Readings::next))]
 
-ghost use Rattle.std.specs.Prelude.{◌≡◌};
-ghost use Rattle.serde_json.specs.View.{view, items_view};
+ghost use Rattle.serde_json.specs.View.{view};
 ghost use Rattle.amr_stated.specs.Paths.{place_path};
 ghost use Rattle.amr_stated.specs.Answers.{Gives, Changes};
-ghost use Rattle.amr_stated.specs.Members.{stated, any_item};
-ghost use Rattle.amr_stated.specs.ReadIntervals.{has_name as name_of, defines as defines_of, is_defined as defined_of, name_into, names_at};
+ghost use Rattle.amr_stated.specs.Members.{stated};
+ghost use Rattle.amr_stated.specs.ReadIntervals.{name_into, names_at};
 
 use crate::error::ConfigError;
-use crate::members::{items, member, same, text};
+use crate::members::{items, member, text};
 use crate::place::Place;
+use crate::whole::Whole;
 use amr_labels::{Listing, Text};
 use serde_json::Value;
 use std::alloc::Global;
@@ -21,13 +21,14 @@ use std::alloc::Global;
 /// the first name that the configuration doesn't define.
 pub(crate) fn names_member(
     alloc: Global,
-    whole: &Value,
+    whole: &Whole,
     place: &Place,
     value: &Value,
     key: &str,
 ) -> Result<Option<Listing<Text>>, ConfigError>
     ensures { Gives (λ s. s) result
-        (stated (names_at (view whole.now)) (place_path place.now) key.now (view value.now)) }
+        (stated (names_at (view whole.now.value.now)) (place_path place.now) key.now
+        (view value.now)) }
 {
     match member(value, key) {
         Some(found) => Ok(Some(names(alloc, whole, &Place::Member(place, key), found)?)),
@@ -39,12 +40,12 @@ pub(crate) fn names_member(
 #[tactic(auto, unfolding(crate::specs::ReadIntervals::names_at, crate::specs::Readings::next))]
 fn names(
     alloc: Global,
-    whole: &Value,
+    whole: &Whole,
     place: &Place,
     value: &Value,
 ) -> Result<Listing<Text>, ConfigError>
     ensures { Gives (λ ts. ts) result
-        (names_at (view whole.now) (place_path place.now) (view value.now)) }
+        (names_at (view whole.now.value.now) (place_path place.now) (view value.now)) }
 {
     let items = items(alloc, place, value)?;
     let mut names = Listing::new(alloc);
@@ -58,63 +59,21 @@ fn names(
 #[tactic(auto, unfolding(crate::specs::ReadIntervals::name_into, crate::specs::Readings::next))]
 fn add_name(
     alloc: Global,
-    whole: &Value,
+    whole: &Whole,
     place: &Place,
     index: usize,
     item: &Value,
     names: &mut Listing<Text>,
 ) -> Result<(), ConfigError>
     ensures { Changes (λ ts. ts) result names.new
-        (name_into (view whole.now) (place_path place.now) index (view item.now) names.old) }
+        (name_into (view whole.now.value.now) (place_path place.now) index (view item.now)
+        names.old) }
 {
     let here = Place::Item(place, index);
-    let name = text(alloc, &here, item)?;
-    if !is_defined(whole, name) {
+    let name = Text::from_str(alloc, text(alloc, &here, item)?)?;
+    if !whole.defines(&name) {
         return Err(here.faulty(alloc));
     }
-    names.push(Text::from_str(alloc, name)?)?;
+    names.push(name)?;
     Ok(())
-}
-
-/// Returns whether `mute_time_intervals` or `time_intervals` of the whole configuration defines the
-/// name.
-#[tactic(auto, unfolding(crate::specs::ReadIntervals::is_defined))]
-fn is_defined(whole: &Value, name: &str) -> bool
-    ensures { result ≡ defined_of (view whole.now) name.now }
-{
-    defines("mute_time_intervals", whole, name) || defines("time_intervals", whole, name)
-}
-
-/// Returns whether the list under a key of the whole configuration has an object with the name.
-#[tactic(auto, unfolding(crate::specs::ReadIntervals::defines))]
-fn defines(key: &str, whole: &Value, name: &str) -> bool
-    ensures { result ≡ defines_of key.now (view whole.now) name.now }
-{
-    match member(whole, key).and_then(Value::as_array) {
-        Some(items) => any_named(items, name),
-        None => false,
-    }
-}
-
-/// Returns whether one of the items is an object with the name.
-fn any_named(items: &[Value], name: &str) -> bool
-    ensures { result ≡ any_item (name_of name.now) (items_view items.now) }
-{
-    for item in items {
-        if has_name(item, name) {
-            return true;
-        }
-    }
-    false
-}
-
-/// Returns whether a value is an object with the name.
-#[tactic(auto, unfolding(crate::specs::ReadIntervals::has_name))]
-fn has_name(value: &Value, name: &str) -> bool
-    ensures { result ≡ name_of name.now (view value.now) }
-{
-    match member(value, "name").and_then(Value::as_str) {
-        Some(text) => same(text, name),
-        None => false,
-    }
 }

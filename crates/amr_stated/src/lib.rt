@@ -6,6 +6,7 @@
 mod error;
 mod interval;
 mod interval_names;
+mod known_intervals;
 pub mod laws;
 mod members;
 mod place;
@@ -19,6 +20,7 @@ mod receiver;
 mod route;
 mod rule;
 mod stated;
+mod whole;
 
 pub use error::{ConfigError, Refusal};
 pub use interval::NamedInterval;

@@ -4,19 +4,17 @@
 #![tactic(auto, unfolding(crate::specs::Readings::next))]
 
 ghost use Rattle.std.specs.Prelude.{◌≡◌, [], Some, codes};
-ghost use Rattle.std.specs.List.{list_any};
-ghost use Rattle.std.specs.Ordering.{eq_by_cmp};
 ghost use Rattle.serde_json.specs.View.{view};
-ghost use Rattle.amr_labels.specs.Labels.{text_cmp};
 ghost use Rattle.amr_time.specs.IntervalTexts.{time_at, end_time_at};
 ghost use Rattle.amr_stated.specs.Paths.{place_path};
 ghost use Rattle.amr_stated.specs.declared.read_intervals.Field.TheVariants.{Months, Years};
 ghost use Rattle.amr_stated.specs.Answers.{Gives, Changes};
 ghost use Rattle.amr_stated.specs.Members.{stated};
-ghost use Rattle.amr_stated.specs.ReadIntervals.{range_in, day_range_in, range_into, ranges_at, time_of, time_range_at, time_range_into, times_at, location_at, interval_member_at, interval_member_into, interval_members_at, is_taken as taken_of, new_name_at, interval_at, interval_into, intervals_from, intervals_at};
+ghost use Rattle.amr_stated.specs.ReadIntervals.{range_in, day_range_in, range_into, ranges_at, time_of, time_range_at, time_range_into, times_at, location_at, interval_member_at, interval_member_into, interval_members_at, new_name_at, interval_at, interval_into, intervals_from, intervals_at};
 
 use crate::error::ConfigError;
 use crate::interval::NamedInterval;
+use crate::known_intervals::KnownIntervals;
 use crate::members::{items, member, same, text};
 use crate::place::Place;
 use amr_labels::{Listing, Text};
@@ -65,11 +63,11 @@ fn with_intervals(
         (intervals_from (place_path place.now) (Some (view value.now)) intervals) }
 {
     let items = items(alloc, place, value)?;
-    let mut intervals = intervals;
+    let mut known = KnownIntervals::new(alloc, intervals)?;
     for (index, item) in items.iter().enumerate() {
-        add_interval(alloc, place, index, item, &mut intervals)?;
+        known = add_interval(alloc, place, index, item, known)?;
     }
-    Ok(intervals)
+    Ok(known.intervals)
 }
 
 /// Appends the interval at an index of a list.
@@ -79,15 +77,14 @@ fn add_interval(
     place: &Place,
     index: usize,
     value: &Value,
-    intervals: &mut Listing<NamedInterval>,
-) -> Result<(), ConfigError>
-    ensures { Changes (λ is. is) result intervals.new
-        (interval_into (place_path place.now) index (view value.now) intervals.old) }
+    known: KnownIntervals,
+) -> Result<KnownIntervals, ConfigError>
+    ensures { Gives (λ known. known.intervals) result
+        (interval_into (place_path place.now) index (view value.now) known.intervals) }
 {
     let here = Place::Item(place, index);
-    let interval = interval(alloc, &here, value, intervals.as_slice())?;
-    intervals.push(interval)?;
-    Ok(())
+    let interval = interval(alloc, &here, value, &known)?;
+    Ok(known.with(interval)?)
 }
 
 /// Reads an interval: an object with `name` and `time_intervals`.
@@ -96,10 +93,10 @@ fn interval(
     alloc: Global,
     place: &Place,
     value: &Value,
-    before: &[NamedInterval],
+    before: &KnownIntervals,
 ) -> Result<NamedInterval, ConfigError>
     ensures { Gives (λ i. i) result
-        (interval_at before.now (place_path place.now) (view value.now)) }
+        (interval_at before.now.intervals (place_path place.now) (view value.now)) }
 {
     if !value.is_object() {
         return Err(place.faulty(alloc));
@@ -126,25 +123,16 @@ fn new_name(
     alloc: Global,
     place: &Place,
     value: &Value,
-    before: &[NamedInterval],
+    before: &KnownIntervals,
 ) -> Result<Text, ConfigError>
     ensures { Gives (λ name. name) result
-        (new_name_at before.now (place_path place.now) (view value.now)) }
+        (new_name_at before.now.intervals (place_path place.now) (view value.now)) }
 {
-    let name = text(alloc, place, value)?;
-    if is_taken(name, before) {
+    let name = Text::from_str(alloc, text(alloc, place, value)?)?;
+    if before.is_taken(&name) {
         return Err(place.faulty(alloc));
     }
-    Ok(Text::from_str(alloc, name)?)
-}
-
-/// Returns whether an interval has the name.
-fn is_taken(name: &str, intervals: &[NamedInterval]) -> bool
-    ensures { result ≡ taken_of name.now intervals.now }
-{
-    intervals
-        .iter()
-        .any(|interval| same(interval.name.as_str(), name))
+    Ok(name)
 }
 
 /// Reads the list under `time_intervals` of an interval.

@@ -14,6 +14,7 @@ use crate::members::{flag_member, items, member, same, span_member, text_member,
 use crate::place::Place;
 use crate::read_matchers::read_matchers;
 use crate::route::{Grouping, Route};
+use crate::whole::Whole;
 use amr_labels::{Listing, Text};
 use amr_time::Span;
 use serde_json::Value;
@@ -55,13 +56,13 @@ fn stated_grouping(names: Option<Listing<Text>>) -> Option<Grouping>
 #[tactic(auto, unfolding(crate::specs::ReadRoutes::route_at, crate::specs::Readings::next))]
 fn read_route(
     alloc: Global,
-    whole: &Value,
+    whole: &Whole,
     place: &Place,
     parent: Option<usize>,
     value: &Value,
 ) -> Result<Route, ConfigError>
     ensures { Reads (λ route. route) result
-        (route_at (view whole.now) (place_path place.now) parent (view value.now)) }
+        (route_at (view whole.now.value.now) (place_path place.now) parent (view value.now)) }
 {
     if !value.is_object() {
         return Err(place.faulty(alloc));
@@ -93,14 +94,14 @@ fn read_route(
 #[tactic(auto, unfolding(crate::specs::ReadRoutes::own_into, crate::specs::Readings::next))]
 fn add_own(
     alloc: Global,
-    whole: &Value,
+    whole: &Whole,
     place: &Place,
     parent: Option<usize>,
     value: &Value,
     routes: &mut Listing<Route>,
 ) -> Result<(), ConfigError>
     ensures { ReadsInto (λ rs. rs) result routes.new
-        (own_into (view whole.now) (place_path place.now) parent (view value.now) routes.old) }
+        (own_into (view whole.now.value.now) (place_path place.now) parent (view value.now) routes.old) }
 {
     let route = read_route(alloc, whole, place, parent, value)?;
     routes.push(route)?;
@@ -122,7 +123,7 @@ fn children<'v>(alloc: Global, place: &Place, value: &'v Value) -> Result<&'v [V
 /// Appends a route and those below it in preorder, down to `left` levels.
 fn add_route(
     alloc: Global,
-    whole: &Value,
+    whole: &Whole,
     left: u32,
     place: &Place,
     parent: Option<usize>,
@@ -130,7 +131,7 @@ fn add_route(
     routes: &mut Listing<Route>,
 ) -> Result<(), ConfigError>
     ensures { ReadsInto (λ rs. rs) result routes.new
-        (add_route (view whole.now) left (place_path place.now) parent (view value.now)
+        (add_route (view whole.now.value.now) left (place_path place.now) parent (view value.now)
         routes.old) }
 {
     if left == 0 {
@@ -196,6 +197,7 @@ pub(crate) fn read_routes(alloc: Global, value: &Value) -> Result<Listing<Route>
         return Err(here.faulty(alloc));
     };
     let mut routes = Listing::new(alloc);
-    add_route(alloc, value, 32, &here, None, route, &mut routes)?;
+    let whole = Whole::new(alloc, value)?;
+    add_route(alloc, &whole, 32, &here, None, route, &mut routes)?;
     Ok(routes)
 }

@@ -6,4 +6,4 @@ use Rattle.amr_stated.specs.ReadIntervals.{interval_into, intervals_from}
 use Rattle.amr_stated.proofs.read_intervals.with_intervals.Given as goal
 
 abbrev pub invariant-loop-index : goal.invariant-loop-index
-invariant-loop-index l = items_in_turn (interval_into (place_path l.place)) l.index (items_view (drop l.index l.items)) l.intervals ≡ intervals_from (place_path l.place) (Some (view l.value)) l.fn.intervals
+invariant-loop-index l = items_in_turn (interval_into (place_path l.place)) l.index (items_view (drop l.index l.items)) l.known.intervals ≡ intervals_from (place_path l.place) (Some (view l.value)) l.fn.intervals

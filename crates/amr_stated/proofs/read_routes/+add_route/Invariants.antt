@@ -10,4 +10,4 @@ abbrev pub decreases-add_route : goal.decreases-add_route
 decreases-add_route l = l.left
 
 abbrev pub invariant-loop-i : goal.invariant-loop-i
-invariant-loop-i l = Ends (items_in_turn (child_into (view l.whole) (l.left - 1) (place_path l.place) l.index) l.i (items_view (drop l.i l.children)) l.routes) (add_route (view l.whole) l.left (place_path l.place) l.fn.parent (view l.value) l.fn.routes)
+invariant-loop-i l = Ends (items_in_turn (child_into (view l.whole.value.now) (l.left - 1) (place_path l.place) l.index) l.i (items_view (drop l.i l.children)) l.routes) (add_route (view l.whole.value.now) l.left (place_path l.place) l.fn.parent (view l.value) l.fn.routes)
