@@ -101,7 +101,8 @@ fn add_own(
     routes: &mut Listing<Route>,
 ) -> Result<(), ConfigError>
     ensures { ReadsInto (λ rs. rs) result routes.new
-        (own_into (view whole.now.value.now) (place_path place.now) parent (view value.now) routes.old) }
+        (own_into (view whole.now.value.now) (place_path place.now) parent (view value.now)
+        routes.old) }
 {
     let route = read_route(alloc, whole, place, parent, value)?;
     routes.push(route)?;
