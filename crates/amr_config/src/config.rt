@@ -300,6 +300,6 @@ fn grouped_by(
     match grouping {
         None => Labels::empty(alloc),
         Some(Grouping::AllLabels) => labels.clone(),
-        Some(Grouping::Named(names)) => labels.kept_by_names(alloc, names.as_slice()),
+        Some(Grouping::Named(names)) => labels.kept_by_names(alloc, names.get().as_slice()),
     }
 }

@@ -1,7 +1,7 @@
 //! Reads the routing tree into a list of routes in preorder. `read.rt` calls `read_routes`, and
 //! callers of `walk` call `is_too_deep` before. A route has only what it states itself;
 //! `amr_config` resolves what it inherits.
-ghost use Rattle.std.specs.Prelude.{◌≡◌};
+ghost use Rattle.std.specs.Prelude.{◌≡◌, IfOk};
 ghost use Rattle.serde_json.specs.View.{view, items_view};
 ghost use Rattle.amr_stated.specs.Paths.{place_path, under};
 ghost use Rattle.amr_stated.specs.Answers.{Gives, Reads, ReadsInto};
@@ -15,10 +15,10 @@ use crate::place::Place;
 use crate::read_matchers::read_matchers;
 use crate::route::{Grouping, Route};
 use crate::whole::Whole;
-use amr_labels::{Listing, Text};
+use amr_labels::{Listing, Shared, Text};
 use amr_time::Span;
 use serde_json::Value;
-use std::alloc::Global;
+use std::alloc::{AllocError, Global};
 
 /// Returns whether the names are `...` alone, which means all labels in Alertmanager.
 #[tactic(auto, using(crate::proofs::Names::not_alone, crate::proofs::Names::alone))]
@@ -32,23 +32,25 @@ fn is_all(names: &[Text]) -> bool
 }
 
 /// Returns the grouping by these names.
-fn grouping(names: Listing<Text>) -> Grouping
-    ensures { result ≡ grouping_of names }
+fn grouping(alloc: Global, names: Listing<Text>) -> Result<Grouping, AllocError>
+    ensures { IfOk result (λ grouping. grouping ≡ grouping_of names) }
 {
     if is_all(names.as_slice()) {
-        Grouping::AllLabels
-    } else {
-        Grouping::Named(names)
+        return Ok(Grouping::AllLabels);
     }
+    Ok(Grouping::Named(Shared::new(alloc, names)?))
 }
 
 /// Returns the grouping by these names, if `group_by` is present.
-fn stated_grouping(names: Option<Listing<Text>>) -> Option<Grouping>
-    ensures { result ≡ grouping_stated names }
+fn stated_grouping(
+    alloc: Global,
+    names: Option<Listing<Text>>,
+) -> Result<Option<Grouping>, AllocError>
+    ensures { IfOk result (λ grouping. grouping ≡ grouping_stated names) }
 {
     match names {
-        Some(names) => Some(grouping(names)),
-        None => None,
+        Some(names) => Ok(Some(grouping(alloc, names)?)),
+        None => Ok(None),
     }
 }
 
@@ -76,12 +78,13 @@ fn read_route(
     let mute = names_member(alloc, whole, place, value, "mute_time_intervals")?;
     let receiver = text_member(alloc, place, value, "receiver")?;
     let repeat_interval = span_member(alloc, place, value, "repeat_interval")?;
+    let grouping = stated_grouping(alloc, group_by)?;
     Ok(Route {
         parent,
         matchers,
         continues: continues.unwrap_or(false),
         receiver,
-        group_by: stated_grouping(group_by),
+        group_by: grouping,
         group_wait,
         group_interval,
         repeat_interval,

@@ -1,7 +1,7 @@
 //! A route with what it states itself. `amr_config` resolves what it inherits.
 ghost use Rattle.std.specs.Prelude.{◌≡◌};
 
-use amr_labels::{Exact, Listing, Text};
+use amr_labels::{Exact, Listing, Shared, Text};
 use amr_matchers::Matchers;
 use amr_time::Span;
 use std::alloc::AllocError;
@@ -11,8 +11,8 @@ use std::alloc::AllocError;
 pub enum Grouping {
     /// By all labels; stated as `["..."]`.
     AllLabels,
-    /// By the labels with these names.
-    Named(Listing<Text>),
+    /// By the labels with these names. Clones share the list, since a route below takes its parent's.
+    Named(Shared<Listing<Text>>),
 }
 
 impl Clone for Grouping {

@@ -77,4 +77,4 @@ pub returns : goal.returns
 unfolding route_at next
 returns c =
     read_past_object _ _ _ (sym c.is_object.ensures ∙ c.if-not-is_object.false)
-    ∙ rw (c.in_ok-active.ensures, c.in_ok-continues.ensures, c.in_ok-group_by.ensures, c.in_ok-group_interval.ensures, c.in_ok-group_wait.ensures, c.in_ok-matchers.ensures, c.in_ok-mute.ensures, c.in_ok-receiver.ensures, c.in_ok-repeat_interval.ensures, c.unwrap_or.ensures, c.stated_grouping.ensures, c.unwrap_or-2.ensures, c.new.ensures, c.unwrap_or-3.ensures, c.new-2.ensures) refl
+    ∙ rw (c.in_ok-active.ensures, c.in_ok-continues.ensures, c.in_ok-group_by.ensures, c.in_ok-group_interval.ensures, c.in_ok-group_wait.ensures, c.in_ok-matchers.ensures, c.in_ok-mute.ensures, c.in_ok-receiver.ensures, c.in_ok-repeat_interval.ensures, c.unwrap_or.ensures, c.in_ok-grouping.ensures, c.unwrap_or-2.ensures, c.new.ensures, c.unwrap_or-3.ensures, c.new-2.ensures) refl
