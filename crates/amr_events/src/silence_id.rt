@@ -104,4 +104,8 @@ impl Key for SilenceId {
     ghost use Rattle.std.specs.FinMap.{nat_cmp-IsAntisymmetric};
 
     ghost exact = { nat_cmp-IsAntisymmetric };
+
+    fn spread(&self) -> usize {
+        (self.bits % (1 << 64)) as usize
+    }
 }

@@ -18,6 +18,9 @@ pub(crate) struct KeyedTexts {
     /// itself. Most label sets differ only in their last labels, so comparing one text is much
     /// faster than following the texts one by one.
     key: Option<String>,
+    /// A number made of the sort key, by which tables spread label sets out. Contracts don't see
+    /// it.
+    spread: usize,
 }
 
 impl Model for KeyedTexts {
@@ -44,7 +47,16 @@ impl KeyedTexts {
         ensures { IfOk result (λ keyed. keyed ≡ texts) }
     {
         let key = sort_key(alloc, texts.entries())?;
-        Ok(KeyedTexts { texts, key })
+        let spread = match &key {
+            Some(key) => spread_of(key.as_str()),
+            None => 0,
+        };
+        Ok(KeyedTexts { texts, key, spread })
+    }
+
+    /// Returns a number made of the texts.
+    pub(crate) fn spread(&self) -> usize {
+        self.spread
     }
 
     /// Returns the texts.
@@ -123,4 +135,13 @@ fn push_text(key: &mut String, text: &Text) -> Result<(), AllocError>
 {
     key.push_str(text.as_str())?;
     key.push('\0')
+}
+
+/// Returns a number made of the bytes of a text: the hash of Fowler, Noll and Vo (FNV-1a).
+fn spread_of(text: &str) -> usize {
+    let mut spread: usize = 0xcbf2_9ce4_8422_2325;
+    for byte in text.as_bytes() {
+        spread = (spread ^ usize::from(*byte)).wrapping_mul(0x100_0000_01b3);
+    }
+    spread
 }

@@ -112,6 +112,11 @@ impl Labels {
         self.texts().is_empty()
     }
 
+    /// Returns a number made of the texts, by which tables spread label sets out.
+    pub fn spread(&self) -> usize {
+        self.shared.get().spread()
+    }
+
     /// Returns an equal label set. It shares the texts.
     pub fn copy(&self) -> Result<Labels, AllocError>
         ensures { IfOk result (λ copy. copy ≡ self.now) }

@@ -143,6 +143,14 @@ impl Key for LogKey {
     ghost use Rattle.amr_state.specs.State.{log_key_cmp-IsAntisymmetric};
 
     ghost exact = { log_key_cmp-IsAntisymmetric };
+
+    fn spread(&self) -> usize {
+        self.group
+            .spread()
+            .wrapping_add(self.place)
+            .wrapping_add(self.kind.as_str().len())
+            .wrapping_add(self.receiver.as_str().len() << 8)
+    }
 }
 
 impl Exact for LogKey {

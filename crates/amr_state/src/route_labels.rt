@@ -31,6 +31,10 @@ impl Key for RouteLabels {
     ghost use Rattle.amr_state.specs.State.{route_labels_cmp-IsAntisymmetric};
 
     ghost exact = { route_labels_cmp-IsAntisymmetric };
+
+    fn spread(&self) -> usize {
+        self.labels.spread().wrapping_add(self.route)
+    }
 }
 
 impl Exact for RouteLabels {

@@ -1,4 +1,5 @@
-pub mod Entering
+pub mod Adding
+mod Entering
 pub mod Marking
 pub mod Numbering
 pub mod Lowness

@@ -11,22 +11,30 @@ ghost use Rattle.amr_tables.specs.Numbered.{shown, has_place, is_entered, entry_
 use crate::entries::Entries;
 use crate::journal::Journal;
 use crate::marks::Marks;
+use crate::numbers::Numbers;
 use crate::slots::Slots;
 use crate::table::Table;
 use amr_labels::{Exact, Labels};
 use std::alloc::{AllocError, Global};
-use std::collections::BTreeMap;
 use std::marker::Model;
 
 /// A type of keys. Keys that compare equal are the same value.
-pub trait Key: Ord {
-    ghost exact: { IsAntisymmetric Self.cmp };
+pub trait Key: Ord + Exact {
+    /// Returns a number that spreads keys out. Nothing depends on it but how fast a key is found:
+    /// equal keys should have the same one, and other keys seldom.
+    fn spread(&self) -> usize;
+
+    ghost exact: { IsAntisymmetric Self.Ord.cmp };
 }
 
 impl Key for Labels {
     ghost use Rattle.amr_labels.specs.Labels.{label_set_cmp-IsAntisymmetric};
 
     ghost exact = { label_set_cmp-IsAntisymmetric };
+
+    fn spread(&self) -> usize {
+        self.spread()
+    }
 }
 
 /// A table of values by key. A key gets the next number, and its place, when it is first seen, and
@@ -34,7 +42,7 @@ impl Key for Labels {
 /// each place; `shown` is the finite map that they make.
 #[derive(Drop)]
 pub struct Keyed<K: Key, V> {
-    numbers: BTreeMap<K, usize>,
+    numbers: Numbers<K>,
     slots: Slots<V>,
     entered: Marks,
 }
@@ -46,9 +54,9 @@ impl<K: Key, V> Model for Keyed<K, V> {
 
     ghost coded = { numbered_code K.code V.code };
 
-    ghost view = { λ t. record { numbers = t.numbers.entries; cells = t.slots; marks = t.entered } };
+    ghost view = { λ t. record { numbers = t.numbers; cells = t.slots; marks = t.entered } };
 
-    ghost invariant = { λ t. IsNumbering K.cmp (record { numbers = t.numbers.entries; cells = t.slots; marks = t.entered }) };
+    ghost invariant = { λ t. IsNumbering K.cmp (record { numbers = t.numbers; cells = t.slots; marks = t.entered }) };
 }
 
 impl<K: Key + Drop, V: Drop> Keyed<K, V> {
@@ -60,7 +68,7 @@ impl<K: Key + Drop, V: Drop> Keyed<K, V> {
         ensures enough { HasPlaces K.cmp result }
     {
         Keyed {
-            numbers: BTreeMap::new(alloc),
+            numbers: Numbers::new(alloc),
             slots: Slots::new(alloc),
             entered: Marks::new(alloc),
         }
@@ -72,7 +80,7 @@ impl<K: Key + Drop, V: Drop> Keyed<K, V> {
     {
         match self.numbers.get(key) {
             None => None,
-            Some(number) => self.slots.look(*number),
+            Some(number) => self.slots.look(number),
         }
     }
 
@@ -101,7 +109,7 @@ impl<K: Key + Drop, V: Drop> Keyed<K, V> {
     {
         match self.numbers.get(key) {
             None => (false, None),
-            Some(number) => (true, self.slots.look(*number)),
+            Some(number) => (true, self.slots.look(number)),
         }
     }
 
@@ -157,7 +165,7 @@ impl<K: Key + Drop, V: Drop> Keyed<K, V> {
         ensures enough { HasPlaces K.cmp self.new }
     {
         match self.numbers.get(key) {
-            Some(number) => self.slots.displace(*number, value),
+            Some(number) => self.slots.displace(number, value),
             None => unreachable!(),
         }
     }
@@ -167,7 +175,7 @@ impl<K: Key + Drop, V: Drop> Keyed<K, V> {
         ensures { result ≡ is_entered K.cmp self.now key.now }
     {
         match self.numbers.get(key) {
-            Some(number) => self.entered.is_marked(*number),
+            Some(number) => self.entered.is_marked(number),
             None => false,
         }
     }
@@ -181,7 +189,7 @@ impl<K: Key + Drop, V: Drop> Keyed<K, V> {
         ensures keys { self.new.numbers ≡ self.old.numbers }
     {
         match self.numbers.get(key) {
-            Some(number) => self.entered.mark(*number),
+            Some(number) => self.entered.mark(number),
             None => unreachable!(),
         }
     }
@@ -223,9 +231,9 @@ impl<K: Key + Drop, V: Drop> Keyed<K, V> {
     {
         match self.numbers.get(key) {
             Some(number) => {
-                let was_entered = self.entered.is_marked(*number);
-                self.entered.mark(*number);
-                Ok((self.slots.displace(*number, value), was_entered))
+                let was_entered = self.entered.is_marked(number);
+                self.entered.mark(number);
+                Ok((self.slots.displace(number, value), was_entered))
             }
             None => Err(value),
         }
@@ -245,7 +253,7 @@ impl<K: Key + Drop, V: Drop> Keyed<K, V> {
 /// Sets or removes the value of a key. It makes a place for the key and marks it as entered, if
 /// need be. Returns the entry that the open record needs, which is the key with its former value,
 /// and leaves room for it there. Returns `None` if the place was marked before.
-pub fn change<K: Key + Exact + Drop, V: Drop, E>(
+pub fn change<K: Key + Drop, V: Drop, E>(
     table: &mut Keyed<K, V>,
     journal: &mut Journal<E>,
     key: &K,
@@ -280,7 +288,7 @@ pub fn change<K: Key + Exact + Drop, V: Drop, E>(
 
 /// Sets or removes the value of a key, and marks its place as entered. It makes a place for a new
 /// key. Returns the former value, and whether the place was marked before.
-fn exchange_placed<K: Key + Exact + Drop, V: Drop>(
+fn exchange_placed<K: Key + Drop, V: Drop>(
     table: &mut Keyed<K, V>,
     key: &K,
     value: Option<V>,

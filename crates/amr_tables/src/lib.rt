@@ -3,10 +3,12 @@
 #![tactic(auto)]
 
 mod entries;
+mod hints;
 mod journal;
 mod keyed;
 pub mod laws;
 mod marks;
+mod numbers;
 mod parts;
 mod queue;
 mod slots;

@@ -1,9 +1,7 @@
 use Rattle.std.proofs.Common.{◌≡◌, true, false, None, Some, sym, ap, subst, ◌∙◌, arith, is_some, IsTrue}
 use Rattle.std.specs.Prelude.{option_and_then}
-use Rattle.std.specs.Option.{option_copied}
 use Rattle.std.specs.FinMap.{find}
 use Rattle.std.proofs.lemmas.Bool.Decides.{nat_tests}
-use Rattle.amr_labels.proofs.Trees.{lookup_is}
 use Rattle.amr_labels.specs.Map as map
 use Rattle.amr_tables.specs.Places.{value_at}
 use Rattle.amr_tables.specs.Numbered.{IsNumbering, shown, has_place, is_entered}
@@ -13,15 +11,15 @@ use Rattle.amr_tables.proofs.keyed.Keyed.displace.Goals as goal
 pub displace-requires : goal.displace-requires
 displace-requires g c =
     let R = g.K.Ord.cmp in
-    let at : find R c.args.key.now c.self.inside.numbers.entries ≡ Some c.in-Some.number.now = lookup_is R c.self.inside.numbers.entries c.args.key.now ∙ sym c.get.ensures.value ∙ ap option_copied c.in-Some.is in
-    let lt = c.self.invariant.within c.args.key.now c.in-Some.number.now at in
+    let at : find R c.args.key.now c.self.inside.numbers ≡ Some c.in-Some.number = sym c.get.ensures ∙ c.in-Some.is in
+    let lt = c.self.invariant.within c.args.key.now c.in-Some.number at in
     grind (arith, nat_tests)
 
 pub unreachable-requires : goal.unreachable-requires
 unfolding has_place
 unreachable-requires g c =
     let R = g.K.Ord.cmp in
-    let at : find R c.args.key.now c.self.inside.numbers.entries ≡ None = lookup_is R c.self.inside.numbers.entries c.args.key.now ∙ sym c.get.ensures.value ∙ ap option_copied c.in-None.is in
+    let at : find R c.args.key.now c.self.inside.numbers ≡ None = sym c.get.ensures ∙ c.in-None.is in
     let no : has_place R c.args.self.now c.args.key.now ≡ false = sym (ap (λ v. has_place R v c.args.key.now) c.self.view_is) ∙ ap is_some at in
     let yes : false ≡ true = subst IsTrue no c.requires in
     absurd (cc)
@@ -29,7 +27,7 @@ unreachable-requires g c =
 pub returns-clause-answer : goal.returns-clause-answer
 returns-clause-answer g c =
     let R = g.K.Ord.cmp in
-    let at : find R c.args.key.now c.self.inside.numbers.entries ≡ Some c.in-Some.number.now = lookup_is R c.self.inside.numbers.entries c.args.key.now ∙ sym c.get.ensures.value ∙ ap option_copied c.in-Some.is in
+    let at : find R c.args.key.now c.self.inside.numbers ≡ Some c.in-Some.number = sym c.get.ensures ∙ c.in-Some.is in
     c.displace.ensures.answer
     ∙ sym (get-shown R g.met.K.Ord.total _ c.args.key.now c.self.invariant ∙ ap (option_and_then (value_at c.self.inside.slots)) at)
     ∙ ap (λ v. map.get (shown R v) c.args.key.now) c.self.view_is
@@ -38,9 +36,9 @@ pub returns-clause-shown : goal.returns-clause-shown
 returns-clause-shown g c =
     let R = g.K.Ord.cmp in
     let t = c.self.inside in
-    let at : find R c.args.key.now t.numbers.entries ≡ Some c.in-Some.number.now = lookup_is R t.numbers.entries c.args.key.now ∙ sym c.get.ensures.value ∙ ap option_copied c.in-Some.is in
-    ap (λ s. shown R (record { numbers = t.numbers.entries; cells = s; marks = t.entered })) c.displace.ensures.table
-    ∙ shown-displaced g.met.K.Ord.total g.met.K.Key.exact (record { numbers = t.numbers.entries; cells = t.slots; marks = t.entered }) c.args.key.now c.in-Some.number.now c.args.value c.self.invariant at
+    let at : find R c.args.key.now t.numbers ≡ Some c.in-Some.number = sym c.get.ensures ∙ c.in-Some.is in
+    ap (λ s. shown R (record { numbers = t.numbers; cells = s; marks = t.entered })) c.displace.ensures.table
+    ∙ shown-displaced g.met.K.Ord.total g.met.K.Key.exact (record { numbers = t.numbers; cells = t.slots; marks = t.entered }) c.args.key.now c.in-Some.number c.args.value c.self.invariant at
     ∙ ap (λ v. map.set (shown R v) c.args.key.now c.args.value) c.self.view_is
 
 pub returns-clause-places : goal.returns-clause-places
@@ -55,12 +53,12 @@ pub invariant_of-self : goal.invariant_of-self
 invariant_of-self g c =
     let R = g.K.Ord.cmp in
     let t = c.self.inside in
-    subst (λ s. IsNumbering R (record { numbers = t.numbers.entries; cells = s; marks = t.entered })) (sym c.displace.ensures.table)
-    (displaced_is g.met.K.Ord.total (record { numbers = t.numbers.entries; cells = t.slots; marks = t.entered }) c.in-Some.number.now c.args.value c.self.invariant)
+    subst (λ s. IsNumbering R (record { numbers = t.numbers; cells = s; marks = t.entered })) (sym c.displace.ensures.table)
+    (displaced_is g.met.K.Ord.total (record { numbers = t.numbers; cells = t.slots; marks = t.entered }) c.in-Some.number c.args.value c.self.invariant)
 
 pub returns-clause-enough : goal.returns-clause-enough
 returns-clause-enough g c =
     let R = g.K.Ord.cmp in
     let t = c.self.inside in
-    enough_places R _ (subst (λ s. IsNumbering R (record { numbers = t.numbers.entries; cells = s; marks = t.entered })) (sym c.displace.ensures.table)
-    (displaced_is g.met.K.Ord.total (record { numbers = t.numbers.entries; cells = t.slots; marks = t.entered }) c.in-Some.number.now c.args.value c.self.invariant))
+    enough_places R _ (subst (λ s. IsNumbering R (record { numbers = t.numbers; cells = s; marks = t.entered })) (sym c.displace.ensures.table)
+    (displaced_is g.met.K.Ord.total (record { numbers = t.numbers; cells = t.slots; marks = t.entered }) c.in-Some.number c.args.value c.self.invariant))

@@ -1,8 +1,6 @@
 use Rattle.std.proofs.Common.{◌≡◌, None, Some, sym, ap, ◌∙◌}
 use Rattle.std.specs.Prelude.{option_and_then}
-use Rattle.std.specs.Option.{option_copied}
 use Rattle.std.specs.FinMap.{find}
-use Rattle.amr_labels.proofs.Trees.{lookup_is}
 use Rattle.amr_labels.specs.Map as map
 use Rattle.amr_tables.specs.Places.{value_at}
 use Rattle.amr_tables.specs.Numbered.{shown}
@@ -12,14 +10,14 @@ use Rattle.amr_tables.proofs.keyed.Keyed.get.Goals as goal
 pub returns-in-None : goal.returns-in-None
 returns-in-None g c =
     let t = c.self.inside in
-    let at : find g.K.Ord.cmp c.args.key.now t.numbers.entries ≡ None = lookup_is g.K.Ord.cmp t.numbers.entries c.args.key.now ∙ sym c.get.ensures.value ∙ ap option_copied c.in-None.is in
+    let at : find g.K.Ord.cmp c.args.key.now t.numbers ≡ None = sym c.get.ensures ∙ c.in-None.is in
     sym (get-shown g.K.Ord.cmp g.met.K.Ord.total _ c.args.key.now c.self.invariant ∙ ap (option_and_then (value_at t.slots)) at)
     ∙ ap (λ v. map.get (shown g.K.Ord.cmp v) c.args.key.now) c.self.view_is
 
 pub returns-in-Some : goal.returns-in-Some
 returns-in-Some g c =
     let t = c.self.inside in
-    let at : find g.K.Ord.cmp c.args.key.now t.numbers.entries ≡ Some c.in-Some.number.now = lookup_is g.K.Ord.cmp t.numbers.entries c.args.key.now ∙ sym c.get.ensures.value ∙ ap option_copied c.in-Some.is in
+    let at : find g.K.Ord.cmp c.args.key.now t.numbers ≡ Some c.in-Some.number = sym c.get.ensures ∙ c.in-Some.is in
     c.look.ensures
     ∙ sym (get-shown g.K.Ord.cmp g.met.K.Ord.total _ c.args.key.now c.self.invariant ∙ ap (option_and_then (value_at t.slots)) at)
     ∙ ap (λ v. map.get (shown g.K.Ord.cmp v) c.args.key.now) c.self.view_is

@@ -1,7 +1,6 @@
 use Rattle.std.proofs.Common.{◌≡◌, false, None, Some, sym, ap, ◌∙◌, arith}
-use Rattle.std.specs.Option.{option_map_or, option_copied}
+use Rattle.std.specs.Option.{option_map_or}
 use Rattle.std.specs.FinMap.{find}
-use Rattle.amr_labels.proofs.Trees.{lookup_is}
 use Rattle.amr_tables.specs.Marked.{is_marked}
 use Rattle.amr_tables.specs.Numbered.{is_entered}
 use Rattle.amr_tables.proofs.keyed.Keyed.is_entered.Goals as goal
@@ -9,8 +8,8 @@ use Rattle.amr_tables.proofs.keyed.Keyed.is_entered.Goals as goal
 pub is_marked-requires : goal.is_marked-requires
 is_marked-requires g c =
     let R = g.K.Ord.cmp in
-    let at : find R c.args.key.now c.self.inside.numbers.entries ≡ Some c.in-Some.number.now = lookup_is R c.self.inside.numbers.entries c.args.key.now ∙ sym c.get.ensures.value ∙ ap option_copied c.in-Some.is in
-    let lt = c.self.invariant.within c.args.key.now c.in-Some.number.now at in
+    let at : find R c.args.key.now c.self.inside.numbers ≡ Some c.in-Some.number = sym c.get.ensures ∙ c.in-Some.is in
+    let lt = c.self.invariant.within c.args.key.now c.in-Some.number at in
     let most = c.self.invariant.marked in
     omega arith
 
@@ -18,7 +17,7 @@ pub returns-in-Some : goal.returns-in-Some
 unfolding is_entered
 returns-in-Some g c =
     let R = g.K.Ord.cmp in
-    let at : find R c.args.key.now c.self.inside.numbers.entries ≡ Some c.in-Some.number.now = lookup_is R c.self.inside.numbers.entries c.args.key.now ∙ sym c.get.ensures.value ∙ ap option_copied c.in-Some.is in
+    let at : find R c.args.key.now c.self.inside.numbers ≡ Some c.in-Some.number = sym c.get.ensures ∙ c.in-Some.is in
     c.is_marked.ensures ∙ ap (λ x. option_map_or (is_marked c.self.inside.entered) x false) (sym at)
     ∙ ap (λ v. is_entered R v c.args.key.now) c.self.view_is
 
@@ -26,6 +25,6 @@ pub returns-in-None : goal.returns-in-None
 unfolding is_entered
 returns-in-None g c =
     let R = g.K.Ord.cmp in
-    let at : find R c.args.key.now c.self.inside.numbers.entries ≡ None = lookup_is R c.self.inside.numbers.entries c.args.key.now ∙ sym c.get.ensures.value ∙ ap option_copied c.in-None.is in
+    let at : find R c.args.key.now c.self.inside.numbers ≡ None = sym c.get.ensures ∙ c.in-None.is in
     ap (λ x. option_map_or (is_marked c.self.inside.entered) x false) (sym at)
     ∙ ap (λ v. is_entered R v c.args.key.now) c.self.view_is

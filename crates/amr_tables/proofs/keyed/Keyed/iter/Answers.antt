@@ -7,5 +7,5 @@ use Rattle.amr_tables.proofs.keyed.Keyed.iter.Goals as goal
 
 pub returns : goal.returns
 returns g c =
-    ap (filter_map (entry_at c.self.inside.slots)) c.iter.ensures.rest
+    ap (filter_map (entry_at c.self.inside.slots)) c.iter.ensures
     ∙ sym (entries-shown g.K.Ord.cmp _ c.self.invariant) ∙ ap (λ t. entries (shown g.K.Ord.cmp t)) c.self.view_is

@@ -1,8 +1,6 @@
 use Rattle.std.proofs.Common.{◌≡◌, None, Some, is_some, sym, ap, ◌∙◌}
 use Rattle.std.specs.Prelude.{option_and_then}
-use Rattle.std.specs.Option.{option_copied}
 use Rattle.std.specs.FinMap.{find}
-use Rattle.amr_labels.proofs.Trees.{lookup_is}
 use Rattle.amr_labels.specs.Map as map
 use Rattle.amr_tables.specs.Places.{value_at}
 use Rattle.amr_tables.specs.Numbered.{shown, has_place}
@@ -12,14 +10,14 @@ use Rattle.amr_tables.proofs.keyed.Keyed.look_up.Goals as goal
 pub returns-in-None-clause-value : goal.returns-in-None-clause-value
 returns-in-None-clause-value g c =
     let t = c.self.inside in
-    let at : find g.K.Ord.cmp c.args.key.now t.numbers.entries ≡ None = lookup_is g.K.Ord.cmp t.numbers.entries c.args.key.now ∙ sym c.get.ensures.value ∙ ap option_copied c.in-None.is in
+    let at : find g.K.Ord.cmp c.args.key.now t.numbers ≡ None = sym c.get.ensures ∙ c.in-None.is in
     sym (get-shown g.K.Ord.cmp g.met.K.Ord.total _ c.args.key.now c.self.invariant ∙ ap (option_and_then (value_at t.slots)) at)
     ∙ ap (λ v. map.get (shown g.K.Ord.cmp v) c.args.key.now) c.self.view_is
 
 pub returns-in-Some-clause-value : goal.returns-in-Some-clause-value
 returns-in-Some-clause-value g c =
     let t = c.self.inside in
-    let at : find g.K.Ord.cmp c.args.key.now t.numbers.entries ≡ Some c.in-Some.number.now = lookup_is g.K.Ord.cmp t.numbers.entries c.args.key.now ∙ sym c.get.ensures.value ∙ ap option_copied c.in-Some.is in
+    let at : find g.K.Ord.cmp c.args.key.now t.numbers ≡ Some c.in-Some.number = sym c.get.ensures ∙ c.in-Some.is in
     c.look.ensures
     ∙ sym (get-shown g.K.Ord.cmp g.met.K.Ord.total _ c.args.key.now c.self.invariant ∙ ap (option_and_then (value_at t.slots)) at)
     ∙ ap (λ v. map.get (shown g.K.Ord.cmp v) c.args.key.now) c.self.view_is
@@ -28,12 +26,12 @@ pub returns-in-None-clause-place : goal.returns-in-None-clause-place
 unfolding has_place
 returns-in-None-clause-place g c =
     let t = c.self.inside in
-    let at : find g.K.Ord.cmp c.args.key.now t.numbers.entries ≡ None = lookup_is g.K.Ord.cmp t.numbers.entries c.args.key.now ∙ sym c.get.ensures.value ∙ ap option_copied c.in-None.is in
+    let at : find g.K.Ord.cmp c.args.key.now t.numbers ≡ None = sym c.get.ensures ∙ c.in-None.is in
     sym (sym (ap (λ v. has_place g.K.Ord.cmp v c.args.key.now) c.self.view_is) ∙ ap is_some at)
 
 pub returns-in-Some-clause-place : goal.returns-in-Some-clause-place
 unfolding has_place
 returns-in-Some-clause-place g c =
     let t = c.self.inside in
-    let at : find g.K.Ord.cmp c.args.key.now t.numbers.entries ≡ Some c.in-Some.number.now = lookup_is g.K.Ord.cmp t.numbers.entries c.args.key.now ∙ sym c.get.ensures.value ∙ ap option_copied c.in-Some.is in
+    let at : find g.K.Ord.cmp c.args.key.now t.numbers ≡ Some c.in-Some.number = sym c.get.ensures ∙ c.in-Some.is in
     sym (sym (ap (λ v. has_place g.K.Ord.cmp v c.args.key.now) c.self.view_is) ∙ ap is_some at)

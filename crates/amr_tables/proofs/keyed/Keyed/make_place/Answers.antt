@@ -4,7 +4,6 @@ use Rattle.std.specs.Ordering.{eq_by_cmp}
 use Rattle.std.specs.FinMap.{find, put}
 use Rattle.std.specs.FinMap.Entries.{find-put}
 use Rattle.std.proofs.lemmas.Bool.Decides.{nat_tests}
-use Rattle.amr_labels.proofs.Trees.{lookup_is, put_is}
 use Rattle.amr_tables.specs.Numbered.{Numbered, IsNumbering, shown, has_place, is_entered, number_of, SamePlaces, GrowsBy, places_for}
 use Rattle.amr_tables.proofs.Numbering.{HasRoom, grown_table, added_table, none_of, grown_by_one, placed_again, placed-added}
 use Rattle.amr_tables.proofs.keyed.Keyed.make_place.Goals as goal
@@ -14,12 +13,12 @@ unfolding has_place
 returns-then-contains_key-clause-made g c =
     let R = g.K.Ord.cmp in
     ap (λ v. has_place R v c.args.key) (sym c.self.view_is)
-    ∙ ap is_some (lookup_is R c.self.inside.numbers.entries c.args.key) ∙ sym c.contains_key.ensures ∙ c.if-contains_key.true
+    ∙ sym c.contains_key.ensures ∙ c.if-contains_key.true
 
 pub invariant_of-self-in_err-make_place : goal.invariant_of-self-in_err-make_place
 invariant_of-self-in_err-make_place g c =
     let R = g.K.Ord.cmp in
-    let t : Numbered g.row.K.Denot g.row.V.Denot = record { numbers = c.self.inside.numbers.entries; cells = c.self.inside.slots; marks = c.self.inside.entered } in
+    let t : Numbered g.row.K.Denot g.row.V.Denot = record { numbers = c.self.inside.numbers; cells = c.self.inside.slots; marks = c.self.inside.entered } in
     let len = c.len-number.ensures in
     let most = c.make_place.ensures.bound in
     let least = c.make_place.ensures.more in
@@ -36,7 +35,7 @@ invariant_of-self-in_err-make_place g c =
 pub returns-in_err-make_place-clause-shown : goal.returns-in_err-make_place-clause-shown
 returns-in_err-make_place-clause-shown g c =
     let R = g.K.Ord.cmp in
-    let t : Numbered g.row.K.Denot g.row.V.Denot = record { numbers = c.self.inside.numbers.entries; cells = c.self.inside.slots; marks = c.self.inside.entered } in
+    let t : Numbered g.row.K.Denot g.row.V.Denot = record { numbers = c.self.inside.numbers; cells = c.self.inside.slots; marks = c.self.inside.entered } in
     let len = c.len-number.ensures in
     let most = c.make_place.ensures.bound in
     let least = c.make_place.ensures.more in
@@ -53,7 +52,7 @@ returns-in_err-make_place-clause-shown g c =
 pub returns-in_err-make_place-clause-entered : goal.returns-in_err-make_place-clause-entered
 returns-in_err-make_place-clause-entered g c =
     let R = g.K.Ord.cmp in
-    let t : Numbered g.row.K.Denot g.row.V.Denot = record { numbers = c.self.inside.numbers.entries; cells = c.self.inside.slots; marks = c.self.inside.entered } in
+    let t : Numbered g.row.K.Denot g.row.V.Denot = record { numbers = c.self.inside.numbers; cells = c.self.inside.slots; marks = c.self.inside.entered } in
     let len = c.len-number.ensures in
     let most = c.make_place.ensures.bound in
     let least = c.make_place.ensures.more in
@@ -70,7 +69,7 @@ returns-in_err-make_place-clause-entered g c =
 pub returns-in_err-make_place-clause-places : goal.returns-in_err-make_place-clause-places
 returns-in_err-make_place-clause-places g c =
     let R = g.K.Ord.cmp in
-    let t : Numbered g.row.K.Denot g.row.V.Denot = record { numbers = c.self.inside.numbers.entries; cells = c.self.inside.slots; marks = c.self.inside.entered } in
+    let t : Numbered g.row.K.Denot g.row.V.Denot = record { numbers = c.self.inside.numbers; cells = c.self.inside.slots; marks = c.self.inside.entered } in
     let len = c.len-number.ensures in
     let most = c.make_place.ensures.bound in
     let least = c.make_place.ensures.more in
@@ -87,7 +86,7 @@ returns-in_err-make_place-clause-places g c =
 pub invariant_of-self-in_err-insert : goal.invariant_of-self-in_err-insert
 invariant_of-self-in_err-insert g c =
     let R = g.K.Ord.cmp in
-    let t : Numbered g.row.K.Denot g.row.V.Denot = record { numbers = c.self.inside.numbers.entries; cells = c.self.inside.slots; marks = c.self.inside.entered } in
+    let t : Numbered g.row.K.Denot g.row.V.Denot = record { numbers = c.self.inside.numbers; cells = c.self.inside.slots; marks = c.self.inside.entered } in
     let len = c.len-number.ensures in
     let most = c.make_place.ensures.bound in
     let least = c.make_place.ensures.more in
@@ -99,13 +98,13 @@ invariant_of-self-in_err-insert g c =
       bound = omega arith;
     } in
     let grown = grown_table R g.met.K.Ord.total t c.make_place.new.self c.add_place.new.self room in
-    let same : c.insert.new.self.entries ≡ t.numbers = c.in_err-insert.ensures.err in
+    let same : c.insert.new.self ≡ t.numbers = c.in_err-insert.ensures.err in
     subst (λ n. IsNumbering R (record { numbers = n; cells = c.make_place.new.self; marks = c.add_place.new.self })) (sym same) grown.numbering
 
 pub returns-in_err-insert-clause-shown : goal.returns-in_err-insert-clause-shown
 returns-in_err-insert-clause-shown g c =
     let R = g.K.Ord.cmp in
-    let t : Numbered g.row.K.Denot g.row.V.Denot = record { numbers = c.self.inside.numbers.entries; cells = c.self.inside.slots; marks = c.self.inside.entered } in
+    let t : Numbered g.row.K.Denot g.row.V.Denot = record { numbers = c.self.inside.numbers; cells = c.self.inside.slots; marks = c.self.inside.entered } in
     let len = c.len-number.ensures in
     let most = c.make_place.ensures.bound in
     let least = c.make_place.ensures.more in
@@ -117,13 +116,13 @@ returns-in_err-insert-clause-shown g c =
       bound = omega arith;
     } in
     let grown = grown_table R g.met.K.Ord.total t c.make_place.new.self c.add_place.new.self room in
-    let same : c.insert.new.self.entries ≡ t.numbers = c.in_err-insert.ensures.err in
+    let same : c.insert.new.self ≡ t.numbers = c.in_err-insert.ensures.err in
     ap (λ n. shown R (record { numbers = n; cells = c.make_place.new.self; marks = c.add_place.new.self })) same ∙ grown.same ∙ ap (shown R) c.self.view_is
 
 pub returns-in_err-insert-clause-entered : goal.returns-in_err-insert-clause-entered
 returns-in_err-insert-clause-entered g c =
     let R = g.K.Ord.cmp in
-    let t : Numbered g.row.K.Denot g.row.V.Denot = record { numbers = c.self.inside.numbers.entries; cells = c.self.inside.slots; marks = c.self.inside.entered } in
+    let t : Numbered g.row.K.Denot g.row.V.Denot = record { numbers = c.self.inside.numbers; cells = c.self.inside.slots; marks = c.self.inside.entered } in
     let len = c.len-number.ensures in
     let most = c.make_place.ensures.bound in
     let least = c.make_place.ensures.more in
@@ -135,13 +134,13 @@ returns-in_err-insert-clause-entered g c =
       bound = omega arith;
     } in
     let grown = grown_table R g.met.K.Ord.total t c.make_place.new.self c.add_place.new.self room in
-    let same : c.insert.new.self.entries ≡ t.numbers = c.in_err-insert.ensures.err in
+    let same : c.insert.new.self ≡ t.numbers = c.in_err-insert.ensures.err in
     λ other. ap (λ n. is_entered R (record { numbers = n; cells = c.make_place.new.self; marks = c.add_place.new.self }) other) same ∙ grown.entered other ∙ ap (λ v. is_entered R v other) c.self.view_is
 
 pub returns-in_err-insert-clause-places : goal.returns-in_err-insert-clause-places
 returns-in_err-insert-clause-places g c =
     let R = g.K.Ord.cmp in
-    let t : Numbered g.row.K.Denot g.row.V.Denot = record { numbers = c.self.inside.numbers.entries; cells = c.self.inside.slots; marks = c.self.inside.entered } in
+    let t : Numbered g.row.K.Denot g.row.V.Denot = record { numbers = c.self.inside.numbers; cells = c.self.inside.slots; marks = c.self.inside.entered } in
     let len = c.len-number.ensures in
     let most = c.make_place.ensures.bound in
     let least = c.make_place.ensures.more in
@@ -153,13 +152,13 @@ returns-in_err-insert-clause-places g c =
       bound = omega arith;
     } in
     let grown = grown_table R g.met.K.Ord.total t c.make_place.new.self c.add_place.new.self room in
-    let same : c.insert.new.self.entries ≡ t.numbers = c.in_err-insert.ensures.err in
+    let same : c.insert.new.self ≡ t.numbers = c.in_err-insert.ensures.err in
     λ other p. subst (λ n. IsTrue (has_place R (record { numbers = n; cells = c.make_place.new.self; marks = c.add_place.new.self }) other)) (sym same) (grown.placed other (subst (λ v. IsTrue (has_place R v other)) (sym c.self.view_is) p))
 
 pub invariant_of-self-2 : goal.invariant_of-self-2
 invariant_of-self-2 g c =
     let R = g.K.Ord.cmp in
-    let t : Numbered g.row.K.Denot g.row.V.Denot = record { numbers = c.self.inside.numbers.entries; cells = c.self.inside.slots; marks = c.self.inside.entered } in
+    let t : Numbered g.row.K.Denot g.row.V.Denot = record { numbers = c.self.inside.numbers; cells = c.self.inside.slots; marks = c.self.inside.entered } in
     let len = c.len-number.ensures in
     let most = c.make_place.ensures.bound in
     let least = c.make_place.ensures.more in
@@ -170,16 +169,16 @@ invariant_of-self-2 g c =
       more = c.make_place.ensures.more;
       bound = omega arith;
     } in
-    let none : find R c.args.key t.numbers ≡ None = none_of _ (ap is_some (lookup_is R t.numbers c.args.key) ∙ sym c.contains_key.ensures ∙ c.if-contains_key.false) in
+    let none : find R c.args.key t.numbers ≡ None = none_of _ (sym c.contains_key.ensures ∙ c.if-contains_key.false) in
     let lt : length t.cells < length c.make_place.new.self = let made = c.in_ok-make_place.ensures.made in grind (arith, nat_tests) in
-    let is : c.insert.new.self.entries ≡ put R c.args.key (length t.cells) t.numbers = c.in_ok-insert.ensures.entries ∙ put_is R t.numbers c.args.key c.len-number.result ∙ ap (λ n. put R c.args.key n t.numbers) len in
-    let added = added_table R g.met.K.Ord.total t c.args.key c.insert.new.self.entries c.make_place.new.self c.add_place.new.self room none lt is in
+    let is : c.insert.new.self ≡ put R c.args.key (length t.cells) t.numbers = c.in_ok-insert.ensures.ok ∙ ap (λ n. put R c.args.key n t.numbers) len in
+    let added = added_table R g.met.K.Ord.total t c.args.key c.insert.new.self c.make_place.new.self c.add_place.new.self room none lt is in
     added.0.numbering
 
 pub returns-clause-made : goal.returns-clause-made
 returns-clause-made g c =
     let R = g.K.Ord.cmp in
-    let t : Numbered g.row.K.Denot g.row.V.Denot = record { numbers = c.self.inside.numbers.entries; cells = c.self.inside.slots; marks = c.self.inside.entered } in
+    let t : Numbered g.row.K.Denot g.row.V.Denot = record { numbers = c.self.inside.numbers; cells = c.self.inside.slots; marks = c.self.inside.entered } in
     let len = c.len-number.ensures in
     let most = c.make_place.ensures.bound in
     let least = c.make_place.ensures.more in
@@ -190,16 +189,16 @@ returns-clause-made g c =
       more = c.make_place.ensures.more;
       bound = omega arith;
     } in
-    let none : find R c.args.key t.numbers ≡ None = none_of _ (ap is_some (lookup_is R t.numbers c.args.key) ∙ sym c.contains_key.ensures ∙ c.if-contains_key.false) in
+    let none : find R c.args.key t.numbers ≡ None = none_of _ (sym c.contains_key.ensures ∙ c.if-contains_key.false) in
     let lt : length t.cells < length c.make_place.new.self = let made = c.in_ok-make_place.ensures.made in grind (arith, nat_tests) in
-    let is : c.insert.new.self.entries ≡ put R c.args.key (length t.cells) t.numbers = c.in_ok-insert.ensures.entries ∙ put_is R t.numbers c.args.key c.len-number.result ∙ ap (λ n. put R c.args.key n t.numbers) len in
-    let added = added_table R g.met.K.Ord.total t c.args.key c.insert.new.self.entries c.make_place.new.self c.add_place.new.self room none lt is in
+    let is : c.insert.new.self ≡ put R c.args.key (length t.cells) t.numbers = c.in_ok-insert.ensures.ok ∙ ap (λ n. put R c.args.key n t.numbers) len in
+    let added = added_table R g.met.K.Ord.total t c.args.key c.insert.new.self c.make_place.new.self c.add_place.new.self room none lt is in
     added.1
 
 pub returns-clause-shown : goal.returns-clause-shown
 returns-clause-shown g c =
     let R = g.K.Ord.cmp in
-    let t : Numbered g.row.K.Denot g.row.V.Denot = record { numbers = c.self.inside.numbers.entries; cells = c.self.inside.slots; marks = c.self.inside.entered } in
+    let t : Numbered g.row.K.Denot g.row.V.Denot = record { numbers = c.self.inside.numbers; cells = c.self.inside.slots; marks = c.self.inside.entered } in
     let len = c.len-number.ensures in
     let most = c.make_place.ensures.bound in
     let least = c.make_place.ensures.more in
@@ -210,16 +209,16 @@ returns-clause-shown g c =
       more = c.make_place.ensures.more;
       bound = omega arith;
     } in
-    let none : find R c.args.key t.numbers ≡ None = none_of _ (ap is_some (lookup_is R t.numbers c.args.key) ∙ sym c.contains_key.ensures ∙ c.if-contains_key.false) in
+    let none : find R c.args.key t.numbers ≡ None = none_of _ (sym c.contains_key.ensures ∙ c.if-contains_key.false) in
     let lt : length t.cells < length c.make_place.new.self = let made = c.in_ok-make_place.ensures.made in grind (arith, nat_tests) in
-    let is : c.insert.new.self.entries ≡ put R c.args.key (length t.cells) t.numbers = c.in_ok-insert.ensures.entries ∙ put_is R t.numbers c.args.key c.len-number.result ∙ ap (λ n. put R c.args.key n t.numbers) len in
-    let added = added_table R g.met.K.Ord.total t c.args.key c.insert.new.self.entries c.make_place.new.self c.add_place.new.self room none lt is in
+    let is : c.insert.new.self ≡ put R c.args.key (length t.cells) t.numbers = c.in_ok-insert.ensures.ok ∙ ap (λ n. put R c.args.key n t.numbers) len in
+    let added = added_table R g.met.K.Ord.total t c.args.key c.insert.new.self c.make_place.new.self c.add_place.new.self room none lt is in
     added.0.same ∙ ap (shown R) c.self.view_is
 
 pub returns-clause-entered : goal.returns-clause-entered
 returns-clause-entered g c =
     let R = g.K.Ord.cmp in
-    let t : Numbered g.row.K.Denot g.row.V.Denot = record { numbers = c.self.inside.numbers.entries; cells = c.self.inside.slots; marks = c.self.inside.entered } in
+    let t : Numbered g.row.K.Denot g.row.V.Denot = record { numbers = c.self.inside.numbers; cells = c.self.inside.slots; marks = c.self.inside.entered } in
     let len = c.len-number.ensures in
     let most = c.make_place.ensures.bound in
     let least = c.make_place.ensures.more in
@@ -230,16 +229,16 @@ returns-clause-entered g c =
       more = c.make_place.ensures.more;
       bound = omega arith;
     } in
-    let none : find R c.args.key t.numbers ≡ None = none_of _ (ap is_some (lookup_is R t.numbers c.args.key) ∙ sym c.contains_key.ensures ∙ c.if-contains_key.false) in
+    let none : find R c.args.key t.numbers ≡ None = none_of _ (sym c.contains_key.ensures ∙ c.if-contains_key.false) in
     let lt : length t.cells < length c.make_place.new.self = let made = c.in_ok-make_place.ensures.made in grind (arith, nat_tests) in
-    let is : c.insert.new.self.entries ≡ put R c.args.key (length t.cells) t.numbers = c.in_ok-insert.ensures.entries ∙ put_is R t.numbers c.args.key c.len-number.result ∙ ap (λ n. put R c.args.key n t.numbers) len in
-    let added = added_table R g.met.K.Ord.total t c.args.key c.insert.new.self.entries c.make_place.new.self c.add_place.new.self room none lt is in
+    let is : c.insert.new.self ≡ put R c.args.key (length t.cells) t.numbers = c.in_ok-insert.ensures.ok ∙ ap (λ n. put R c.args.key n t.numbers) len in
+    let added = added_table R g.met.K.Ord.total t c.args.key c.insert.new.self c.make_place.new.self c.add_place.new.self room none lt is in
     λ other. added.0.entered other ∙ ap (λ v. is_entered R v other) c.self.view_is
 
 pub returns-clause-places : goal.returns-clause-places
 returns-clause-places g c =
     let R = g.K.Ord.cmp in
-    let t : Numbered g.row.K.Denot g.row.V.Denot = record { numbers = c.self.inside.numbers.entries; cells = c.self.inside.slots; marks = c.self.inside.entered } in
+    let t : Numbered g.row.K.Denot g.row.V.Denot = record { numbers = c.self.inside.numbers; cells = c.self.inside.slots; marks = c.self.inside.entered } in
     let len = c.len-number.ensures in
     let most = c.make_place.ensures.bound in
     let least = c.make_place.ensures.more in
@@ -250,19 +249,19 @@ returns-clause-places g c =
       more = c.make_place.ensures.more;
       bound = omega arith;
     } in
-    let none : find R c.args.key t.numbers ≡ None = none_of _ (ap is_some (lookup_is R t.numbers c.args.key) ∙ sym c.contains_key.ensures ∙ c.if-contains_key.false) in
+    let none : find R c.args.key t.numbers ≡ None = none_of _ (sym c.contains_key.ensures ∙ c.if-contains_key.false) in
     let lt : length t.cells < length c.make_place.new.self = let made = c.in_ok-make_place.ensures.made in grind (arith, nat_tests) in
-    let is : c.insert.new.self.entries ≡ put R c.args.key (length t.cells) t.numbers = c.in_ok-insert.ensures.entries ∙ put_is R t.numbers c.args.key c.len-number.result ∙ ap (λ n. put R c.args.key n t.numbers) len in
-    let added = added_table R g.met.K.Ord.total t c.args.key c.insert.new.self.entries c.make_place.new.self c.add_place.new.self room none lt is in
+    let is : c.insert.new.self ≡ put R c.args.key (length t.cells) t.numbers = c.in_ok-insert.ensures.ok ∙ ap (λ n. put R c.args.key n t.numbers) len in
+    let added = added_table R g.met.K.Ord.total t c.args.key c.insert.new.self c.make_place.new.self c.add_place.new.self room none lt is in
     λ other p. added.0.placed other (subst (λ v. IsTrue (has_place R v other)) (sym c.self.view_is) p)
 
 pub returns-clause-keys : goal.returns-clause-keys
 returns-clause-keys g c =
     let R = g.K.Ord.cmp in
-    let t : Numbered g.row.K.Denot g.row.V.Denot = record { numbers = c.self.inside.numbers.entries; cells = c.self.inside.slots; marks = c.self.inside.entered } in
-    let u : Numbered g.row.K.Denot g.row.V.Denot = record { numbers = c.insert.new.self.entries; cells = c.make_place.new.self; marks = c.add_place.new.self } in
-    let none : find R c.args.key t.numbers ≡ None = none_of _ (ap is_some (lookup_is R t.numbers c.args.key) ∙ sym c.contains_key.ensures ∙ c.if-contains_key.false) in
-    let is : c.insert.new.self.entries ≡ put R c.args.key c.len-number.result t.numbers = c.in_ok-insert.ensures.entries ∙ put_is R t.numbers c.args.key c.len-number.result in
+    let t : Numbered g.row.K.Denot g.row.V.Denot = record { numbers = c.self.inside.numbers; cells = c.self.inside.slots; marks = c.self.inside.entered } in
+    let u : Numbered g.row.K.Denot g.row.V.Denot = record { numbers = c.insert.new.self; cells = c.make_place.new.self; marks = c.add_place.new.self } in
+    let none : find R c.args.key t.numbers ≡ None = none_of _ (sym c.contains_key.ensures ∙ c.if-contains_key.false) in
+    let is : c.insert.new.self ≡ put R c.args.key c.len-number.result t.numbers = c.in_ok-insert.ensures.ok in
     subst (λ v. GrowsBy R (places_for R v c.args.key) v u) c.self.view_is (grown_by_one R g.met.K.Ord.total t u c.args.key c.len-number.result c.self.invariant none is)
 
 pub returns-then-contains_key-clause-no_other : goal.returns-then-contains_key-clause-no_other
@@ -271,14 +270,14 @@ returns-then-contains_key-clause-no_other g c = λ other.
     let R = g.K.Ord.cmp in
     placed_again g.met.K.Ord.total c.args.self.now c.args.key other
     (ap (λ v. has_place R v c.args.key) (sym c.self.view_is)
-    ∙ ap is_some (lookup_is R c.self.inside.numbers.entries c.args.key) ∙ sym c.contains_key.ensures ∙ c.if-contains_key.true)
+    ∙ sym c.contains_key.ensures ∙ c.if-contains_key.true)
 
 pub returns-clause-no_other : goal.returns-clause-no_other
 unfolding has_place
 returns-clause-no_other g c = λ other.
     let R = g.K.Ord.cmp in
-    let t : Numbered g.row.K.Denot g.row.V.Denot = record { numbers = c.self.inside.numbers.entries; cells = c.make_place.new.self; marks = c.add_place.new.self } in
-    let is : c.insert.new.self.entries ≡ put R c.args.key c.len-number.result t.numbers = c.in_ok-insert.ensures.entries ∙ put_is R t.numbers c.args.key c.len-number.result in
+    let t : Numbered g.row.K.Denot g.row.V.Denot = record { numbers = c.self.inside.numbers; cells = c.make_place.new.self; marks = c.add_place.new.self } in
+    let is : c.insert.new.self ≡ put R c.args.key c.len-number.result t.numbers = c.in_ok-insert.ensures.ok in
     ap (λ n. has_place R (record t { numbers = n }) other) is
     ∙ placed-added g.met.K.Ord.total t c.args.key other c.len-number.result
     ∙ ap (λ v. eq_by_cmp R other c.args.key || has_place R v other) c.self.view_is
@@ -291,7 +290,7 @@ pub returns-in_err-make_place-clause-err : goal.returns-in_err-make_place-clause
 unfolding has_place
 returns-in_err-make_place-clause-err g c =
     let R = g.K.Ord.cmp in
-    let t : Numbered g.row.K.Denot g.row.V.Denot = record { numbers = c.self.inside.numbers.entries; cells = c.make_place.new.self; marks = c.add_place.new.self } in
+    let t : Numbered g.row.K.Denot g.row.V.Denot = record { numbers = c.self.inside.numbers; cells = c.make_place.new.self; marks = c.add_place.new.self } in
     let same : SamePlaces R c.args.self.now t = λ other. ap (λ v. has_place R v other) c.self.view_is in
     on_err_of _ _ same
 
@@ -299,8 +298,8 @@ pub returns-in_err-insert-clause-err : goal.returns-in_err-insert-clause-err
 unfolding has_place
 returns-in_err-insert-clause-err g c =
     let R = g.K.Ord.cmp in
-    let t : Numbered g.row.K.Denot g.row.V.Denot = record { numbers = c.insert.new.self.entries; cells = c.make_place.new.self; marks = c.add_place.new.self } in
-    let kept : c.insert.new.self.entries ≡ c.self.inside.numbers.entries = c.in_err-insert.ensures.err in
+    let t : Numbered g.row.K.Denot g.row.V.Denot = record { numbers = c.insert.new.self; cells = c.make_place.new.self; marks = c.add_place.new.self } in
+    let kept : c.insert.new.self ≡ c.self.inside.numbers = c.in_err-insert.ensures.err in
     let same : SamePlaces R c.args.self.now t = λ other. ap (λ n. is_some (find R other n)) kept ∙ ap (λ v. has_place R v other) c.self.view_is in
     on_err_of _ _ same
 
@@ -309,7 +308,7 @@ unfolding has_place
 returns-then-contains_key-clause-number g c = λ none other.
     let R = g.K.Ord.cmp in
     let some = ap (λ v. has_place R v c.args.key) (sym c.self.view_is)
-    ∙ ap is_some (lookup_is R c.self.inside.numbers.entries c.args.key) ∙ sym c.contains_key.ensures ∙ c.if-contains_key.true in
+    ∙ sym c.contains_key.ensures ∙ c.if-contains_key.true in
     let no : false ≡ true = sym none ∙ some in
     absurd (cc)
 
@@ -318,15 +317,18 @@ unfolding has_place
 returns-clause-numbers g c = λ some.
     let R = g.K.Ord.cmp in
     let none = ap (λ v. has_place R v c.args.key) (sym c.self.view_is)
-    ∙ ap is_some (lookup_is R c.self.inside.numbers.entries c.args.key) ∙ sym c.contains_key.ensures ∙ c.if-contains_key.false in
+    ∙ sym c.contains_key.ensures ∙ c.if-contains_key.false in
     let no : false ≡ true = sym none ∙ some in
     absurd (cc)
 
 pub returns-clause-number : goal.returns-clause-number
 returns-clause-number g c = λ none other.
     let R = g.K.Ord.cmp in
-    let t : Numbered g.row.K.Denot g.row.V.Denot = record { numbers = c.self.inside.numbers.entries; cells = c.self.inside.slots; marks = c.self.inside.entered } in
-    let is : c.insert.new.self.entries ≡ put R c.args.key (length t.cells) t.numbers =
-    c.in_ok-insert.ensures.entries ∙ put_is R t.numbers c.args.key c.len-number.result ∙ ap (λ n. put R c.args.key n t.numbers) c.len-number.ensures in
+    let t : Numbered g.row.K.Denot g.row.V.Denot = record { numbers = c.self.inside.numbers; cells = c.self.inside.slots; marks = c.self.inside.entered } in
+    let is : c.insert.new.self ≡ put R c.args.key (length t.cells) t.numbers =
+    c.in_ok-insert.ensures.ok ∙ ap (λ n. put R c.args.key n t.numbers) c.len-number.ensures in
     ap (find R other) is ∙ find-put R g.met.K.Ord.total other c.args.key (length t.cells) t.numbers
     ∙ ap (λ v. if eq_by_cmp R other c.args.key then Some (length v.cells) else number_of R v other) c.self.view_is
+
+pub insert-requires : goal.insert-requires
+insert-requires g c = none_of _ (sym c.contains_key.ensures ∙ c.if-contains_key.false)

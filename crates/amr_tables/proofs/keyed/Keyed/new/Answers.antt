@@ -5,13 +5,13 @@ use Rattle.amr_tables.proofs.keyed.Keyed.new.Goals as goal
 
 pub returns-clause-shown : goal.returns-clause-shown
 returns-clause-shown g c =
-    ap (λ n. shown g.K.Ord.cmp (record { numbers = n; cells = c.new-2.result; marks = c.new-3.result })) c.new.ensures.empty ∙ shown-none g.K.Ord.cmp _ _
+    ap (λ n. shown g.K.Ord.cmp (record { numbers = n; cells = c.new-2.result; marks = c.new-3.result })) c.new.ensures ∙ shown-none g.K.Ord.cmp _ _
 
 pub returns-clause-entered : goal.returns-clause-entered
 unfolding is_entered
 returns-clause-entered g c = λ key.
-    ap (λ n. is_entered g.K.Ord.cmp (record { numbers = n; cells = c.new-2.result; marks = c.new-3.result }) key) c.new.ensures.empty
+    ap (λ n. is_entered g.K.Ord.cmp (record { numbers = n; cells = c.new-2.result; marks = c.new-3.result }) key) c.new.ensures
 
 pub returns-clause-enough : goal.returns-clause-enough
 returns-clause-enough g c =
-    subst (λ n. HasPlaces g.K.Ord.cmp (record { numbers = n; cells = c.new-2.result; marks = c.new-3.result })) (sym c.new.ensures.empty) (enough_none g.K.Ord.cmp _ _)
+    subst (λ n. HasPlaces g.K.Ord.cmp (record { numbers = n; cells = c.new-2.result; marks = c.new-3.result })) (sym c.new.ensures) (enough_none g.K.Ord.cmp _ _)

@@ -1,0 +1,117 @@
+//! The numbers of the keys of a table. `Keyed` looks its keys up here.
+ghost use Rattle.std.specs.Prelude.{◌≡◌, None, Some, [], is_some, IfSome, OnOk, OnErr};
+ghost use Rattle.std.specs.FinMap.{find, put};
+
+use crate::hints::Hints;
+use crate::keyed::Key;
+use std::alloc::{AllocError, Global};
+use std::collections::BTreeMap;
+use std::collections::btree_map::Iter;
+use std::marker::Model;
+
+/// A number for each key. Contracts see the keys with their numbers, in the order of the keys.
+#[derive(Drop)]
+pub(crate) struct Numbers<K: Key> {
+    tree: BTreeMap<K, usize>,
+    /// The keys with their numbers, in the order in which they were added.
+    added: Vec<(K, usize)>,
+    /// Where in `added` a key may be.
+    hints: Hints,
+}
+
+impl<K: Key> Model for Numbers<K> {
+    ghost use Rattle.std.specs.Prelude.{◌≡◌, List, ℕ, Some};
+    ghost use Rattle.std.specs.BTreeMap.{IsOrdered};
+    ghost use Rattle.std.specs.Coded.{coded_list, coded_ℕ, coded×};
+    ghost use Rattle.std.specs.FinMap.{find};
+    ghost use Rattle.std.specs.List.{All};
+
+    ghost Value = { List (K × ℕ) };
+
+    ghost coded = { coded_list (coded× K.code coded_ℕ) };
+
+    ghost view = { λ numbers. numbers.tree.entries };
+
+    ghost invariant = { λ numbers. IsOrdered K.cmp numbers.tree
+        × All (λ key. find K.cmp key.0 numbers.tree.entries ≡ Some key.1) numbers.added.items };
+}
+
+impl<K: Key + Drop> Numbers<K> {
+    /// Builds the numbers of no keys.
+    pub(crate) fn new(alloc: Global) -> Numbers<K>
+        ensures { result ≡ [] }
+    {
+        Numbers {
+            tree: BTreeMap::new(alloc),
+            added: Vec::new(alloc),
+            hints: Hints::new(alloc),
+        }
+    }
+
+    /// Returns the number of a key.
+    pub(crate) fn get(&self, key: &K) -> Option<usize>
+        ensures { result ≡ find K.cmp key.now self.now }
+    {
+        match self.guessed(key) {
+            Some(number) => Some(number),
+            None => self.tree.get(key).copied(),
+        }
+    }
+
+    /// Returns whether a key has a number.
+    pub(crate) fn contains_key(&self, key: &K) -> bool
+        ensures { result ≡ is_some (find K.cmp key.now self.now) }
+    {
+        self.get(key).is_some()
+    }
+
+    /// Returns the number of a key if the guess of its place is right.
+    fn guessed(&self, key: &K) -> Option<usize>
+        ensures { IfSome result (λ number. find K.cmp key.now self.now ≡ Some number) }
+    {
+        let (guessed, number) = self.added.get(self.hints.guess(key.spread()))?;
+        if guessed == key { Some(*number) } else { None }
+    }
+
+    /// Gives a number to a key that has none.
+    pub(crate) fn insert(&mut self, key: K, number: usize) -> Result<(), AllocError>
+        requires { find K.cmp key self.old ≡ None }
+        ensures ok { OnOk result (self.new ≡ put K.cmp key number self.old) }
+        ensures err { OnErr result (self.new ≡ self.old) }
+    {
+        self.make_hints()?;
+        self.added.reserve(1)?;
+        let copy = key.clone()?;
+        self.tree.insert(key, number)?;
+        self.hints.note(copy.spread(), self.added.len());
+        self.added.push_reserved((copy, number));
+        Ok(())
+    }
+
+    /// Makes enough hints for one more key.
+    fn make_hints(&mut self) -> Result<(), AllocError>
+        ensures same { self.new ≡ self.old }
+    {
+        if self.hints.is_full(self.added.len()) {
+            self.hints.grow()?;
+            self.note_all();
+        }
+        Ok(())
+    }
+
+    /// Notes the places of all keys.
+    fn note_all(&mut self)
+        ensures { self.new ≡ self.old }
+    {
+        for (place, added) in self.added.iter().enumerate() {
+            self.hints.note(added.0.spread(), place);
+        }
+    }
+
+    /// Returns the keys with their numbers, in the order of the keys.
+    pub(crate) fn iter(&self) -> Iter<'_, K, usize>
+        ensures { result ≡ self.now }
+    {
+        self.tree.iter()
+    }
+}
