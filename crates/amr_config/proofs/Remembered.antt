@@ -1,12 +1,10 @@
 -- What is remembered of label sets, with one more.
-use Rattle.std.proofs.Common.{◌≡◌, cond, Some, refl, sym, ap, ◌∙◌}
+use Rattle.std.proofs.Common.{◌≡◌, cond, None, Some, refl, sym, ap, ◌∙◌}
 use Rattle.std.specs.declared.cmp.Ordering.TheVariants.{Less, Equal, Greater}
 use Rattle.std.specs.Ordering.{is_eq}
-use Rattle.std.specs.BTreeMap.{BTreeMap, insert_entry}
-use Rattle.std.specs.FinMap.{find}
-use Rattle.std.specs.FinMap.Entries.{find-put}
 use Rattle.amr_labels.specs.Labels.{LabelSet, label_set_cmp, label_set_cmp_total, label_set_cmp-IsAntisymmetric}
-use Rattle.amr_labels.proofs.Trees.{put_is}
+use Rattle.amr_labels.specs.Map.{empty, get, set, get-empty, get-set}
+use Rattle.amr_tables.specs.Numbered.{Numbered, shown}
 use Rattle.amr_config.specs.declared.router.Known.{Known}
 use Rattle.amr_config.specs.Config.{Config}
 use Rattle.amr_config.specs.Groups.{known_of, IsKnown}
@@ -14,11 +12,19 @@ use Rattle.amr_config.specs.Groups.{known_of, IsKnown}
 same_of_some : {X : Type 0} (x y : X) → Some x ≡ Some y → x ≡ y
 same_of_some x y e = cc
 
-pub known_more : (config : Config) (known more : BTreeMap LabelSet Known) (labels : LabelSet) (x : Known) → IsKnown config known → x ≡ known_of config labels → more.entries ≡ insert_entry label_set_cmp known.entries labels x → IsKnown config more
-known_more config known more labels x is_known is entries other found at =
-    let there = find-put label_set_cmp label_set_cmp_total other labels x known.entries in
-    elim (label_set_cmp other labels) as (λ o. label_set_cmp other labels ≡ o → cond (is_eq o) (Some x) (find label_set_cmp other known.entries) ≡ Some found → found ≡ known_of config other) [
+nothing_found : {X : Type 0} (x y : X) → None ≡ Some x → x ≡ y
+nothing_found x y e = absurd (cc)
+
+-- of no label set anything is remembered at first
+pub known_none : (config : Config) (known : Numbered LabelSet Known) → shown label_set_cmp known ≡ empty → IsKnown config known
+known_none config known none labels found at =
+    nothing_found found _ (sym (ap (λ m. get m labels) none ∙ get-empty label_set_cmp labels) ∙ at)
+
+pub known_more : (config : Config) (known more : Numbered LabelSet Known) (labels : LabelSet) (x : Known) → IsKnown config known → x ≡ known_of config labels → shown label_set_cmp more ≡ set (shown label_set_cmp known) labels (Some x) → IsKnown config more
+known_more config known more labels x is_known is shows other found at =
+    let there = get-set label_set_cmp_total (shown label_set_cmp known) labels (Some x) other in
+    elim (label_set_cmp other labels) as (λ o. label_set_cmp other labels ≡ o → cond (is_eq o) (Some x) (get (shown label_set_cmp known) other) ≡ Some found → found ≡ known_of config other) [
       | Less ↦ λ tie at. is_known other found at
       | Equal ↦ λ tie at. sym (same_of_some x found at) ∙ is ∙ ap (known_of config) (sym (label_set_cmp-IsAntisymmetric other labels tie))
       | Greater ↦ λ tie at. is_known other found at
-    ] refl (sym there ∙ ap (find label_set_cmp other) (sym (put_is label_set_cmp known.entries labels x) ∙ sym entries) ∙ at)
+    ] refl (sym there ∙ ap (λ m. get m other) (sym shows) ∙ at)

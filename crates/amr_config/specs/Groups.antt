@@ -1,8 +1,8 @@
 -- The groups that take an alert.
 use Rattle.std.specs.Prelude.{◌≡◌, ℕ, List, Some, map}
-use Rattle.std.specs.BTreeMap.{BTreeMap}
-use Rattle.std.specs.FinMap.{find}
 use Rattle.amr_labels.specs.Labels.{LabelSet, label_set_cmp}
+use Rattle.amr_labels.specs.Map.{get}
+use Rattle.amr_tables.specs.Numbered.{Numbered, shown}
 use Rattle.amr_config.specs.declared.router.Known.{Known}
 use Rattle.amr_config.specs.declared.router.RouteGroup.{RouteGroup}
 use Rattle.amr_config.specs.Config.{Config}
@@ -22,5 +22,5 @@ abbrev pub known_of : Config → LabelSet → Known
 known_of config labels = record { groups = groups_of config labels; rules = rule_matches labels config.rules }
 
 -- what is remembered of a label set are its groups, and the sides of the rules that it is on
-abbrev pub IsKnown : Config → BTreeMap LabelSet Known → Type 0
-IsKnown config known = (labels : LabelSet) (found : Known) → find label_set_cmp labels known.entries ≡ Some found → found ≡ known_of config labels
+abbrev pub IsKnown : Config → Numbered LabelSet Known → Type 0
+IsKnown config known = (labels : LabelSet) (found : Known) → get (shown label_set_cmp known) labels ≡ Some found → found ≡ known_of config labels

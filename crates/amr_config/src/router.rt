@@ -10,8 +10,8 @@ use crate::config::Config;
 use crate::rule_sides::{RuleMatch, rule_matches, rule_matches_remembered};
 use amr_labels::{Labels, Listing, Shared};
 use amr_matchers::Answers;
+use amr_tables::Keyed;
 use std::alloc::{AllocError, Global};
-use std::collections::BTreeMap;
 use std::marker::Model;
 
 /// A configuration that remembers what it worked out of label sets. Contracts see the
@@ -22,7 +22,7 @@ pub struct Router {
     config: Config,
     /// What the patterns of the matchers answered.
     answers: Answers,
-    known: BTreeMap<Labels, Known>,
+    known: Keyed<Labels, Known>,
 }
 
 /// What is remembered of a label set: its groups, and the sides of the inhibition rules that it is
@@ -61,7 +61,7 @@ impl Router {
             alloc,
             config,
             answers: Answers::new(alloc),
-            known: BTreeMap::new(alloc),
+            known: Keyed::new(alloc),
         }
     }
 
@@ -126,7 +126,8 @@ impl Router {
         ensures { self.new ≡ self.old }
     {
         let rules = sides_of(self.alloc, &self.config, &mut self.answers, labels)?;
-        self.known.insert(labels.clone()?, Known { groups, rules })?;
+        self.known.make_place(labels.clone()?)?;
+        self.known.displace(labels, Some(Known { groups, rules }));
         Ok(())
     }
 }

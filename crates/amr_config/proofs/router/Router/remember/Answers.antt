@@ -1,25 +1,21 @@
-use Rattle.std.proofs.Common.{◌≡◌, ◌∙◌, ap, sym}
-use Rattle.std.specs.FinMap.{find}
+use Rattle.std.proofs.Common.{◌≡◌, ◌∙◌, Some, ap, sym}
 use Rattle.amr_labels.specs.Labels.{label_set_cmp}
+use Rattle.amr_labels.specs.Map.{set}
+use Rattle.amr_tables.specs.Numbered.{shown}
 use Rattle.amr_config.specs.Config.{Config}
-use Rattle.amr_config.specs.Groups.{groups_of}
-use Rattle.amr_config.specs.RuleMatches.{rule_matches}
+use Rattle.amr_config.specs.declared.router.Known.{Known}
+use Rattle.amr_config.specs.Groups.{groups_of, known_of}
 use Rattle.amr_config.proofs.Remembered.{known_more}
 use Rattle.amr_config.proofs.router.Router.remember.Goals as goal
 
 pub invariant_of-self-2 : goal.invariant_of-self-2
 invariant_of-self-2 c =
     let config : Config = c.self.inside.config in
-    let same : config ≡ c.args.self.now = c.self.view_is in
-    let labels : c.args.labels.now ≡ c.in_ok-clone.field-0 = sym c.in_ok-clone.ensures.cases in
-    let groups : c.args.groups ≡ groups_of config c.in_ok-clone.field-0 =
-    c.requires ∙ ap (λ k. groups_of k c.args.labels.now) (sym same) ∙ ap (groups_of config) labels in
-    let rules : c.in_ok-rules.rules ≡ rule_matches c.in_ok-clone.field-0 config.rules =
-    c.in_ok-rules.ensures ∙ ap (λ labels. rule_matches labels config.rules) labels in
-    known_more config c.self.inside.known c.insert.new.self c.in_ok-clone.field-0 (record { groups = c.args.groups; rules = c.in_ok-rules.rules }) c.self.invariant
-    (λ i. record { groups = groups i; rules = rules i }) c.in_ok-insert.ensures.entries
-
--- nothing is inserted if memory runs out
-pub invariant_of-self-in_err-insert : goal.invariant_of-self-in_err-insert
-invariant_of-self-in_err-insert c = λ labels found at.
-    c.self.invariant labels found (ap (find label_set_cmp labels) (sym c.in_err-insert.ensures.err) ∙ at)
+    let known = c.self.inside.known in
+    let here = c.args.labels.now in
+    let found : Known = record { groups = c.args.groups; rules = c.in_ok-rules.rules } in
+    let groups : c.args.groups ≡ groups_of config here = c.requires ∙ ap (λ k. groups_of k here) (sym c.self.view_is) in
+    let is : found ≡ known_of config here = λ i. record { groups = groups i; rules = c.in_ok-rules.ensures i } in
+    let shows : shown label_set_cmp c.displace.new.self ≡ set (shown label_set_cmp known) here (Some found) =
+    c.displace.ensures.shown ∙ ap (λ m. set m here (Some found)) c.make_place.ensures.shown in
+    known_more config known c.displace.new.self here found c.self.invariant is shows
