@@ -21,6 +21,14 @@ groups_of config labels = map (group_at config labels) (chosen config labels)
 abbrev pub known_of : Config → LabelSet → Known
 known_of config labels = record { groups = groups_of config labels; rules = rule_matches labels config.rules }
 
+-- what is remembered of each label set is this answer
+abbrev pub Remembers : {X : Type 0} → (LabelSet → X) → Numbered LabelSet X → Type 0
+Remembers answer known = (labels : LabelSet) (found : _) → get (shown label_set_cmp known) labels ≡ Some found → found ≡ answer labels
+
 -- what is remembered of a label set are its groups, and the sides of the rules that it is on
 abbrev pub IsKnown : Config → Numbered LabelSet Known → Type 0
-IsKnown config known = (labels : LabelSet) (found : Known) → get (shown label_set_cmp known) labels ≡ Some found → found ≡ known_of config labels
+IsKnown config known = Remembers (known_of config) known
+
+-- group labels are kept under themselves
+abbrev pub AreUnderThemselves : Numbered LabelSet LabelSet → Type 0
+AreUnderThemselves kept = Remembers (λ labels. labels) kept

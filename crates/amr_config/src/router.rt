@@ -7,6 +7,7 @@ ghost use Rattle.amr_config.specs.Groups.{groups_of, group_at};
 ghost use Rattle.amr_config.specs.RuleMatches.{rule_matches};
 
 use crate::config::Config;
+use crate::group_labels::GroupLabels;
 use crate::rule_sides::{RuleMatch, rule_matches, rule_matches_remembered};
 use amr_labels::{Labels, Listing, Shared};
 use amr_matchers::Answers;
@@ -22,6 +23,8 @@ pub struct Router {
     config: Config,
     /// What the patterns of the matchers answered.
     answers: Answers,
+    /// The group labels that were made, which equal groups share.
+    group_labels: GroupLabels,
     known: Keyed<Labels, Known>,
 }
 
@@ -61,6 +64,7 @@ impl Router {
             alloc,
             config,
             answers: Answers::new(alloc),
+            group_labels: GroupLabels::new(alloc),
             known: Keyed::new(alloc),
         }
     }
@@ -110,7 +114,13 @@ impl Router {
         ensures groups { IfOk result (λ groups. groups ≡ groups_of self.old labels.now) }
         ensures same { self.new ≡ self.old }
     {
-        let found = groups_of(self.alloc, &self.config, &mut self.answers, labels)?;
+        let found = groups_of(
+            self.alloc,
+            &self.config,
+            &mut self.answers,
+            &mut self.group_labels,
+            labels,
+        )?;
         let groups = Shared::new(self.alloc, found)?;
         self.remember(labels, groups.clone()?)?;
         Ok(groups)
@@ -153,28 +163,31 @@ fn groups_of(
     alloc: Global,
     config: &Config,
     answers: &mut Answers,
+    group_labels: &mut GroupLabels,
     labels: &Labels,
 ) -> Result<Listing<RouteGroup>, AllocError>
     ensures { IfOk result (λ groups. groups ≡ groups_of config.now labels.now) }
 {
     let mut groups = Listing::new(alloc);
     for route in &config.routes_of_remembered(alloc, answers, labels)? {
-        groups.push(group_at(alloc, config, *route, labels)?)?;
+        groups.push(group_at(alloc, config, group_labels, *route, labels)?)?;
     }
     Ok(groups)
 }
 
-/// Works out the group of an alert with these labels at a route.
+/// Works out the group of an alert with these labels at a route. Equal groups share their labels.
 fn group_at(
     alloc: Global,
     config: &Config,
+    group_labels: &mut GroupLabels,
     route: usize,
     labels: &Labels,
 ) -> Result<RouteGroup, AllocError>
     ensures { IfOk result (λ group. group ≡ group_at config.now labels.now route) }
 {
+    let made = config.group_of(alloc, route, labels)?;
     Ok(RouteGroup {
         route,
-        labels: config.group_of(alloc, route, labels)?,
+        labels: group_labels.share(made)?,
     })
 }

@@ -1,5 +1,6 @@
-use Rattle.amr_config.proofs.Remembered.{known_none}
+use Rattle.amr_config.specs.Groups.{known_of}
+use Rattle.amr_config.proofs.Remembered.{remembers_none}
 use Rattle.amr_config.proofs.router.Router.new.Goals as goal
 
 pub invariant_of-result : goal.invariant_of-result
-invariant_of-result c = known_none c.args.config c.new-2.result c.new-2.ensures.shown
+invariant_of-result c = remembers_none (known_of c.args.config) c.new-3.result c.new-3.ensures.shown

@@ -5,7 +5,7 @@ use Rattle.amr_tables.specs.Numbered.{shown}
 use Rattle.amr_config.specs.Config.{Config}
 use Rattle.amr_config.specs.declared.router.Known.{Known}
 use Rattle.amr_config.specs.Groups.{groups_of, known_of}
-use Rattle.amr_config.proofs.Remembered.{known_more}
+use Rattle.amr_config.proofs.Remembered.{remembers_more}
 use Rattle.amr_config.proofs.router.Router.remember.Goals as goal
 
 pub invariant_of-self-2 : goal.invariant_of-self-2
@@ -18,4 +18,4 @@ invariant_of-self-2 c =
     let is : found ≡ known_of config here = λ i. record { groups = groups i; rules = c.in_ok-rules.ensures i } in
     let shows : shown label_set_cmp c.displace.new.self ≡ set (shown label_set_cmp known) here (Some found) =
     c.displace.ensures.shown ∙ ap (λ m. set m here (Some found)) c.make_place.ensures.shown in
-    known_more config known c.displace.new.self here found c.self.invariant is shows
+    remembers_more (known_of config) known c.displace.new.self here found c.self.invariant is shows

@@ -1,0 +1,56 @@
+//! The group labels that were made, each kept once, so that the members of a group share one label
+//! set.
+ghost use Rattle.std.specs.Prelude.{◌≡◌, IfOk};
+
+use amr_labels::Labels;
+use amr_tables::Keyed;
+use std::alloc::{AllocError, Global};
+use std::marker::Model;
+
+/// Group labels, of which equal ones are kept once. Contracts see nothing of them.
+#[derive(Drop)]
+pub(crate) struct GroupLabels {
+    kept: Keyed<Labels, Labels>,
+}
+
+impl Model for GroupLabels {
+    ghost use Rattle.amr_config.specs.Groups.{AreUnderThemselves};
+
+    ghost Value = { Unit {0} };
+
+    ghost view = { λ groups. tt };
+
+    ghost invariant = { λ groups. AreUnderThemselves groups.kept };
+}
+
+impl GroupLabels {
+    /// Returns these group labels. It returns the ones that it keeps if they are equal, and
+    /// otherwise keeps these.
+    pub(crate) fn share(&mut self, labels: Labels) -> Result<Labels, AllocError>
+        ensures { IfOk result (λ shared. shared ≡ labels) }
+    {
+        match self.kept.get(&labels) {
+            Some(kept) => kept.clone(),
+            None => self.keep(labels),
+        }
+    }
+
+    /// Starts without group labels.
+    pub(crate) fn new(alloc: Global) -> GroupLabels
+        ensures { result ≡ tt }
+    {
+        GroupLabels {
+            kept: Keyed::new(alloc),
+        }
+    }
+
+    /// Keeps these group labels, and returns them.
+    fn keep(&mut self, labels: Labels) -> Result<Labels, AllocError>
+        ensures { IfOk result (λ kept. kept ≡ labels) }
+    {
+        let kept = labels.clone()?;
+        self.kept.make_place(labels.clone()?)?;
+        self.kept.displace(&labels, Some(kept));
+        Ok(labels)
+    }
+}
