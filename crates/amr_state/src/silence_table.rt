@@ -17,7 +17,6 @@ use amr_rules::{
 use amr_tables::{Journal, Keyed, change};
 use amr_time::Moment;
 use std::alloc::{AllocError, Global};
-use std::collections::BTreeMap;
 use std::marker::Model;
 
 /// How many label sets the silences are asked for at once at most. It bounds the memory that the
@@ -35,7 +34,7 @@ pub(crate) struct SilenceTable {
     silences: Keyed<SilenceId, Silence>,
     /// What the patterns of the silences' matchers answered.
     answers: Answers,
-    known: BTreeMap<Labels, KnownPeriods>,
+    known: Keyed<Labels, KnownPeriods>,
 }
 
 /// When silences that match a label set are active, from a moment on.
@@ -76,7 +75,7 @@ impl SilenceTable {
             alloc,
             silences: Keyed::new(alloc),
             answers: Answers::new(alloc),
-            known: BTreeMap::new(alloc),
+            known: Keyed::new(alloc),
         }
     }
 
@@ -187,8 +186,11 @@ impl SilenceTable {
         requires { periods ≡ silence_periods at labels.now (shown nat_cmp self.old) }
         ensures { self.new ≡ self.old }
     {
-        let known = KnownPeriods { from: at, periods };
-        self.known.insert(labels.clone()?, known)?;
+        self.known.make_place(labels.clone()?)?;
+        drop(
+            self.known
+                .displace(labels, Some(KnownPeriods { from: at, periods })),
+        );
         Ok(())
     }
 
@@ -240,7 +242,7 @@ impl SilenceTable {
         ensures current { journal.new.current ≡ journal.old.current }
         ensures record_room { journal.new.record_room ≡ journal.old.record_room }
     {
-        self.known.clear();
+        self.known = Keyed::new(self.alloc);
         change(&mut self.silences, journal, id, silence)
     }
 
@@ -254,7 +256,7 @@ impl SilenceTable {
         ensures keys { self.new.numbers ≡ self.old.numbers }
         ensures enough { HasPlaces nat_cmp self.new }
     {
-        self.known.clear();
+        self.known = Keyed::new(self.alloc);
         drop(self.silences.displace(id, silence));
     }
 }

@@ -1,9 +1,8 @@
 use Rattle.std.proofs.Common.{◌≡◌, ◌≤◌, ℕ, Some, rules, arith, sym, ap, ◌∙◌}
 use Rattle.std.proofs.lemmas.Grind.{common_steps}
-use Rattle.std.specs.FinMap.{find}
 use Rattle.std.specs.Ordering.{nat_cmp}
+use Rattle.amr_labels.specs.Map.{get}
 use Rattle.amr_labels.specs.Labels.{label_set_cmp}
-use Rattle.amr_labels.proofs.Trees.{lookup_is}
 use Rattle.amr_tables.specs.Numbered.{Numbered, shown}
 use Rattle.amr_rules.specs.declared.silence.Silence.{Silence}
 use Rattle.amr_rules.specs.Muting.{silencer_of}
@@ -17,7 +16,7 @@ returns c =
     let at = c.args.at in
     let labels = c.args.labels.now in
     let known = c.in_ok-known.known.now in
-    let found : find label_set_cmp labels t.known.entries ≡ Some known = lookup_is label_set_cmp t.known.entries labels ∙ sym c.in_ok-known.ensures.value in
+    let found : get (shown label_set_cmp t.known) labels ≡ Some known = sym c.in_ok-known.ensures in
     let le : known.from ≤ at = first_of (search rules, grind (arith, common_steps)) in
     ap (silenced_in at) (c.as_slice.ensures ∙ c.self.invariant labels known found)
     ∙ silencer_in at known.from labels (shown nat_cmp t.silences) le

@@ -1,6 +1,6 @@
-use Rattle.std.proofs.Common.{◌≡◌, sym, ap, ◌∙◌}
-use Rattle.std.specs.FinMap.{find}
+use Rattle.std.proofs.Common.{◌≡◌, Some, sym, ap, ◌∙◌}
 use Rattle.std.specs.Ordering.{nat_cmp}
+use Rattle.amr_labels.specs.Map.{Map, set}
 use Rattle.amr_labels.specs.Labels.{label_set_cmp}
 use Rattle.amr_tables.specs.Numbered.{shown}
 use Rattle.amr_rules.specs.SilencePeriods.{silence_periods}
@@ -12,11 +12,6 @@ pub invariant_of-self-2 : goal.invariant_of-self-2
 invariant_of-self-2 c =
     let t = c.self.inside in
     let known : KnownPeriods = record { from = c.args.at; periods = c.args.periods } in
-    let labels : c.in_ok-clone.field-0 ≡ c.args.labels.now = c.in_ok-clone.ensures.cases in
-    known_more t.silences t.known c.insert.new.self c.in_ok-clone.field-0 known c.self.invariant
-    (c.requires ∙ (λ i. silence_periods c.args.at (sym labels i) (shown nat_cmp (sym c.self.view_is i)))) c.in_ok-insert.ensures.entries
-
--- nothing is inserted if memory runs out
-pub invariant_of-self-in_err-insert : goal.invariant_of-self-in_err-insert
-invariant_of-self-in_err-insert c = λ labels found at.
-    c.self.invariant labels found (ap (find label_set_cmp labels) (sym c.in_err-insert.ensures.err) ∙ at)
+    known_more t.silences t.known c.displace.new.self c.args.labels.now known c.self.invariant
+    (c.requires ∙ (λ i. silence_periods c.args.at c.args.labels.now (shown nat_cmp (sym c.self.view_is i))))
+    (c.displace.ensures.shown ∙ ap (λ (m : Map label_set_cmp KnownPeriods). set m c.args.labels.now (Some known)) c.in_ok-make_place.ensures.shown)

@@ -1,0 +1,6 @@
+use Rattle.amr_state.proofs.SilencesKnown.{none_known}
+use Rattle.amr_state.proofs.silence_table.SilenceTable.change.Goals as goal
+
+-- nothing is remembered from before a change
+pub invariant_of-self : goal.invariant_of-self
+invariant_of-self g c = none_known c.change.new.table c.new.result c.new.ensures.shown
