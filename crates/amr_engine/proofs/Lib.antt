@@ -12,3 +12,4 @@ pub mod Growing
 pub mod QuietLaws
 pub mod QuietStays
 pub mod Remembering
+pub mod Forgetting

@@ -40,16 +40,16 @@ use Rattle.amr_engine.specs.declared.quiet.QuietTime.{QuietTime}
 use Rattle.amr_engine.specs.declared.quiet.QuietGroups.{QuietGroups}
 use Rattle.amr_engine.specs.Flush.{Members, let_through, labels_of, log_key_of, flush}
 use Rattle.amr_engine.specs.Quiet.{is_outside, no_alert_ends, no_source_ends, no_silence_turns, all_fire_until, is_untimed, no_repeat_before, is_notified, are_notified, with_timer_reset, IsStill, IsQuiet, IsQuietWith, LeavesOthers}
-use Rattle.amr_engine.specs.Remembered.{covers, times_at, is_known, of_others, with_time, AreQuiet, IsStillIn, IsTrueOf}
+use Rattle.amr_engine.specs.Remembered.{covers, Times, remembered, times_at, is_known, of_others, with_time, AreQuiet, IsStillIn, IsTrueOf}
 use Rattle.amr_engine.proofs.QuietLaws.{both, quiet_flush, stays_quiet}
 use Rattle.amr_engine.proofs.QuietStays.{equal, flush_leaves, quiet_left, still_left}
 
 -- ---- what is remembered
 
 -- a memory of no group is true of each state
-pub nothing_known : (memory : QuietGroups) → memory.times ≡ empty → memory.still ≡ None → (s : State) → IsTrueOf memory s
+pub nothing_known : (memory : QuietGroups) → remembered memory ≡ empty → memory.still ≡ None → (s : State) → IsTrueOf memory s
 nothing_known memory times still s = record {
-  quiet = λ labels. subst (AreQuiet s labels) (sym (ap (λ (m : Map label_set_cmp (List QuietTime)). unwrap_or (get m labels) []) times ∙ ap (λ (o : Option (List QuietTime)). unwrap_or o []) (get-empty label_set_cmp labels))) tt;
+  quiet = λ labels. subst (AreQuiet s labels) (sym (ap (λ (m : Times). unwrap_or (get m labels) []) times ∙ ap (λ (o : Option (List QuietTime)). unwrap_or o []) (get-empty label_set_cmp labels))) tt;
   still = subst (IsStillIn s) (sym still) tt;
 }
 
@@ -98,21 +98,22 @@ one_more_quiet s labels [] time quiet new_one = (new_one, tt)
 one_more_quiet s labels (t ∷ times) time quiet new_one = (quiet.0, one_more_quiet s labels times time quiet.1 new_one)
 
 -- a quiet group may be remembered
-pub learned : (s : State) (memory : QuietGroups) (group : RouteLabels) (stretch : Stretch) → IsTrueOf memory s → IsQuiet s group stretch.from stretch.until
-    → IsTrueOf (with_time group stretch memory) s
-learned s memory group stretch holds quiet =
-    let times : List QuietTime = of_others group.route (times_at memory group.labels) ++ record { route = group.route; stretch = stretch } ∷ [] in
+pub learned : (s : State) (before after : QuietGroups) (group : RouteLabels) (stretch : Stretch) → remembered after ≡ with_time group stretch (remembered before) → after.still ≡ before.still
+    → IsTrueOf before s → IsQuiet s group stretch.from stretch.until → IsTrueOf after s
+learned s before after group stretch are still holds quiet =
+    let times : List QuietTime = of_others group.route (times_at before group.labels) ++ record { route = group.route; stretch = stretch } ∷ [] in
     record {
       quiet = λ labels.
-          subst (λ (o : Option (List QuietTime)). AreQuiet s labels (unwrap_or o [])) (sym (get-insert label_set_cmp_total memory.times group.labels times labels))
+          subst (λ (o : Option (List QuietTime)). AreQuiet s labels (unwrap_or o []))
+          (sym (ap (λ (m : Times). get m labels) are ∙ get-insert label_set_cmp_total (remembered before) group.labels times labels))
           (elim (eq_by_cmp label_set_cmp labels group.labels) as (λ b. eq_by_cmp label_set_cmp labels group.labels ≡ b
-          → AreQuiet s labels (unwrap_or (cond b (Some times) (get memory.times labels)) [])) [
+          → AreQuiet s labels (unwrap_or (cond b (Some times) (get (remembered before) labels)) [])) [
             | true ↦ λ e. subst (λ (l : LabelSet). AreQuiet s l times) (sym (same_labels labels group.labels e))
-                (one_more_quiet s group.labels (of_others group.route (times_at memory group.labels)) (record { route = group.route; stretch = stretch })
-                (others_quiet s group.labels group.route (times_at memory group.labels) (holds.quiet group.labels)) quiet)
+                (one_more_quiet s group.labels (of_others group.route (times_at before group.labels)) (record { route = group.route; stretch = stretch })
+                (others_quiet s group.labels group.route (times_at before group.labels) (holds.quiet group.labels)) quiet)
             | false ↦ λ e. holds.quiet labels
           ] refl);
-      still = holds.still;
+      still = subst (IsStillIn s) (sym still) holds.still;
     }
 
 still_in_left : (labels : LabelSet) (s t : State) → LeavesOthers labels s t → (stretch : Option Stretch) → IsStillIn s stretch → IsStillIn t stretch
@@ -128,17 +129,18 @@ differ : (a b : LabelSet) → eq_by_cmp label_set_cmp a b ≡ false → a ≡ b 
 differ a b other e = absurd (cc (other, ap is_eq (tied_itself label_set_cmp_total b), ap (λ (l : LabelSet). eq_by_cmp label_set_cmp l b) e))
 
 -- after the flush of a group, what is remembered of groups with other labels still holds
-pub forgotten : (s : State) (memory : QuietGroups) (group : RouteLabels) (at : Moment) → IsTrueOf memory s
-    → IsTrueOf (record memory { times = remove memory.times group.labels }) (flush at group s)
-forgotten s memory group at holds = record {
+pub forgotten : (s : State) (memory left : QuietGroups) (group : RouteLabels) (at : Moment) → remembered left ≡ remove (remembered memory) group.labels → left.still ≡ memory.still
+    → IsTrueOf memory s → IsTrueOf left (flush at group s)
+forgotten s memory left group at are still holds = record {
   quiet = λ labels.
-      subst (λ (o : Option (List QuietTime)). AreQuiet (flush at group s) labels (unwrap_or o [])) (sym (get-remove label_set_cmp_total memory.times group.labels labels))
+      subst (λ (o : Option (List QuietTime)). AreQuiet (flush at group s) labels (unwrap_or o []))
+      (sym (ap (λ (m : Times). get m labels) are ∙ get-remove label_set_cmp_total (remembered memory) group.labels labels))
       (elim (eq_by_cmp label_set_cmp labels group.labels) as (λ b. eq_by_cmp label_set_cmp labels group.labels ≡ b
-      → AreQuiet (flush at group s) labels (unwrap_or (cond b None (get memory.times labels)) [])) [
+      → AreQuiet (flush at group s) labels (unwrap_or (cond b None (get (remembered memory) labels)) [])) [
         | true ↦ λ e. tt
         | false ↦ λ e. all_left labels group.labels s (flush at group s) (flush_leaves group at s) (differ labels group.labels e) (times_at memory labels) (holds.quiet labels)
       ] refl);
-  still = still_in_left group.labels s (flush at group s) (flush_leaves group at s) memory.still holds.still;
+  still = subst (IsStillIn (flush at group s)) (sym still) (still_in_left group.labels s (flush at group s) (flush_leaves group at s) memory.still holds.still);
 }
 
 -- ---- the clock, group timers and notifications
@@ -228,17 +230,17 @@ anyway (Ok x) P p = p
 anyway (Err e) P p = tt
 
 -- a memory that knows the same
-pub same_known : (before after : QuietGroups) (s : State) → after.times ≡ before.times → after.still ≡ before.still → IsTrueOf before s → IsTrueOf after s
+pub same_known : (before after : QuietGroups) (s : State) → remembered after ≡ remembered before → after.still ≡ before.still → IsTrueOf before s → IsTrueOf after s
 same_known before after s times still holds = record {
-  quiet = λ labels. subst (λ (m : Map label_set_cmp (List QuietTime)). AreQuiet s labels (unwrap_or (get m labels) [])) (sym times) (holds.quiet labels);
+  quiet = λ labels. subst (λ (m : Times). AreQuiet s labels (unwrap_or (get m labels) [])) (sym times) (holds.quiet labels);
   still = subst (IsStillIn s) (sym still) holds.still;
 }
 
 -- a memory that knows another stretch in which nothing changes that may mute an alert
-pub looked : (before after : QuietGroups) (stretch : Stretch) (s : State) → after.times ≡ before.times → after.still ≡ Some stretch → IsTrueOf before s
+pub looked : (before after : QuietGroups) (stretch : Stretch) (s : State) → remembered after ≡ remembered before → after.still ≡ Some stretch → IsTrueOf before s
     → IsStill s stretch.from stretch.until → IsTrueOf after s
 looked before after stretch s times still holds is = record {
-  quiet = λ labels. subst (λ (m : Map label_set_cmp (List QuietTime)). AreQuiet s labels (unwrap_or (get m labels) [])) (sym times) (holds.quiet labels);
+  quiet = λ labels. subst (λ (m : Times). AreQuiet s labels (unwrap_or (get m labels) [])) (sym times) (holds.quiet labels);
   still = subst (IsStillIn s) (sym still) is;
 }
 
@@ -262,12 +264,10 @@ module _ {T E : Type 0} (r : Result T E) (before held after : Kept) (same : held
   flushed_same done =
       on_ok r (after.state ≡ flush at group held.state) (after.state ≡ flush at group before.state) (λ e. e ∙ ap (λ (k : Kept). flush at group k.state) same) done
 
-  pub flushed_true : (memory left : QuietGroups) → IsTrueOf memory before.state → left.times ≡ remove memory.times group.labels → left.still ≡ memory.still
+  pub flushed_true : (memory left : QuietGroups) → IsTrueOf memory before.state → remembered left ≡ remove (remembered memory) group.labels → left.still ≡ memory.still
       → OnOk r (after.state ≡ flush at group held.state) → OnOk r (IsTrueOf left after.state)
   flushed_true memory left holds times still done =
-      true_then r left (flush at group before.state) after.state
-      (same_known (record memory { times = remove memory.times group.labels }) left (flush at group before.state) times still (forgotten before.state memory group at holds))
-      (flushed_same done)
+      true_then r left (flush at group before.state) after.state (forgotten before.state memory left group at times still holds) (flushed_same done)
 
 -- what a step adds to the open record of a store that is as before
 pub grown_same : (n m : ℕ) (before held after : Kept) → held ≡ before → n ≤ m → GrownBy n held after → GrownBy m before after

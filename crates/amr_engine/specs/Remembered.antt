@@ -1,8 +1,9 @@
 -- What the memory of quiet groups knows of a state.
 use Rattle.std.specs.Prelude.{◌≡◌, ℕ, Bool, not, ◌&&◌, List, [], ◌∷◌, ◌++◌, Option, Some, None, unwrap_or, nat_le, nat_lt, ◌==◌}
 use Rattle.std.specs.List.{list_any, filter}
-use Rattle.amr_labels.specs.Map.{get, insert}
-use Rattle.amr_labels.specs.Labels.{LabelSet}
+use Rattle.amr_labels.specs.Map.{Map, get, insert}
+use Rattle.amr_labels.specs.Labels.{LabelSet, label_set_cmp}
+use Rattle.amr_tables.specs.Numbered.{shown}
 use Rattle.amr_time.specs.Time.{Moment}
 use Rattle.amr_state.specs.declared.route_labels.RouteLabels.{RouteLabels}
 use Rattle.amr_state.specs.State.{State, on_route}
@@ -15,9 +16,19 @@ use Rattle.amr_engine.specs.Quiet.{IsQuiet, IsStill}
 abbrev pub covers : Moment → Stretch → Bool
 covers at stretch = nat_le stretch.from at && nat_lt at stretch.until
 
+-- when groups are quiet, by their labels
+abbrev pub Times : Type 0
+Times = Map label_set_cmp (List QuietTime)
+
+abbrev pub remembered : QuietGroups → Times
+remembered memory = shown label_set_cmp memory.times
+
 -- what is remembered of the groups with these labels
+abbrev pub times_of : Times → LabelSet → List QuietTime
+times_of times labels = unwrap_or (get times labels) []
+
 abbrev pub times_at : QuietGroups → LabelSet → List QuietTime
-times_at memory labels = unwrap_or (get memory.times labels) []
+times_at memory = times_of (remembered memory)
 
 -- the group is remembered as quiet at the moment
 abbrev pub is_known : Moment → RouteLabels → QuietGroups → Bool
@@ -28,9 +39,9 @@ abbrev pub of_others : ℕ → List QuietTime → List QuietTime
 of_others route = filter (λ time. not (time.route == route))
 
 -- the group is quiet in this stretch, and no other of it is remembered
-abbrev pub with_time : RouteLabels → Stretch → QuietGroups → QuietGroups
-with_time group stretch memory =
-    record memory { times = insert memory.times group.labels (of_others group.route (times_at memory group.labels) ++ record { route = group.route; stretch = stretch } ∷ []) }
+abbrev pub with_time : RouteLabels → Stretch → Times → Times
+with_time group stretch times =
+    insert times group.labels (of_others group.route (times_of times group.labels) ++ record { route = group.route; stretch = stretch } ∷ [])
 
 -- the groups with these labels are quiet in the stretches
 abbrev pub AreQuiet : State → LabelSet → List QuietTime → Type 0

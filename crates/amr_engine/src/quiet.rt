@@ -19,6 +19,7 @@ use amr_labels::{LabelMap, Labels, Listing};
 use amr_rules::{labels_of, needs_update};
 use amr_state::{Member, RouteLabels, Store, members_of};
 use amr_stated::Integration;
+use amr_tables::Keyed;
 use amr_time::Moment;
 use std::alloc::{AllocError, Global};
 
@@ -54,10 +55,10 @@ pub(crate) struct QuietGroups {
     /// When no source of an inhibition rule ends and no silence starts or ends.
     still: Option<Stretch>,
     /// The quiet groups, by their labels.
-    times: LabelMap<Listing<QuietTime>>,
+    times: Keyed<Labels, Listing<QuietTime>>,
 }
 
-ghost use Rattle.amr_engine.specs.Remembered.{covers, times_at, is_known, of_others, with_time, IsTrueOf};
+ghost use Rattle.amr_engine.specs.Remembered.{covers, remembered, times_at, is_known, of_others, with_time, IsTrueOf};
 
 impl QuietGroups {
     /// Returns a memory of no group.
@@ -69,7 +70,7 @@ impl QuietGroups {
             flushes: 0,
             price: 0,
             still: None,
-            times: LabelMap::new(alloc),
+            times: Keyed::new(alloc),
         }
     }
 
@@ -78,7 +79,7 @@ impl QuietGroups {
         ensures { (s : State) → IsTrueOf self.new s }
     {
         self.still = None;
-        self.times = LabelMap::new(self.alloc);
+        self.times = Keyed::new(self.alloc);
     }
 
     /// Forgets what the removal of a stored alert may change, which is nothing if there are no
@@ -223,14 +224,18 @@ impl QuietGroups {
 
     /// Remembers when a group is quiet.
     fn learn(&mut self, group: &RouteLabels, stretch: Stretch) -> Result<(), AllocError>
-        ensures { OnOk result (self.new ≡ with_time group.now stretch self.old) }
+        ensures times { OnOk result
+            (remembered self.new ≡ with_time group.now stretch (remembered self.old)) }
+        ensures still { self.new.still ≡ self.old.still }
     {
         let mut times = self.others(group)?;
         times.push(QuietTime {
             route: group.route,
             stretch,
         })?;
-        self.times.insert(group.labels.clone()?, times)
+        self.times.make_place(group.labels.clone()?)?;
+        self.times.displace(&group.labels, Some(times));
+        Ok(())
     }
 
     /// Returns what is remembered of the groups with the same labels on other routes.
@@ -246,9 +251,12 @@ impl QuietGroups {
 
     /// Forgets the groups with these labels.
     fn forget(&mut self, labels: &Labels)
-        ensures { self.new ≡ record self.old { times = map.remove self.old.times labels.now } }
+        ensures times { remembered self.new ≡ map.remove (remembered self.old) labels.now }
+        ensures still { self.new.still ≡ self.old.still }
     {
-        self.times.remove(labels);
+        if self.times.get(labels).is_some() {
+            self.times.displace(labels, None);
+        }
     }
 }
 

@@ -1,7 +1,5 @@
 use Rattle.std.proofs.Common.{◌≤◌, ℕ, sym, subst, arith}
 use Rattle.amr_engine.specs.Quiet.{IsQuiet}
-use Rattle.amr_engine.specs.Remembered.{IsTrueOf}
-use Rattle.amr_engine.specs.declared.quiet.QuietGroups.{QuietGroups}
 use Rattle.amr_engine.proofs.QuietLaws.{quiet_flush}
 use Rattle.amr_engine.proofs.Remembering.{learned}
 use Rattle.amr_engine.proofs.quiet.QuietGroups.find.Goals as goal
@@ -17,5 +15,5 @@ returns-in_ok-learn-in-Some-clause-memory c =
     let found = rw c.in-Some.is at c.in_ok-quiet_until.ensures.quiet in
     let quiet : IsQuiet c.args.store.now.state c.args.group.now c.nanoseconds-from.result c.in-Some.until =
     subst (λ (from : ℕ). IsQuiet c.args.store.now.state c.args.group.now from c.in-Some.until) (sym c.nanoseconds-from.ensures.value) found.1 in
-    subst (λ (memory : QuietGroups). IsTrueOf memory c.args.store.now.state) (sym c.in_ok-learn-in-Some.ensures)
-    (learned c.args.store.now.state c.args.self.now c.args.group.now (record { from = c.nanoseconds-from.result; until = c.in-Some.until }) c.requires.memory quiet)
+    learned c.args.store.now.state c.args.self.now c.learn.new.self c.args.group.now (record { from = c.nanoseconds-from.result; until = c.in-Some.until }) c.in_ok-learn-in-Some.ensures.times c.in_ok-learn-in-Some.ensures.still
+    c.requires.memory quiet

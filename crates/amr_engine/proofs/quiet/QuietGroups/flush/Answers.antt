@@ -1,5 +1,3 @@
-use Rattle.std.proofs.Common.{ap}
-use Rattle.amr_engine.specs.declared.quiet.QuietGroups.{QuietGroups}
 use Rattle.amr_engine.proofs.Remembering.{still_true, flushed_true}
 use Rattle.amr_engine.proofs.quiet.QuietGroups.flush.Goals as goal
 
@@ -10,4 +8,4 @@ returns-then-branch-clause-memory c =
 pub returns-clause-memory : goal.returns-clause-memory
 returns-clause-memory c =
     flushed_true c.flush.result c.args.store.now c.is_quiet.new.store c.flush.new.store c.in_ok-is_quiet.ensures.same c.args.at c.args.group.now c.is_quiet.new.self c.forget.new.self c.in_ok-is_quiet.ensures.memory
-    (ap (λ (m : QuietGroups). m.times) c.forget.ensures) (ap (λ (m : QuietGroups). m.still) c.forget.ensures) c.flush.ensures.ok
+    c.forget.ensures.times c.forget.ensures.still c.flush.ensures.ok
