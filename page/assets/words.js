@@ -1,19 +1,18 @@
 // The words in which the page says what the session answered.
 const REASONS = {
   0: ["Memory", "the command found no memory"],
-  5: ["BadConfig", "a faulty place in the configuration"],
+  5: ["BadConfig", "the configuration has a fault"],
   6: ["UnknownReceiver", "a route names a receiver that isn't there"],
   7: ["DuplicateReceiver", "two receivers have one name"],
-  8: ["RootRoute", "the root route isn't as it has to be"],
+  8: ["RootRoute", "the root route has a matcher, continue or time intervals, or no receiver"],
   9: ["ZeroInterval", "a group_interval or repeat_interval of zero"],
   10: ["BadGroupBy", "group_by is faulty"],
-  11: ["TooDeep", "a route lies too deep"],
-  12: ["TimeIntervals", "a list of time intervals"],
+  11: ["TooDeep", "a route is at level 33 or deeper"],
   16: ["BadAlert", "no alert of the post is valid"],
   17: ["BadSilence", "the silence may not be posted as it is"],
   18: ["UnknownSilence", "no silence has the id"],
   19: ["SilenceIdTaken", "another silence has the new id"],
-  20: ["Backwards", "the event lies before the clock"],
+  20: ["Backwards", "the event is before the clock"],
   21: ["TooManyMoves", "too much is due at or before the event"],
 };
 
