@@ -106,6 +106,6 @@ impl Key for SilenceId {
     ghost exact = { nat_cmp-IsAntisymmetric };
 
     fn spread(&self) -> usize {
-        (self.bits % (1 << 64)) as usize
+        (self.bits & 0xffff_ffff_ffff_ffff) as usize
     }
 }
