@@ -1,10 +1,11 @@
 //! The silences by id, with what is known of the label sets that flushes asked about: the periods
 //! of the silences that match them. `store.rt` changes the table and asks it which silence mutes.
-ghost use Rattle.std.specs.Prelude.{◌≡◌, ◌<◌, IsTrue, [], is_some, OnOk, OnErr, IfOk, IfSome};
+ghost use Rattle.std.specs.Prelude.{◌≡◌, ◌<◌, ◌≤◌, ℕ, false, IsTrue, [], length, get_or, is_some, OnOk, OnErr, IfOk, IfSome};
 ghost use Rattle.std.specs.Ordering.{nat_cmp};
 ghost use Rattle.amr_labels.specs.Map as map;
 ghost use Rattle.amr_rules.specs.Muting.{is_silenced, silencer_of};
 ghost use Rattle.amr_rules.specs.SilencePeriods.{silence_periods, silence_rows, silenced_in};
+ghost use Rattle.amr_rules.specs.Silences.{Silences};
 ghost use Rattle.amr_tables.specs.Numbered.{shown, has_place, entry_of, Enters, GrowsBy, KeepsPlaces, SamePlaces, SameEntered, NoneEntered, IsUnchanged, HasPlaces, places_for};
 
 use amr_events::SilenceId;
@@ -26,8 +27,12 @@ const MOST_AT_ONCE: usize = 256;
 /// How many label sets the silences are asked for at once at least.
 const FEWEST_AT_ONCE: usize = 4;
 
+/// How many changes of silences are kept at most. When one more comes, all that is known of label
+/// sets is forgotten.
+const MOST_CHANGES: usize = 1000;
+
 /// The silences by id. It remembers of label sets when silences that match them are active, and
-/// forgets all of that if a silence changes.
+/// keeps which silences changed since.
 #[derive(Drop)]
 pub(crate) struct SilenceTable {
     alloc: Global,
@@ -35,6 +40,8 @@ pub(crate) struct SilenceTable {
     /// What the patterns of the silences' matchers answered.
     answers: Answers,
     known: Keyed<Labels, KnownPeriods>,
+    /// The ids of the silences that changed since the table began to remember, the latest last.
+    changes: Listing<SilenceId>,
 }
 
 /// When silences that match a label set are active, from a moment on.
@@ -43,15 +50,20 @@ pub(crate) struct KnownPeriods {
     /// The moment from which on the periods are complete. Silences that were expired by then are
     /// left out.
     pub(crate) from: Moment,
+    /// How many changes of silences there had been when the periods were learned.
+    pub(crate) seen: usize,
     pub(crate) periods: Listing<SilencePeriod>,
 }
+
+ghost use Rattle.amr_state.specs.SilencesKnown.{lists, IsApart, AreKnown, SameOthers};
 
 impl Model for SilenceTable {
     ghost use Rattle.std.specs.Prelude.{ℕ};
     ghost use Rattle.std.specs.Coded.{codes};
     ghost use Rattle.amr_labels.specs.Map as map;
     ghost use Rattle.amr_rules.specs.declared.silence.Silence.{Silence};
-    ghost use Rattle.amr_tables.specs.Numbered.{Numbered};
+    ghost use Rattle.std.specs.Ordering.{nat_cmp};
+    ghost use Rattle.amr_tables.specs.Numbered.{Numbered, shown};
     ghost use Rattle.amr_state.specs.SilencesKnown.{AreKnown};
 
     ghost Value = { Numbered ℕ Silence };
@@ -60,7 +72,7 @@ impl Model for SilenceTable {
 
     ghost view = { λ t. t.silences };
 
-    ghost invariant = { λ t. AreKnown t.silences t.known };
+    ghost invariant = { λ t. AreKnown (shown nat_cmp t.silences) t.changes t.known };
 }
 
 impl SilenceTable {
@@ -76,6 +88,7 @@ impl SilenceTable {
             silences: Keyed::new(alloc),
             answers: Answers::new(alloc),
             known: Keyed::new(alloc),
+            changes: Listing::new(alloc),
         }
     }
 
@@ -120,14 +133,59 @@ impl SilenceTable {
     }
 
     /// Returns those of the label sets of which nothing is known at a moment.
-    fn unknown(&self, at: Moment, label_sets: &[Labels]) -> Result<Vec<Labels>, AllocError> {
+    fn unknown(&mut self, at: Moment, label_sets: &[Labels]) -> Result<Vec<Labels>, AllocError>
+        ensures { self.new ≡ self.old }
+    {
         let mut unknown = Vec::new(self.alloc);
         for labels in label_sets {
-            if self.periods(at, labels).is_none() {
+            if !self.is_known(at, labels)? {
                 unknown.push(labels.clone()?)?;
             }
         }
         Ok(unknown)
+    }
+
+    /// Returns whether it is known of labels, from a moment on, when silences that match them are
+    /// active. It asks the silences that changed since that was learned.
+    fn is_known(&mut self, at: Moment, labels: &Labels) -> Result<bool, AllocError>
+        ensures { self.new ≡ self.old }
+    {
+        if self.periods(at, labels).is_some() {
+            return Ok(true);
+        }
+        match self.unchanged(at, labels)? {
+            None => Ok(false),
+            Some((from, periods)) => {
+                self.remember(from, labels, periods)?;
+                Ok(true)
+            }
+        }
+    }
+
+    /// Returns the periods that were learned of labels, with the moment from which on they are
+    /// complete, if they reach back to a moment and no silence that changed since is among them or
+    /// matches the labels.
+    fn unchanged(
+        &mut self,
+        at: Moment,
+        labels: &Labels,
+    ) -> Result<Option<(Moment, Listing<SilencePeriod>)>, AllocError>
+        ensures same { self.new ≡ self.old }
+        ensures known { IfOk result (λ found. IfSome found (λ known. known.1
+            ≡ silence_periods known.0 labels.now (shown nat_cmp self.old))) }
+    {
+        let Some(known) = self.known.get(labels) else {
+            return Ok(None);
+        };
+        if at < known.from {
+            return Ok(None);
+        }
+        let changes = self.changes.as_slice();
+        if some_touches(&mut self.answers, &self.silences, changes, known, labels)? {
+            return Ok(None);
+        }
+        let periods = copy_of(self.alloc, known.periods.as_slice())?;
+        Ok(Some((known.from, periods)))
     }
 
     /// Works out when silences that match these label sets are active, and remembers it. For few of
@@ -187,21 +245,23 @@ impl SilenceTable {
         ensures { self.new ≡ self.old }
     {
         self.known.make_place(labels.clone()?)?;
-        drop(
-            self.known
-                .displace(labels, Some(KnownPeriods { from: at, periods })),
-        );
+        let known = KnownPeriods {
+            from: at,
+            seen: self.changes.len(),
+            periods,
+        };
+        drop(self.known.displace(labels, Some(known)));
         Ok(())
     }
 
-    /// Returns what is known of labels, if it reaches back to a moment: when the silences that
-    /// match them are active.
+    /// Returns what is known of labels, if it reaches back to a moment and no silence changed since:
+    /// when the silences that match them are active.
     fn periods(&self, at: Moment, labels: &Labels) -> Option<&[SilencePeriod]>
         ensures { IfSome result (λ periods. silenced_in at periods.now
             ≡ silencer_of at labels.now (shown nat_cmp self.now)) }
     {
         let known = self.known.get(labels)?;
-        if at < known.from {
+        if at < known.from || known.seen != self.changes.len() {
             return None;
         }
         Some(known.periods.as_slice())
@@ -242,12 +302,12 @@ impl SilenceTable {
         ensures current { journal.new.current ≡ journal.old.current }
         ensures record_room { journal.new.record_room ≡ journal.old.record_room }
     {
-        self.known = Keyed::new(self.alloc);
+        note_change(self.alloc, &mut self.known, &mut self.changes, id);
         change(&mut self.silences, journal, id, silence)
     }
 
-    /// Restores the silence with this id, or its absence, and drops the present one. It takes no
-    /// memory.
+    /// Restores the silence with this id, or its absence, and drops the present one. It does so even
+    /// if memory runs out.
     pub(crate) fn put_back(&mut self, id: &SilenceId, silence: Option<Silence>)
         requires { IsTrue (has_place nat_cmp self.old id.now) }
         ensures shown { shown nat_cmp self.new ≡ map.set (shown nat_cmp self.old) id.now silence }
@@ -256,7 +316,86 @@ impl SilenceTable {
         ensures keys { self.new.numbers ≡ self.old.numbers }
         ensures enough { HasPlaces nat_cmp self.new }
     {
-        self.known = Keyed::new(self.alloc);
+        note_change(self.alloc, &mut self.known, &mut self.changes, id);
         drop(self.silences.displace(id, silence));
     }
+}
+
+/// Notes that a silence is about to change. Forgets all that is known of label sets if there have
+/// been many changes, or if memory runs out.
+fn note_change(
+    alloc: Global,
+    known: &mut Keyed<Labels, KnownPeriods>,
+    changes: &mut Listing<SilenceId>,
+    id: &SilenceId,
+)
+    ensures { (before after : Silences) → AreKnown before changes.old known.old
+        → SameOthers id.now before after → AreKnown after changes.new known.new }
+{
+    if changes.len() < MOST_CHANGES {
+        if let Ok(()) = changes.push(*id) {
+            return;
+        }
+    }
+    *known = Keyed::new(alloc);
+    *changes = Listing::new(alloc);
+}
+
+/// Returns whether one of the silences that changed since periods were learned is among them, or
+/// matches the labels.
+fn some_touches(
+    answers: &mut Answers,
+    silences: &Keyed<SilenceId, Silence>,
+    changes: &[SilenceId],
+    known: &KnownPeriods,
+    labels: &Labels,
+) -> Result<bool, AllocError>
+    ensures { IfOk result (λ touches. touches ≡ false → (i : ℕ) → known.now.seen ≤ i
+        → i < length changes.now → IsApart (shown nat_cmp silences.now) labels.now known.now
+        (get_or changes.now i 0)) }
+{
+    for place in known.seen..changes.len() {
+        if touches(answers, silences, &changes[place], known, labels)? {
+            return Ok(true);
+        }
+    }
+    Ok(false)
+}
+
+/// Returns whether a silence is among periods, or matches the labels of which they were learned.
+fn touches(
+    answers: &mut Answers,
+    silences: &Keyed<SilenceId, Silence>,
+    id: &SilenceId,
+    known: &KnownPeriods,
+    labels: &Labels,
+) -> Result<bool, AllocError>
+    ensures { IfOk result (λ touches. touches ≡ false
+        → IsApart (shown nat_cmp silences.now) labels.now known.now id.now) }
+{
+    if lists(known.periods.as_slice(), id) {
+        return Ok(true);
+    }
+    match silences.get(id) {
+        None => Ok(false),
+        Some(silence) => silence.matchers.matches_all_remembered(answers, labels),
+    }
+}
+
+/// Returns whether a silence has one of these periods.
+fn lists(periods: &[SilencePeriod], id: &SilenceId) -> bool
+    ensures { result ≡ lists periods.now id.now }
+{
+    periods.iter().any(|period| *id == period.id)
+}
+
+/// Copies periods.
+fn copy_of(alloc: Global, periods: &[SilencePeriod]) -> Result<Listing<SilencePeriod>, AllocError>
+    ensures { IfOk result (λ copy. copy ≡ periods.now) }
+{
+    let mut copy = Listing::new(alloc);
+    for period in periods {
+        copy.push(*period)?;
+    }
+    Ok(copy)
 }

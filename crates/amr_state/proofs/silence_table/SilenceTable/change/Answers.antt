@@ -1,6 +1,10 @@
-use Rattle.amr_state.proofs.SilencesKnown.{none_known}
+use Rattle.std.specs.Ordering.{nat_cmp}
+use Rattle.amr_tables.specs.Numbered.{shown}
+use Rattle.amr_state.proofs.SilencesKnown.{changed_others}
 use Rattle.amr_state.proofs.silence_table.SilenceTable.change.Goals as goal
 
--- nothing is remembered from before a change
 pub invariant_of-self : goal.invariant_of-self
-invariant_of-self g c = none_known c.change.new.table c.new.result c.new.ensures.shown
+invariant_of-self g c =
+    let t = c.self.inside in
+    c.note_change.ensures (shown nat_cmp t.silences) (shown nat_cmp c.change.new.table) c.self.invariant
+    (changed_others c.change.result c.args.id.now t.silences c.change.new.table c.args.silence c.change.ensures.shown c.change.ensures.err)
