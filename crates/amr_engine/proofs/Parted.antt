@@ -18,7 +18,9 @@ use Rattle.amr_state.specs.declared.notification.Notification.{Notification}
 use Rattle.amr_state.specs.declared.route_labels.RouteLabels.{RouteLabels}
 use Rattle.amr_state.specs.State.{State}
 use Rattle.amr_engine.specs.declared.flush.Parted.{Parted}
-use Rattle.amr_engine.specs.Flush.{Members, firing_of, resolved_of, log_key_of, notifications_of, notify, notify_all, set_timer, mark_if_empty, drop_member, drop_resolved}
+use Rattle.amr_engine.specs.Stages.{taken_away}
+use Rattle.amr_engine.specs.Quiet.{with_timer_reset}
+use Rattle.amr_engine.specs.Flush.{Members, let_through, firing_of, resolved_of, log_key_of, notifications_of, notify, notify_all, set_timer, mark_if_empty, drop_member, drop_resolved}
 use Rattle.amr_engine.specs.Parting.{IsParted, notified_by, record_parted, entry_of}
 
 -- what follows for the value of a result
@@ -83,3 +85,9 @@ pub dropped : (at : Moment) (group : RouteLabels) (members : Members) (s kept : 
 unfolding drop_resolved
 dropped at group members s kept b test is =
     (λ i. if test i then emptied at group (is i) else is i) ∙ sym (marked at group members (fold (drop_member group) s (resolved_of at members)))
+
+-- the group timer mutes no member
+pub through_after : (s t : State) (at : Moment) (group : RouteLabels) (members through : Members) → t ≡ with_timer_reset at group s → through ≡ let_through s at group.route members
+    → through ≡ let_through t at group.route members
+unfolding taken_away
+through_after s t at group members through is all = all ∙ sym (ap (λ (x : State). let_through x at group.route members) is)

@@ -389,12 +389,3 @@ pub still_by : (s : State) (from until end : Moment) → end ≤ until → no_si
 still_by s from until end sooner silences alerts =
     let same : from ≤ from = omega arith in
     record { sources = all_sources from end s.alerts s.config.rules alerts; silences = silences_later from from until end same sooner (entries s.silences) silences }
-
--- a group is quiet that was found so in a store that stays as it is
-pub quiet_found : (before held : Kept) (group : RouteLabels) (from until first end : Moment) (ms ends asked through notified : Members) → held ≡ before → ms ≡ members before.state group → ends ≡ ms → asked ≡ ms
-    → through ≡ let_through before.state from group.route asked → notified ≡ through → is_untimed before.state.config group.route ≡ true → IsStill before.state from until
-    → first ≤ until → all_fire_until first ends ≡ true → end ≤ first → are_notified held.state group from end notified ≡ true → IsQuiet before.state group from end
-quiet_found before held group from until first end ms ends asked through notified same all as_ends as_asked is as_notified untimed still first_within fire end_within are =
-    found_quiet before.state group from until first end ms through all (is ∙ ap (let_through before.state from group.route) as_asked) untimed still first_within
-    (ap (all_fire_until first) (sym as_ends) ∙ fire) end_within
-    ((λ i. are_notified (sym same i).state group from end (sym as_notified i)) ∙ are)

@@ -8,6 +8,7 @@ ghost use Rattle.amr_labels.specs.Map.{get};
 ghost use Rattle.amr_config.specs.Routing.{group_interval_of, repeat_interval_of, integrations_of};
 ghost use Rattle.amr_time.specs.Time.{latest_read};
 ghost use Rattle.amr_rules.specs.Alerts.{is_resolved_at};
+ghost use Rattle.amr_state.specs.State as state;
 ghost use Rattle.amr_state.specs.Kept.{GrownBy, undone};
 ghost use Rattle.amr_engine.specs.Flush.{let_through, firing_of, resolved_of, labels_of, log_key_of, notified_firing, notified_resolved, notifications_of, notify_all, set_timer, drop_member, drop_resolved, run_pipeline, flush};
 ghost use Rattle.amr_engine.specs.Weight.{turns, flush_weight};
@@ -18,7 +19,6 @@ use amr_labels::{LabelMap, Labels, Listing};
 use amr_rules::{LogEntry, labels_of, needs_update};
 use amr_state::{
     FiringAlert, GroupTimer, LogKey, Member, Notification, ResolvedAlert, RouteLabels, Store,
-    members_of,
 };
 use amr_stated::Integration;
 use amr_time::Moment;
@@ -36,17 +36,25 @@ struct Parted {
 
 ghost use Rattle.amr_engine.specs.Parting.{IsParted, entry_of, needs_notification, record_parted, notified_by};
 
-/// Flushes a group at a moment: sets its timer, notifies, and drops its resolved members.
+/// Flushes a group at a moment: sets its timer, notifies, and drops its resolved members. The caller
+/// knows the group's members, and those that no stage mutes.
 #[tactic(auto, unfolding(crate::specs::Flush::flush))]
-pub(crate) fn flush(store: &mut Store, at: Moment, group: &RouteLabels) -> Result<(), AllocError>
-    requires { at ≤ latest_read }
+pub(crate) fn flush(
+    store: &mut Store,
+    at: Moment,
+    group: &RouteLabels,
+    members: &[Member],
+    through: &[Member],
+) -> Result<(), AllocError>
+    requires late { at ≤ latest_read }
+    requires members { members.now ≡ state.members store.old.state group.now }
+    requires through { through.now ≡ let_through store.old.state at group.now.route members.now }
     ensures ok { OnOk result (store.new.state ≡ flush at group.now store.old.state) }
     ensures kept { undone store.new ≡ undone store.old }
     ensures grown { GrownBy (2 * flush_weight store.old.state group.now) store.old store.new }
 {
-    let members = members_of(store, group)?;
     reset_timer(store, at, group)?;
-    run_pipeline(store, at, group, members.as_slice())
+    run_pipeline(store, at, group, members, through)
 }
 
 /// Schedules the next flush, `group_interval` from now, and marks the group as flushed.
@@ -87,7 +95,9 @@ fn run_pipeline(
     at: Moment,
     group: &RouteLabels,
     members: &[Member],
+    through: &[Member],
 ) -> Result<(), AllocError>
+    requires { through.now ≡ let_through store.old.state at group.now.route members.now }
     ensures ok { OnOk result (store.new.state
         ≡ run_pipeline at group.now members.now store.old.state) }
     ensures kept { undone store.new ≡ undone store.old }
@@ -97,8 +107,7 @@ fn run_pipeline(
     if members.is_empty() {
         return Ok(());
     }
-    let through = let_through(store, at, group.route, members)?;
-    notify_all(store, at, group, through.as_slice())?;
+    notify_all(store, at, group, through)?;
     drop_resolved(store, at, group, members)
 }
 

@@ -8,8 +8,9 @@ ghost use Rattle.amr_config.specs.Routing.{integrations_of};
 ghost use Rattle.amr_labels.specs.Map as map;
 ghost use Rattle.amr_time.specs.Time.{latest_read};
 ghost use Rattle.amr_state.specs.State.{State};
+ghost use Rattle.amr_state.specs.State as state;
 ghost use Rattle.amr_state.specs.Kept.{GrownBy, undone};
-ghost use Rattle.amr_engine.specs.Flush.{flush};
+ghost use Rattle.amr_engine.specs.Flush.{let_through, flush};
 ghost use Rattle.amr_engine.specs.Quiet.{is_outside, no_alert_ends, no_silence_turns, all_fire_until, is_untimed, is_notified, are_notified, with_timer_reset, IsStill, IsQuiet};
 ghost use Rattle.amr_engine.specs.Weight.{flush_weight};
 
@@ -112,34 +113,58 @@ impl QuietGroups {
         ensures grown { GrownBy (2 * flush_weight store.old.state group.now) store.old store.new }
         ensures memory { OnOk result (IsTrueOf self.new store.new.state) }
     {
-        if self.is_quiet(store, at, group)? {
+        if self.is_known(at, group) {
             return reset_timer(store, at, group);
         }
-        self.flushes = self.flushes.saturating_add(1);
-        self.forget(&group.labels);
-        flush(store, at, group)
+        self.flush_unknown(store, at, group)
     }
 
-    /// Returns whether a flush of the group only sets its timer. A `false` may only mean that
-    /// finding out isn't worth it yet.
-    fn is_quiet(
+    /// Flushes a group that isn't remembered as quiet. It looks for the group's members and for what
+    /// mutes them once, to find out whether the group is quiet and to notify of them.
+    fn flush_unknown(
         &mut self,
         store: &mut Store,
         at: Moment,
         group: &RouteLabels,
-    ) -> Result<bool, AllocError>
-        requires { IsTrueOf self.old store.old.state }
-        ensures quiet { IfOk result (λ quiet. quiet ≡ true
-            → flush at group.now store.old.state ≡ with_timer_reset at group.now store.old.state) }
-        ensures memory { OnOk result (IsTrueOf self.new store.old.state) }
-        ensures same { store.new ≡ store.old }
+    ) -> Result<(), AllocError>
+        requires late { at ≤ latest_read }
+        requires memory { IsTrueOf self.old store.old.state }
+        ensures ok { OnOk result (store.new.state ≡ flush at group.now store.old.state) }
+        ensures kept { undone store.new ≡ undone store.old }
+        ensures grown { GrownBy (2 * flush_weight store.old.state group.now) store.old store.new }
+        ensures memory { OnOk result (IsTrueOf self.new store.new.state) }
     {
-        if self.is_known(at, group) {
-            return Ok(true);
+        let members = members_of(store, group)?;
+        let through = let_through(store, at, group.route, members.as_slice())?;
+        if self.is_quiet(store, at, group, members.as_slice(), through.as_slice())? {
+            return reset_timer(store, at, group);
         }
+        self.flushes = self.flushes.saturating_add(1);
+        self.forget(&group.labels);
+        flush(store, at, group, members.as_slice(), through.as_slice())
+    }
+
+    /// Returns whether a flush of the group with these members, of which no stage mutes `through`,
+    /// only sets its timer. A `false` may only mean that finding out isn't worth it yet.
+    fn is_quiet(
+        &mut self,
+        store: &Store,
+        at: Moment,
+        group: &RouteLabels,
+        members: &[Member],
+        through: &[Member],
+    ) -> Result<bool, AllocError>
+        requires memory { IsTrueOf self.old store.now.state }
+        requires members { members.now ≡ state.members store.now.state group.now }
+        requires through { through.now
+            ≡ let_through store.now.state at group.now.route members.now }
+        ensures quiet { IfOk result (λ quiet. quiet ≡ true
+            → flush at group.now store.now.state ≡ with_timer_reset at group.now store.now.state) }
+        ensures memory { OnOk result (IsTrueOf self.new store.now.state) }
+    {
         match self.still_until(store, at) {
             None => Ok(false),
-            Some(until) => self.find(store, at, group, until),
+            Some(until) => self.find(store, at, group, members, through, until),
         }
     }
 
@@ -196,23 +221,27 @@ impl QuietGroups {
         until
     }
 
-    /// Finds out whether the group is quiet at a moment, and remembers until when. Nothing that may
-    /// mute an alert changes until `until`.
+    /// Finds out whether the group with these members is quiet at a moment, and remembers until
+    /// when. Nothing that may mute an alert changes until `until`.
     fn find(
         &mut self,
-        store: &mut Store,
+        store: &Store,
         at: Moment,
         group: &RouteLabels,
+        members: &[Member],
+        through: &[Member],
         until: u128,
     ) -> Result<bool, AllocError>
-        requires memory { IsTrueOf self.old store.old.state }
-        requires still { IsStill store.old.state at until }
+        requires memory { IsTrueOf self.old store.now.state }
+        requires still { IsStill store.now.state at until }
+        requires members { members.now ≡ state.members store.now.state group.now }
+        requires through { through.now
+            ≡ let_through store.now.state at group.now.route members.now }
         ensures quiet { IfOk result (λ quiet. quiet ≡ true
-            → flush at group.now store.old.state ≡ with_timer_reset at group.now store.old.state) }
-        ensures memory { OnOk result (IsTrueOf self.new store.old.state) }
-        ensures same { store.new ≡ store.old }
+            → flush at group.now store.now.state ≡ with_timer_reset at group.now store.now.state) }
+        ensures memory { OnOk result (IsTrueOf self.new store.now.state) }
     {
-        match quiet_until(store, at, group, until)? {
+        match quiet_until(store, at, group, members, through, until)? {
             None => Ok(false),
             Some(until) => {
                 let from = at.nanoseconds();
@@ -297,26 +326,30 @@ fn of_others(
     Ok(others)
 }
 
-/// Returns until when a group is quiet from a moment on, at the latest until `until`. Returns `None`
-/// if it isn't quiet at the moment.
+/// Returns until when a group with these members is quiet from a moment on, at the latest until
+/// `until`. Returns `None` if it isn't quiet at the moment.
 fn quiet_until(
-    store: &mut Store,
+    store: &Store,
     at: Moment,
     group: &RouteLabels,
+    members: &[Member],
+    through: &[Member],
     until: u128,
 ) -> Result<Option<u128>, AllocError>
-    requires { IsStill store.old.state at until }
-    ensures quiet { IfOk result (λ found. IfSome found
-        (λ end. (at < end) × IsQuiet store.old.state group.now at end)) }
-    ensures same { store.new ≡ store.old }
+    requires still { IsStill store.now.state at until }
+    requires members { members.now ≡ state.members store.now.state group.now }
+    requires through { through.now ≡ let_through store.now.state at group.now.route members.now }
+    ensures { IfOk result (λ found. IfSome found
+        (λ end. (at < end) × IsQuiet store.now.state group.now at end)) }
 {
     if !is_untimed(store.config(), group.route) {
         return Ok(None);
     }
-    let members = members_of(store, group)?;
-    let until = first_end(members.as_slice(), until);
-    let through = let_through(store, at, group.route, members.as_slice())?;
-    match notified_until(store, at, group, through.as_slice(), until)? {
+    let until = first_end(members, until);
+    if until <= at.nanoseconds() {
+        return Ok(None);
+    }
+    match notified_until(store, at, group, through, until)? {
         Some(end) if at.nanoseconds() < end => Ok(Some(end)),
         _ => Ok(None),
     }
