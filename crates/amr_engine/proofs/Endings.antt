@@ -1,6 +1,6 @@
 -- The outcome of an event, case by case.
-use Rattle.std.proofs.Common.{◌≡◌, true, false, ℕ, List, [], ◌∷◌, Option, None, Some, Result, Ok, Err, length, drop, refl, sym, ap, subst, ◌∙◌}
-use Rattle.std.specs.Prelude.{if◌then◌else◌, nat_lt, ◌==◌}
+use Rattle.std.proofs.Common.{◌≡◌, true, false, ℕ, List, Option, None, Some, Result, Ok, Err, length, drop, refl, sym, ap, subst, ◌∙◌}
+use Rattle.std.specs.Prelude.{if◌then◌else◌, nat_lt}
 use Rattle.amr_time.specs.Time.{Moment}
 use Rattle.amr_events.specs.Events.{Event, Act, Reason}
 use Rattle.amr_events.specs.Acts.{event_at}
@@ -8,7 +8,7 @@ use Rattle.amr_state.specs.declared.due.Due.{Due}
 use Rattle.amr_state.specs.State.{State}
 use Rattle.amr_state.specs.Dues.{next_due}
 use Rattle.amr_engine.specs.Moves.{move, advance}
-use Rattle.amr_engine.specs.Events.{do_within, do_event, after_event, outcome_of, outcome_from, skipped_of, skipped_from, judge, finish, after_act, put_all, put, valid_alerts, at_moment, on_ok, move_limit}
+use Rattle.amr_engine.specs.Events.{do_within, do_event, after_event, outcome_of, outcome_from, skipped_of, judge, finish, after_act, at_moment, on_ok, move_limit}
 use Rattle.amr_engine.specs.Outcomes.{acceptance, refusal}
 use Rattle.amr_engine.specs.Applied.{ComesTo, run_moved}
 use Rattle.amr_engine.specs.Prepared.{IsPrepared, Does, Stays, performed, skipped_by}

@@ -1,11 +1,10 @@
 -- Notifying by members that are split into firing and resolved ones, and dropping members.
 use Rattle.std.specs.Prelude.{◌≡◌, Bool, true, false, not, ◌&&◌, List, [], ◌∷◌, ◌++◌, Some, length, ◌==◌, if◌then◌else◌, Result, Ok, Err}
 use Rattle.std.specs.Result.{OnOk}
-use Rattle.std.specs.List.{fold, list_all, filter}
+use Rattle.std.specs.List.{fold, list_all}
 use Rattle.std.proofs.Common.{refl, sym, ap, ◌∙◌}
 use Rattle.amr_labels.specs.Map.{get, insert}
 use Rattle.amr_rules.specs.Updates.{LabelSets, needs_update}
-use Rattle.amr_labels.specs.Set.{from_list}
 use Rattle.amr_labels.specs.Labels.{LabelSet}
 use Rattle.amr_time.specs.Time.{Moment}
 use Rattle.amr_stated.specs.declared.receiver.Integration.{Integration}

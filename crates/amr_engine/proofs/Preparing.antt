@@ -1,9 +1,8 @@
 -- What an action does after the moves of its event, from what was prepared before them.
 use Rattle.std.proofs.Common.{◌≡◌, true, false, ℕ, List, [], ◌∷◌, Option, None, Some, Ok, Err, length, refl, sym, ap, ◌∙◌, arith}
-use Rattle.std.specs.Prelude.{◌==◌, Result}
+use Rattle.std.specs.Prelude.{◌==◌}
 use Rattle.std.specs.Option.{option_map_or}
 use Rattle.std.specs.List.{fold, filter_map}
-use Rattle.std.proofs.lemmas.Bool.{false≢true}
 use Rattle.std.proofs.lemmas.Bool.Decides.{nat_tests}
 use Rattle.amr_labels.specs.Map.{get, insert}
 use Rattle.amr_labels.specs.Labels.{LabelSet}
@@ -11,9 +10,6 @@ use Rattle.amr_time.specs.Time.{Moment, Span}
 use Rattle.amr_config.specs.Config.{Config}
 use Rattle.amr_events.specs.declared.event.PostedAlert.{PostedAlert}
 use Rattle.amr_events.specs.declared.event.PostedSilence.{PostedSilence}
-use Rattle.amr_events.specs.declared.reason.Reason as code
-use Rattle.amr_events.specs.Reasons.{reason_number}
-use Rattle.amr_events.specs.Acts.{by_number}
 use Rattle.amr_events.specs.Events.{Act, Reason}
 use Rattle.amr_rules.specs.declared.alert.Alert.{Alert}
 use Rattle.amr_rules.specs.declared.silence.Silence.{Silence}
@@ -25,7 +21,7 @@ use Rattle.amr_state.specs.State.{State}
 use Rattle.amr_engine.specs.declared.post.Sifted.{Sifted}
 use Rattle.amr_engine.specs.declared.prepare.Prepared.TheVariants as prepared
 use Rattle.amr_engine.specs.Events.{after_act, at_moment, on_ok, put, put_all, valid_alerts, skipped_from, with_silences, with_config}
-use Rattle.amr_engine.specs.Prepared.{Does, Stays, IsPrepared}
+use Rattle.amr_engine.specs.Prepared.{Does, Stays}
 use Rattle.amr_engine.specs.Weight.{alerts_weight}
 
 abbrev pub Valid : Type 0

@@ -1,16 +1,14 @@
 -- What leaves a group quiet: the clock, group timers, notifications, and the flush of a group with
 -- other labels.
-use Rattle.std.specs.Prelude.{◌≡◌, ℕ, Bool, true, false, not, ◌&&◌, List, [], ◌∷◌, Option, Some, None, if◌then◌else◌, cond, map}
+use Rattle.std.specs.Prelude.{◌≡◌, Bool, true, false, not, ◌&&◌, List, [], ◌∷◌, Some, if◌then◌else◌, cond, map}
 use Rattle.std.specs.List.{list_all, filter, fold}
 use Rattle.std.specs.declared.cmp.Ordering.{Ordering}
 use Rattle.std.specs.declared.cmp.Ordering.TheVariants.{Less, Equal, Greater}
 use Rattle.std.specs.Ordering.{eq_by_cmp, is_eq}
-use Rattle.std.specs.Cmp.{IsTotalOrder}
 use Rattle.std.specs.FinMap.{IsAntisymmetric}
 use Rattle.std.specs.FinMap.Entries.{where_key}
 use Rattle.std.proofs.Common.{refl, sym, ap, ◌∙◌, subst}
-use Rattle.std.proofs.lemmas.Cmp.{eq_by_cmp_equiv}
-use Rattle.amr_labels.specs.Map.{Map, get, insert, remove, retain_keys, entries, get-insert, entries-retain_keys}
+use Rattle.amr_labels.specs.Map.{get, insert, remove, entries, get-insert, entries-retain_keys}
 use Rattle.amr_labels.specs.Labels.{LabelSet}
 use Rattle.amr_time.specs.Time.{Moment}
 use Rattle.amr_stated.specs.declared.receiver.Integration.{Integration}
@@ -24,10 +22,10 @@ use Rattle.amr_state.specs.declared.notification.GroupTimer.{GroupTimer}
 use Rattle.amr_state.specs.declared.notification.Notification.{Notification}
 use Rattle.amr_rules.specs.Alerts.{is_resolved_at}
 use Rattle.amr_state.specs.declared.route_labels.RouteLabels.{RouteLabels}
-use Rattle.amr_state.specs.State.{State, on_route, route_labels_cmp, route_labels_cmp_total, route_labels_cmp-IsAntisymmetric, log_key_cmp, log_key_cmp_total, log_key_cmp-IsAntisymmetric, group_key, members}
+use Rattle.amr_state.specs.State.{State, on_route, route_labels_cmp, route_labels_cmp-IsAntisymmetric, log_key_cmp_total, log_key_cmp-IsAntisymmetric, group_key, members}
 use Rattle.amr_engine.specs.Stages.{taken_away}
 use Rattle.amr_engine.specs.Flush.{Members, firing_of, resolved_of, labels_of, log_key_of, record_notification, notify, notify_all, set_timer, drop_member, mark_if_empty, drop_resolved, run_pipeline, flush, let_through}
-use Rattle.amr_engine.specs.Quiet.{with_timer_reset, no_repeat_before, is_notified, are_notified, IsSettled, IsQuietWith, IsQuiet, LeavesOthers, IsStill, no_source_ends, no_silence_turns}
+use Rattle.amr_engine.specs.Quiet.{with_timer_reset, no_repeat_before, is_notified, are_notified, IsQuietWith, IsQuiet, LeavesOthers, IsStill, no_source_ends, no_silence_turns}
 
 -- ---- states that are the same for other groups
 

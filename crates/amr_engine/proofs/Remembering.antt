@@ -3,15 +3,13 @@ use Rattle.std.specs.Prelude.{◌≡◌, ℕ, Bool, true, false, not, ◌&&◌, 
 use Rattle.std.specs.Option.{option_or, option_map_or, is_none}
 use Rattle.std.specs.Result.{OnOk}
 use Rattle.std.specs.List.{list_any, list_all, filter}
-use Rattle.std.specs.declared.cmp.Ordering.{Ordering}
-use Rattle.std.specs.declared.cmp.Ordering.TheVariants.{Less, Equal, Greater}
 use Rattle.std.specs.Ordering.{eq_by_cmp, is_eq}
 use Rattle.std.proofs.Common.{refl, sym, ap, ◌∙◌, subst, arith, get_or, drop}
 use Rattle.std.proofs.lemmas.List.{at_drop_more}
 use Rattle.std.proofs.lemmas.Option.{slice_get_past}
 use Rattle.std.proofs.lemmas.Bool.Decides.{nat_tests}
 use Rattle.std.proofs.lemmas.Cmp.{tied_itself}
-use Rattle.amr_labels.specs.Map.{Map, entries, get, insert, remove, empty, get-empty, get-insert, get-remove}
+use Rattle.amr_labels.specs.Map.{Map, entries, get, remove, empty, get-empty, get-insert, get-remove}
 use Rattle.amr_labels.specs.Labels.{LabelSet, label_set_cmp, label_set_cmp_total, label_set_cmp-IsAntisymmetric}
 use Rattle.amr_time.specs.Time.{Moment, Span}
 use Rattle.amr_stated.specs.declared.receiver.Integration.{Integration}
@@ -33,7 +31,7 @@ use Rattle.amr_state.specs.State.{State, on_route, route_labels_cmp, members}
 use Rattle.amr_state.specs.Kept.{Kept, GrownBy}
 use Rattle.amr_engine.specs.declared.explain.Finding.TheVariants.{Inhibited}
 use Rattle.amr_engine.specs.Stages.{by_active_time, by_mute_time, by_silence, taken_away}
-use Rattle.amr_engine.specs.Weight.{turns, flush_weight}
+use Rattle.amr_engine.specs.Weight.{flush_weight}
 use Rattle.amr_engine.proofs.Parted.{on_ok}
 use Rattle.amr_engine.specs.declared.quiet.Stretch.{Stretch}
 use Rattle.amr_engine.specs.declared.quiet.QuietTime.{QuietTime}

@@ -1,5 +1,5 @@
 -- What the memory of quiet groups knows of a state.
-use Rattle.std.specs.Prelude.{◌≡◌, ℕ, Bool, not, ◌&&◌, List, [], ◌∷◌, ◌++◌, Option, Some, None, unwrap_or, nat_le, nat_lt, ◌==◌}
+use Rattle.std.specs.Prelude.{ℕ, Bool, not, ◌&&◌, List, [], ◌∷◌, ◌++◌, Option, Some, None, unwrap_or, nat_le, nat_lt, ◌==◌}
 use Rattle.std.specs.List.{list_any, filter}
 use Rattle.amr_labels.specs.Map.{Map, get, insert}
 use Rattle.amr_labels.specs.Labels.{LabelSet, label_set_cmp}

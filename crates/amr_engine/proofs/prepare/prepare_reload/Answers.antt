@@ -1,4 +1,4 @@
-use Rattle.std.proofs.Common.{◌≡◌, Ok, Err, Result, sym, subst}
+use Rattle.std.proofs.Common.{Err, Result, sym, subst}
 use Rattle.amr_config.specs.Config.{Config}
 use Rattle.amr_events.specs.Events.{Act}
 use Rattle.amr_events.specs.Acts.{by_number}

@@ -1,4 +1,4 @@
-use Rattle.std.specs.Prelude.{◌≡◌, true, false, is_some}
+use Rattle.std.specs.Prelude.{is_some}
 use Rattle.std.proofs.Common.{sym, ap, ◌∙◌}
 use Rattle.amr_engine.proofs.Forgetting.{some_copied, known_placed, unknown_left}
 use Rattle.amr_engine.proofs.quiet.QuietGroups.forget.Goals as goal
