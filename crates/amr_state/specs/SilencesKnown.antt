@@ -5,7 +5,6 @@ use Rattle.std.specs.Ordering.{nat_cmp, eq_by_cmp}
 use Rattle.amr_labels.specs.Map.{get}
 use Rattle.amr_labels.specs.Labels.{LabelSet, label_set_cmp}
 use Rattle.amr_tables.specs.Numbered.{Numbered, shown}
-use Rattle.amr_rules.specs.declared.silence.Silence.{Silence}
 use Rattle.amr_rules.specs.declared.silence_period.SilencePeriod.{SilencePeriod}
 use Rattle.amr_rules.specs.Silences.{Silences}
 use Rattle.amr_rules.specs.SilencePeriods.{silence_periods}

@@ -41,7 +41,7 @@ pub(crate) struct SilenceTable {
     answers: Answers,
     known: Keyed<Labels, KnownPeriods>,
     /// The ids of the silences that changed since the table began to remember, the latest last.
-    changes: Listing<SilenceId>,
+    changes: Vec<SilenceId>,
 }
 
 /// When silences that match a label set are active, from a moment on.
@@ -72,7 +72,7 @@ impl Model for SilenceTable {
 
     ghost view = { λ t. t.silences };
 
-    ghost invariant = { λ t. AreKnown (shown nat_cmp t.silences) t.changes t.known };
+    ghost invariant = { λ t. AreKnown (shown nat_cmp t.silences) t.changes.items t.known };
 }
 
 impl SilenceTable {
@@ -88,7 +88,7 @@ impl SilenceTable {
             silences: Keyed::new(alloc),
             answers: Answers::new(alloc),
             known: Keyed::new(alloc),
-            changes: Listing::new(alloc),
+            changes: Vec::new(alloc),
         }
     }
 
@@ -247,7 +247,7 @@ impl SilenceTable {
         self.known.make_place(labels.clone()?)?;
         let known = KnownPeriods {
             from: at,
-            seen: self.changes.len(),
+            seen: self.changes.as_slice().len(),
             periods,
         };
         drop(self.known.displace(labels, Some(known)));
@@ -302,12 +302,14 @@ impl SilenceTable {
         ensures current { journal.new.current ≡ journal.old.current }
         ensures record_room { journal.new.record_room ≡ journal.old.record_room }
     {
+        // Room for this change and for its undoing. Without room everything known is forgotten.
+        drop(self.changes.reserve(2));
         note_change(self.alloc, &mut self.known, &mut self.changes, id);
         change(&mut self.silences, journal, id, silence)
     }
 
-    /// Restores the silence with this id, or its absence, and drops the present one. It does so even
-    /// if memory runs out.
+    /// Restores the silence with this id, or its absence, and drops the present one. It takes no
+    /// memory.
     pub(crate) fn put_back(&mut self, id: &SilenceId, silence: Option<Silence>)
         requires { IsTrue (has_place nat_cmp self.old id.now) }
         ensures shown { shown nat_cmp self.new ≡ map.set (shown nat_cmp self.old) id.now silence }
@@ -322,23 +324,23 @@ impl SilenceTable {
 }
 
 /// Notes that a silence is about to change. Forgets all that is known of label sets if there have
-/// been many changes, or if memory runs out.
+/// been many changes, or if there is no room for one more. It takes no memory.
 fn note_change(
     alloc: Global,
     known: &mut Keyed<Labels, KnownPeriods>,
-    changes: &mut Listing<SilenceId>,
+    changes: &mut Vec<SilenceId>,
     id: &SilenceId,
 )
-    ensures { (before after : Silences) → AreKnown before changes.old known.old
-        → SameOthers id.now before after → AreKnown after changes.new known.new }
+    ensures { (before after : Silences) → AreKnown before changes.old.items known.old
+        → SameOthers id.now before after → AreKnown after changes.new.items known.new }
 {
-    if changes.len() < MOST_CHANGES {
-        if let Ok(()) = changes.push(*id) {
-            return;
-        }
+    let count = changes.len();
+    if count < MOST_CHANGES && count < changes.capacity() {
+        changes.push_reserved(*id);
+    } else {
+        *known = Keyed::new(alloc);
+        changes.clear();
     }
-    *known = Keyed::new(alloc);
-    *changes = Listing::new(alloc);
 }
 
 /// Returns whether one of the silences that changed since periods were learned is among them, or

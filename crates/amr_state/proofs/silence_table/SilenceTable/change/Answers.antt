@@ -1,10 +1,13 @@
+use Rattle.std.proofs.Common.{sym, subst}
 use Rattle.std.specs.Ordering.{nat_cmp}
 use Rattle.amr_tables.specs.Numbered.{shown}
+use Rattle.amr_state.specs.SilencesKnown.{AreKnown}
 use Rattle.amr_state.proofs.SilencesKnown.{changed_others}
 use Rattle.amr_state.proofs.silence_table.SilenceTable.change.Goals as goal
 
 pub invariant_of-self : goal.invariant_of-self
 invariant_of-self g c =
     let t = c.self.inside in
-    c.note_change.ensures (shown nat_cmp t.silences) (shown nat_cmp c.change.new.table) c.self.invariant
+    c.note_change.ensures (shown nat_cmp t.silences) (shown nat_cmp c.change.new.table)
+    (subst (λ cs. AreKnown (shown nat_cmp t.silences) cs t.known) (sym c.reserve.ensures.items) c.self.invariant)
     (changed_others c.change.result c.args.id.now t.silences c.change.new.table c.args.silence c.change.ensures.shown c.change.ensures.err)

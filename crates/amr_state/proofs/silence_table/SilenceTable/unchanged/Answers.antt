@@ -15,9 +15,9 @@ returns-clause-known c =
     let labels = c.args.labels.now in
     let known = c.in-Some.known.now in
     let found : get (shown label_set_cmp t.known) labels ≡ Some known = sym c.in-Some.ensures in
-    let apart : (i : ℕ) → known.seen ≤ i → i < length t.changes → IsApart (shown nat_cmp t.silences) labels known (get_or t.changes i 0) =
+    let apart : (i : ℕ) → known.seen ≤ i → i < length t.changes.items → IsApart (shown nat_cmp t.silences) labels known (get_or t.changes.items i 0) =
     subst (λ (cs : List ℕ). (i : ℕ) → known.seen ≤ i → i < length cs → IsApart (shown nat_cmp t.silences) labels known (get_or cs i 0))
-    c.as_slice-changes.ensures (c.in_ok-some_touches.ensures c.if-branch.false) in
+    c.as_slice-changes.ensures.value (c.in_ok-some_touches.ensures c.if-branch.false) in
     c.in_ok-periods.ensures ∙ c.as_slice.ensures
-    ∙ known_silences.unchanged (shown nat_cmp t.silences) t.changes labels known (c.self.invariant labels known found) apart
+    ∙ known_silences.unchanged (shown nat_cmp t.silences) t.changes.items labels known (c.self.invariant labels known found) apart
     ∙ ap (λ (v : Numbered ℕ Silence). silence_periods known.from labels (shown nat_cmp v)) c.self.view_is
