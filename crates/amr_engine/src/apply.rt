@@ -26,8 +26,9 @@ use amr_state::{Notification, Store};
 use amr_time::Moment;
 use std::alloc::{AllocError, Global};
 
-/// Applies an event to the store in place. If it is refused or memory runs out, the store is left
-/// half-changed, and the caller must put the open record back and clear the memory of quiet groups.
+/// Applies an event to the store in place. If the event is refused, or an allocation fails, the
+/// store is left half-changed. The caller must then put the open record back and clear `memory`,
+/// which is what the engine remembers of quiet groups.
 pub(crate) fn attempt(
     store: &mut Store,
     memory: &mut QuietGroups,

@@ -25,7 +25,7 @@ use std::marker::Model;
 #[derive(Drop)]
 pub struct Engine {
     store: Store,
-    /// What is known of the state. It is no part of it.
+    /// Which groups are quiet, and until when. It follows from the state and is no part of it.
     memory: QuietGroups,
 }
 

@@ -113,6 +113,7 @@ fn run_pipeline(
 
 /// Returns the members that no stage mutes. It works out which silences match a member's labels, and
 /// which label sets can be sources of the rules that have it as a target, only if that isn't known.
+/// What it works out is remembered in the store and is no part of the state.
 pub(crate) fn let_through(
     store: &mut Store,
     at: Moment,
@@ -267,7 +268,9 @@ pub(crate) fn log_key(
     })
 }
 
-/// Returns whether the dedup check says that an integration is notified now.
+/// Returns whether the dedup check says that an integration is notified now. The rule is
+/// `needs_update` of `amr_rules`. `quiet.rt` asks it too, to know until when a flush would notify
+/// nobody.
 fn needs_notification(
     store: &Store,
     at: Moment,

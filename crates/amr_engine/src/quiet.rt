@@ -97,8 +97,8 @@ impl QuietGroups {
         self.clear();
     }
 
-    /// Flushes a group at a moment. For a quiet group it only sets the group timer, which takes no
-    /// look at the members. After any other flush it forgets the groups with the same labels,
+    /// Flushes a group at a moment, as `flush` of `flush.rt` does. For a quiet group it only sets the
+    /// group timer, which takes no look at the members. After any other flush it forgets the groups with the same labels,
     /// because they may share entries of the notification log.
     pub(crate) fn flush(
         &mut self,
