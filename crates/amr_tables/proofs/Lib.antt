@@ -1,5 +1,5 @@
-pub mod Adding
-mod Entering
+mod Adding
+pub mod Entering
 pub mod Marking
 pub mod Numbering
 pub mod Lowness
