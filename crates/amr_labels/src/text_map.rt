@@ -103,8 +103,36 @@ fn named(
     Ok(kept)
 }
 
+/// Up to how many pairs are compared one by one. Equality of names mostly asks only for lengths, so
+/// this is faster than a search that halves.
+const FEW: usize = 16;
+
 /// Returns the text under a name, given pairs in strictly ascending order of names.
 fn text_under<'a>(pairs: &'a [(Text, Text)], name: &str) -> Option<&'a Text>
+    requires { T (is_sorted text_cmp pairs.now) }
+    ensures { option_copied result ≡ find text_cmp name.now pairs.now }
+{
+    if pairs.len() <= FEW {
+        first_under(pairs, name)
+    } else {
+        searched(pairs, name)
+    }
+}
+
+/// Returns the text under a name. It compares one name after the other.
+fn first_under<'a>(pairs: &'a [(Text, Text)], name: &str) -> Option<&'a Text>
+    ensures { option_copied result ≡ find text_cmp name.now pairs.now }
+{
+    for pair in pairs {
+        if pair.0.as_str() == name {
+            return Some(&pair.1);
+        }
+    }
+    None
+}
+
+/// Searches for the text under a name, given pairs in strictly ascending order of names.
+fn searched<'a>(pairs: &'a [(Text, Text)], name: &str) -> Option<&'a Text>
     requires { T (is_sorted text_cmp pairs.now) }
     ensures { option_copied result ≡ find text_cmp name.now pairs.now }
 {

@@ -4,7 +4,9 @@
 
 use std::alloc::{AllocError, Global};
 
-/// A guess for each remainder of a key's spread. Their number is zero or a power of two.
+/// Guesses by remainders of keys' spreads. A key is noted at the remainder of its spread or, if
+/// another key is noted there, at that of its turned spread. A guess is a place and one, or zero if
+/// no key was noted. The number of guesses is zero or a power of two.
 #[derive(Drop)]
 pub(crate) struct Hints {
     guesses: Vec<usize>,
@@ -18,20 +20,32 @@ impl Hints {
         }
     }
 
-    /// Returns the place where a key with this spread was noted, unless another key with the same
-    /// remainder was noted later. The list may be shorter.
+    /// Returns the place where a key with this spread was noted, if no other key was noted with the
+    /// same remainder before. The list may be shorter.
     pub(crate) fn guess(&self, spread: usize) -> usize {
-        match self.guesses.get(self.remainder(spread)) {
-            Some(guess) => *guess,
-            None => 0,
-        }
+        self.noted(spread).wrapping_sub(1)
+    }
+
+    /// Returns the place where a key with this spread was noted, if another key was noted with the
+    /// same remainder before. The list may be shorter.
+    pub(crate) fn second_guess(&self, spread: usize) -> usize {
+        self.noted(turned(spread)).wrapping_sub(1)
     }
 
     /// Notes the place of a key with this spread.
     pub(crate) fn note(&mut self, spread: usize, place: usize) {
-        let remainder = self.remainder(spread);
+        let free = self.noted(spread) == 0;
+        let remainder = self.remainder(if free { spread } else { turned(spread) });
         if let Some(guess) = self.guesses.get_mut(remainder) {
-            *guess = place;
+            *guess = place.wrapping_add(1);
+        }
+    }
+
+    /// Returns the guess for a spread, or zero if no key was noted.
+    fn noted(&self, spread: usize) -> usize {
+        match self.guesses.get(self.remainder(spread)) {
+            Some(guess) => *guess,
+            None => 0,
         }
     }
 
@@ -41,9 +55,10 @@ impl Hints {
         keys >= self.guesses.len() / 4
     }
 
-    /// Doubles the number of guesses. The keys have to be noted again.
+    /// Doubles the number of guesses and forgets them. The keys have to be noted again.
     pub(crate) fn grow(&mut self) -> Result<(), AllocError> {
         let doubled = self.guesses.len().saturating_mul(2);
+        self.guesses.clear();
         self.guesses.resize(doubled.max(64), 0)
     }
 
@@ -51,4 +66,9 @@ impl Hints {
     fn remainder(&self, spread: usize) -> usize {
         spread & self.guesses.len().wrapping_sub(1)
     }
+}
+
+/// Returns a spread with its upper half below its lower half.
+fn turned(spread: usize) -> usize {
+    spread.rotate_left(32)
 }

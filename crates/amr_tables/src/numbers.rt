@@ -65,12 +65,23 @@ impl<K: Key + Drop> Numbers<K> {
         self.get(key).is_some()
     }
 
-    /// Returns the number of a key if the guess of its place is right.
+    /// Returns the number of a key if one of the guesses of its place is right.
     fn guessed(&self, key: &K) -> Option<usize>
         ensures { IfSome result (λ number. find K.cmp key.now self.now ≡ Some number) }
     {
-        let (guessed, number) = self.added.get(self.hints.guess(key.spread()))?;
-        if guessed == key { Some(*number) } else { None }
+        let spread = key.spread();
+        match self.number_at(self.hints.guess(spread), key) {
+            Some(number) => Some(number),
+            None => self.number_at(self.hints.second_guess(spread), key),
+        }
+    }
+
+    /// Returns the number of a key if it is the one that was added at a place.
+    fn number_at(&self, place: usize, key: &K) -> Option<usize>
+        ensures { IfSome result (λ number. find K.cmp key.now self.now ≡ Some number) }
+    {
+        let (added, number) = self.added.get(place)?;
+        if added == key { Some(*number) } else { None }
     }
 
     /// Gives a number to a key that has none.

@@ -3,7 +3,7 @@ use Rattle.std.specs.Cmp.Lexicographic.{nat_list_cmp_total}
 use Rattle.std.proofs.lemmas.Fn.{always_returns_same}
 use Rattle.amr_labels.specs.Labels.{Text, text_cmp}
 use Rattle.amr_labels.proofs.Searches.{searched}
-use Rattle.amr_labels.proofs.text_map.text_under.Goals as goal
+use Rattle.amr_labels.proofs.text_map.searched.Goals as goal
 
 pub returns-in-Ok : goal.returns-in-Ok
 returns-in-Ok c =
