@@ -4,7 +4,7 @@ ghost use Rattle.std.specs.Prelude.{◌≡◌, ◌++◌, false, string_bytes, If
 ghost use Rattle.amr_labels.specs.Labels.{label_set_cmp};
 ghost use Rattle.amr_labels.specs.SortKey.{key_of_text, key_of_label, sort_key, has_zero, label_has_zero, has_zeros};
 
-use crate::text::Text;
+use crate::text::{Text, spread_of};
 use crate::text_map::TextMap;
 use std::alloc::{AllocError, Global};
 use std::cmp::Ordering;
@@ -135,13 +135,4 @@ fn push_text(key: &mut String, text: &Text) -> Result<(), AllocError>
 {
     key.push_str(text.as_str())?;
     key.push('\0')
-}
-
-/// Returns a number made of the bytes of a text: the hash of Fowler, Noll and Vo (FNV-1a).
-fn spread_of(text: &str) -> usize {
-    let mut spread: usize = 0xcbf2_9ce4_8422_2325;
-    for byte in text.as_bytes() {
-        spread = (spread ^ usize::from(*byte)).wrapping_mul(0x100_0000_01b3);
-    }
-    spread
 }

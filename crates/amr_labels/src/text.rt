@@ -123,3 +123,13 @@ impl fmt::Debug for Text {
         fmt::Debug::fmt(&self.as_str(), f)
     }
 }
+
+/// Returns a number made of the bytes of a text, by which tables spread keys out: the hash of
+/// Fowler, Noll and Vo (FNV-1a).
+pub fn spread_of(text: &str) -> usize {
+    let mut spread: usize = 0xcbf2_9ce4_8422_2325;
+    for byte in text.as_bytes() {
+        spread = (spread ^ usize::from(*byte)).wrapping_mul(0x100_0000_01b3);
+    }
+    spread
+}

@@ -8,7 +8,7 @@ ghost use Rattle.amr_matchers.specs.Patterns.{pattern_matches, IsSearchFor, MayR
 ghost use Rattle.amr_matchers.specs.declared.pattern.MatcherError.TheVariants.{BadPattern};
 
 use crate::candidates::Candidate;
-use amr_labels::Text;
+use amr_labels::{Text, spread_of};
 use regex::{Error, Matcher as Search, Regex};
 use std::alloc::{AllocError, AllocFailed, Global};
 use std::fmt;
@@ -50,6 +50,9 @@ impl<T: Drop> From<AllocFailed<T>> for MatcherError {
 pub struct Pattern {
     text: Text,
     regex: Regex,
+    /// A number made of the text, by which remembered answers are spread out. Contracts don't see
+    /// it.
+    spread: usize,
 }
 
 impl Model for Pattern {
@@ -72,7 +75,14 @@ impl Pattern {
         let bare = text.as_str();
         let anchored = format!(in alloc; "^(?:{bare})$")?;
         match Regex::new(alloc, anchored.as_str()) {
-            Ok(regex) => Ok(Pattern { text, regex }),
+            Ok(regex) => {
+                let spread = spread_of(text.as_str());
+                Ok(Pattern {
+                    text,
+                    regex,
+                    spread,
+                })
+            }
             Err(Error::OutOfMemory) => Err(MatcherError::Memory),
             Err(_) => Err(MatcherError::BadPattern),
         }
@@ -83,6 +93,11 @@ impl Pattern {
         ensures { result.now ≡ self.now }
     {
         &self.text
+    }
+
+    /// Returns a number made of the text.
+    pub(crate) fn spread(&self) -> usize {
+        self.spread
     }
 
     /// Compares the values of the label with this name in the candidates so far: keeps those that

@@ -147,19 +147,10 @@ impl Key for LogKey {
     fn spread(&self) -> usize {
         self.group
             .spread()
-            .wrapping_add(spread_of(self.path.as_slice()))
+            .wrapping_add(spread_of(self.receiver.as_str()))
             .wrapping_add(self.place)
             .wrapping_add(self.kind.as_str().len() << 8)
     }
-}
-
-/// Returns a number made of a route's path.
-fn spread_of(path: &[usize]) -> usize {
-    let mut spread: usize = 0;
-    for place in path {
-        spread = spread.wrapping_add(*place).wrapping_add(1).wrapping_mul(31);
-    }
-    spread
 }
 
 impl Exact for LogKey {

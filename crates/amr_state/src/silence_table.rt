@@ -25,7 +25,7 @@ use std::marker::Model;
 const MOST_AT_ONCE: usize = 256;
 
 /// How many label sets the silences are asked for at once at least.
-const FEWEST_AT_ONCE: usize = 4;
+const FEWEST_AT_ONCE: usize = 2;
 
 /// How many changes of silences are kept at most. When one more comes, all that is known of label
 /// sets is forgotten.
