@@ -5,7 +5,7 @@ ghost use Rattle.std.specs.Prelude.{◌≡◌};
 ghost use Rattle.std.proofs.Common.{rules};
 ghost use Rattle.amr_state.specs.State.{log_key_cmp_integration, log_key_cmp_group};
 
-use amr_labels::{Exact, Labels, Listing, Text, TextMap};
+use amr_labels::{Exact, Labels, Listing, Text, TextMap, spread_of};
 use amr_matchers::Matchers;
 use amr_tables::Key;
 use amr_time::Moment;
