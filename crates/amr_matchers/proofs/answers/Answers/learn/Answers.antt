@@ -5,6 +5,8 @@ use Rattle.amr_matchers.proofs.Remembered.{answers_more}
 use Rattle.amr_matchers.proofs.answers.Answers.learn.Goals as goal
 
 pub invariant_of-self-2 : goal.invariant_of-self-2
-invariant_of-self-2 c =
-    (answers_more c.self-2.inside.kept c.insert.new.self c.args.question c.in_ok-found.found c.self-2.invariant.0
-    (c.in_ok-found.ensures ∙ ap (pattern_matches c.args.pattern.now) c.as_str.ensures ∙ ap (λ (text : Text). pattern_matches text c.args.question.0) (sym c.requires)) c.in_ok-insert.ensures.entries, c.self-2.invariant.1)
+invariant_of-self-2 c = (
+  answers_more c.self-2.inside.kept c.insert.new.self c.args.question c.in_ok-found.found c.self-2.invariant.0
+      (c.in_ok-found.ensures ∙ ap (pattern_matches c.args.pattern.now) c.as_str.ensures ∙ ap (λ (text : Text). pattern_matches text c.args.question.0) (sym c.requires)) c.in_ok-insert.ensures.entries,
+  c.self-2.invariant.1,
+)
