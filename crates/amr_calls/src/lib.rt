@@ -3,6 +3,4 @@
 #![tactic(auto)]
 
 #[cfg(test)]
-mod records;
-#[cfg(test)]
 mod tests;
