@@ -30,6 +30,10 @@ use std::alloc::{AllocError, Global};
 /// all but the first of them have the look.
 const LOOKED_AT_PER_FLUSH: usize = 100;
 
+/// How many times rarer looks get at most while they are of no use. Between posts that come one
+/// after the other, what a look found is forgotten before it has saved a flush.
+const MOST_PATIENCE: usize = 16;
+
 /// The moments from one until just before another, both in nanoseconds since 1970. The end may be
 /// after the last moment, so it isn't a `Moment`.
 #[derive(Clone, Copy)]
@@ -53,6 +57,11 @@ pub(crate) struct QuietGroups {
     flushes: usize,
     /// The flushes in full that pay for the next look.
     price: usize,
+    /// How many times rarer looks are than they could be. It doubles at each look after which no
+    /// flush was saved.
+    patience: usize,
+    /// Whether a flush was saved since the last look.
+    has_saved: bool,
     /// When no source of an inhibition rule ends and no silence starts or ends.
     still: Option<Stretch>,
     /// The quiet groups, by their labels.
@@ -70,6 +79,8 @@ impl QuietGroups {
             alloc,
             flushes: 0,
             price: 0,
+            patience: 1,
+            has_saved: true,
             still: None,
             times: Keyed::new(alloc),
         }
@@ -114,6 +125,7 @@ impl QuietGroups {
         ensures memory { OnOk result (IsTrueOf self.new store.new.state) }
     {
         if self.is_known(at, group) {
+            self.has_saved = true;
             return reset_timer(store, at, group);
         }
         self.flush_unknown(store, at, group)
@@ -215,8 +227,10 @@ impl QuietGroups {
         let from = at.nanoseconds();
         let until = still_until(store, at);
         self.flushes = 0;
+        self.patience = next_patience(self.patience, self.has_saved);
+        self.has_saved = false;
         let stored = alert_count(store).saturating_add(silence_count(store));
-        self.price = stored / LOOKED_AT_PER_FLUSH;
+        self.price = (stored / LOOKED_AT_PER_FLUSH).saturating_mul(self.patience);
         self.still = Some(Stretch { from, until });
         until
     }
@@ -286,6 +300,15 @@ impl QuietGroups {
         if self.times.get(labels).is_some() {
             self.times.displace(labels, None);
         }
+    }
+}
+
+/// Returns how many times rarer the next looks are, by whether a flush was saved since the last one.
+fn next_patience(patience: usize, has_saved: bool) -> usize {
+    if has_saved {
+        1
+    } else {
+        patience.saturating_mul(2).min(MOST_PATIENCE)
     }
 }
 

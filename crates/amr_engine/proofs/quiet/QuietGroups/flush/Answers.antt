@@ -1,4 +1,4 @@
-use Rattle.std.proofs.Common.{refl, sym, ◌∙◌}
+use Rattle.std.proofs.Common.{true, refl, sym, ◌∙◌}
 use Rattle.amr_engine.proofs.Remembering.{known_quiet, only_reset, still_true}
 use Rattle.amr_engine.proofs.quiet.QuietGroups.flush.Goals as goal
 
@@ -9,4 +9,5 @@ returns-then-is_known-clause-ok c =
 
 pub returns-then-is_known-clause-memory : goal.returns-then-is_known-clause-memory
 returns-then-is_known-clause-memory c =
-    still_true c.reset_timer.result c.args.store.now c.args.store.now c.reset_timer.new.store refl c.args.at c.args.group.now c.args.self.now c.requires.memory c.reset_timer.ensures.ok
+    still_true c.reset_timer.result c.args.store.now c.args.store.now c.reset_timer.new.store refl c.args.at c.args.group.now (record c.args.self.now { has_saved = true })
+    (record { quiet = c.requires.memory.quiet; still = c.requires.memory.still }) c.reset_timer.ensures.ok
