@@ -361,7 +361,7 @@ fn notification_of(
 fn notified_firing(alloc: Global, members: &[Member]) -> Result<Listing<FiringAlert>, AllocError>
     ensures { IfOk result (λ notified. notified ≡ map notified_firing members.now) }
 {
-    let mut notified = Listing::new(alloc);
+    let mut notified = Vec::with_capacity(alloc, members.len())?;
     for (labels, alert) in members {
         notified.push(FiringAlert {
             labels: labels.clone()?,
@@ -369,7 +369,7 @@ fn notified_firing(alloc: Global, members: &[Member]) -> Result<Listing<FiringAl
             annotations: alert.annotations.clone()?,
         })?;
     }
-    Ok(notified)
+    Ok(Listing::from_vec(notified))
 }
 
 /// Returns the resolved alerts of a notification.
@@ -379,7 +379,7 @@ fn notified_resolved(
 ) -> Result<Listing<ResolvedAlert>, AllocError>
     ensures { IfOk result (λ notified. notified ≡ map notified_resolved members.now) }
 {
-    let mut notified = Listing::new(alloc);
+    let mut notified = Vec::with_capacity(alloc, members.len())?;
     for (labels, alert) in members {
         notified.push(ResolvedAlert {
             labels: labels.clone()?,
@@ -388,7 +388,7 @@ fn notified_resolved(
             annotations: alert.annotations.clone()?,
         })?;
     }
-    Ok(notified)
+    Ok(Listing::from_vec(notified))
 }
 
 /// Appends the notification to the transcript, if there is one.

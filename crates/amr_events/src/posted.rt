@@ -101,7 +101,7 @@ pub(crate) fn alerts(
     ensures { Reads (λ alerts. alerts) result (alerts_of (view value.now)) }
 {
     let items = value.as_array().ok_or(LineError::Faulty)?;
-    let mut alerts = Vec::new(alloc);
+    let mut alerts = Vec::with_capacity(alloc, items.len())?;
     for item in items {
         alerts.push(alert(alloc, seen, item)?)?;
     }

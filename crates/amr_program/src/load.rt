@@ -57,24 +57,24 @@ pub fn read_config(alloc: Global, bytes: &[u8]) -> Result<Config, ConfigError>
     }
 }
 
-/// Reads the configuration and then the script. If both are faulty, the fault is that of the
-/// configuration.
+/// Reads the configuration and then the script, and frees the script's bytes. If both are faulty,
+/// the fault is that of the configuration.
 pub(crate) fn read_files(
     alloc: Global,
     config: &[u8],
-    script: &[u8],
+    script: Vec<u8>,
 ) -> Result<(Config, Script), Fault>
-    ensures { FilesAre config.now script.now result }
+    ensures { FilesAre config.now script.items result }
 {
     let config = read_config(alloc, config)?;
-    let script = Script::read(alloc, script)?;
-    Ok((config, script))
+    let events = Script::read(alloc, script.as_slice())?;
+    Ok((config, events))
 }
 
 /// Opens a session of a script under a configuration, with the cursor at the start. If both files
 /// are faulty, the fault is that of the configuration.
-pub fn open_session(alloc: Global, config: &[u8], script: &[u8]) -> Result<Session, Fault>
-    ensures { Opens config.now script.now result }
+pub fn open_session(alloc: Global, config: &[u8], script: Vec<u8>) -> Result<Session, Fault>
+    ensures { Opens config.now script.items result }
 {
     let (config, script) = read_files(alloc, config, script)?;
     match Session::new(alloc, config, script) {

@@ -120,16 +120,17 @@ fn write_run<W: Write>(
 /// Runs a script under a configuration, and writes the lines of its events.
 ///
 /// The configuration is read before the script, and nothing is written if one of them is refused.
-/// The text of an event is built before its first byte is written, so if memory runs out the lines
-/// of the events before it are written, and none of its own.
+/// The script's bytes are freed before the first event is applied. The text of an event is built
+/// before its first byte is written, so if memory runs out the lines of the events before it are
+/// written, and none of its own.
 pub fn run_script<W: Write>(
     alloc: Global,
     config: &[u8],
-    script: &[u8],
+    script: Vec<u8>,
     out: &mut Outlet<W>,
 ) -> Result<(), Fault>
     ensures left { FilesLeave (W.contents out.old.writer) (W.contents out.new.writer)
-        config.now script.now result }
+        config.now script.items result }
     ensures ended { EndsBy result out.old.failed out.new.failed }
 {
     let (config, script) = read_files(alloc, config, script)?;

@@ -17,12 +17,12 @@ use std::io::{Read, Write};
 pub fn run_session<R: Read, W: Write>(
     alloc: Global,
     config: &[u8],
-    script: &[u8],
+    script: Vec<u8>,
     commands: &mut Inlet<R>,
     out: &mut Outlet<W>,
 ) -> Result<(), Fault>
     ensures left { SessionLeaves (R.remaining commands.old.reader) (R.remaining commands.new.reader)
-        (W.contents out.old.writer) (W.contents out.new.writer) config.now script.now result }
+        (W.contents out.old.writer) (W.contents out.new.writer) config.now script.items result }
     ensures read { ReadsBy result commands.old.failed commands.new.failed commands.new.calls }
     ensures written { EndsBy result out.old.failed out.new.failed }
 {

@@ -66,7 +66,7 @@ fn run_files(rt: &HostRuntime, config: &str, script: &str) -> Result<(), Fault> 
     run_script(
         rt.alloc(),
         config.as_slice(),
-        script.as_slice(),
+        script,
         &mut Outlet::new(out),
     )
 }
@@ -81,7 +81,7 @@ fn session_over(rt: &HostRuntime, config: &str, script: &str) -> Result<(), Faul
     run_session(
         rt.alloc(),
         config.as_slice(),
-        script.as_slice(),
+        script,
         &mut Inlet::new(rt.stdin()),
         &mut Outlet::new(out),
     )

@@ -7,7 +7,7 @@ use Rattle.amr_events.proofs.posted.alerts.Goals as goal
 
 pub loop-item-init : goal.loop-item-init
 unfolding alerts_of
-loop-item-init c = rw (c.new-alerts.ensures.items, ahead_none) (search rules)
+loop-item-init c = rw (c.in_ok-alerts.ensures.items, ahead_none) (search rules)
 
 pub returns-in_err-alert : goal.returns-in_err-alert
 returns-in_err-alert c =
