@@ -1,11 +1,16 @@
 //! The program `amreplay`: it replays incidents of Prometheus Alertmanager. Here are only its
-//! arguments and its files; all else is in `amr_program`.
+//! arguments and its files; all else is in `program`.
 #![tactic(auto)]
 
 ghost use Rattle.std.specs.Prelude.{◌≡◌};
 
-use amr_lines::{Inlet, Outlet};
-use amr_program::{
+mod command_lines;
+mod commands;
+mod lines;
+mod program;
+
+use crate::lines::{Inlet, Outlet};
+use crate::program::{
     Command, Fault, InputError, LONGEST_CONFIG, check_config, command_of, read_whole, run_script,
     run_session, status_of, write_fault,
 };

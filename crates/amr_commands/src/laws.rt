@@ -1,9 +1,0 @@
-//! Laws of what a session prints, as functions that do nothing: their contracts are the laws.
-//! Nothing calls them.
-ghost use Rattle.amr_commands.specs.Laws.{EmptyIsSilent};
-
-/// Says that an empty line prints nothing, even if memory runs out. So the end of the commands
-/// prints nothing if no byte follows the last line feed.
-pub fn an_empty_line_prints_nothing()
-    ensures { EmptyIsSilent }
-{}

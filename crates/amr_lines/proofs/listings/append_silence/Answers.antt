@@ -1,8 +1,0 @@
-use Rattle.amr_lines.proofs.Tokens.{line_of_more, utf8_of_more}
-use Rattle.amr_lines.proofs.listings.append_silence.Goals as goal
-
-pub returns-clause-line : goal.returns-clause-line
-returns-clause-line c = line_of_more _ _ _ _ _ c.new-out.ensures.before c.new-out.ensures.tokens c.in_ok-write_silence.ensures c.end_line.ensures.line
-
-pub returns-clause-utf8 : goal.returns-clause-utf8
-returns-clause-utf8 c = utf8_of_more _ _ _ _ _ c.new-out.ensures.before c.in_ok-write_silence.ensures c.end_line.ensures.line c.end_line.ensures.utf8

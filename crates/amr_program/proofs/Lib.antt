@@ -1,4 +1,0 @@
-mod Unflushed
-mod Stopping
-pub mod FirstPage
-pub mod RunLines

@@ -1,0 +1,83 @@
+-- What each command leaves.
+use Rattle.std.proofs.Common.{◌≡◌, ℕ, ◌+◌, ◌-◌, ◌<◌, ◌≤◌, true, false, nat_lt, nat_le, length, refl, sym, ap, ◌∙◌, inl, inr, arith, rules, tests, String, string_bytes}
+use Rattle.std.specs.declared.alloc.Global.{Global}
+use Rattle.amr_time.specs.Time.{Moment}
+use Rattle.amr_events.specs.Events.{Event}
+use Rattle.amr_state.specs.State.{State}
+use Rattle.amr_engine.specs.Events.{outcome_of}
+use Rattle.amr_replay.specs.Session.{View, at_cursor, events_until}
+use Rattle.amreplay.specs.declared.lines.word.Word.TheVariants as word
+use Rattle.amreplay.specs.Lines.LastLines.{place_line}
+use Rattle.amreplay.specs.CommandLines.Command.{word_of_move}
+use Rattle.amreplay.specs.declared.command_lines.command.Move.{Move}
+use Rattle.amreplay.specs.declared.command_lines.command.Move.TheVariants.{Step, Back, Seek, SeekTime}
+use Rattle.amreplay.specs.declared.command_lines.command.Query.{Query}
+use Rattle.amreplay.specs.declared.command_lines.command.Command.TheVariants as command
+use Rattle.amreplay.specs.declared.command_lines.command.ParsedLine.TheVariants.{Asks}
+use Rattle.amreplay.specs.Commands.Replies.{Incident, Reply, incident_of, state_in, moved, listed, tried_lines, reply_to, TakesMemory}
+use Rattle.amreplay.specs.Commands.Answer.{left, Answered, Moves}
+use Rattle.amreplay.specs.declared.commands.answer.Refusal.TheVariants.{AtEnd, AtStart, OutOfRange}
+use Rattle.amreplay.specs.declared.commands.answer.Answer.{Answer}
+use Rattle.amreplay.specs.declared.commands.answer.Answer.TheVariants.{Built, WentBack, Refused}
+
+-- a command that moves the cursor
+moves_answered : (i : Incident) (n n' to : ℕ) (move : Move) (answer : Answer) → reply_to i n (command.Move move) ≡ moved i n (word_of_move move) to → (n < to → TakesMemory i n (command.Move move))
+    → Moves i n (word_of_move move) to n' answer → Answered i n n' (Asks (command.Move move)) answer
+moves_answered i n n' to move answer reply takes (inl e) = inl (reply ∙ e)
+moves_answered i n n' to move answer reply takes (inr w) = inr (takes w.0, w.1)
+
+step_reply : (i : Incident) (n : ℕ) → n < length i.events → reply_to i n (command.Move Step) ≡ moved i n word.Step (n + 1)
+unfolding reply_to
+step_reply i n h = let b : nat_lt n (length i.events) ≡ true = search (rules, tests) in rw b refl
+
+pub step_answered : (i : Incident) (n n' : ℕ) (answer : Answer) → n < length i.events → Moves i n word.Step (n + 1) n' answer → Answered i n n' (Asks (command.Move Step)) answer
+step_answered i n n' answer h = moves_answered i n n' (n + 1) Step answer (step_reply i n h) (λ _. h)
+
+pub step_at_end : (i : Incident) (n : ℕ) → n ≡ length i.events → reply_to i n (command.Move Step) ≡ left n (Refused word.Step AtEnd)
+unfolding reply_to
+step_at_end i n e = let h : length i.events ≤ n = omega (arith, e) in let b : nat_lt n (length i.events) ≡ false = search (rules, tests) in rw b refl
+
+seek_reply : (i : Incident) (n to : ℕ) → to ≤ length i.events → reply_to i n (command.Move (Seek to)) ≡ moved i n word.Seek to
+unfolding reply_to
+seek_reply i n to h = let b : nat_le to (length i.events) ≡ true = search (rules, tests) in rw b refl
+
+pub seek_answered : (i : Incident) (n n' to : ℕ) (answer : Answer) → to ≤ length i.events → Moves i n word.Seek to n' answer → Answered i n n' (Asks (command.Move (Seek to))) answer
+seek_answered i n n' to answer h = moves_answered i n n' to (Seek to) answer (seek_reply i n to h) (λ lt. (lt, h))
+
+pub seek_out_of_range : (i : Incident) (n to : ℕ) → length i.events < to → reply_to i n (command.Move (Seek to)) ≡ left n (Refused word.Seek OutOfRange)
+unfolding reply_to
+seek_out_of_range i n to h = let b : nat_le to (length i.events) ≡ false = search (rules, tests) in rw b refl
+
+seek_time_reply : (i : Incident) (n : ℕ) (at : Moment) → reply_to i n (command.Move (SeekTime at)) ≡ moved i n word.SeekTime (events_until at i.events)
+unfolding reply_to
+seek_time_reply i n at = refl
+
+pub seek_time_answered : (i : Incident) (n n' : ℕ) (at : Moment) (answer : Answer) → Moves i n word.SeekTime (events_until at i.events) n' answer → Answered i n n' (Asks (command.Move (SeekTime at))) answer
+seek_time_answered i n n' at answer = moves_answered i n n' (events_until at i.events) (SeekTime at) answer (seek_time_reply i n at) (λ lt. lt)
+
+pub back_reply : (i : Incident) (n : ℕ) → 0 < n → reply_to i n (command.Move Back) ≡ left (n - 1) WentBack
+unfolding reply_to
+back_reply i n h = let b : nat_lt 0 n ≡ true = search (rules, tests) in rw b refl
+
+pub back_at_start : (i : Incident) (n : ℕ) → n ≡ 0 → reply_to i n (command.Move Back) ≡ left n (Refused word.Back AtStart)
+unfolding reply_to
+back_at_start i n e = let h : n ≤ 0 = omega (arith, e) in let b : nat_lt 0 n ≡ false = search (rules, tests) in rw b refl
+
+pub trial_reply : (i : Incident) (n : ℕ) (event : Event) (text : String Global) → string_bytes text ≡ tried_lines n (outcome_of (state_in i n) event) → reply_to i n (command.Trial event) ≡ left n (Built text)
+unfolding reply_to
+trial_reply i n event text e = ap (λ t. let r : Reply = record { cursor = n; text = t } in r) (sym e)
+
+state_of : (s : View) → s ≡ at_cursor s.config s.events s.cursor → state_in (incident_of s) s.cursor ≡ s.state
+state_of s view = sym (ap (λ (v : View). v.state) view)
+
+pub query_reply : (s : View) → s ≡ at_cursor s.config s.events s.cursor → (query : Query) (text : String Global) → string_bytes text ≡ listed s.cursor query s.state → reply_to (incident_of s) s.cursor (command.Query query) ≡ left s.cursor (Built text)
+unfolding reply_to
+query_reply s view query text e =
+    ap (λ (st : State). let r : Reply = record { cursor = s.cursor; text = listed s.cursor query st } in r) (state_of s view)
+    ∙ ap (λ t. let r : Reply = record { cursor = s.cursor; text = t } in r) (sym e)
+
+pub place_reply : (s : View) → s ≡ at_cursor s.config s.events s.cursor → (text : String Global) → string_bytes text ≡ place_line s.cursor (length s.events) s.state.moment → reply_to (incident_of s) s.cursor command.Cursor ≡ left s.cursor (Built text)
+unfolding reply_to
+place_reply s view text e =
+    ap (λ (st : State). let r : Reply = record { cursor = s.cursor; text = place_line s.cursor (length s.events) st.moment } in r) (state_of s view)
+    ∙ ap (λ t. let r : Reply = record { cursor = s.cursor; text = t } in r) (sym e)

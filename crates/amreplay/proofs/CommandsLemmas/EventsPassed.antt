@@ -1,0 +1,88 @@
+-- Commands that pass events: their lines, one after another, and the cursor after them.
+use Rattle.std.proofs.Common.{◌≡◌, ℕ, ◌+◌, ◌<◌, ◌≤◌, List, [], ◌∷◌, ◌++◌, length, take, drop, map, get_or, Some, slice_get, refl, sym, ap, ◌∙◌, subst, arith, append_assoc, append-nil, length-drop, ⊎_elim, String, string_bytes}
+use Rattle.std.specs.declared.alloc.Global.{Global}
+use Rattle.std.proofs.lemmas.List.{take_more, length-map, length-take, map-append, drop_all}
+use Rattle.std.proofs.lemmas.Option.{slice_get_cases}
+use Rattle.amreplay.specs.Lines.Printed.{event_lines}
+use Rattle.amreplay.specs.declared.lines.word.Word.{Word}
+use Rattle.amr_config.specs.Config.{Config}
+use Rattle.amr_events.specs.Events.{Event}
+use Rattle.amr_state.specs.State.{State}
+use Rattle.amr_engine.specs.Events.{Outcome, outcome_of, after_event}
+use Rattle.amr_engine.specs.declared.outcome.Outcome as code
+use Rattle.amr_engine.specs.Outcomes.{outcome_view}
+use Rattle.amr_replay.specs.Session.{View, at_cursor, state_at, outcomes_of, outcomes_passed}
+use Rattle.amr_replay.proofs.Passed.{told_more}
+use Rattle.amreplay.specs.Commands.Replies.{Incident, Reply, incident_of, numbered_lines, passing_text, moved}
+use Rattle.amreplay.specs.Commands.Answer.{left, Moves}
+use Rattle.amreplay.specs.declared.commands.answer.Answer.{Answer}
+use Rattle.amreplay.specs.declared.commands.answer.Answer.TheVariants.{Built, SoughtBack}
+
+-- one more line
+numbered_push : (n : ℕ) (os : List Outcome) (o : Outcome) → numbered_lines n (os ++ o ∷ []) ≡ numbered_lines n os ++ event_lines (n + length os) o
+numbered_push n [] o = append-nil _ ∙ ap (λ k. event_lines k o) (omega arith)
+numbered_push n (p ∷ os) o =
+    let here : n + 1 + length os ≡ n + length (p ∷ os) = omega arith in
+    ap (λ t. event_lines n p ++ t) (numbered_push (n + 1) os o ∙ ap (λ k. numbered_lines (n + 1) os ++ event_lines k o) here)
+    ∙ sym (append_assoc (event_lines n p) (numbered_lines (n + 1) os) _)
+
+pub numbered_more : (n i : ℕ) (os : List code.Outcome) (o : code.Outcome) → i < length os → o ≡ get_or os i o
+    → numbered_lines n (map outcome_view (take (i + 1) os)) ≡ numbered_lines n (map outcome_view (take i os)) ++ event_lines (n + i) (outcome_view o)
+numbered_more n i os o h is =
+    let front : take (i + 1) os ≡ take i os ++ o ∷ [] = take_more os i o h ∙ ap (λ x. take i os ++ x ∷ []) (sym is) in
+    let count : n + length (map outcome_view (take i os)) ≡ n + i = omega (arith, length-map (take i os) outcome_view, length-take i os) in
+    ap (λ x. numbered_lines n (map outcome_view x)) front
+    ∙ ap (numbered_lines n) (map-append outcome_view (take i os) (o ∷ []))
+    ∙ numbered_push n (map outcome_view (take i os)) (outcome_view o)
+    ∙ ap (λ k. numbered_lines n (map outcome_view (take i os)) ++ event_lines k (outcome_view o)) count
+
+length-outcomes_of : (s : State) (es : List Event) → length (outcomes_of s es) ≡ length es
+length-outcomes_of s [] = refl
+length-outcomes_of s (e ∷ es) = omega (arith, length-outcomes_of (after_event s e) es)
+
+-- no more events are passed than there are up to the place
+pub passed_fit : (c : Config) (es : List Event) (n m : ℕ) (os : List code.Outcome) → map outcome_view os ≡ outcomes_passed c es n m → n < m → n + length os ≤ m
+passed_fit c es n m os is before =
+    omega (arith, length-map os outcome_view, ap length is, length-outcomes_of (state_at c es n) (drop n (take m es)), length-drop n (take m es), length-take m es)
+
+-- backwards no event is passed
+passed_none : (c : Config) (es : List Event) (n m : ℕ) → m ≤ n → outcomes_passed c es n m ≡ []
+passed_none c es n m h = ap (outcomes_of (state_at c es n)) (drop_all n (take m es) (omega (arith, length-take m es)))
+
+-- to the cursor or below it
+pub moved_back : (i : Incident) (n to : ℕ) (word : Word) → to ≤ n → moved i n word to ≡ left to (SoughtBack word)
+unfolding moved
+moved_back i n to word h =
+    ap (λ os. let r : Reply = record { cursor = to; text = passing_text n word to os } in r) (passed_none i.config i.events n to h)
+
+-- the text of the events that were passed was built
+pub moved_built : (i : Incident) (n to : ℕ) (word : Word) (os : List code.Outcome) (text : String Global) → map outcome_view os ≡ outcomes_passed i.config i.events n to
+    → string_bytes text ≡ passing_text n word to (map outcome_view os) → moved i n word to ≡ left to (Built text)
+unfolding moved
+moved_built i n to word os text is built =
+    ap (λ os. let r : Reply = record { cursor = to; text = passing_text n word to os } in r) (sym is)
+    ∙ ap (λ t. let r : Reply = record { cursor = to; text = t } in r) (sym built)
+
+item : (es : List Event) (n : ℕ) → n < length es → (e : Event) × (slice_get es n ≡ Some e)
+item es n h = ⊎_elim (λ w. (w.0, w.2)) (λ w. absurd (omega (arith, w.0))) (slice_get_cases es n).1
+
+one_passed : (c : Config) (es : List Event) (n : ℕ) (e : Event) (o : code.Outcome) → slice_get es n ≡ Some e → outcome_view o ≡ outcome_of (state_at c es n) e
+    → map outcome_view (o ∷ []) ≡ outcomes_passed c es n (n + 1)
+one_passed c es n e o at is =
+    ap (λ os. outcome_view o ∷ os) (sym (passed_none c es (n + 1) (n + 1) (omega arith))) ∙ told_more c es n (n + 1) e [] o at (omega arith) is
+
+-- a step passes one event
+pub step_passes : (s t : View) (from : ℕ) (o : code.Outcome) → from ≡ s.cursor → s ≡ at_cursor s.config s.events s.cursor → s.cursor < length s.events
+    → ((e : Event) → slice_get s.events s.cursor ≡ Some e → outcome_view o ≡ outcome_of s.state e) → t ≡ at_cursor s.config s.events (s.cursor + 1)
+    → map outcome_view (o ∷ []) ≡ outcomes_passed t.config t.events from t.cursor
+step_passes s t from o place view inside outcome new =
+    let e = item s.events s.cursor inside in
+    let state : s.state ≡ state_at s.config s.events s.cursor = ap (λ (v : View). v.state) view in
+    let one = one_passed s.config s.events s.cursor e.0 o e.1 (outcome e.0 e.1 ∙ ap (λ st. outcome_of st e.0) state) in
+    one ∙ ap (λ n. outcomes_passed s.config s.events n (s.cursor + 1)) (sym place) ∙ ap (λ (v : View). outcomes_passed v.config v.events from v.cursor) (sym new)
+
+-- the place that was reached is that of the command
+pub moves_from : (s t : View) (word : Word) (from to n : ℕ) (answer : Answer) → from ≡ s.cursor → t ≡ at_cursor s.config s.events to
+    → Moves (incident_of t) from word t.cursor n answer → Moves (incident_of s) s.cursor word to n answer
+moves_from s t word from to n answer place new moves =
+    subst (λ k. Moves (incident_of s) k word to n answer) place (subst (λ (v : View). Moves (incident_of v) from word v.cursor n answer) new moves)

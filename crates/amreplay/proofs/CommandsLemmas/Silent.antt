@@ -1,0 +1,32 @@
+-- An empty line prints nothing.
+use Rattle.std.proofs.Common.{◌≡◌, [], ap, sym, subst, inl, inr, refl, arith}
+use Rattle.std.specs.Prelude.{if◌then◌else◌}
+use Rattle.std.proofs.lemmas.Str.{IsUtf8-nil, is_utf8-from_IsUtf8}
+use Rattle.amreplay.specs.declared.lines.word.Word.TheVariants as word
+use Rattle.amreplay.specs.declared.command_lines.command.ParsedLine.{ParsedLine}
+use Rattle.amreplay.specs.declared.command_lines.command.ParsedLine.TheVariants.{Nothing, Malformed}
+use Rattle.amreplay.specs.CommandLines.Parts.{word_in, trimmed}
+use Rattle.amreplay.specs.CommandLines.Command.{word_named, said_in, said_of}
+use Rattle.amreplay.specs.CommandLines.ParsedLine.{LineSays}
+use Rattle.amreplay.specs.Commands.Replies.{MayFindNoMemory, reply_of}
+use Rattle.amreplay.specs.Commands.Talk.{TooLong, NoMemory, Undone, Done}
+use Rattle.amreplay.specs.Commands.Laws.{EmptyIsSilent}
+
+empty_says : said_of [] ≡ Nothing
+unfolding said_of said_in
+empty_says = ap (λ b. if b then said_in (trimmed []) else Malformed word.Unknown) (is_utf8-from_IsUtf8 [] IsUtf8-nil)
+
+empty_is_no_word : word_named (word_in (trimmed [])) ≡ word.Unknown
+unfolding word_named
+empty_is_no_word = refl
+
+-- an empty line is parsed as nothing
+says_nothing : (parsed : ParsedLine) → LineSays [] parsed → Nothing ≡ parsed
+says_nothing parsed (inl e) = sym (cc (e, empty_says))
+says_nothing parsed (inr (text, trial, tries)) = absurd (cc (empty_is_no_word, trial))
+
+pub empty_is_silent : EmptyIsSilent
+empty_is_silent incident cursor TooLong long = absurd (omega arith)
+empty_is_silent incident cursor NoMemory (some, short) = absurd (omega arith)
+empty_is_silent incident cursor (Undone parsed) (short, says, takes) = absurd (subst (MayFindNoMemory incident cursor) (sym (says_nothing parsed says)) takes)
+empty_is_silent incident cursor (Done parsed) (short, says) = ap (reply_of incident cursor) (sym (says_nothing parsed says))

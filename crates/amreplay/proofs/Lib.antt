@@ -1,0 +1,4 @@
+pub mod LinesLemmas
+pub mod CommandLinesLemmas
+pub mod CommandsLemmas
+pub mod ProgramLemmas

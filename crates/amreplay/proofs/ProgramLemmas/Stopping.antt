@@ -1,0 +1,43 @@
+-- What is left, and which end failed, if a run or a session stops at a fault.
+use Rattle.std.proofs.Common.{◌≡◌, ℕ, Bool, List, Option, Err, inr, refl, subst}
+use Rattle.amr_labels.specs.Labels.{Text}
+use Rattle.amr_config.specs.Config.{Config}
+use Rattle.amr_events.specs.Events.{Event}
+use Rattle.amr_state.specs.State.{State, start}
+use Rattle.amreplay.specs.declared.commands.conversation.ConversationError.{ConversationError}
+use Rattle.amreplay.specs.declared.commands.conversation.ConversationError.TheVariants.{Reading, Writing}
+use Rattle.amreplay.specs.Commands.Converse.{Converses, BreaksBy}
+use Rattle.amreplay.specs.declared.program.run.RunError.{RunError}
+use Rattle.amreplay.specs.declared.program.run.RunError.TheVariants.{OutOfMemory, CannotWrite}
+use Rattle.amreplay.specs.Program.Runs.{RunLeavesAt}
+use Rattle.amreplay.specs.Program.Files.{Hold, StopLeaves, FilesLeave}
+use Rattle.amreplay.specs.Program.Ends.{StoppedAt, FaultBy, FaultOfReading}
+use Rattle.amreplay.specs.Program.Faults.{stop_fault, broken_fault}
+use Rattle.amreplay.specs.Program.Sessions.{incident_with, SessionLeaves}
+
+StopLeaves-error : (a b : Option Text) (config : Config) (events : List Event) (error : RunError) → RunLeavesAt a b config events error → StopLeaves a b config events (stop_fault error)
+StopLeaves-error a b config events OutOfMemory left = left
+StopLeaves-error a b config events CannotWrite left = left
+
+-- a run over two files stops
+pub FilesLeave-error : (a b : Option Text) (bytes script : List ℕ) (config : Config) (events : List Event) (s : State) (error : RunError)
+    → Hold bytes script config events → s ≡ start config → RunLeavesAt a b s.config events error → FilesLeave a b bytes script (Err (stop_fault error))
+FilesLeave-error a b bytes script config events s error hold is left =
+    inr (config, events, hold, StopLeaves-error a b config events error (subst (λ (t : State). RunLeavesAt a b t.config events error) is left))
+
+pub FaultBy-run_error : (failed failed' : Bool) (error : RunError) → StoppedAt failed failed' error → FaultBy failed failed' (stop_fault error)
+FaultBy-run_error failed failed' OutOfMemory h = h
+FaultBy-run_error failed failed' CannotWrite h = h
+
+-- an end of a session over two files fails
+pub SessionLeaves-error : (source left old new : Option Text) (bytes script : List ℕ) (config : Config) (events : List Event) (error : ConversationError)
+    → Hold bytes script config events → Converses (incident_with config events) source left old new (Err error) → SessionLeaves source left old new bytes script (Err (broken_fault error))
+SessionLeaves-error source left old new bytes script config events error hold conversed = inr (config, events, hold, error, refl, conversed)
+
+pub FaultOfReading-error : (error : ConversationError) (read read' : Bool) (calls : ℕ) (written written' : Bool) → BreaksBy error read read' calls written written' → FaultOfReading read read' calls (broken_fault error)
+FaultOfReading-error Reading read read' calls written written' h = h.0
+FaultOfReading-error Writing read read' calls written written' h = h.0
+
+pub FaultBy-conversation_error : (error : ConversationError) (read read' : Bool) (calls : ℕ) (written written' : Bool) → BreaksBy error read read' calls written written' → FaultBy written written' (broken_fault error)
+FaultBy-conversation_error Reading read read' calls written written' h = h.1
+FaultBy-conversation_error Writing read read' calls written written' h = h.1

@@ -1,0 +1,16 @@
+use Rattle.std.proofs.Common.{inl, arith}
+use Rattle.amreplay.specs.Commands.Replies.{incident_of}
+use Rattle.amreplay.proofs.CommandsLemmas.EventsPassed.{moved_back, moved_built, passed_fit}
+use Rattle.amreplay.proofs.commands.navigation.moved.Goals as goal
+
+pub returns-then-to-from-clause-moved : goal.returns-then-to-from-clause-moved
+returns-then-to-from-clause-moved c =
+    inl (moved_back (incident_of c.args.session.now) c.args.from c.args.session.now.cursor c.args.word (omega (arith, c.cursor-to.ensures.cursor, c.if-to-from.true)))
+
+pub passed_text-requires : goal.passed_text-requires
+passed_text-requires c =
+    omega (arith, c.cursor-to.ensures.cursor, passed_fit c.args.session.now.config c.args.session.now.events c.args.from c.args.session.now.cursor c.args.outcomes.now c.requires (omega (arith, c.cursor-to.ensures.cursor, c.if-to-from.false)))
+
+pub returns-in-Ok-clause-moved : goal.returns-in-Ok-clause-moved
+returns-in-Ok-clause-moved c =
+    inl (moved_built (incident_of c.args.session.now) c.args.from c.args.session.now.cursor c.args.word c.args.outcomes.now c.in-Ok.text c.requires (rw c.cursor-to.ensures.cursor at c.in-Ok.ensures))

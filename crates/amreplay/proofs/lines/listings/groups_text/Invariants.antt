@@ -1,0 +1,11 @@
+use Rattle.std.proofs.Common.{◌≡◌, take}
+use Rattle.std.specs.List.{flat_map}
+use Rattle.std.specs.Str.{IsUtf8}
+use Rattle.amreplay.specs.Lines.Printed.{group_seen_line}
+use Rattle.amreplay.proofs.lines.listings.groups_text.Given as goal
+
+abbrev pub invariant-loop-group : goal.invariant-loop-group
+invariant-loop-group l = record {
+  made : l.lines.items ≡ flat_map group_seen_line (take l.group-index l.groups);
+  utf8 : IsUtf8 l.lines.items;
+}

@@ -1,0 +1,116 @@
+-- What a command leaves: the cursor, and what is printed.
+use Rattle.std.specs.Prelude.{ℕ, ◌+◌, ◌-◌, ◌<◌, ◌≤◌, nat_lt, nat_le, List, [], ◌∷◌, ◌++◌, length, if◌then◌else◌, ⊤}
+use Rattle.std.specs.List.{flat_map, sum_by}
+use Rattle.amr_labels.specs.Map.{entries}
+use Rattle.amr_labels.specs.Labels.{Text}
+use Rattle.amr_config.specs.Config.{Config}
+use Rattle.amr_events.specs.Events.{Event}
+use Rattle.amr_state.specs.State.{State}
+use Rattle.amr_engine.specs.Events.{Outcome, Accepted, Refused, outcome_of}
+use Rattle.amr_state.specs.Seen.{groups_of}
+use Rattle.amr_engine.specs.Explain.{verdicts}
+use Rattle.amr_replay.specs.Session.{View, state_at, outcomes_passed, events_until}
+use Rattle.amreplay.specs.declared.lines.word.Word.{Word}
+use Rattle.amreplay.specs.declared.lines.word.Word.TheVariants as word
+use Rattle.amreplay.specs.Lines.Printed.{event_lines, notification_line, alert_line, silence_line, group_seen_line, log_line}
+use Rattle.amreplay.specs.Lines.Verdicts.{verdict_line}
+use Rattle.amreplay.specs.Lines.LastLines.{moves_line, cursor_line, place_line, refused_line}
+use Rattle.amreplay.specs.CommandLines.Command.{word_of_query}
+use Rattle.amreplay.specs.declared.command_lines.command.Move.TheVariants.{Step, Back, Seek, SeekTime}
+use Rattle.amreplay.specs.declared.command_lines.command.Query.{Query}
+use Rattle.amreplay.specs.declared.command_lines.command.Query.TheVariants.{Explain, Alerts, Silences, Groups, Log, Transcript}
+use Rattle.amreplay.specs.declared.command_lines.command.Command.{Command}
+use Rattle.amreplay.specs.declared.command_lines.command.Command.TheVariants as command
+use Rattle.amreplay.specs.declared.command_lines.command.ParsedLine.{ParsedLine}
+use Rattle.amreplay.specs.declared.command_lines.command.ParsedLine.TheVariants.{Nothing, Asks, Malformed, BadMoment, BadArgument}
+
+-- a configuration, and the events of a script
+pub record Incident : Type 0 where
+  pub config : Config
+  pub events : List Event
+
+abbrev pub incident_of : View → Incident
+incident_of session = record { config = session.config; events = session.events }
+
+-- the state after the first n events
+abbrev pub state_in : Incident → ℕ → State
+state_in incident n = state_at incident.config incident.events n
+
+pub record Reply : Type 0 where
+  pub cursor : ℕ
+  pub text : Text
+
+abbrev pub refused : ℕ → Word → ℕ → Reply
+refused cursor word reason = record { cursor = cursor; text = refused_line word cursor reason }
+
+-- the lines of events; the first has the number n
+abbrev pub numbered_lines : ℕ → List Outcome → Text
+numbered_lines n [] = []
+numbered_lines n (outcome ∷ outcomes) = event_lines n outcome ++ numbered_lines (n + 1) outcomes
+
+-- the moves of an event; a refused one has none
+abbrev pub moves_in : Outcome → ℕ
+moves_in (Accepted moves notes skipped) = moves
+moves_in (Refused reason) = 0
+
+abbrev pub passing_text : ℕ → Word → ℕ → List Outcome → Text
+passing_text cursor word to passed = numbered_lines (cursor + 1) passed ++ moves_line word to (sum_by moves_in passed)
+
+-- a move to another place: the lines of the events that are passed forward, and the sum of their
+-- moves
+unfoldable pub moved : Incident → ℕ → Word → ℕ → Reply
+moved incident cursor word to =
+    record { cursor = to; text = passing_text cursor word to (outcomes_passed incident.config incident.events cursor to) }
+
+-- the lines that a query lists, of a state
+abbrev pub lines_of : Query → State → Text
+lines_of (Explain labels) s = flat_map verdict_line (verdicts s labels)
+lines_of Alerts s = flat_map alert_line (entries s.alerts)
+lines_of Silences s = flat_map silence_line (entries s.silences)
+lines_of Groups s = flat_map group_seen_line (groups_of s)
+lines_of Log s = flat_map log_line (entries s.log)
+lines_of Transcript s = flat_map notification_line s.notes
+
+-- those lines and a last one
+abbrev pub listed : ℕ → Query → State → Text
+listed cursor query s = lines_of query s ++ cursor_line (word_of_query query) cursor
+
+-- an event that is tried has the number 0
+abbrev pub tried_lines : ℕ → Outcome → Text
+tried_lines cursor outcome = event_lines 0 outcome ++ moves_line word.Trial cursor (moves_in outcome)
+
+-- what a command leaves if memory doesn't run out
+unfoldable pub reply_to : Incident → ℕ → Command → Reply
+reply_to incident n (command.Move Step) = if nat_lt n (length incident.events) then moved incident n word.Step (n + 1) else refused n word.Step 22
+reply_to incident n (command.Move Back) = if nat_lt 0 n then record { cursor = n - 1; text = cursor_line word.Back (n - 1) } else refused n word.Back 23
+reply_to incident n (command.Move (Seek to)) = if nat_le to (length incident.events) then moved incident n word.Seek to else refused n word.Seek 24
+reply_to incident n (command.Move (SeekTime at)) = moved incident n word.SeekTime (events_until at incident.events)
+reply_to incident n (command.Trial event) = record { cursor = n; text = tried_lines n (outcome_of (state_in incident n) event) }
+reply_to incident n (command.Query query) = record { cursor = n; text = listed n query (state_in incident n) }
+reply_to incident n command.Cursor = record { cursor = n; text = place_line n (length incident.events) (state_in incident n).moment }
+
+-- the command takes memory there, so memory may run out
+abbrev pub TakesMemory : Incident → ℕ → Command → Type 0
+TakesMemory incident n (command.Move Step) = n < length incident.events
+TakesMemory incident n (command.Move Back) = ⊥
+TakesMemory incident n (command.Move (Seek to)) = (n < to) × (to ≤ length incident.events)
+TakesMemory incident n (command.Move (SeekTime at)) = n < events_until at incident.events
+TakesMemory incident n (command.Trial event) = ⊤
+TakesMemory incident n (command.Query query) = ⊤
+TakesMemory incident n command.Cursor = ⊤
+
+-- what a line leaves that was parsed as this
+abbrev pub reply_of : Incident → ℕ → ParsedLine → Reply
+reply_of incident n Nothing = record { cursor = n; text = [] }
+reply_of incident n (Asks command) = reply_to incident n command
+reply_of incident n (Malformed word) = refused n word 13
+reply_of incident n BadMoment = refused n word.SeekTime 3
+reply_of incident n (BadArgument word) = refused n word 13
+
+-- parsing it takes memory, or executing it
+abbrev pub MayFindNoMemory : Incident → ℕ → ParsedLine → Type 0
+MayFindNoMemory incident n Nothing = ⊥
+MayFindNoMemory incident n (Asks command) = TakesMemory incident n command
+MayFindNoMemory incident n (Malformed word) = ⊥
+MayFindNoMemory incident n BadMoment = ⊥
+MayFindNoMemory incident n (BadArgument word) = ⊤

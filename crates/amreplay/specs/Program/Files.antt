@@ -1,0 +1,93 @@
+-- What the bytes of the two files spell, and what a run over them leaves in a writer.
+use Rattle.std.specs.Prelude.{◌≡◌, ◌⊎◌, ℕ, Bool, true, false, List, [], take, length, Option, Some, None, Result, Ok, Err, nat_lt, if◌then◌else◌}
+use Rattle.std.specs.Str.{is_utf8}
+use Rattle.std.specs.Io.KnownBytes.{Appends, Keeps}
+use Rattle.serde_json.specs.Data.{Data}
+use Rattle.serde_json.specs.Read.{read}
+use Rattle.amr_labels.specs.Labels.{Text}
+use Rattle.amr_config.specs.Config as config
+use Rattle.amr_events.specs.Events.{Event}
+use Rattle.amr_stated.specs.declared.error.Refusal.{Refusal}
+use Rattle.amr_stated.specs.declared.error.Refusal.TheVariants.{BadConfig}
+use Rattle.amr_stated.specs.declared.error.ConfigError.{ConfigError}
+use Rattle.amr_stated.specs.declared.error.ConfigError.TheVariants.{Memory, Refused}
+use Rattle.amr_config.specs.Reading.{ConfigIs}
+use Rattle.amr_events.specs.Scripts.{ScriptIs}
+use Rattle.amr_replay.specs.Session.{View, at_cursor}
+use Rattle.amreplay.specs.declared.program.fault.Fault.{Fault}
+use Rattle.amreplay.specs.declared.program.fault.Fault.TheVariants.{Config, Script, CannotReadConfig, CannotReadScript, CannotReadCommands, CannotWrite, OutOfMemory, Usage}
+use Rattle.amreplay.specs.Lines.Outlet.{AppendsBeginning}
+use Rattle.amreplay.specs.Program.Runs.{run_lines}
+
+-- the value that bytes spell, if they are JSON in UTF-8
+unfoldable pub json_of : List ℕ → Option Data
+json_of bytes = if is_utf8 bytes then read bytes else None
+
+abbrev pub longest_config : ℕ
+longest_config = 1_048_576
+
+-- the configuration of a value, or its refusal; the path of a whole file is empty
+abbrev pub ValueIs : Option Data → Result config.Config Refusal → Type 0
+ValueIs None judged = judged ≡ Err (BadConfig [])
+ValueIs (Some value) judged = ConfigIs value judged
+
+abbrev pub ConfigIsUnless : Bool → List ℕ → Result config.Config Refusal → Type 0
+ConfigIsUnless true bytes judged = judged ≡ Err (BadConfig [])
+ConfigIsUnless false bytes judged = ValueIs (json_of bytes) judged
+
+-- the configuration of a file, or its refusal; a file that is too long is refused as a whole
+unfoldable pub ConfigFileIs : List ℕ → Result config.Config Refusal → Type 0
+ConfigFileIs bytes judged = ConfigIsUnless (nat_lt longest_config (length bytes)) bytes judged
+
+-- what is returned for the bytes of a configuration; running out of memory says nothing about them
+abbrev pub ReadsAs : List ℕ → Result config.Config ConfigError → Type 0
+ReadsAs bytes (Ok config) = ConfigFileIs bytes (Ok config)
+ReadsAs bytes (Err Memory) = Unit {0}
+ReadsAs bytes (Err (Refused refusal)) = ConfigFileIs bytes (Err refusal)
+
+-- the files hold the configuration and the events
+pub record Hold (config_bytes script_bytes : List ℕ) (held : config.Config) (events : List Event) : Type 0 where
+  pub config_read : ConfigFileIs config_bytes (Ok held)
+  pub script_read : ScriptIs script_bytes (Ok events)
+
+-- a file is refused, the configuration before the script; running out of memory says nothing about
+-- them
+abbrev pub AreRefused : List ℕ → List ℕ → Fault → Type 0
+AreRefused bytes script (Config refusal) = ConfigFileIs bytes (Err refusal)
+AreRefused bytes script (Script fault) = (held : config.Config) × ConfigFileIs bytes (Ok held) × ScriptIs script (Err fault)
+AreRefused bytes script CannotReadConfig = ⊥
+AreRefused bytes script CannotReadScript = ⊥
+AreRefused bytes script CannotReadCommands = ⊥
+AreRefused bytes script CannotWrite = ⊥
+AreRefused bytes script OutOfMemory = Unit {0}
+AreRefused bytes script Usage = ⊥
+
+-- what the two files hold, or the fault that refuses one of them
+abbrev pub FilesAre : List ℕ → List ℕ → Result (config.Config × List Event) Fault → Type 0
+FilesAre bytes script (Ok held) = Hold bytes script held.0 held.1
+FilesAre bytes script (Err fault) = AreRefused bytes script fault
+
+-- the session of the files at its start, or the fault that refuses one of them
+abbrev pub Opens : List ℕ → List ℕ → Result View Fault → Type 0
+Opens bytes script (Ok session) = Hold bytes script session.config session.events × (session ≡ at_cursor session.config session.events 0)
+Opens bytes script (Err fault) = AreRefused bytes script fault
+
+-- what a run that stops leaves: the lines of the first events if memory runs out, and a prefix of
+-- the lines if the writer fails
+abbrev pub StopLeaves : Option Text → Option Text → config.Config → List Event → Fault → Type 0
+StopLeaves old new config events (Config refusal) = ⊥
+StopLeaves old new config events (Script fault) = ⊥
+StopLeaves old new config events CannotReadConfig = ⊥
+StopLeaves old new config events CannotReadScript = ⊥
+StopLeaves old new config events CannotReadCommands = ⊥
+StopLeaves old new config events CannotWrite = AppendsBeginning old new (run_lines config events)
+StopLeaves old new config events OutOfMemory = (k : ℕ) × Appends old new (run_lines config (take k events))
+StopLeaves old new config events Usage = ⊥
+
+-- A run over two files. If one is refused, its fault is returned and nothing is written; otherwise
+-- the lines of the run are written.
+abbrev pub FilesLeave : Option Text → Option Text → List ℕ → List ℕ → Result (Unit {0}) Fault → Type 0
+FilesLeave old new bytes script (Ok u) = (held : config.Config) × (events : List Event) × Hold bytes script held events × Appends old new (run_lines held events)
+FilesLeave old new bytes script (Err fault) =
+    (AreRefused bytes script fault × Keeps old new)
+    ⊎ ((held : config.Config) × (events : List Event) × Hold bytes script held events × StopLeaves old new held events fault)

@@ -1,0 +1,133 @@
+//! A session over any reader and any writer: commands are read, cut into lines, and answered.
+//! `program` calls `converse`. A test can call it with any bytes.
+ghost use Rattle.std.specs.Prelude.{◌≡◌, ℕ, ◌<◌, ◌≤◌, List, [], length, take, Option, MatchResult};
+ghost use Rattle.std.specs.Io.KnownBytes.{Consumes, Keeps, IsAtEnd};
+ghost use Rattle.amreplay.specs.Lines.Inlet.{CountsCall};
+ghost use Rattle.amreplay.specs.Lines.Outlet.{FailsAt};
+ghost use Rattle.amreplay.specs.Commands.Replies.{incident_of};
+ghost use Rattle.amreplay.specs.Commands.Converse.{Converses, Turns, Printed, Stands, EndsBy, CountsTurn};
+ghost use Rattle.amreplay.specs.Commands.Talk.{StopsShort};
+
+use crate::commands::dispatch::answer_line;
+use crate::commands::input::take_bytes;
+use crate::command_lines::Line;
+use crate::lines::{Inlet, Outlet, WriteFailed};
+use amr_replay::Session;
+use std::alloc::Global;
+use std::io::{Read, Write};
+
+/// How many bytes are asked for at once.
+const CHUNK: usize = 4096;
+
+/// Which end failed.
+#[derive(Clone, Copy, Debug, PartialEq, Eq)]
+pub enum ConversationError {
+    Reading,
+    Writing,
+}
+
+/// Whether there may be more to read.
+#[derive(Clone, Copy, Debug, PartialEq, Eq)]
+enum Turn {
+    More,
+    Ended,
+}
+
+/// Reads once.
+fn read_once<R: Read>(commands: &mut Inlet<R>, chunk: &mut [u8]) -> Result<usize, ConversationError>
+    requires { 0 < length chunk.old }
+    ensures read { MatchResult result
+        (λ n. (n ≤ length chunk.new)
+        × Consumes (R.remaining commands.old.reader) (R.remaining commands.new.reader)
+        (take n chunk.new)
+        × (n ≡ 0 → IsAtEnd (R.remaining commands.new.reader)))
+        (λ error. (error ≡ ConversationError.Reading)
+        × Keeps (R.remaining commands.old.reader) (R.remaining commands.new.reader)) }
+    ensures counted { CountsCall result commands.old.failed commands.new.failed commands.old.calls
+        commands.new.calls }
+{
+    match commands.read(chunk) {
+        Ok(n) => Ok(n),
+        Err(_) => Err(ConversationError::Reading),
+    }
+}
+
+/// Answers the last line, which has no line feed.
+fn finish<W: Write>(
+    alloc: Global,
+    session: &mut Session,
+    line: &Line,
+    out: &mut Outlet<W>,
+) -> Result<(), WriteFailed>
+    ensures kept { incident_of session.new ≡ incident_of session.old }
+    ensures printed { (start : Option (List ℕ)) (bytes : List ℕ)
+        → Stands (incident_of session.old) start (W.contents out.old.writer) bytes
+        session.old.cursor line.now
+        → MatchResult result
+        (λ _. Printed (incident_of session.old) start (W.contents out.new.writer) bytes)
+        (λ _. StopsShort (incident_of session.old) start (W.contents out.new.writer) bytes []) }
+    ensures failed { FailsAt result out.old.failed out.new.failed }
+{
+    answer_line(alloc, session, line, out)
+}
+
+/// Reads once, and answers the lines that end in what was read.
+fn take_turn<R: Read, W: Write>(
+    alloc: Global,
+    session: &mut Session,
+    line: &mut Line,
+    chunk: &mut [u8],
+    commands: &mut Inlet<R>,
+    out: &mut Outlet<W>,
+) -> Result<Turn, ConversationError>
+    requires { 0 < length chunk.old }
+    ensures kept { incident_of session.new ≡ incident_of session.old }
+    ensures turned { Turns (incident_of session.old) (R.remaining commands.old.reader)
+        (R.remaining commands.new.reader)
+        (W.contents out.old.writer) (W.contents out.new.writer) session.old.cursor
+        session.new.cursor
+        line.old line.new result }
+    ensures counted { CountsTurn result commands.old.calls commands.new.calls }
+    ensures ended { EndsBy result commands.old.failed commands.new.failed commands.new.calls
+        out.old.failed out.new.failed }
+{
+    match read_once(commands, chunk) {
+        Err(_) => Err(ConversationError::Reading),
+        Ok(0) => match finish(alloc, session, line, out) {
+            Ok(()) => Ok(Turn::Ended),
+            Err(_) => Err(ConversationError::Writing),
+        },
+        Ok(n) => match take_bytes(alloc, session, line, &chunk[..n], out) {
+            Ok(()) => Ok(Turn::More),
+            Err(_) => Err(ConversationError::Writing),
+        },
+    }
+}
+
+/// Reads commands until they end, and writes the answer to each line.
+///
+/// It flushes the writer after each line. Reading also ends at an error of the reader, and at the
+/// read numbered 1,099,511,627,776. A line that is cut short by either isn't executed.
+pub fn converse<R: Read, W: Write>(
+    alloc: Global,
+    session: &mut Session,
+    commands: &mut Inlet<R>,
+    out: &mut Outlet<W>,
+) -> Result<(), ConversationError>
+    requires { session.old.cursor ≡ 0 }
+    ensures conversed { Converses (incident_of session.old) (R.remaining commands.old.reader)
+        (R.remaining commands.new.reader)
+        (W.contents out.old.writer) (W.contents out.new.writer) result }
+    ensures ended { EndsBy result commands.old.failed commands.new.failed commands.new.calls
+        out.old.failed out.new.failed }
+{
+    let mut line = Line::new(alloc);
+    let mut chunk = [0u8; CHUNK];
+    loop {
+        match take_turn(alloc, session, &mut line, &mut chunk, commands, out) {
+            Ok(Turn::More) => {}
+            Ok(Turn::Ended) => return Ok(()),
+            Err(error) => return Err(error),
+        }
+    }
+}

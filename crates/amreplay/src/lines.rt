@@ -1,0 +1,24 @@
+//! The printed lines, and writing them. `docs/FORMATS.md` has their shapes. Runs and sessions call
+//! it; it decides nothing about alerts.
+
+mod inlet;
+mod json_text;
+mod last_lines;
+mod lines;
+mod listed_text;
+mod listings;
+mod notification_text;
+mod outlet;
+mod values;
+mod verdicts;
+mod word;
+
+pub use inlet::{Inlet, ReadFailed};
+pub use last_lines::{
+    cursor_text, moves_text, place_text, write_back, write_backward_seek, write_refused,
+};
+pub use lines::{event_text, line_text, notes_text};
+pub use listings::{alerts_text, groups_text, log_text, silences_text};
+pub use outlet::{Outlet, WriteFailed, flush, write_parts, write_whole};
+pub use verdicts::verdicts_text;
+pub use word::{Word, word_text};

@@ -1,0 +1,18 @@
+//! The program, given its arguments and the bytes of its files: checks, runs, sessions, and the
+//! faults that stop them. `main` calls it; nothing here opens a file.
+
+mod check;
+mod fault;
+mod input;
+mod load;
+mod run;
+mod session;
+mod words;
+
+pub use check::check_config;
+pub use fault::{Fault, status_of, write_fault};
+pub use input::{InputError, read_whole};
+pub use load::{LONGEST_CONFIG, open_session, read_config};
+pub use run::run_script;
+pub use session::run_session;
+pub use words::{Command, command_of};

@@ -1,0 +1,243 @@
+//! What stops the program: the line for standard error, and the exit status. `main` writes it last.
+//! The line takes no memory, so it can also report that memory ran out.
+ghost use Rattle.std.specs.Prelude.{◌≡◌};
+ghost use Rattle.amreplay.specs.Lines.Outlet.{WritesText, FailsAt};
+
+use crate::program::run::RunError;
+use crate::commands::ConversationError;
+use amr_events::{Fault as ScriptFault, ScriptError};
+use crate::lines::{Outlet, WriteFailed, write_parts};
+use amr_stated::{ConfigError, Refusal};
+use itoa::Buffer;
+use std::alloc::AllocError;
+use std::io::Write;
+
+/// A reason to stop the program.
+#[derive(Debug, Drop)]
+pub enum Fault {
+    /// The configuration is refused.
+    Config(Refusal),
+    /// The script is refused.
+    Script(ScriptFault),
+    CannotReadConfig,
+    CannotReadScript,
+    CannotReadCommands,
+    CannotWrite,
+    OutOfMemory,
+    /// The arguments aren't a command line of the program.
+    Usage,
+}
+
+impl From<AllocError> for Fault {
+    ghost use Rattle.std.specs.Prelude.{◌≡◌};
+    ghost use Rattle.amreplay.specs.declared.program.fault.Fault.TheVariants.{OutOfMemory};
+
+    ghost from_gives = { λ _ fault. fault ≡ OutOfMemory };
+
+    fn from(_error: AllocError) -> Fault {
+        Fault::OutOfMemory
+    }
+}
+
+impl From<ConfigError> for Fault {
+    ghost use Rattle.std.specs.Prelude.{◌≡◌};
+    ghost use Rattle.amreplay.specs.Program.Faults.{config_fault};
+
+    ghost from_gives = { λ error fault. fault ≡ config_fault error };
+
+    fn from(error: ConfigError) -> Fault {
+        match error {
+            ConfigError::Memory => Fault::OutOfMemory,
+            ConfigError::Refused(refusal) => Fault::Config(refusal),
+        }
+    }
+}
+
+impl From<ScriptError> for Fault {
+    ghost use Rattle.std.specs.Prelude.{◌≡◌};
+    ghost use Rattle.amreplay.specs.Program.Faults.{script_fault};
+
+    ghost from_gives = { λ error fault. fault ≡ script_fault error };
+
+    fn from(error: ScriptError) -> Fault {
+        match error {
+            ScriptError::Memory => Fault::OutOfMemory,
+            ScriptError::Refused(fault) => Fault::Script(fault),
+        }
+    }
+}
+
+impl From<RunError> for Fault {
+    ghost use Rattle.std.specs.Prelude.{◌≡◌};
+    ghost use Rattle.amreplay.specs.Program.Faults.{stop_fault};
+
+    ghost from_gives = { λ error fault. fault ≡ stop_fault error };
+
+    fn from(error: RunError) -> Fault {
+        match error {
+            RunError::OutOfMemory => Fault::OutOfMemory,
+            RunError::CannotWrite => Fault::CannotWrite,
+        }
+    }
+}
+
+impl From<WriteFailed> for Fault {
+    ghost use Rattle.std.specs.Prelude.{◌≡◌};
+    ghost use Rattle.amreplay.specs.declared.program.fault.Fault.TheVariants.{CannotWrite};
+
+    ghost from_gives = { λ _ fault. fault ≡ CannotWrite };
+
+    fn from(_error: WriteFailed) -> Fault {
+        Fault::CannotWrite
+    }
+}
+
+impl From<ConversationError> for Fault {
+    ghost use Rattle.std.specs.Prelude.{◌≡◌};
+    ghost use Rattle.amreplay.specs.Program.Faults.{broken_fault};
+
+    ghost from_gives = { λ error fault. fault ≡ broken_fault error };
+
+    fn from(error: ConversationError) -> Fault {
+        match error {
+            ConversationError::Reading => Fault::CannotReadCommands,
+            ConversationError::Writing => Fault::CannotWrite,
+        }
+    }
+}
+
+/// What the line of a fault has after its name.
+#[derive(Clone, Copy, Debug)]
+enum Place<'a> {
+    Nowhere,
+    AtPath(&'a str),
+    AtLine(u64),
+}
+
+ghost use Rattle.amreplay.specs.Program.Faults.{fault_line, fault_name, config_name as config_name_of, script_name as script_name_of, fault_place, config_place as config_place_of, script_place as script_place_of, path_place as place_of_path, line_with_place, place_of as place_seen, status_of as fault_status};
+
+/// Writes the line of a fault. It takes no memory.
+pub fn write_fault<W: Write>(fault: &Fault, out: &mut Outlet<W>) -> Result<(), WriteFailed>
+    ensures written { WritesText (W.contents out.old.writer) (W.contents out.new.writer)
+        result (fault_line fault.now) }
+    ensures failed { FailsAt result out.old.failed out.new.failed }
+{
+    write_line(name_of(fault), &place_of(fault), out)
+}
+
+/// Writes the line of a fault from its name and its place.
+fn write_line<W: Write>(name: &str, place: &Place, out: &mut Outlet<W>) -> Result<(), WriteFailed>
+    ensures written { WritesText (W.contents out.old.writer) (W.contents out.new.writer)
+        result (line_with_place name.now (place_seen place.now)) }
+    ensures failed { FailsAt result out.old.failed out.new.failed }
+{
+    match place {
+        Place::Nowhere => write_parts(out, &[name.as_bytes(), b"\n"]),
+        Place::AtPath(path) => {
+            write_parts(out, &[name.as_bytes(), b" at ", path.as_bytes(), b"\n"])
+        }
+        Place::AtLine(line) => {
+            let mut digits = Buffer::new();
+            let digits = digits.format(*line);
+            write_parts(
+                out,
+                &[name.as_bytes(), b" at line ", digits.as_bytes(), b"\n"],
+            )
+        }
+    }
+}
+
+/// Returns what the line of a fault begins with.
+fn name_of(fault: &Fault) -> &'static str
+    ensures { result.now ≡ fault_name fault.now }
+{
+    match fault {
+        Fault::Config(refusal) => config_name(refusal),
+        Fault::Script(fault) => script_name(*fault),
+        Fault::CannotReadConfig => "amreplay: cannot read config",
+        Fault::CannotReadScript => "amreplay: cannot read script",
+        Fault::CannotReadCommands => "amreplay: cannot read commands",
+        Fault::CannotWrite => "amreplay: cannot write",
+        Fault::OutOfMemory => "amreplay: out of memory",
+        Fault::Usage => "amreplay: usage",
+    }
+}
+
+/// Returns the number and the name of a refusal, with what comes before them.
+fn config_name(refusal: &Refusal) -> &'static str
+    ensures { result.now ≡ config_name_of refusal.now }
+{
+    match refusal {
+        Refusal::BadConfig { path: _ } => "amreplay: config: 5 BadConfig",
+        Refusal::UnknownReceiver => "amreplay: config: 6 UnknownReceiver",
+        Refusal::DuplicateReceiver => "amreplay: config: 7 DuplicateReceiver",
+        Refusal::RootRoute => "amreplay: config: 8 RootRoute",
+        Refusal::ZeroInterval => "amreplay: config: 9 ZeroInterval",
+        Refusal::BadGroupBy => "amreplay: config: 10 BadGroupBy",
+        Refusal::TooDeep => "amreplay: config: 11 TooDeep",
+    }
+}
+
+/// Returns the number and the name of a script's fault, with what comes before them.
+fn script_name(fault: ScriptFault) -> &'static str
+    ensures { result.now ≡ script_name_of fault }
+{
+    match fault {
+        ScriptFault::BadLine { line: _ } => "amreplay: script: 13 BadLine",
+        ScriptFault::LineTooLong { line: _ } => "amreplay: script: 14 LineTooLong",
+        ScriptFault::TooManyEvents => "amreplay: script: 15 TooManyEvents",
+    }
+}
+
+/// Returns the place of a fault.
+fn place_of(fault: &Fault) -> Place<'_>
+    ensures { place_seen result ≡ fault_place fault.now }
+{
+    match fault {
+        Fault::Config(refusal) => config_place(refusal),
+        Fault::Script(fault) => script_place(*fault),
+        _ => Place::Nowhere,
+    }
+}
+
+/// Returns the place of a refusal: the path in the configuration, if it has one.
+fn config_place(refusal: &Refusal) -> Place<'_>
+    ensures { place_seen result ≡ config_place_of refusal.now }
+{
+    match refusal {
+        Refusal::BadConfig { path } => path_place(path.as_str()),
+        _ => Place::Nowhere,
+    }
+}
+
+/// Returns the place at a path. The empty path, which is the whole configuration, isn't printed.
+fn path_place(path: &str) -> Place<'_>
+    ensures { place_seen result ≡ place_of_path path.now }
+{
+    if path.is_empty() {
+        Place::Nowhere
+    } else {
+        Place::AtPath(path)
+    }
+}
+
+/// Returns the place of a script's fault: its line, if it has one.
+fn script_place(fault: ScriptFault) -> Place<'static>
+    ensures { place_seen result ≡ script_place_of fault }
+{
+    match fault {
+        ScriptFault::BadLine { line } => Place::AtLine(line),
+        ScriptFault::LineTooLong { line } => Place::AtLine(line),
+        ScriptFault::TooManyEvents => Place::Nowhere,
+    }
+}
+
+/// Returns the exit status of a fault: 2 for a usage error, and 1 for any other.
+pub fn status_of(fault: &Fault) -> u8
+    ensures { result ≡ fault_status fault.now }
+{
+    match fault {
+        Fault::Usage => 2,
+        _ => 1,
+    }
+}

@@ -1,0 +1,139 @@
+//! The command `run`: applies all events of a script and writes their lines. It never goes back, so
+//! it keeps no record and calls the engine itself instead of a session.
+ghost use Rattle.std.specs.Prelude.{◌≡◌, ◌+◌, [], IfOk, OnOk, length, ℕ, string_bytes};
+ghost use Rattle.amreplay.specs.Lines.Printed.{event_lines};
+ghost use Rattle.amreplay.specs.Program.Files.{FilesLeave};
+ghost use Rattle.amreplay.specs.Program.Runs.{Leaves, RunLeaves, LeavesAt};
+ghost use Rattle.amreplay.specs.Program.Ends.{StoppedBy, EndsBy};
+ghost use Rattle.amr_engine.specs.Outcomes.{outcome_view};
+ghost use Rattle.amr_engine.specs.Events.{outcome_of, after_event};
+ghost use Rattle.amr_state.specs.State.{start};
+
+use crate::program::fault::Fault;
+use crate::program::load::read_files;
+use amr_engine::{Engine, Outcome};
+use amr_events::{Event, Script};
+use crate::lines::{Outlet, WriteFailed, event_text, flush, write_whole};
+use std::alloc::{AllocError, Global};
+use std::io::Write;
+
+/// Why a run ended before its last line.
+#[derive(Debug, Drop)]
+pub enum RunError {
+    OutOfMemory,
+    CannotWrite,
+}
+
+impl From<AllocError> for RunError {
+    ghost use Rattle.std.specs.Prelude.{◌≡◌};
+    ghost use Rattle.amreplay.specs.declared.program.run.RunError.TheVariants.{OutOfMemory};
+
+    ghost from_gives = { λ _ e. e ≡ OutOfMemory };
+
+    fn from(_error: AllocError) -> RunError {
+        RunError::OutOfMemory
+    }
+}
+
+impl From<WriteFailed> for RunError {
+    ghost use Rattle.std.specs.Prelude.{◌≡◌};
+    ghost use Rattle.amreplay.specs.declared.program.run.RunError.TheVariants.{CannotWrite};
+
+    ghost from_gives = { λ _ e. e ≡ CannotWrite };
+
+    fn from(_error: WriteFailed) -> RunError {
+        RunError::CannotWrite
+    }
+}
+
+/// Writes the lines of an event's outcome. Their text is built first, so that running out of memory
+/// never leaves half a line.
+fn write_event<W: Write>(
+    alloc: Global,
+    event: u64,
+    outcome: &Outcome,
+    out: &mut Outlet<W>,
+) -> Result<(), RunError>
+    ensures left { Leaves (W.contents out.old.writer) (W.contents out.new.writer)
+        (event_lines event (outcome_view outcome.now)) result }
+    ensures error { StoppedBy result out.old.failed out.new.failed }
+{
+    let text = event_text(alloc, event, outcome)?;
+    write_whole(out, text.as_bytes())?;
+    Ok(())
+}
+
+/// Applies an event, writes its lines, and drops its record, which a run doesn't need.
+fn pass_event<W: Write>(
+    alloc: Global,
+    engine: &mut Engine,
+    number: u64,
+    event: &Event,
+    out: &mut Outlet<W>,
+) -> Result<(), RunError>
+    ensures left { Leaves (W.contents out.old.writer) (W.contents out.new.writer)
+        (event_lines number (outcome_of engine.old.state event.now)) result }
+    ensures passed { OnOk result (engine.new.state ≡ after_event engine.old.state event.now) }
+    ensures forgotten { OnOk result (engine.new.records ≡ []) }
+    ensures error { StoppedBy result out.old.failed out.new.failed }
+{
+    let outcome = engine.apply(event)?;
+    engine.forget();
+    write_event(alloc, number, &outcome, out)
+}
+
+/// Applies all events of a script, and writes the lines of each.
+fn write_events<W: Write>(
+    alloc: Global,
+    engine: &mut Engine,
+    script: &Script,
+    out: &mut Outlet<W>,
+) -> Result<(), RunError>
+    requires { engine.old.state ≡ start engine.old.state.config }
+    ensures left { RunLeaves (W.contents out.old.writer) (W.contents out.new.writer)
+        engine.old.state.config script.now result }
+    ensures error { StoppedBy result out.old.failed out.new.failed }
+{
+    for number in 0..script.len() {
+        pass_event(alloc, engine, number as u64 + 1, script.event(number), out)?;
+    }
+    Ok(())
+}
+
+/// Like `write_events`, then flushes the writer, even if memory ran out.
+fn write_run<W: Write>(
+    alloc: Global,
+    engine: &mut Engine,
+    script: &Script,
+    out: &mut Outlet<W>,
+) -> Result<(), RunError>
+    requires { engine.old.state ≡ start engine.old.state.config }
+    ensures left { RunLeaves (W.contents out.old.writer) (W.contents out.new.writer)
+        engine.old.state.config script.now result }
+    ensures error { StoppedBy result out.old.failed out.new.failed }
+{
+    let ended = write_events(alloc, engine, script, out);
+    flush(out)?;
+    ended
+}
+
+/// Runs a script under a configuration, and writes the lines of its events.
+///
+/// The configuration is read before the script, and nothing is written if one of them is refused.
+/// The script's bytes are freed before the first event is applied. The text of an event is built
+/// before its first byte is written, so if memory runs out the lines of the events before it are
+/// written, and none of its own.
+pub fn run_script<W: Write>(
+    alloc: Global,
+    config: &[u8],
+    script: Vec<u8>,
+    out: &mut Outlet<W>,
+) -> Result<(), Fault>
+    ensures left { FilesLeave (W.contents out.old.writer) (W.contents out.new.writer)
+        config.now script.items result }
+    ensures ended { EndsBy result out.old.failed out.new.failed }
+{
+    let (config, script) = read_files(alloc, config, script)?;
+    write_run(alloc, &mut Engine::new(alloc, config), &script, out)?;
+    Ok(())
+}

@@ -1,0 +1,32 @@
+//! The command `session`: opens a session over two files and answers commands. The conversation
+//! itself is in `commands`.
+ghost use Rattle.amreplay.specs.Program.Ends.{EndsBy, ReadsBy};
+ghost use Rattle.amreplay.specs.Program.Sessions.{SessionLeaves};
+
+use crate::program::fault::Fault;
+use crate::program::load::open_session;
+use crate::commands::converse;
+use crate::lines::{Inlet, Outlet};
+use std::alloc::Global;
+use std::io::{Read, Write};
+
+/// Reads commands until they end, and answers each over a script and a configuration.
+///
+/// The configuration is read before the script, and if one of them is refused, no command is read
+/// and nothing is written. The writer is flushed after each command.
+pub fn run_session<R: Read, W: Write>(
+    alloc: Global,
+    config: &[u8],
+    script: Vec<u8>,
+    commands: &mut Inlet<R>,
+    out: &mut Outlet<W>,
+) -> Result<(), Fault>
+    ensures left { SessionLeaves (R.remaining commands.old.reader) (R.remaining commands.new.reader)
+        (W.contents out.old.writer) (W.contents out.new.writer) config.now script.items result }
+    ensures read { ReadsBy result commands.old.failed commands.new.failed commands.new.calls }
+    ensures written { EndsBy result out.old.failed out.new.failed }
+{
+    let mut session = open_session(alloc, config, script)?;
+    converse(alloc, &mut session, commands, out)?;
+    Ok(())
+}
