@@ -107,7 +107,9 @@ def _answers(pipe: Any) -> Iterator[Answer]:
         held += chunk
         start = held.find(LAST_LINE, searched)
         while start >= 0 and (end := held.find(b"\n", start + 1)) >= 0:
-            yield Answer(bytes(held[1 : start + 1]), json.loads(held[start + 1 : end]))
+            with memoryview(held) as view:
+                text = bytes(view[1 : start + 1])
+            yield Answer(text, json.loads(held[start + 1 : end]))
             del held[:end]
             start = held.find(LAST_LINE)
         searched = start if start >= 0 else max(0, len(held) - len(LAST_LINE))

@@ -1,6 +1,7 @@
 """What a session shows at each event: what was printed, the clock, and how its lists differ from the lists before."""
 from __future__ import annotations
 
+from bisect import bisect_left
 from dataclasses import dataclass, field
 from typing import Iterator
 
@@ -10,8 +11,20 @@ from .session import Answer, Source, answers_of, converse
 from .workers import PIECES, Part, count_done, over
 
 LISTS = ("alerts", "silences", "groups", "log")
+SAMPLES = 8
+LISTS_WITHOUT_MOVES = LISTS[:-1]
 LISTED_BYTES_AT_MOST = 24_000_000_000
 BYTES_FOR_ONE_SESSION = 64_000_000
+
+
+@dataclass(frozen=True)
+class Step:
+    """What one step printed: the clock after it, its moves, and its lines."""
+
+    cursor: int
+    now: str
+    moves: int
+    printed: list[bytes]
 
 
 @dataclass(frozen=True)
@@ -41,13 +54,16 @@ def count_events(source: Source) -> int:
 
 def watch(source: Source, part: Part, progress: Progress, name: str) -> Watched:
     """Returns what is seen over the part. Lists that are too many bytes in all are asked at each so many events alone."""
-    size = _bytes_of_lists(source, part)
+    steps, sizes = _walk(source, part)
+    size = max(size for _, size in sizes)
     stride = max(1, -(-size * (len(part) + 1) // LISTED_BYTES_AT_MOST))
-    pieces = part.cut(PIECES if size * len(part) > BYTES_FOR_ONE_SESSION else 1)
+    pieces = _pieces(part, sizes, PIECES if size * len(part) > BYTES_FOR_ONE_SESSION else 1)
     stops = _stops(part, pieces, stride)
     watched = Watched(part, sorted(stops))
-    for seen in over(_watch_piece, part, [(source, piece, stops) for piece in pieces], name, progress):
-        watched.seen += seen if not watched.seen else seen[1:]
+    words = [(source, piece, _asked(steps[piece.first - part.first : piece.last - part.first + 2], stops)) for piece in pieces]
+    found = over(_watch_piece, part, words, name, progress)
+    changes_in_order = [*found[0], *(changes for piece in found[1:] for changes in piece[1:])]
+    watched.seen += [Seen(step.cursor, step.now, step.moves, step.printed, changes) for step, changes in zip(steps, changes_in_order)]
     return watched
 
 
@@ -56,39 +72,70 @@ def _stops(part: Part, pieces: list[Part], stride: int) -> frozenset[int]:
     return frozenset(range(part.first - 1, part.last + 1, stride)) | {piece.last for piece in pieces}
 
 
-def _bytes_of_lists(source: Source, part: Part) -> int:
-    """Returns the larger size of the lists in the middle and at the end of the part."""
-    middle = (part.first + part.last) // 2
-    commands = [f"seek {middle}", *LISTS, f"seek {part.last}", *LISTS]
-    sizes = [len(answer.text) if answer.last["command"] in LISTS else 0 for answer in answers_of(source, commands)]
-    half = len(commands) // 2
-    return max(sum(sizes[:half]), sum(sizes[half:]))
+def _walk(source: Source, part: Part) -> tuple[list[Step], list[tuple[int, int]]]:
+    """Steps over the part, and returns what each step printed, and how many bytes the lists have at some cursors. The first step is the
+    cursor before the part."""
+    sampled = sorted({part.first - 1 + len(part) * i // SAMPLES for i in range(SAMPLES + 1)})
+    answers = converse(source, _walking(part, frozenset(sampled)))
+    steps, sizes = [], []
+    for cursor in range(part.first - 1, part.last + 1):
+        moved, clock = next(answers), next(answers)
+        steps.append(Step(cursor, clock.last["now"], moved.last.get("moves", 0), moved.lines))
+        if cursor in sampled:
+            sizes.append((cursor, sum(len(next(answers).text) for _ in LISTS)))
+    return steps, sizes
 
 
-def _watch_piece(source: Source, piece: Part, stops: frozenset[int]) -> list[Seen]:
-    """Watches one piece of the part in a session of its own. The first that is seen is the cursor before it, with all of its lists."""
-    answers = converse(source, _commands(piece, stops))
+def _walking(part: Part, sampled: frozenset[int]) -> Iterator[str]:
+    for cursor in range(part.first - 1, part.last + 1):
+        yield from (f"seek {cursor}" if cursor < part.first else "step", "cursor", *(LISTS if cursor in sampled else ()))
+
+
+def _pieces(part: Part, sizes: list[tuple[int, int]], count: int) -> list[Part]:
+    """Cuts the part into pieces whose lists have about as many bytes."""
+    if count == 1:
+        return [part]
+    done = [0.0]
+    for (cursor, size), (next_cursor, next_size) in zip(sizes, sizes[1:]):
+        done.append(done[-1] + (next_cursor - cursor) * (size + next_size + 1) / 2)
+    ends = {part.last}
+    for i in range(1, count):
+        wanted = done[-1] * i / count
+        at = max(0, bisect_left(done, wanted) - 1)
+        (cursor, _), (next_cursor, _) = sizes[at], sizes[at + 1]
+        ends.add(cursor + round((next_cursor - cursor) * (wanted - done[at]) / (done[at + 1] - done[at])))
+    edges = [part.first - 1, *sorted(end for end in ends if end >= part.first)]
+    return [Part(before + 1, end) for before, end in zip(edges, edges[1:])]
+
+
+def _asked(steps: list[Step], stops: frozenset[int]) -> dict[int, tuple[str, ...]]:
+    """Returns which lists are asked at which of these cursors: at the first all, and at a stop the log only after moves, since only a flush
+    writes to it, and a flush is a move. At other cursors none are."""
+    asked, has_moved = {steps[0].cursor: LISTS}, False
+    for step in steps[1:]:
+        has_moved = has_moved or step.moves > 0
+        asked[step.cursor] = () if step.cursor not in stops else LISTS if has_moved else LISTS_WITHOUT_MOVES
+        has_moved = has_moved and step.cursor not in stops
+    return asked
+
+
+def _watch_piece(source: Source, piece: Part, asked: dict[int, tuple[str, ...]]) -> list[dict[str, Change] | None]:
+    """Asks the lists from the cursor before one piece on, in a session of its own. Returns how they differ from those before at each cursor, or
+    None where none are asked."""
+    answers = converse(source, (command for cursor, names in asked.items() if names for command in (f"seek {cursor}", *names)))
     lists = dict.fromkeys(LISTS, b"")
-    seen = [_see(answers, piece.first - 1, True, lists)]
-    for cursor in range(piece.first, piece.last + 1):
-        seen.append(_see(answers, cursor, cursor in stops, lists))
-        count_done()
-    return seen
+    found = []
+    for at, names in enumerate(asked.values()):
+        found.append(_changes(answers, names, lists) if names else None)
+        if at > 0:
+            count_done()
+    return found
 
 
-def _commands(piece: Part, stops: frozenset[int]) -> Iterator[str]:
-    yield from (f"seek {piece.first - 1}", "cursor", *LISTS)
-    for cursor in range(piece.first, piece.last + 1):
-        yield from ("step", "cursor")
-        if cursor in stops:
-            yield from LISTS
-
-
-def _see(answers: Iterator[Answer], cursor: int, is_asked: bool, lists: dict[str, bytes]) -> Seen:
-    moved = next(answers)
-    clock = next(answers)
-    changes = {name: _change(lists, name, next(answers).text) for name in LISTS} if is_asked else None
-    return Seen(cursor, clock.last["now"], moved.last.get("moves", 0), moved.lines, changes)
+def _changes(answers: Iterator[Answer], names: tuple[str, ...], lists: dict[str, bytes]) -> dict[str, Change]:
+    """Returns how each list differs from what it was. One that wasn't asked is as it was."""
+    next(answers)
+    return {name: _change(lists, name, next(answers).text) if name in names else Change([], []) for name in LISTS}
 
 
 def _change(lists: dict[str, bytes], name: str, text: bytes) -> Change:
