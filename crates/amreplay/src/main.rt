@@ -68,12 +68,7 @@ fn run_files(rt: &HostRuntime, config: &str, script: &str) -> Result<(), Fault> 
     let Ok(out) = BufWriter::new(rt.alloc(), rt.stdout()) else {
         return Err(Fault::OutOfMemory);
     };
-    run_script(
-        rt.alloc(),
-        config.as_slice(),
-        script,
-        &mut Outlet::new(out),
-    )
+    run_script(rt.alloc(), config.as_slice(), script, &mut Outlet::new(out))
 }
 
 /// Answers the commands on standard input, over a script and a configuration.

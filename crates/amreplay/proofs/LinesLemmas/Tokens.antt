@@ -101,32 +101,19 @@ after r a b c x y p q = on_ok_weaker r (λ e. Adds-then a b c x y p e) q
 
 -- ---- a line of them
 
--- a new writer got the tokens of a value, and its text a line feed
-pub line_added : (d : Data) (start end : Written) (lines text more : List ℕ)
-    → start.before ≡ lines → start.tokens ≡ [] → Adds start end (data_tokens d) → text ≡ end.before ++ print end.tokens → more ≡ text ++ 10 ∷ []
-    → more ≡ lines ++ data_line d
-line_added d start end lines text more at none added made ended =
-    let tokens : end.tokens ≡ data_tokens d = added.tokens ∙ ap (λ ts. ts ++ data_tokens d) none in
-    let printed : text ≡ lines ++ compact_text d = made ∙ ap₂ (λ b p. b ++ p) (added.before ∙ at) (ap print tokens ∙ print-data_tokens d) in
-    ended ∙ ap (λ t. t ++ 10 ∷ []) printed ∙ append_assoc lines (compact_text d) (10 ∷ [])
-
-pub line_utf8 : (start end : Written) (ts : List Token) (lines text more : List ℕ)
-    → start.before ≡ lines → Adds start end ts → text ≡ end.before ++ print end.tokens → more ≡ text ++ 10 ∷ []
-    → IsUtf8 (print end.tokens) → IsUtf8 lines → IsUtf8 more
-line_utf8 start end ts lines text more at added made ended is_printed is_text =
-    let joined : more ≡ (lines ++ print end.tokens) ++ 10 ∷ [] = ended ∙ ap (λ t. t ++ 10 ∷ []) (made ∙ ap (λ b. b ++ print end.tokens) (added.before ∙ at)) in
-    let fed : IsAscii (10 ∷ []) = IsAscii-from_all (10 ∷ []) (search rules) in
-    subst IsUtf8 (sym joined) (IsUtf8-append _ _ (IsUtf8-append lines (print end.tokens) is_text is_printed) (IsUtf8-from_ascii (10 ∷ []) fed))
-
--- the same of a result
+-- a new writer got the tokens of a value, and its text and a line feed went after the lines
 pub line_of_more : {E : Type 0} (d : Data) (start end : Written) (lines : List ℕ) (r : Result (Vec ℕ) E)
-    → start.before ≡ lines → start.tokens ≡ [] → Adds start end (data_tokens d) → IfOk r (λ more. more.items ≡ (end.before ++ print end.tokens) ++ 10 ∷ [])
+    → start.tokens ≡ [] → Adds start end (data_tokens d) → IfOk r (λ more. more.items ≡ (lines ++ print end.tokens) ++ 10 ∷ [])
     → IfOk r (λ more. more.items ≡ lines ++ data_line d)
-line_of_more d start end lines (Ok more) at none added ended = line_added d start end lines (end.before ++ print end.tokens) more.items at none added refl ended
-line_of_more d start end lines (Err e) at none added ended = tt
+line_of_more d start end lines (Ok more) none added ended =
+    let tokens : end.tokens ≡ data_tokens d = added.tokens ∙ ap (λ ts. ts ++ data_tokens d) none in
+    let printed : lines ++ print end.tokens ≡ lines ++ compact_text d = ap (λ p. lines ++ p) (ap print tokens ∙ print-data_tokens d) in
+    ended ∙ ap (λ t. t ++ 10 ∷ []) printed ∙ append_assoc lines (compact_text d) (10 ∷ [])
+line_of_more d start end lines (Err e) none added ended = tt
 
-pub utf8_of_more : {E : Type 0} (ts : List Token) (start end : Written) (lines : List ℕ) (r : Result (Vec ℕ) E)
-    → start.before ≡ lines → Adds start end ts → IfOk r (λ more. more.items ≡ (end.before ++ print end.tokens) ++ 10 ∷ [])
-    → IsUtf8 (print end.tokens) → IfOk r (λ more. IsUtf8 lines → IsUtf8 more.items)
-utf8_of_more ts start end lines (Ok more) at added ended printed = λ is_text. line_utf8 start end ts lines (end.before ++ print end.tokens) more.items at added refl ended printed is_text
-utf8_of_more ts start end lines (Err e) at added ended printed = tt
+pub utf8_of_more : {E : Type 0} (printed lines : List ℕ) (r : Result (Vec ℕ) E)
+    → IfOk r (λ more. more.items ≡ (lines ++ printed) ++ 10 ∷ []) → IsUtf8 printed → IfOk r (λ more. IsUtf8 lines → IsUtf8 more.items)
+utf8_of_more printed lines (Ok more) ended is_printed = λ is_text.
+    let fed : IsAscii (10 ∷ []) = IsAscii-from_all (10 ∷ []) (search rules) in
+    subst IsUtf8 (sym ended) (IsUtf8-append _ _ (IsUtf8-append lines printed is_text is_printed) (IsUtf8-from_ascii (10 ∷ []) fed))
+utf8_of_more printed lines (Err e) ended is_printed = tt

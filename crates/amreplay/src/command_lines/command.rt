@@ -7,9 +7,9 @@ ghost use Rattle.amreplay.specs.CommandLines.ParsedLine.{FailsToRead, LineSays, 
 
 use crate::command_lines::digits::{all_digits, number};
 use crate::command_lines::parts::{argument, trimmed, word};
+use crate::lines::{Word, word_text};
 use amr_events::{Event, LineError, ScriptError, read_labels};
 use amr_labels::Labels;
-use crate::lines::{Word, word_text};
 use amr_time::{Moment, read_moment};
 use std::alloc::Global;
 use std::str::from_utf8;

@@ -8,9 +8,9 @@ ghost use Rattle.amreplay.specs.Commands.Replies.{incident_of};
 ghost use Rattle.amreplay.specs.Commands.Converse.{Converses, Turns, Printed, Stands, EndsBy, CountsTurn};
 ghost use Rattle.amreplay.specs.Commands.Talk.{StopsShort};
 
+use crate::command_lines::Line;
 use crate::commands::dispatch::answer_line;
 use crate::commands::input::take_bytes;
-use crate::command_lines::Line;
 use crate::lines::{Inlet, Outlet, WriteFailed};
 use amr_replay::Session;
 use std::alloc::Global;

@@ -8,10 +8,10 @@ ghost use Rattle.amreplay.specs.Commands.Replies.{incident_of};
 ghost use Rattle.amreplay.specs.Commands.Answer.{AnsweredBy, HasLineOutcome};
 ghost use Rattle.amreplay.specs.Commands.Talk.{Answers};
 
+use crate::command_lines::{Command, Content, Line, ParsedLine};
 use crate::commands::answer::{Answer, Refusal, write_answer};
 use crate::commands::navigation::{move_cursor, trial};
 use crate::commands::queries::{list, place};
-use crate::command_lines::{Command, Content, Line, ParsedLine};
 use crate::lines::{Outlet, Word, WriteFailed, flush};
 use amr_replay::Session;
 use std::alloc::Global;

@@ -5,8 +5,8 @@ ghost use Rattle.amreplay.specs.Lines.Outlet.{FailsAt};
 ghost use Rattle.amreplay.specs.Commands.Replies.{incident_of};
 ghost use Rattle.amreplay.specs.Commands.Talk.{Takes};
 
-use crate::commands::dispatch::answer_line;
 use crate::command_lines::Line;
+use crate::commands::dispatch::answer_line;
 use crate::lines::{Outlet, WriteFailed};
 use amr_replay::Session;
 use std::alloc::Global;

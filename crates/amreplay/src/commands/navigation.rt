@@ -12,11 +12,11 @@ ghost use Rattle.amreplay.specs.declared.command_lines.command.ParsedLine.TheVar
 ghost use Rattle.amreplay.specs.declared.command_lines.command.Move.TheVariants.{Step, Back, Seek, SeekTime};
 ghost use Rattle.amreplay.specs.declared.command_lines.command.Command.TheVariants as command;
 
-use crate::commands::answer::{Answer, Refusal};
 use crate::command_lines::Move;
+use crate::commands::answer::{Answer, Refusal};
+use crate::lines::{Word, event_text, moves_text};
 use amr_engine::Outcome;
 use amr_events::Event;
-use crate::lines::{Word, event_text, moves_text};
 use amr_replay::Session;
 use amr_time::Moment;
 use std::alloc::{AllocError, Global};

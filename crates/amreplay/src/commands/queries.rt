@@ -6,8 +6,8 @@ ghost use Rattle.amreplay.specs.declared.command_lines.command.Command.TheVarian
 ghost use Rattle.amreplay.specs.Commands.Replies.{lines_of, listed};
 ghost use Rattle.amreplay.specs.Commands.Answer.{AnsweredBy};
 
-use crate::commands::answer::{Answer, Refusal};
 use crate::command_lines::Query;
+use crate::commands::answer::{Answer, Refusal};
 use crate::lines::{
     Word, alerts_text, cursor_text, groups_text, log_text, notes_text, place_text, silences_text,
     verdicts_text,

@@ -16,6 +16,9 @@ use amr_time::{Moment, write_moment};
 use json::Writer;
 use std::alloc::{AllocError, Global};
 
+/// The room of a line's buffer at first, in bytes: most lines of listings are shorter.
+const LINE_ROOM: usize = 512;
+
 /// Writes an object with these texts under their names, which ascend.
 fn write_texts(out: &mut Writer, texts: &[(Text, Text)]) -> Result<(), AllocError>
     requires { T (is_sorted text_cmp texts.now) }
@@ -149,14 +152,25 @@ pub(crate) fn write_number(out: &mut Writer, name: &str, number: usize) -> Resul
     out.u64(number as u64)
 }
 
-/// Returns a writer's bytes with a line feed after them.
-pub(crate) fn end_line(out: Writer) -> Result<Vec<u8>, AllocError>
-    ensures line { IfOk result (λ more. more.items ≡ (out.before ++ print out.tokens) ++ 10 ∷ []) }
+/// Returns a writer for one line, with a buffer of its own. A writer zeroes up to 16 KiB of its
+/// buffer ahead, so one that wrote straight after the lines before would zero more than it writes.
+pub(crate) fn line_writer(alloc: Global) -> Result<Writer, AllocError>
+    ensures { IfOk result (λ out. (out.before ≡ []) × (out.tokens ≡ [])) }
+{
+    Ok(Writer::new(Vec::with_capacity(alloc, LINE_ROOM)?))
+}
+
+/// Returns the lines with that of a writer, and a line feed, after them.
+pub(crate) fn end_line(mut lines: Vec<u8>, out: Writer) -> Result<Vec<u8>, AllocError>
+    requires { out.before ≡ [] }
+    ensures line { IfOk result (λ more. more.items
+        ≡ (lines.items ++ print out.tokens) ++ 10 ∷ []) }
     ensures utf8 { IsUtf8 (print out.tokens) }
 {
-    let mut line = out.into_inner();
-    line.push(b'\n')?;
-    Ok(line)
+    let line = out.into_inner();
+    lines.extend_from_slice(line.as_slice())?;
+    lines.push(b'\n')?;
+    Ok(lines)
 }
 
 /// Returns a writer's bytes as a text.

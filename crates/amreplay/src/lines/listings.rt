@@ -4,13 +4,12 @@ ghost use Rattle.std.specs.Prelude.{◌≡◌, ◌++◌, IfOk, IsUtf8, string_by
 ghost use Rattle.std.specs.List.{flat_map};
 ghost use Rattle.amreplay.specs.Lines.Printed.{alert_line, silence_line, group_seen_line, log_line};
 
-use crate::lines::json_text::{end_line, text_of};
+use crate::lines::json_text::{end_line, line_writer, text_of};
 use crate::lines::listed_text::{write_alert, write_entry, write_group, write_silence};
 use amr_events::SilenceId;
 use amr_labels::Labels;
 use amr_rules::{Alert, LogEntry, Silence};
 use amr_state::{Group, LogKey};
-use json::Writer;
 use std::alloc::{AllocError, Global};
 
 /// Returns the lines with the line of a stored alert after them.
@@ -22,9 +21,9 @@ fn append_alert(
     ensures line { IfOk result (λ more. more.items ≡ lines.items ++ alert_line alert.now) }
     ensures utf8 { IfOk result (λ more. IsUtf8 lines.items → IsUtf8 more.items) }
 {
-    let mut out = Writer::new(lines);
+    let mut out = line_writer(alloc)?;
     write_alert(&mut out, alloc, alert)?;
-    end_line(out)
+    end_line(lines, out)
 }
 
 /// Returns the lines of stored alerts.
@@ -47,9 +46,9 @@ fn append_silence(
     ensures line { IfOk result (λ more. more.items ≡ lines.items ++ silence_line silence.now) }
     ensures utf8 { IfOk result (λ more. IsUtf8 lines.items → IsUtf8 more.items) }
 {
-    let mut out = Writer::new(lines);
+    let mut out = line_writer(alloc)?;
     write_silence(&mut out, alloc, silence)?;
-    end_line(out)
+    end_line(lines, out)
 }
 
 /// Returns the lines of stored silences.
@@ -68,9 +67,9 @@ fn append_group(lines: Vec<u8>, alloc: Global, group: &Group) -> Result<Vec<u8>,
     ensures line { IfOk result (λ more. more.items ≡ lines.items ++ group_seen_line group.now) }
     ensures utf8 { IfOk result (λ more. IsUtf8 lines.items → IsUtf8 more.items) }
 {
-    let mut out = Writer::new(lines);
+    let mut out = line_writer(alloc)?;
     write_group(&mut out, alloc, group)?;
-    end_line(out)
+    end_line(lines, out)
 }
 
 /// Returns the lines of groups.
@@ -93,9 +92,9 @@ fn append_entry(
     ensures line { IfOk result (λ more. more.items ≡ lines.items ++ log_line entry.now) }
     ensures utf8 { IfOk result (λ more. IsUtf8 lines.items → IsUtf8 more.items) }
 {
-    let mut out = Writer::new(lines);
+    let mut out = line_writer(alloc)?;
     write_entry(&mut out, alloc, entry)?;
-    end_line(out)
+    end_line(lines, out)
 }
 
 /// Returns the lines of entries of the notification log.

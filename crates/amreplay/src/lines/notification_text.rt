@@ -1,5 +1,5 @@
-//! A notification as JSON, written straight into the buffer of an event's lines: notifications are
-//! nearly all that a run prints, and a value of each would cost far more than its text.
+//! A notification as JSON, written straight into the buffer of its line: notifications are nearly
+//! all that a run prints, and a value of each would cost far more than its text.
 ghost use Rattle.std.specs.Prelude.{◌≡◌, ◌++◌, codes, map, IfOk, OnOk, IsUtf8};
 ghost use Rattle.serde_json.specs.Data.{array};
 ghost use Rattle.serde_json.specs.View.{items_of};
@@ -7,7 +7,8 @@ ghost use Rattle.amreplay.specs.Lines.Printed.{firing_data, resolved_data, notif
 ghost use Rattle.amreplay.specs.Lines.Tokens.{data_tokens, member_tokens, Adds};
 
 use crate::lines::json_text::{
-    end_line, write_annotations, write_labels, write_moment_member, write_number, write_text,
+    end_line, line_writer, write_annotations, write_labels, write_moment_member, write_number,
+    write_text,
 };
 use amr_state::{FiringAlert, Notification, ResolvedAlert};
 use json::Writer;
@@ -23,9 +24,9 @@ pub(crate) fn append_notification(
         ≡ lines.items ++ notification_line notification.now) }
     ensures utf8 { IfOk result (λ more. IsUtf8 lines.items → IsUtf8 more.items) }
 {
-    let mut out = Writer::new(lines);
+    let mut out = line_writer(alloc)?;
     write_notification(&mut out, alloc, notification)?;
-    end_line(out)
+    end_line(lines, out)
 }
 
 /// Writes a notification.

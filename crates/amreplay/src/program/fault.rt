@@ -3,10 +3,10 @@
 ghost use Rattle.std.specs.Prelude.{◌≡◌};
 ghost use Rattle.amreplay.specs.Lines.Outlet.{WritesText, FailsAt};
 
-use crate::program::run::RunError;
 use crate::commands::ConversationError;
-use amr_events::{Fault as ScriptFault, ScriptError};
 use crate::lines::{Outlet, WriteFailed, write_parts};
+use crate::program::run::RunError;
+use amr_events::{Fault as ScriptFault, ScriptError};
 use amr_stated::{ConfigError, Refusal};
 use itoa::Buffer;
 use std::alloc::AllocError;

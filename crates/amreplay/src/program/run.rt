@@ -9,11 +9,11 @@ ghost use Rattle.amr_engine.specs.Outcomes.{outcome_view};
 ghost use Rattle.amr_engine.specs.Events.{outcome_of, after_event};
 ghost use Rattle.amr_state.specs.State.{start};
 
+use crate::lines::{Outlet, WriteFailed, event_text, flush, write_whole};
 use crate::program::fault::Fault;
 use crate::program::load::read_files;
 use amr_engine::{Engine, Outcome};
 use amr_events::{Event, Script};
-use crate::lines::{Outlet, WriteFailed, event_text, flush, write_whole};
 use std::alloc::{AllocError, Global};
 use std::io::Write;
 

@@ -3,10 +3,10 @@
 ghost use Rattle.amreplay.specs.Program.Ends.{EndsBy, ReadsBy};
 ghost use Rattle.amreplay.specs.Program.Sessions.{SessionLeaves};
 
-use crate::program::fault::Fault;
-use crate::program::load::open_session;
 use crate::commands::converse;
 use crate::lines::{Inlet, Outlet};
+use crate::program::fault::Fault;
+use crate::program::load::open_session;
 use std::alloc::Global;
 use std::io::{Read, Write};
 
