@@ -84,8 +84,8 @@ def written(run: Run, thinning: Thinning, tables: Tables) -> dict[str, Any]:
 
 def note(line: dict[str, Any], tables: Tables) -> list[Any]:
     """Returns what is written of a notification."""
-    firing = [number for alert in line["firing"] for number in _told(alert, ("startsAt",), tables)]
-    resolved = [number for alert in line["resolved"] for number in _told(alert, ("startsAt", "endsAt"), tables)]
+    firing = [number for alert in line["firing"] for number in _notified(alert, ("startsAt",), tables)]
+    resolved = [number for alert in line["resolved"] for number in _notified(alert, ("startsAt", "endsAt"), tables)]
     receiver, integration = tables.text(line["receiver"]), tables.text(line["integration"])
     group = tables.labels(line["groupLabels"])
     return [tables.text(line["at"]), receiver, integration, line["place"], line["route"], group, firing, resolved]
@@ -109,7 +109,7 @@ def _shown(run: Run) -> list[Seen]:
     return run.watched.seen[1:]
 
 
-def _told(alert: dict[str, Any], moments: tuple[str, ...], tables: Tables) -> list[int]:
+def _notified(alert: dict[str, Any], moments: tuple[str, ...], tables: Tables) -> list[int]:
     return [tables.labels(alert["labels"]), *(tables.text(alert[key]) for key in moments), tables.labels(alert["annotations"])]
 
 

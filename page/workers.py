@@ -12,7 +12,7 @@ PIECES = 4
 POLL_SECONDS = 0.1
 Result = TypeVar("Result")
 _done: Any = None
-_told: Callable[[int], None] | None = None
+_report: Callable[[int], None] | None = None
 
 
 @dataclass(frozen=True)
@@ -37,18 +37,18 @@ def count_done() -> None:
     if _done is not None:
         with _done.get_lock():
             _done.value += 1
-        if _told is not None:
-            _told(_done.value)
+        if _report is not None:
+            _report(_done.value)
 
 
 def over(task: Callable[..., Result], part: Part, words: list[tuple[Any, ...]], name: str, progress: Progress) -> list[Result]:
     """Returns what the task gives for each tuple of words. More than one are done at once, in processes."""
-    global _done, _told
+    global _done, _report
     _done = multiprocessing.Value("q", 0)
     if len(words) == 1:
-        _told = lambda count: progress.draw(name, count, len(part))  # noqa: E731
+        _report = lambda count: progress.draw(name, count, len(part))  # noqa: E731
         return [task(*words[0])]
-    _told = None
+    _report = None
     count = max(1, min(len(words), os.cpu_count() or 1))
     with multiprocessing.Pool(count, _share, (_done,)) as pool:
         waiting = pool.starmap_async(task, words, chunksize=1)

@@ -28,7 +28,7 @@ class Browser:
         self._home = tempfile.TemporaryDirectory(ignore_cleanup_errors=True)
         self._held = b""
         self._count = 0
-        self.told: list[dict[str, Any]] = []
+        self.messages: list[dict[str, Any]] = []
         self._start(f"--window-size={width},{height}")
         target = self._call("Target.createTarget", {"url": "about:blank"})["targetId"]
         self._session = self._call("Target.attachToTarget", {"targetId": target, "flatten": True})["sessionId"]
@@ -47,11 +47,11 @@ class Browser:
         return self._call(method, words, self._session)
 
     def open(self, page: Path) -> None:
-        """Opens a file, and waits until it is there. What was told before is forgotten."""
-        self.told = []
+        """Opens a file, and waits until it is there. Forgets the messages of before."""
+        self.messages = []
         self.call("Page.navigate", url="about:blank")
         self._until("Page.loadEventFired")
-        self.told = []
+        self.messages = []
         self.call("Page.navigate", url=page.as_uri())
         self._until("Page.loadEventFired")
         self.settle()
@@ -84,9 +84,9 @@ class Browser:
         self.settle()
 
     def faults(self) -> list[str]:
-        """Returns what the console was told, exceptions, and dialogs that were opened."""
+        """Returns what the console got, exceptions, and dialogs that were opened."""
         bad = ("Runtime.exceptionThrown", "Runtime.consoleAPICalled", "Log.entryAdded", "Page.javascriptDialogOpening", "Network.requestWillBeSent")
-        return [json.dumps(each) for each in self.told if each["method"] in bad]
+        return [json.dumps(each) for each in self.messages if each["method"] in bad]
 
     def _start(self, size: str) -> None:
         commands, self._to = os.pipe()
@@ -122,7 +122,7 @@ class Browser:
         while True:
             message = self._message(end)
             if "method" in message:
-                self.told.append(message)
+                self.messages.append(message)
             if wanted in (message.get("id"), message.get("method")):
                 return message
 

@@ -91,12 +91,12 @@ class Reader:
     def _note(self, note: list[Any]) -> Any:
         _, at, receiver, integration, place, route, group, firing, resolved = note
         return {
-            "at": self._text(at), "firing": self._told(firing, ("startsAt",)), "groupLabels": self._labels(group),
+            "at": self._text(at), "firing": self._notified(firing, ("startsAt",)), "groupLabels": self._labels(group),
             "integration": self._text(integration), "place": place, "receiver": self._text(receiver),
-            "resolved": self._told(resolved, ("startsAt", "endsAt")), "route": route,
+            "resolved": self._notified(resolved, ("startsAt", "endsAt")), "route": route,
         }
 
-    def _told(self, flat: list[int], moments: tuple[str, ...]) -> list[Any]:
+    def _notified(self, flat: list[int], moments: tuple[str, ...]) -> list[Any]:
         size = len(moments) + 2
         alerts = [flat[i : i + size] for i in range(0, len(flat), size)]
         return [

@@ -139,12 +139,12 @@ class Written(WithRoom):
         reader, terminal = pty.openpty()
         command = [sys.executable, str(EXAMPLES.parent / "incident-page"), str(NEVER / "config.json"), str(NEVER / "script.jsonl")]
         done = subprocess.run([*command, "--program", PROGRAM], stdout=subprocess.DEVNULL, stderr=terminal, check=True)
-        told = os.read(reader, 1 << 16)
+        drawn = os.read(reader, 1 << 16)
         os.close(reader)
         os.close(terminal)
         self.assertEqual(done.returncode, 0)
-        self.assertIn(b"] 4 of 4", told)
-        self.assertTrue(told.endswith(b"\x1b[K"), "the bar is wiped away")
+        self.assertIn(b"] 4 of 4", drawn)
+        self.assertTrue(drawn.endswith(b"\x1b[K"), "the bar is wiped away")
 
     def test_an_empty_script(self) -> None:
         (self.room / "script.jsonl").write_text("\n \n")
