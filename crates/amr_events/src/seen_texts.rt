@@ -4,7 +4,8 @@
 ghost use Rattle.std.specs.Prelude.{◌≡◌, true, IfOk, IfSome};
 
 use crate::posted_labels::PostedLabels;
-use amr_labels::{LabelMap, Text};
+use amr_labels::{Labels, Text};
+use amr_tables::Keyed;
 use std::alloc::{AllocError, Global};
 use std::cmp::Ordering;
 use std::collections::BTreeSet;
@@ -13,7 +14,7 @@ use std::collections::BTreeSet;
 #[derive(Drop)]
 pub(crate) struct SeenTexts {
     texts: BTreeSet<Text>,
-    posted: LabelMap<PostedLabels>,
+    posted: Keyed<Labels, PostedLabels>,
 }
 
 impl SeenTexts {
@@ -21,7 +22,7 @@ impl SeenTexts {
     pub(crate) fn new(alloc: Global) -> SeenTexts {
         SeenTexts {
             texts: BTreeSet::new(alloc),
-            posted: LabelMap::new(alloc),
+            posted: Keyed::new(alloc),
         }
     }
 
@@ -86,7 +87,8 @@ impl SeenTexts {
         let pairs = self.share_pairs(alloc, posted.pairs())?;
         let shared = PostedLabels::new(alloc, pairs)?;
         if let Some(labels) = shared.label_set() {
-            self.posted.insert(labels.clone()?, shared.clone()?)?;
+            self.posted.make_place(labels.clone()?)?;
+            drop(self.posted.displace(labels, Some(shared.clone()?)));
         }
         Ok(shared)
     }

@@ -8,6 +8,7 @@ ghost use Rattle.amr_labels.specs.Labels.{label_set_cmp};
 ghost use Rattle.amr_labels.specs.Map as map;
 ghost use Rattle.amr_tables.specs.Numbered.{shown, has_place, entry_of, Enters, GrowsBy, KeepsPlaces, SamePlaces, SameEntered, NoneEntered, IsUnchanged, HasPlaces, places_for};
 ghost use Rattle.amr_state.specs.LabelPairs.{all_put, CanPutAll};
+ghost use Rattle.amr_state.specs.RuleSources.{AllArrived};
 
 use crate::label_counts::LabelCounts;
 use crate::label_pair::{LabelPair, PairedLabels, pairs_of};
@@ -93,6 +94,13 @@ impl AlertTable {
         ensures { result ≡ has_place label_set_cmp self.now labels.now }
     {
         self.alerts.has_place(labels)
+    }
+
+    /// Returns the label sets that have a place, in the order in which they came.
+    pub(crate) fn arrived(&self) -> &[Labels]
+        ensures { AllArrived self.now result.now }
+    {
+        self.sources.arrived()
     }
 
     /// Works out which label sets can be sources of a rule, so that `sources` needn't ask the rule's

@@ -6,7 +6,7 @@ ghost use Rattle.std.proofs.Common.{rules};
 ghost use Rattle.amr_state.specs.State.{log_key_cmp_integration, log_key_cmp_group};
 
 use amr_labels::{Exact, Labels, Listing, Text, TextMap, spread_of};
-use amr_matchers::Matchers;
+use amr_matchers::{Matcher, Matchers};
 use amr_tables::Key;
 use amr_time::Moment;
 use std::alloc::AllocError;
@@ -150,7 +150,31 @@ impl Key for LogKey {
             .wrapping_add(spread_of(self.receiver.as_str()))
             .wrapping_add(self.place)
             .wrapping_add(self.kind.as_str().len() << 8)
+            .wrapping_add(spread_of_path(self.path.as_slice()))
     }
+}
+
+/// Returns a number that spreads paths out, by the values of their matchers. Many routes may differ
+/// in nothing else.
+fn spread_of_path(path: &[Matchers]) -> usize {
+    let mut spread: usize = 0;
+    for matchers in path {
+        spread = spread
+            .wrapping_mul(31)
+            .wrapping_add(spread_of_values(matchers.as_slice()));
+    }
+    spread
+}
+
+/// Returns a number that spreads matchers out, by their values.
+fn spread_of_values(matchers: &[Matcher]) -> usize {
+    let mut spread: usize = 0;
+    for matcher in matchers {
+        spread = spread
+            .wrapping_mul(31)
+            .wrapping_add(spread_of(matcher.value().as_str()));
+    }
+    spread
 }
 
 impl Exact for LogKey {

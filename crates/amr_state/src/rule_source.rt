@@ -108,6 +108,13 @@ impl RuleSources {
         Ok(())
     }
 
+    /// Returns the label sets in the order in which they came.
+    pub(crate) fn arrived(&self) -> &[Labels]
+        ensures { result.now ≡ self.now }
+    {
+        self.arrived.as_slice()
+    }
+
     /// Lists the label sets that match a rule's source matchers and agree with a target on the
     /// labels in `equal`, in their order. Returns `None` if the rule's side isn't known, or not of
     /// all label sets.

@@ -27,6 +27,10 @@ const MOST_AT_ONCE: usize = 256;
 /// How many label sets the silences are asked for at once at least.
 const FEWEST_AT_ONCE: usize = 2;
 
+/// Of how many label sets of a flush nothing is known if others are asked for ahead. A site where
+/// a flush meets so many has most likely just posted them, and the next flushes meet the others.
+const MANY_UNKNOWN: usize = 4;
+
 /// How many changes of silences are kept at most. When one more comes, all that is known of label
 /// sets is forgotten.
 const MOST_CHANGES: usize = 1000;
@@ -42,6 +46,8 @@ pub(crate) struct SilenceTable {
     known: Keyed<Labels, KnownPeriods>,
     /// The ids of the silences that changed since the table began to remember, the latest last.
     changes: Vec<SilenceId>,
+    /// Of how many of the label sets that arrived the silences were asked ahead.
+    asked_ahead: usize,
 }
 
 /// When silences that match a label set are active, from a moment on.
@@ -89,6 +95,7 @@ impl SilenceTable {
             answers: Answers::new(alloc),
             known: Keyed::new(alloc),
             changes: Vec::new(alloc),
+            asked_ahead: 0,
         }
     }
 
@@ -118,15 +125,48 @@ impl SilenceTable {
     }
 
     /// Works out when silences that match these label sets are active from a moment on, and
-    /// remembers it. Does nothing for those of which that is known, or if no silence is stored.
-    pub(crate) fn learn(&mut self, at: Moment, label_sets: &[Labels]) -> Result<(), AllocError>
+    /// remembers it. Does nothing for those of which that is known, or if no silence is stored. If
+    /// it isn't known of many, the next of the label sets that arrived are asked for too: for many at
+    /// once, the search of each pattern is prepared once.
+    pub(crate) fn learn(
+        &mut self,
+        at: Moment,
+        label_sets: &[Labels],
+        arrived: &[Labels],
+    ) -> Result<(), AllocError>
         ensures { self.new ≡ self.old }
     {
         if self.silences.iter().next().is_none() {
             return Ok(());
         }
         let unknown = self.unknown(at, label_sets)?;
-        for some in unknown.as_slice().chunks(MOST_AT_ONCE) {
+        if unknown.len() < MANY_UNKNOWN {
+            return self.learn_all(at, unknown.as_slice());
+        }
+        self.ask_ahead(at, arrived)?;
+        let unknown = self.unknown(at, unknown.as_slice())?;
+        self.learn_all(at, unknown.as_slice())
+    }
+
+    /// Does what `learn` does for the next of the label sets that arrived.
+    fn ask_ahead(&mut self, at: Moment, arrived: &[Labels]) -> Result<(), AllocError>
+        ensures { self.new ≡ self.old }
+    {
+        let start = self.asked_ahead;
+        let end = arrived.len().min(start.saturating_add(MOST_AT_ONCE));
+        if end <= start {
+            return Ok(());
+        }
+        self.asked_ahead = end;
+        let unknown = self.unknown(at, &arrived[start..end])?;
+        self.learn_all(at, unknown.as_slice())
+    }
+
+    /// Works out when silences that match these label sets are active, and remembers it.
+    fn learn_all(&mut self, at: Moment, label_sets: &[Labels]) -> Result<(), AllocError>
+        ensures { self.new ≡ self.old }
+    {
+        for some in label_sets.chunks(MOST_AT_ONCE) {
             self.learn_some(at, some)?;
         }
         Ok(())
@@ -304,7 +344,8 @@ impl SilenceTable {
     {
         // Room for this change and for its undoing. Without room everything known is forgotten.
         drop(self.changes.reserve(2));
-        note_change(self.alloc, &mut self.known, &mut self.changes, id);
+        let asked = &mut self.asked_ahead;
+        note_change(self.alloc, &mut self.known, &mut self.changes, asked, id);
         change(&mut self.silences, journal, id, silence)
     }
 
@@ -318,7 +359,8 @@ impl SilenceTable {
         ensures keys { self.new.numbers ≡ self.old.numbers }
         ensures enough { HasPlaces nat_cmp self.new }
     {
-        note_change(self.alloc, &mut self.known, &mut self.changes, id);
+        let asked = &mut self.asked_ahead;
+        note_change(self.alloc, &mut self.known, &mut self.changes, asked, id);
         drop(self.silences.displace(id, silence));
     }
 }
@@ -329,6 +371,7 @@ fn note_change(
     alloc: Global,
     known: &mut Keyed<Labels, KnownPeriods>,
     changes: &mut Vec<SilenceId>,
+    asked_ahead: &mut usize,
     id: &SilenceId,
 )
     ensures { (before after : Silences) → AreKnown before changes.old.items known.old
@@ -340,6 +383,7 @@ fn note_change(
     } else {
         *known = Keyed::new(alloc);
         changes.clear();
+        *asked_ahead = 0;
     }
 }
 

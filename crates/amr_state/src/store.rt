@@ -227,11 +227,12 @@ impl Store {
 
     /// Works out when silences that match these label sets are active, so that `silenced_by`
     /// needn't ask their matchers at this moment or later. It does so once for each label set until
-    /// a silence changes.
+    /// a silence changes. It may do so for others that have a place, too.
     pub fn learn_silences(&mut self, at: Moment, label_sets: &[Labels]) -> Result<(), AllocError>
         ensures same { self.new ≡ self.old }
     {
-        self.tables.silences.learn(at, label_sets)
+        let arrived = self.tables.timetable.alerts().arrived();
+        self.tables.silences.learn(at, label_sets, arrived)
     }
 
     /// Works out which label sets can be sources of the inhibition rules that have labels as a
