@@ -1,4 +1,4 @@
--- The stages of a flush that mute alerts, in their order. A flush drops the members that a stage
+-- The stages of a flush that mute alerts, in their order. A flush notifies of no member that a stage
 -- mutes, and `explain` names the first stage that does.
 use Rattle.std.specs.Prelude.{ℕ, Option, Some, None, if◌then◌else◌, option_map}
 use Rattle.std.specs.Option.{option_or}

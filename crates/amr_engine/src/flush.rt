@@ -1,6 +1,7 @@
 //! The flush of a group, as in Alertmanager's dispatcher and its notification pipeline: set the
 //! group timer, mute members, run the dedup check for each integration, notify, and drop resolved
-//! members. `moves.rt` calls `flush` when a group timer fires.
+//! members. `moves.rt` calls `QuietGroups::flush` (`quiet.rt`) when a group timer fires, and that
+//! calls `flush` unless the group is quiet.
 ghost use Rattle.std.specs.Prelude.{◌≡◌, ◌≤◌, ◌+◌, ◌*◌, ◌++◌, true, map, length, OnOk, IfOk};
 ghost use Rattle.std.specs.List.{fold, list_all};
 ghost use Rattle.std.specs.Option.{option_to_list};
@@ -269,7 +270,7 @@ pub(crate) fn log_key(
 }
 
 /// Returns whether the dedup check says that an integration is notified now. The rule is
-/// `needs_update` of `amr_rules`. `quiet.rt` asks it too, to know until when a flush would notify
+/// `needs_update` of `amr_rules`, which `quiet.rt` calls too, to know until when a flush would notify
 /// nobody.
 fn needs_notification(
     store: &Store,

@@ -24,10 +24,10 @@ use amr_tables::Keyed;
 use amr_time::Moment;
 use std::alloc::{AllocError, Global};
 
-/// So many stored alerts and silences are looked at for each flush in full. Looking at this many
-/// takes less time than such a flush, which copies members and asks rules and silences. So the
-/// looks never cost more than the flushes, and where thousands of groups are flushed once a tick,
-/// all but the first of them have the look.
+/// The number of stored alerts and silences that one flush in full pays to look at. Looking at this
+/// many takes less time than such a flush, which copies members and asks rules and silences. So the
+/// looks never cost more than the flushes. If thousands of groups are flushed at one tick, all after
+/// the first use that look.
 const LOOKED_AT_PER_FLUSH: usize = 100;
 
 /// How many times rarer looks get at most while they are of no use. Between posts that come one

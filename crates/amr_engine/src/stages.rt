@@ -1,5 +1,5 @@
 //! The stages of a flush that mute alerts, in the order of Alertmanager's notification pipeline. A
-//! flush drops the members that one of them mutes, and `explain` names the first that does.
+//! flush notifies of no member that one of them mutes, and `explain` names the first that does.
 ghost use Rattle.std.specs.Prelude.{◌≡◌, IfOk};
 ghost use Rattle.amr_rules.specs.Muting.{inhibition_from};
 ghost use Rattle.amr_engine.specs.Stages.{taken_away};

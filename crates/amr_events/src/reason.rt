@@ -1,4 +1,4 @@
-//! The reasons that refuse an event, with the numbers that `docs/FORMATS.md` lists. Those of a
+//! The reasons that refuse an event, with the numbers that `docs/RULES.md` lists. Those of a
 //! reload are the refusals of its configuration.
 ghost use Rattle.std.specs.Prelude.{◌≡◌};
 ghost use Rattle.amr_stated.specs.Numbers.{number_of};

@@ -90,7 +90,8 @@ fn differs(
         || is_before(entry.time, repeat_interval, now)
 }
 
-/// Returns whether a notification is due. Without an entry, something has to fire. With one,
+/// Returns whether the log is due for a new entry, which comes with a notification unless there is
+/// nothing to send. Without an entry, something has to fire. With one,
 /// something new has to fire, or nothing fires any more, or something new is resolved and the
 /// integration sends resolved alerts (`send_resolved`), or the last notification is older than
 /// `repeat_interval`. If nothing fires any more the answer doesn't depend on `send_resolved`, so

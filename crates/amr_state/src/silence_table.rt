@@ -27,8 +27,8 @@ const MOST_AT_ONCE: usize = 256;
 /// How many label sets the silences are asked for at once at least.
 const FEWEST_AT_ONCE: usize = 2;
 
-/// Of how many label sets of a flush nothing is known if others are asked for ahead. A site where
-/// a flush meets so many has most likely just posted them, and the next flushes meet the others.
+/// A flush that meets this many unknown label sets also asks the silences for others ahead. They
+/// were most likely posted just now, and the next flushes meet the others.
 const MANY_UNKNOWN: usize = 4;
 
 /// How many changes of silences are kept at most. When one more comes, all that is known of label
@@ -46,7 +46,7 @@ pub(crate) struct SilenceTable {
     known: Keyed<Labels, KnownPeriods>,
     /// The ids of the silences that changed since the table began to remember, the latest last.
     changes: Vec<SilenceId>,
-    /// Of how many of the label sets that arrived the silences were asked ahead.
+    /// The number of label sets, in the order of arrival, that the silences were asked ahead for.
     asked_ahead: usize,
 }
 
@@ -125,9 +125,9 @@ impl SilenceTable {
     }
 
     /// Works out when silences that match these label sets are active from a moment on, and
-    /// remembers it. Does nothing for those of which that is known, or if no silence is stored. If
-    /// it isn't known of many, the next of the label sets that arrived are asked for too: for many at
-    /// once, the search of each pattern is prepared once.
+    /// remembers it. Skips label sets that are known, and does nothing if no silence is stored. If
+    /// many are unknown, it also asks for the next ones that arrived: the search of each pattern is
+    /// then prepared once for all.
     pub(crate) fn learn(
         &mut self,
         at: Moment,
@@ -148,7 +148,7 @@ impl SilenceTable {
         self.learn_all(at, unknown.as_slice())
     }
 
-    /// Does what `learn` does for the next of the label sets that arrived.
+    /// Works out the same for the next label sets that arrived.
     fn ask_ahead(&mut self, at: Moment, arrived: &[Labels]) -> Result<(), AllocError>
         ensures { self.new ≡ self.old }
     {

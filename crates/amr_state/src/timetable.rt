@@ -87,7 +87,7 @@ impl Timetable {
     }
 
     /// Works out which label sets can be sources of those rules that have a label set as a target,
-    /// given which sides of each rule it is on. Does nothing for a rule of which that is known.
+    /// given which sides of each rule it is on. Skips a rule that is known.
     pub(crate) fn learn_sources(
         &mut self,
         rules: &[InhibitRule],

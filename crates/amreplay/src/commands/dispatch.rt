@@ -88,7 +88,7 @@ fn write_line<W: Write>(
     write_answer(out, session.cursor(), &answer)
 }
 
-/// Like `write_line`, then flushes the writer.
+/// Answers a line, writes the answer, and flushes the writer.
 pub(crate) fn answer_line<W: Write>(
     alloc: Global,
     session: &mut Session,

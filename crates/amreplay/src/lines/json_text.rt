@@ -19,7 +19,7 @@ use std::alloc::{AllocError, Global};
 /// The room of a line's buffer at first, in bytes: most lines of listings are shorter.
 const LINE_ROOM: usize = 512;
 
-/// Writes an object with these texts under their names, which ascend.
+/// Writes an object with these texts under their names. The names are in order.
 fn write_texts(out: &mut Writer, texts: &[(Text, Text)]) -> Result<(), AllocError>
     requires { T (is_sorted text_cmp texts.now) }
     ensures { OnOk result (Adds out.old out.new (data_tokens (texts_data texts.now))) }

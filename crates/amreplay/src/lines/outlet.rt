@@ -1,6 +1,6 @@
 //! A writer that knows whether it failed. A failed write is then never taken for memory that ran
-//! out, and what was written is always a prefix of what was to be. Everything that is printed goes
-//! through it.
+//! out, and what was written is always a prefix of the text. Everything that is printed goes through
+//! it.
 ghost use Rattle.std.specs.Prelude.{◌≡◌, ◌≢◌, IfOk, flat_map, false};
 ghost use Rattle.std.specs.Io.KnownBytes.{WriteAppends, Keeps};
 ghost use Rattle.std.specs.Io.{WritesAtMost};
@@ -8,7 +8,7 @@ ghost use Rattle.amreplay.specs.Lines.Outlet.{WritesText, FailsAt};
 
 use std::io::Write;
 
-/// The writer failed. It has got a prefix of what was to be written.
+/// The writer failed after a prefix of the text.
 #[derive(Clone, Copy, Debug, PartialEq, Eq)]
 pub struct WriteFailed;
 

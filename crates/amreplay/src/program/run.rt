@@ -16,6 +16,7 @@ use amr_engine::{Engine, Outcome};
 use amr_events::{Event, Script};
 use std::alloc::{AllocError, Global};
 use std::io::Write;
+use std::mem::forget;
 
 /// Why a run ended before its last line.
 #[derive(Debug, Drop)]
@@ -100,7 +101,7 @@ fn write_events<W: Write>(
     Ok(())
 }
 
-/// Like `write_events`, then flushes the writer, even if memory ran out.
+/// Applies all events, writes their lines, and flushes the writer, even if memory ran out.
 fn write_run<W: Write>(
     alloc: Global,
     engine: &mut Engine,
@@ -134,6 +135,11 @@ pub fn run_script<W: Write>(
     ensures ended { EndsBy result out.old.failed out.new.failed }
 {
     let (config, script) = read_files(alloc, config, script)?;
-    write_run(alloc, &mut Engine::new(alloc, config), &script, out)?;
+    let mut engine = Engine::new(alloc, config);
+    let ended = write_run(alloc, &mut engine, &script, out);
+    // The process ends next. To free a large state piece by piece would only take time.
+    forget(engine);
+    forget(script);
+    ended?;
     Ok(())
 }

@@ -9,6 +9,7 @@ use crate::program::fault::Fault;
 use crate::program::load::open_session;
 use std::alloc::Global;
 use std::io::{Read, Write};
+use std::mem::forget;
 
 /// Reads commands until they end, and answers each over a script and a configuration.
 ///
@@ -27,6 +28,9 @@ pub fn run_session<R: Read, W: Write>(
     ensures written { EndsBy result out.old.failed out.new.failed }
 {
     let mut session = open_session(alloc, config, script)?;
-    converse(alloc, &mut session, commands, out)?;
+    let ended = converse(alloc, &mut session, commands, out);
+    // The process ends next. To free a large state piece by piece would only take time.
+    forget(session);
+    ended?;
     Ok(())
 }
