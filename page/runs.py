@@ -3,6 +3,7 @@ from __future__ import annotations
 
 import json
 from dataclasses import dataclass
+from functools import partial
 from pathlib import Path
 from typing import Any
 
@@ -13,8 +14,8 @@ from .script import ACTS, Event, event_of
 from .session import Source
 from .states import LISTS, Seen, Watched, watch
 from .tables import Pairs, Tables
-from .verdicts import Explained, Why, explain
-from .workers import Part
+from .verdicts import Explained, Why, asking, explained, planned
+from .workers import Part, over
 
 
 @dataclass
@@ -49,10 +50,11 @@ class Wanted:
 def collect(name: str, source: Source, lines: list[bytes], part: Part, wanted: Wanted) -> Run:
     """Collects a run over the part. The lines are those of the script's events."""
     watched = watch(source, part, wanted.progress, f"{name}: states")
-    explained = explain(source, watched, wanted.named, wanted.progress, f"{name}: explanations")
+    plan = planned(watched, wanted.named)
+    hidden = partial(flushes.flushes_between, source, lines, watched, wanted.room)
+    between, *answers = over([hidden, *asking(source, plan)], part, f"{name}: explanations", wanted.progress)
     events = [event_of(line) for line in lines[part.first - 1 : part.last]]
-    between = flushes.flushes_between(source, lines, watched, wanted.room)
-    return Run(name, watched, events, explained, between)
+    return Run(name, watched, events, explained(plan, answers), between)
 
 
 def notes_of(run: Run) -> list[tuple[int, dict[str, Any]]]:

@@ -12,6 +12,7 @@ from typing import Any, Iterable, Iterator
 from .differences import lines_of
 
 LAST_LINE = b'\n{"command":'
+SHORT_START = b'\n{"c'
 PIPE_BYTES = 1 << 20
 
 
@@ -102,17 +103,26 @@ def _feed(pipe: Any, commands: Iterable[str]) -> None:
 def _answers(pipe: Any) -> Iterator[Answer]:
     """Yields the answers as they come. What is held begins with the line feed before the next answer's first line."""
     held = bytearray(b"\n")
+    room = memoryview(bytearray(PIPE_BYTES))
     searched = 0
-    while chunk := pipe.read1(PIPE_BYTES):
-        held += chunk
-        start = held.find(LAST_LINE, searched)
+    while count := pipe.readinto1(room):
+        held += room[:count]
+        start = _last_line(held, searched)
         while start >= 0 and (end := held.find(b"\n", start + 1)) >= 0:
             with memoryview(held) as view:
                 text = bytes(view[1 : start + 1])
             yield Answer(text, json.loads(held[start + 1 : end]))
             del held[:end]
-            start = held.find(LAST_LINE)
+            start = _last_line(held, 0)
         searched = start if start >= 0 else max(0, len(held) - len(LAST_LINE))
+
+
+def _last_line(held: bytearray, start: int) -> int:
+    """Returns where the line feed before a last line is, or -1. Its first bytes are found sooner than all of them. Of a last line that
+    is held in part, all that is held has to fit."""
+    while (start := held.find(SHORT_START, start)) >= 0 and not LAST_LINE.startswith(held[start : start + len(LAST_LINE)]):
+        start += 1
+    return start
 
 
 def _fault(errors: Any, status: int) -> Fault:

@@ -3,6 +3,7 @@ from __future__ import annotations
 
 from bisect import bisect_left
 from dataclasses import dataclass, field
+from functools import partial
 from typing import Iterator
 
 from .differences import Change, change
@@ -60,8 +61,8 @@ def watch(source: Source, part: Part, progress: Progress, name: str) -> Watched:
     pieces = _pieces(part, sizes, PIECES if size * len(part) > BYTES_FOR_ONE_SESSION else 1)
     stops = _stops(part, pieces, stride)
     watched = Watched(part, sorted(stops))
-    words = [(source, piece, _asked(steps[piece.first - part.first : piece.last - part.first + 2], stops)) for piece in pieces]
-    found = over(_watch_piece, part, words, name, progress)
+    asked = [_asked(steps[piece.first - part.first : piece.last - part.first + 2], stops) for piece in pieces]
+    found = over([partial(_watch_piece, source, names) for names in asked], part, name, progress)
     changes_in_order = [*found[0], *(changes for piece in found[1:] for changes in piece[1:])]
     watched.seen += [Seen(step.cursor, step.now, step.moves, step.printed, changes) for step, changes in zip(steps, changes_in_order)]
     return watched
@@ -119,7 +120,7 @@ def _asked(steps: list[Step], stops: frozenset[int]) -> dict[int, tuple[str, ...
     return asked
 
 
-def _watch_piece(source: Source, piece: Part, asked: dict[int, tuple[str, ...]]) -> list[dict[str, Change] | None]:
+def _watch_piece(source: Source, asked: dict[int, tuple[str, ...]]) -> list[dict[str, Change] | None]:
     """Asks the lists from the cursor before one piece on, in a session of its own. Returns how they differ from those before at each cursor, or
     None where none are asked."""
     answers = converse(source, (command for cursor, names in asked.items() if names for command in (f"seek {cursor}", *names)))

@@ -3,19 +3,20 @@ from __future__ import annotations
 
 import json
 from dataclasses import dataclass, field
+from functools import partial
 from typing import Iterator
 
-from .progress import Progress
 from .session import Source, converse
 from .states import Watched
 from .tables import Pairs, pairs
-from .workers import PIECES, Part, count_done, over
+from .workers import PIECES, Part, Task, count_done
 
 ALL_AT_MOST = 150_000
 CHANGED_AT_MOST = 400_000
 FEW = 5_000
 
 Asked = dict[int, list[str]]
+Answered = list[tuple[int, list[list[bytes]]]]
 
 
 @dataclass
@@ -27,6 +28,16 @@ class Why:
     answers: list[tuple[int, list[bytes]]] = field(default_factory=list)
 
 
+@dataclass(frozen=True)
+class Plan:
+    """What is asked over a part: which alerts at every cursor, and which alerts at each. `extent` is that of `Explained`."""
+
+    part: Part
+    extent: str
+    always: list[Pairs]
+    at: dict[int, list[Pairs]]
+
+
 @dataclass
 class Explained:
     """All that was explained, and how much: `every` alert at every event, those that `changed`, or the `named` alone."""
@@ -35,16 +46,16 @@ class Explained:
     alerts: list[Why]
 
 
-def explain(source: Source, watched: Watched, named: list[Pairs], progress: Progress, name: str) -> Explained:
-    """Asks for the explanations of the alerts that are named, and of others as far as the limits go."""
+def planned(watched: Watched, named: list[Pairs]) -> Plan:
+    """Plans the explanations of the alerts that are named, and of others as far as the limits go."""
     part = watched.part
     changed = changed_alerts(watched)
     known = sorted({labels for each in changed.values() for labels in each} | set(named))
     if len(known) * (len(part) + 1) <= ALL_AT_MOST:
-        return _ask(source, part, "every", known, {}, progress, name)
+        return _plan(part, "every", known, {})
     if sum(map(len, changed.values())) > CHANGED_AT_MOST:
-        return _ask(source, part, "named", named, {}, progress, name)
-    return _ask(source, part, "changed", named, changed, progress, name)
+        return _plan(part, "named", named, {})
+    return _plan(part, "changed", named, changed)
 
 
 def changed_alerts(watched: Watched) -> dict[int, list[Pairs]]:
@@ -60,33 +71,41 @@ def changed_alerts(watched: Watched) -> dict[int, list[Pairs]]:
     return {cursor: sorted(labels) for cursor, labels in changed.items()}
 
 
-def _ask(
-    source: Source, part: Part, extent: str, always: list[Pairs], once: dict[int, list[Pairs]], progress: Progress, name: str
-) -> Explained:
-    """Asks for each alert of `always` at every cursor, and for those of `once` at theirs."""
-    asked = {labels: Why(labels, True) for labels in always}
-    plan = {
-        cursor: [*always, *(labels for labels in once.get(cursor, []) if labels not in asked)]
+def _plan(part: Part, extent: str, always: list[Pairs], once: dict[int, list[Pairs]]) -> Plan:
+    """Plans each alert of `always` at every cursor, and those of `once` at theirs."""
+    named = set(always)
+    at = {
+        cursor: [*always, *(labels for labels in once.get(cursor, []) if labels not in named)]
         for cursor in range(part.first - 1, part.last + 1)
     }
-    words = []
-    for piece in part.cut(PIECES if sum(map(len, plan.values())) > FEW else 1):
-        first = part.first - 1 if piece.first == part.first else piece.first
-        words.append((source, piece, {cursor: _texts(plan[cursor]) for cursor in range(first, piece.last + 1)}))
-    for answers in over(_ask_piece, part, words, name, progress):
-        for cursor, lists in answers:
-            for labels, lines in zip(plan[cursor], lists):
-                why = asked.setdefault(labels, Why(labels, False))
-                if not why.always or not why.answers or why.answers[-1][1] != lines:
-                    why.answers.append((cursor, lines))
-    return Explained(extent, [asked[labels] for labels in sorted(asked)])
+    return Plan(part, extent, always, at)
+
+
+def asking(source: Source, plan: Plan) -> list[Task]:
+    """Returns the tasks that ask what is planned, one for each piece of the part."""
+    tasks: list[Task] = []
+    for piece in plan.part.cut(PIECES if sum(map(len, plan.at.values())) > FEW else 1):
+        first = plan.part.first - 1 if piece.first == plan.part.first else piece.first
+        tasks.append(partial(_ask_piece, source, piece, {cursor: _texts(plan.at[cursor]) for cursor in range(first, piece.last + 1)}))
+    return tasks
+
+
+def explained(plan: Plan, pieces: list[Answered]) -> Explained:
+    """Returns the explanations from the answers to each piece of a plan."""
+    asked = {labels: Why(labels, True) for labels in plan.always}
+    for cursor, lists in (answer for piece in pieces for answer in piece):
+        for labels, lines in zip(plan.at[cursor], lists):
+            why = asked.setdefault(labels, Why(labels, False))
+            if not why.always or not why.answers or why.answers[-1][1] != lines:
+                why.answers.append((cursor, lines))
+    return Explained(plan.extent, [asked[labels] for labels in sorted(asked)])
 
 
 def _texts(alerts: list[Pairs]) -> list[str]:
     return [json.dumps(dict(labels), ensure_ascii=False) for labels in alerts]
 
 
-def _ask_piece(source: Source, piece: Part, plan: Asked) -> list[tuple[int, list[list[bytes]]]]:
+def _ask_piece(source: Source, piece: Part, plan: Asked) -> Answered:
     """Asks at each cursor of the plan in a session of its own, and returns the lines of each answer."""
     answers = converse(source, _commands(piece, plan))
     next(answers)

@@ -1,17 +1,19 @@
-"""Does a task over the events of a part in several processes, each with a session of its own."""
+"""Does tasks over the events of a part in several processes, each with a session of its own."""
 from __future__ import annotations
 
 import multiprocessing
 import os
 from dataclasses import dataclass
-from typing import Any, Callable, TypeVar
+from typing import Any, Callable
 
 from .progress import Progress
 
 PIECES = 4
+FEW_TASKS = 2
 POLL_SECONDS = 0.1
-Result = TypeVar("Result")
+Task = Callable[[], Any]
 _done: Any = None
+_tasks: list[Task] = []
 _report: Callable[[int], None] | None = None
 
 
@@ -41,23 +43,27 @@ def count_done() -> None:
             _report(_done.value)
 
 
-def over(task: Callable[..., Result], part: Part, words: list[tuple[Any, ...]], name: str, progress: Progress) -> list[Result]:
-    """Returns what the task gives for each tuple of words. More than one are done at once, in processes."""
+def over(tasks: list[Task], part: Part, name: str, progress: Progress) -> list[Any]:
+    """Returns what each task gives. If they are more than a few, they are done at once, in processes that share the memory of this one."""
     global _done, _report
     _done = multiprocessing.Value("q", 0)
-    if len(words) == 1:
+    if len(tasks) <= FEW_TASKS:
         _report = lambda count: progress.draw(name, count, len(part))  # noqa: E731
-        return [task(*words[0])]
+        return [task() for task in tasks]
     _report = None
-    count = max(1, min(len(words), os.cpu_count() or 1))
-    with multiprocessing.Pool(count, _share, (_done,)) as pool:
-        waiting = pool.starmap_async(task, words, chunksize=1)
+    count = max(1, min(len(tasks), os.cpu_count() or 1))
+    with multiprocessing.Pool(count, _share, (_done, tasks)) as pool:
+        waiting = pool.map_async(_run, range(len(tasks)), chunksize=1)
         while not waiting.ready():
             waiting.wait(POLL_SECONDS)
             progress.draw(name, _done.value, len(part))
         return waiting.get()
 
 
-def _share(done: Any) -> None:
-    global _done
-    _done = done
+def _share(done: Any, tasks: list[Task]) -> None:
+    global _done, _tasks
+    _done, _tasks = done, tasks
+
+
+def _run(number: int) -> Any:
+    return _tasks[number]()
