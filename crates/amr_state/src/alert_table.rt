@@ -96,7 +96,8 @@ impl AlertTable {
         self.alerts.has_place(labels)
     }
 
-    /// Returns the label sets that have a place, in the order in which they came.
+    /// Returns label sets in the order in which they came: all that have a place, and those for
+    /// which no memory was found after they came.
     pub(crate) fn arrived(&self) -> &[Labels]
         ensures { AllArrived self.now result.now }
     {
