@@ -7,7 +7,7 @@ use Rattle.std.proofs.lemmas.Bool.Decides.{nat_tests}
 use Rattle.amr_labels.specs.Map.{get, insert}
 use Rattle.amr_labels.specs.Labels.{LabelSet}
 use Rattle.amr_time.specs.Time.{Moment, Span}
-use Rattle.amr_config.specs.Config.{Config}
+use Rattle.amr_stated.specs.Config.{Config}
 use Rattle.amr_events.specs.declared.event.PostedAlert.{PostedAlert}
 use Rattle.amr_events.specs.declared.event.PostedSilence.{PostedSilence}
 use Rattle.amr_events.specs.Events.{Act, Reason}

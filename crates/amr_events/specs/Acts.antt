@@ -1,7 +1,7 @@
 -- The actions of the code's events, as actions of the definitions.
 use Rattle.std.specs.Prelude.{Result, Ok, Err}
 use Rattle.amr_time.specs.Time.{Moment}
-use Rattle.amr_config.specs.Config.{Config}
+use Rattle.amr_stated.specs.Config.{Config}
 use Rattle.amr_events.specs.Events.{Reason, Act, Event}
 use Rattle.amr_events.specs.Events as events
 use Rattle.amr_events.specs.Reasons.{reason_number}

@@ -5,7 +5,7 @@ use Rattle.serde_json.specs.Data.{Data}
 use Rattle.serde_json.specs.Read.{read}
 use Rattle.serde_json.specs.Find.{get, as_bool}
 use Rattle.amr_labels.specs.Labels.{Text}
-use Rattle.amr_config.specs.Config.{Config}
+use Rattle.amr_stated.specs.Config.{Config}
 use Rattle.amr_stated.specs.Numbers.{number_of}
 use Rattle.amr_config.specs.Reading.{config_of}
 use Rattle.amr_stated.specs.declared.error.Refusal.{Refusal}

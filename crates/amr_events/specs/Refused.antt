@@ -4,7 +4,7 @@ use Rattle.serde_json.specs.Data.{Data}
 use Rattle.serde_json.specs.Find.{get}
 use Rattle.amr_matchers.specs.Matchers.{Matcher}
 use Rattle.amr_matchers.specs.MatcherRefusals.{MayBeRefused}
-use Rattle.amr_config.specs.Config.{Config}
+use Rattle.amr_stated.specs.Config.{Config}
 use Rattle.amr_config.specs.Reading.{ConfigIs}
 use Rattle.amr_stated.specs.declared.error.Refusal.{Refusal}
 use Rattle.amr_events.specs.Events.{Act, Event, Reason}

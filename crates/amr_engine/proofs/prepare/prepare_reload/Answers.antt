@@ -1,5 +1,5 @@
 use Rattle.std.proofs.Common.{Err, Result, sym, subst}
-use Rattle.amr_config.specs.Config.{Config}
+use Rattle.amr_stated.specs.Config.{Config}
 use Rattle.amr_events.specs.Events.{Act}
 use Rattle.amr_events.specs.Acts.{by_number}
 use Rattle.amr_events.specs.Reasons.{reason_number}
