@@ -9,7 +9,8 @@ use Rattle.amr_stated.specs.Config.{Config}
 use Rattle.amr_stated.specs.Numbers.{number_of}
 use Rattle.amr_config.specs.Reading.{config_of}
 use Rattle.amr_stated.specs.declared.error.Refusal.{Refusal}
-use Rattle.amr_events.specs.Events.{Act, Event, Reason}
+use Rattle.amr_posts.specs.Reasons.{Reason}
+use Rattle.amr_events.specs.Events.{Act, Event}
 use Rattle.amr_events.specs.Events as events
 use Rattle.amr_events.specs.Shapes.{◌>>=◌, moment_under}
 use Rattle.amr_events.specs.Posted.{alerts_of}

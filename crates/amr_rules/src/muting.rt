@@ -14,8 +14,8 @@ ghost use Rattle.amr_rules.specs.Muting.{agree_on, first_source, has_some_label,
 use crate::alert::Alert;
 use crate::alert_store::{AlertStore, has_value};
 use crate::silence::Silence;
-use amr_events::SilenceId;
 use amr_labels::{Labels, Text};
+use amr_posts::SilenceId;
 use amr_stated::{InhibitRule, RuleMatch, rule_matches};
 use amr_tables::Keyed;
 use amr_time::Moment;
