@@ -1,13 +1,7 @@
-pub mod Answered
 pub mod Chosen
 pub mod Inherited
 pub mod Lines
-pub mod NameSets
-pub mod Parents
 pub mod Ranges
-pub mod Refused
 pub mod Remembered
 pub mod Settling
 pub mod Sorting
-pub mod TreeOrder
-pub mod Whole

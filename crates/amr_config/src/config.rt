@@ -63,7 +63,7 @@ impl Exact for Config {
 
 impl Config {
     /// Builds the configuration, and resolves the settings of its routes.
-    pub(crate) fn from_stated(alloc: Global, stated: Stated) -> Result<Config, AllocError>
+    pub fn from_stated(alloc: Global, stated: Stated) -> Result<Config, AllocError>
         requires { AreParentsFirst (stated_config stated) }
         ensures { IfOk result (λ config. config ≡ stated_config stated) }
     {

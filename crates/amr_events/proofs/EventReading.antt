@@ -10,7 +10,7 @@ use Rattle.amr_time.specs.MomentRead as moments
 use Rattle.amr_time.specs.MomentRead.{moment_at, in_range}
 use Rattle.amr_events.specs.Events.{Act, Event}
 use Rattle.amr_events.specs.Events as events
-use Rattle.amr_stated.specs.Members.{present}
+use Rattle.amr_loading.specs.Members.{present}
 use Rattle.amr_events.specs.Shapes.{◌>>=◌, each_item, texts_in, moment_under}
 use Rattle.amr_events.specs.Posted.{is_missing, time_of, time_at, time_in, annotations_in, alert_of, alerts_of}
 use Rattle.amr_events.specs.PostedSilences.{id_at, named_id_in, new_id_in, if_named, matchers_of, silence_of}

@@ -5,8 +5,8 @@ use Rattle.serde_json.specs.Find.{get}
 use Rattle.amr_matchers.specs.Matchers.{Matcher}
 use Rattle.amr_matchers.specs.MatcherRefusals.{MayBeRefused}
 use Rattle.amr_stated.specs.Config.{Config}
-use Rattle.amr_config.specs.Reading.{ConfigIs}
-use Rattle.amr_stated.specs.declared.error.Refusal.{Refusal}
+use Rattle.amr_loading.specs.Reading.{ConfigIs}
+use Rattle.amr_loading.specs.declared.error.Refusal.{Refusal}
 use Rattle.amr_posts.specs.Reasons.{Reason}
 use Rattle.amr_events.specs.Events.{Act, Event}
 use Rattle.amr_events.specs.Events as events

@@ -3,7 +3,7 @@
 ghost use Rattle.std.specs.Prelude.{◌≡◌, codes, option_map, IfOk};
 ghost use Rattle.serde_json.specs.View.{view};
 ghost use Rattle.amr_posts.specs.Reasons.{reason_number};
-ghost use Rattle.amr_stated.specs.Numbers.{number_of};
+ghost use Rattle.amr_loading.specs.Numbers.{number_of};
 ghost use Rattle.amr_events.specs.Answers.{Reads, ReadsSuch};
 ghost use Rattle.amr_events.specs.Acts.{by_number, act_of};
 ghost use Rattle.amr_events.specs.Events as events;
@@ -17,8 +17,8 @@ use crate::posted_silence::{id, silence};
 use crate::seen_texts::SeenTexts;
 use crate::shapes::moment;
 use amr_config::Config;
+use amr_loading::{ConfigError, Refusal, load_config};
 use amr_posts::Reason;
-use amr_stated::{ConfigError, Refusal};
 use serde_json::Value;
 use std::alloc::{AllocError, Global};
 
@@ -88,7 +88,7 @@ fn reason_of(refusal: &Refusal) -> Reason
 fn reload(alloc: Global, value: &Value) -> Result<Result<Config, Reason>, AllocError>
     ensures { IfOk result (λ read. ReloadIs (view value.now) (by_number read)) }
 {
-    match Config::read(alloc, value) {
+    match load_config(alloc, value) {
         Ok(config) => Ok(Ok(config)),
         Err(ConfigError::Refused(refusal)) => Ok(Err(reason_of(&refusal))),
         Err(ConfigError::Memory) => Err(AllocError),

@@ -1,4 +1,4 @@
-//! A configuration as its file states it. `walk` returns it, and `amr_config` validates it and
+//! A configuration as its file states it. `amr_loading` reads and validates it, and `amr_config`
 //! resolves the settings of its routes.
 
 use crate::interval::NamedInterval;

@@ -7,11 +7,11 @@ use Rattle.serde_json.specs.Read.{read}
 use Rattle.amr_labels.specs.Labels.{Text}
 use Rattle.amr_stated.specs.Config as config
 use Rattle.amr_events.specs.Events.{Event}
-use Rattle.amr_stated.specs.declared.error.Refusal.{Refusal}
-use Rattle.amr_stated.specs.declared.error.Refusal.TheVariants.{BadConfig}
-use Rattle.amr_stated.specs.declared.error.ConfigError.{ConfigError}
-use Rattle.amr_stated.specs.declared.error.ConfigError.TheVariants.{Memory, Refused}
-use Rattle.amr_config.specs.Reading.{ConfigIs}
+use Rattle.amr_loading.specs.declared.error.Refusal.{Refusal}
+use Rattle.amr_loading.specs.declared.error.Refusal.TheVariants.{BadConfig}
+use Rattle.amr_loading.specs.declared.error.ConfigError.{ConfigError}
+use Rattle.amr_loading.specs.declared.error.ConfigError.TheVariants.{Memory, Refused}
+use Rattle.amr_loading.specs.Reading.{ConfigIs}
 use Rattle.amr_events.specs.Scripts.{ScriptIs}
 use Rattle.amr_replay.specs.Session.{View, at_cursor}
 use Rattle.amreplay.specs.declared.program.fault.Fault.{Fault}

@@ -7,7 +7,7 @@ use crate::commands::ConversationError;
 use crate::lines::{Outlet, WriteFailed, write_parts};
 use crate::program::run::RunError;
 use amr_events::{Fault as ScriptFault, ScriptError};
-use amr_stated::{ConfigError, Refusal};
+use amr_loading::{ConfigError, Refusal};
 use itoa::Buffer;
 use std::alloc::AllocError;
 use std::io::Write;

@@ -3,14 +3,14 @@
 ghost use Rattle.std.specs.Prelude.{◌≡◌, [], option_map, IfOk};
 ghost use Rattle.serde_json.specs.View.{view};
 ghost use Rattle.amreplay.specs.Program.Files.{json_of, ReadsAs, FilesAre, Opens};
-ghost use Rattle.amr_stated.specs.declared.error.Refusal.TheVariants.{BadConfig};
+ghost use Rattle.amr_loading.specs.declared.error.Refusal.TheVariants.{BadConfig};
 
 use crate::program::fault::Fault;
 use amr_config::Config;
 use amr_events::Script;
 use amr_labels::Text;
+use amr_loading::{ConfigError, Refusal, load_config};
 use amr_replay::Session;
-use amr_stated::{ConfigError, Refusal};
 use serde_json::Value;
 use std::alloc::{AllocError, Global};
 
@@ -52,7 +52,7 @@ pub fn read_config(alloc: Global, bytes: &[u8]) -> Result<Config, ConfigError>
         return Err(ConfigError::Refused(whole_file(alloc)?));
     }
     match json(alloc, bytes)? {
-        Some(value) => Config::read(alloc, &value),
+        Some(value) => load_config(alloc, &value),
         None => Err(ConfigError::Refused(whole_file(alloc)?)),
     }
 }

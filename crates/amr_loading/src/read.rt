@@ -1,0 +1,91 @@
+//! Reads a whole configuration from its JSON value. `load_config` calls `walk`, and then validates
+//! the result. Nothing is inherited or defaulted here, except `resolve_timeout`.
+ghost use Rattle.std.specs.Prelude.{◌≡◌, [], codes};
+ghost use Rattle.serde_json.specs.View.{view};
+ghost use Rattle.amr_loading.specs.Answers.{Gives, Reads};
+ghost use Rattle.amr_loading.specs.Members.{stated};
+ghost use Rattle.amr_loading.specs.Paths.{place_path};
+ghost use Rattle.amr_loading.specs.Timeout.{timeout_in, timeout_stated, timeout_at};
+ghost use Rattle.amr_loading.specs.Walking.{walked_at};
+
+use crate::error::ConfigError;
+use crate::members::{member, span_member};
+use crate::place::Place;
+use crate::read_intervals::{read_intervals, read_mute_time_intervals};
+use crate::read_receivers::read_receivers;
+use crate::read_routes::read_routes;
+use crate::read_rules::read_rules;
+use amr_stated::Stated;
+use amr_time::Span;
+use serde_json::Value;
+use std::alloc::Global;
+
+/// Reads `resolve_timeout` of the object under `global`.
+#[tactic(auto, unfolding(crate::specs::Timeout::timeout_in, crate::specs::Readings::next))]
+fn timeout(alloc: Global, place: &Place, value: &Value) -> Result<Option<Span>, ConfigError>
+    ensures { Gives (λ o. o) result (timeout_in (place_path place.now) (view value.now)) }
+{
+    if !value.is_object() {
+        return Err(place.faulty(alloc));
+    }
+    span_member(alloc, place, value, "resolve_timeout")
+}
+
+/// Reads `resolve_timeout` of `global`; `None` if there is no `global`.
+#[tactic(auto, unfolding(crate::specs::Readings::next))]
+fn timeout_member(alloc: Global, value: &Value) -> Result<Option<Option<Span>>, ConfigError>
+    ensures { Gives (λ o. o) result (stated timeout_in [] (codes "global") (view value.now)) }
+{
+    match member(value, "global") {
+        Some(found) => {
+            let here = Place::Member(&Place::Top, "global");
+            Ok(Some(timeout(alloc, &here, found)?))
+        }
+        None => Ok(None),
+    }
+}
+
+/// Returns the stated timeout, or 5 minutes, the default of Alertmanager's `resolve_timeout`.
+fn stated_timeout(timeout: Option<Option<Span>>) -> Span
+    ensures { result ≡ timeout_stated timeout }
+{
+    match timeout {
+        Some(Some(span)) => span,
+        Some(None) => Span::from_minutes(5),
+        None => Span::from_minutes(5),
+    }
+}
+
+/// Reads the timeout of a whole configuration, which must be an object.
+#[tactic(auto, unfolding(crate::specs::Timeout::timeout_at, crate::specs::Readings::next))]
+fn read_timeout(alloc: Global, value: &Value) -> Result<Span, ConfigError>
+    ensures { Gives (λ span. span) result (timeout_at (view value.now)) }
+{
+    if !value.is_object() {
+        return Err(Place::Top.faulty(alloc));
+    }
+    let timeout = timeout_member(alloc, value)?;
+    Ok(stated_timeout(timeout))
+}
+
+/// Reads a configuration. It visits members by key in byte order, and lists in order, and fails
+/// with the path of the first faulty value. It builds each pattern once, when it meets it. Callers
+/// check `is_too_deep` first; the depth limit here only bounds the recursion.
+#[tactic(auto, unfolding(crate::specs::Walking::walked_at, crate::specs::Readings::next))]
+pub(crate) fn walk(alloc: Global, value: &Value) -> Result<Stated, ConfigError>
+    ensures { Reads (λ stated. stated) result (walked_at (view value.now)) }
+{
+    let resolve_timeout = read_timeout(alloc, value)?;
+    let rules = read_rules(alloc, value)?;
+    let mute = read_mute_time_intervals(alloc, value)?;
+    let receivers = read_receivers(alloc, value)?;
+    let routes = read_routes(alloc, value)?;
+    let time_intervals = read_intervals(alloc, value, "time_intervals", mute)?;
+    Ok(Stated {
+        routes,
+        receivers,
+        rules,
+        resolve_timeout,
+        time_intervals,
+    })
+}

@@ -1,0 +1,89 @@
+//! Reads the inhibition rules of a configuration (`inhibit_rules` of Alertmanager's configuration
+//! reference). `read.rt` calls `read_rules`.
+ghost use Rattle.std.specs.Prelude.{◌≡◌};
+ghost use Rattle.serde_json.specs.View.{view};
+ghost use Rattle.amr_loading.specs.Paths.{place_path};
+ghost use Rattle.amr_loading.specs.Answers.{Reads, ReadsInto};
+ghost use Rattle.amr_loading.specs.ReadRules.{rule_at, rule_into, rules_list, rules_at};
+
+use crate::error::ConfigError;
+use crate::members::{items, member, texts_member};
+use crate::place::Place;
+use crate::read_matchers::read_matchers;
+use amr_labels::Listing;
+use amr_stated::InhibitRule;
+use serde_json::Value;
+use std::alloc::Global;
+
+/// Reads an inhibition rule, by its keys in byte order.
+#[tactic(auto, unfolding(crate::specs::ReadRules::rule_at, crate::specs::Readings::next))]
+fn read_rule(alloc: Global, place: &Place, value: &Value) -> Result<InhibitRule, ConfigError>
+    ensures { Reads (λ rule. rule) result (rule_at (place_path place.now) (view value.now)) }
+{
+    if !value.is_object() {
+        return Err(place.faulty(alloc));
+    }
+    let equal = texts_member(alloc, place, value, "equal")?;
+    let source = read_matchers(
+        alloc,
+        place,
+        "source_match",
+        "source_match_re",
+        "source_matchers",
+        value,
+    )?;
+    let target = read_matchers(
+        alloc,
+        place,
+        "target_match",
+        "target_match_re",
+        "target_matchers",
+        value,
+    )?;
+    Ok(InhibitRule {
+        source,
+        target,
+        equal: equal.unwrap_or(Listing::new(alloc)),
+    })
+}
+
+/// Appends the rule at an index of a list.
+#[tactic(auto, unfolding(crate::specs::ReadRules::rule_into, crate::specs::Readings::next))]
+fn add_rule(
+    alloc: Global,
+    place: &Place,
+    index: usize,
+    value: &Value,
+    rules: &mut Listing<InhibitRule>,
+) -> Result<(), ConfigError>
+    ensures { ReadsInto (λ rules. rules) result rules.new
+        (rule_into (place_path place.now) index (view value.now) rules.old) }
+{
+    let rule = read_rule(alloc, &Place::Item(place, index), value)?;
+    rules.push(rule)?;
+    Ok(())
+}
+
+/// Reads a list of inhibition rules.
+#[tactic(auto, unfolding(crate::specs::ReadRules::rules_list, crate::specs::Readings::next))]
+fn rules(alloc: Global, place: &Place, value: &Value) -> Result<Listing<InhibitRule>, ConfigError>
+    ensures { Reads (λ rules. rules) result (rules_list (place_path place.now) (view value.now)) }
+{
+    let items = items(alloc, place, value)?;
+    let mut rules = Listing::new(alloc);
+    for (index, item) in items.iter().enumerate() {
+        add_rule(alloc, place, index, item, &mut rules)?;
+    }
+    Ok(rules)
+}
+
+/// Reads the inhibition rules of a whole configuration; none if the member is absent.
+#[tactic(auto, unfolding(crate::specs::ReadRules::rules_at))]
+pub(crate) fn read_rules(alloc: Global, value: &Value) -> Result<Listing<InhibitRule>, ConfigError>
+    ensures { Reads (λ rules. rules) result (rules_at (view value.now)) }
+{
+    match member(value, "inhibit_rules") {
+        Some(found) => rules(alloc, &Place::Member(&Place::Top, "inhibit_rules"), found),
+        None => Ok(Listing::new(alloc)),
+    }
+}
