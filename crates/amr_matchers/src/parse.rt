@@ -1,5 +1,5 @@
-//! Reading a list of matchers from a text. `amr_stated` calls `Matchers::parse` for `matchers` in a
-//! configuration.
+//! Reading a list of matchers from a text. `amr_loading` calls `Matchers::parse` for `matchers` in
+//! a configuration.
 ghost use Rattle.std.specs.Prelude.{◌≡◌, Some, IfOk, IfErr, IsErrOf, chars};
 ghost use Rattle.amr_matchers.specs.declared.pattern.MatcherError.TheVariants.{BadPattern as RefusedPattern};
 ghost use Rattle.amr_matchers.specs.MatcherText.{Spells};
