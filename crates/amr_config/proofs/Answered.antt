@@ -14,7 +14,7 @@ use Rattle.amr_stated.specs.Faults.{Finding, first_fault, patterns_before, findi
 use Rattle.amr_stated.proofs.Judged.{Judged, Tells}
 use Rattle.amr_stated.proofs.JudgedRoutes.{walked_judged}
 use Rattle.amr_stated.proofs.Standing.{deep_stands}
-use Rattle.amr_config.specs.Config.{Config}
+use Rattle.amr_stated.specs.Config.{Config}
 use Rattle.amr_config.specs.Judging.{refusal_of}
 use Rattle.amr_config.specs.Reading.{unless_refused, reading_of}
 use Rattle.amr_config.specs.ReadLaws.{WhatIsReadIsStated, AnswersBy, AnswersGoByTheFirstFault}

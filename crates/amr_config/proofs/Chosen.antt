@@ -12,7 +12,7 @@ use Rattle.std.proofs.lemmas.List.FromFn.{length-map-range_with_len, get_or-map-
 use Rattle.amr_labels.specs.Labels.{LabelSet}
 use Rattle.amr_matchers.specs.Matchers.{all_hold}
 use Rattle.amr_config.specs.declared.walk.Mark.{Mark}
-use Rattle.amr_config.specs.Config.{Config}
+use Rattle.amr_stated.specs.Config.{Config}
 use Rattle.amr_config.specs.Routing.{parent_of, matches_route, is_child, is_cut_off, is_chosen, route_is, chosen}
 use Rattle.amr_stated.specs.declared.route.Route.{Route}
 use Rattle.amr_config.specs.declared.settings.Settings.{Settings}

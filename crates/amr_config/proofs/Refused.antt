@@ -6,7 +6,7 @@ use Rattle.amr_labels.specs.Labels.{Text}
 use Rattle.amr_stated.specs.declared.error.Refusal.{Refusal}
 use Rattle.amr_stated.specs.declared.error.Refusal.TheVariants.{BadConfig, TooDeep, UnknownReceiver, DuplicateReceiver, RootRoute, ZeroInterval, BadGroupBy}
 use Rattle.amr_stated.specs.declared.stated.Stated.{Stated}
-use Rattle.amr_config.specs.Config.{Config}
+use Rattle.amr_stated.specs.Config.{Config}
 use Rattle.amr_stated.specs.Readings.{Reading, plain, next, value_after, MayGive, IsBadPattern}
 use Rattle.amr_stated.specs.RouteParts.{is_too_deep}
 use Rattle.amr_config.specs.Judging.{refusal_of, is_lost, are_named_apart, root_is_bad, has_zero, is_badly_grouped}

@@ -8,7 +8,7 @@ use Rattle.std.proofs.lemmas.List.FromFn.{length-map-range_with_len, get_or-map-
 use Rattle.amr_time.specs.Time.{second, minute, hour}
 use Rattle.amr_stated.specs.declared.route.Route.{Route}
 use Rattle.amr_config.specs.declared.settings.Settings.{Settings}
-use Rattle.amr_config.specs.Config.{Config}
+use Rattle.amr_stated.specs.Config.{Config}
 use Rattle.amr_config.specs.Routing.{parent_of, line_of, first_stated, inherited, active_intervals_of, mute_intervals_of, path_of, sorted_matchers}
 use Rattle.amr_config.specs.Settled.{settings_of, settled, settled_to, settled_under, AreParentsFirst}
 use Rattle.amr_config.proofs.Lines.{line_of-root, line_of-child}

@@ -17,7 +17,7 @@ use Rattle.amr_stated.specs.Readings.{plain, next}
 use Rattle.amr_stated.specs.RouteParts.{is_too_deep}
 use Rattle.amr_stated.specs.Walking.{walked_at}
 use Rattle.amr_stated.proofs.Preorder.{ok_same, bind_ok}
-use Rattle.amr_config.specs.Config.{Config}
+use Rattle.amr_stated.specs.Config.{Config}
 use Rattle.amr_config.specs.Routing.{parent_of, line_of}
 use Rattle.amr_config.specs.Settled.{stated_config, AreParentsFirst}
 use Rattle.amr_config.specs.Shape.{IsPreorder, IsConfig, are_different, stated_receiver, is_receiver}

@@ -3,7 +3,7 @@ use Rattle.std.specs.Prelude.{◌≡◌, ◌↔◌, Result, Err}
 use Rattle.serde_json.specs.Data.{Data}
 use Rattle.amr_stated.specs.declared.error.Refusal.{Refusal}
 use Rattle.amr_stated.specs.declared.error.Refusal.TheVariants.{TooDeep}
-use Rattle.amr_config.specs.Config.{Config}
+use Rattle.amr_stated.specs.Config.{Config}
 use Rattle.amr_config.specs.Reading.{config_of, ConfigIs}
 use Rattle.amr_stated.specs.Levels.{HasDeepRoute}
 

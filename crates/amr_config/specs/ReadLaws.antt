@@ -11,7 +11,7 @@ use Rattle.amr_stated.specs.Readings.{IsBadPattern}
 use Rattle.amr_stated.specs.Table.{StatesWhole}
 use Rattle.amr_config.specs.Judging.{refusal_of}
 use Rattle.amr_stated.specs.Keys.{HasOrderedKeys}
-use Rattle.amr_config.specs.Config.{Config}
+use Rattle.amr_stated.specs.Config.{Config}
 use Rattle.amr_config.specs.Reading.{ConfigIs, unless_refused}
 use Rattle.amr_config.specs.Shape.{IsPreorder, IsConfig}
 

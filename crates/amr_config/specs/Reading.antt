@@ -4,7 +4,7 @@ use Rattle.serde_json.specs.Data.{Data}
 use Rattle.amr_stated.specs.declared.error.Refusal.{Refusal}
 use Rattle.amr_stated.specs.declared.error.Refusal.TheVariants.{TooDeep}
 use Rattle.amr_stated.specs.declared.stated.Stated.{Stated}
-use Rattle.amr_config.specs.Config.{Config}
+use Rattle.amr_stated.specs.Config.{Config}
 use Rattle.amr_config.specs.Settled.{stated_config}
 use Rattle.amr_stated.specs.Readings.{Reading, plain, ◌>>=◌, MayGive}
 use Rattle.amr_stated.specs.RouteParts.{is_too_deep}

@@ -36,7 +36,7 @@ pub struct Config {
 }
 
 impl Model for Config {
-    ghost use Rattle.amr_config.specs.Config.{Config};
+    ghost use Rattle.amr_stated.specs.Config.{Config};
 
     ghost Value = { Config };
 

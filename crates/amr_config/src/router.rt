@@ -4,13 +4,13 @@
 //! what it remembers.
 ghost use Rattle.std.specs.Prelude.{◌≡◌, IfOk};
 ghost use Rattle.amr_config.specs.Groups.{groups_of, group_at};
-ghost use Rattle.amr_config.specs.RuleMatches.{rule_matches};
+ghost use Rattle.amr_stated.specs.RuleMatches.{rule_matches};
 
 use crate::config::Config;
 use crate::group_labels::GroupLabels;
-use crate::rule_sides::{RuleMatch, rule_matches, rule_matches_remembered};
 use amr_labels::{Labels, Listing, Shared};
 use amr_matchers::Answers;
+use amr_stated::{RuleMatch, rule_matches, rule_matches_remembered};
 use amr_tables::Keyed;
 use std::alloc::{AllocError, Global};
 use std::marker::Model;
@@ -46,7 +46,7 @@ pub struct RouteGroup {
 }
 
 impl Model for Router {
-    ghost use Rattle.amr_config.specs.Config.{Config};
+    ghost use Rattle.amr_stated.specs.Config.{Config};
     ghost use Rattle.amr_config.specs.Groups.{IsKnown};
 
     ghost Value = { Config };

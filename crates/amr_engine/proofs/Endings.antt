@@ -2,7 +2,8 @@
 use Rattle.std.proofs.Common.{◌≡◌, true, false, ℕ, List, Option, None, Some, Result, Ok, Err, length, drop, refl, sym, ap, subst, ◌∙◌}
 use Rattle.std.specs.Prelude.{if◌then◌else◌, nat_lt}
 use Rattle.amr_time.specs.Time.{Moment}
-use Rattle.amr_events.specs.Events.{Event, Act, Reason}
+use Rattle.amr_posts.specs.Reasons.{Reason, reason_number}
+use Rattle.amr_events.specs.Events.{Event, Act}
 use Rattle.amr_events.specs.Acts.{event_at}
 use Rattle.amr_state.specs.declared.due.Due.{Due}
 use Rattle.amr_state.specs.State.{State}
@@ -13,8 +14,7 @@ use Rattle.amr_engine.specs.Outcomes.{acceptance, refusal}
 use Rattle.amr_engine.specs.Applied.{ComesTo, run_moved}
 use Rattle.amr_engine.specs.Prepared.{IsPrepared, Does, Stays, performed, skipped_by}
 use Rattle.amr_engine.specs.declared.prepare.Prepared as prepare
-use Rattle.amr_events.specs.declared.reason.Reason as code
-use Rattle.amr_events.specs.Reasons.{reason_number}
+use Rattle.amr_posts.specs.declared.reason.Reason as code
 use Rattle.amr_engine.proofs.RunsLaws.{run_within-sound}
 use Rattle.amr_engine.proofs.TickLaws.{Judged, advances_keep}
 

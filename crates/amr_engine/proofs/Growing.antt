@@ -9,7 +9,7 @@ use Rattle.std.proofs.lemmas.List.Sums.{sum_by-drop_more}
 use Rattle.amr_labels.specs.Map.{entries, len}
 use Rattle.amr_labels.specs.Labels.{LabelSet}
 use Rattle.amr_time.specs.Time.{Moment}
-use Rattle.amr_config.specs.Config.{Config}
+use Rattle.amr_stated.specs.Config.{Config}
 use Rattle.amr_config.specs.Routing.{chosen}
 use Rattle.amr_rules.specs.declared.alert.Alert.{Alert}
 use Rattle.amr_events.specs.Events.{Event, Act}

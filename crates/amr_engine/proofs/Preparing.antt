@@ -7,10 +7,11 @@ use Rattle.std.proofs.lemmas.Bool.Decides.{nat_tests}
 use Rattle.amr_labels.specs.Map.{get, insert}
 use Rattle.amr_labels.specs.Labels.{LabelSet}
 use Rattle.amr_time.specs.Time.{Moment, Span}
-use Rattle.amr_config.specs.Config.{Config}
-use Rattle.amr_events.specs.declared.event.PostedAlert.{PostedAlert}
-use Rattle.amr_events.specs.declared.event.PostedSilence.{PostedSilence}
-use Rattle.amr_events.specs.Events.{Act, Reason}
+use Rattle.amr_stated.specs.Config.{Config}
+use Rattle.amr_posts.specs.declared.posted_alert.PostedAlert.{PostedAlert}
+use Rattle.amr_posts.specs.declared.posted_silence.PostedSilence.{PostedSilence}
+use Rattle.amr_posts.specs.Reasons.{Reason}
+use Rattle.amr_events.specs.Events.{Act}
 use Rattle.amr_rules.specs.declared.alert.Alert.{Alert}
 use Rattle.amr_rules.specs.declared.silence.Silence.{Silence}
 use Rattle.amr_rules.specs.declared.silence_update.SilenceUpdate.{SilenceUpdate}

@@ -9,7 +9,7 @@ use Rattle.amr_labels.specs.Labels.{LabelSet, Text}
 use Rattle.amr_time.specs.Time.{Moment, Span}
 use Rattle.amr_stated.specs.declared.rule.InhibitRule.{InhibitRule}
 use Rattle.amr_stated.specs.declared.receiver.Integration.{Integration}
-use Rattle.amr_config.specs.Config.{Config}
+use Rattle.amr_stated.specs.Config.{Config}
 use Rattle.amr_config.specs.Routing.{is_active_at, is_muted_at, is_within, active_intervals_of, mute_intervals_of, integrations_of, repeat_interval_of}
 use Rattle.amr_rules.specs.declared.alert.Alert.{Alert}
 use Rattle.amr_rules.specs.declared.silence.Silence.{Silence}

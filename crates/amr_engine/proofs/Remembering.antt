@@ -13,7 +13,7 @@ use Rattle.amr_labels.specs.Map.{Map, entries, get, remove, empty, get-empty, ge
 use Rattle.amr_labels.specs.Labels.{LabelSet, label_set_cmp, label_set_cmp_total, label_set_cmp-IsAntisymmetric}
 use Rattle.amr_time.specs.Time.{Moment, Span}
 use Rattle.amr_stated.specs.declared.receiver.Integration.{Integration}
-use Rattle.amr_config.specs.Config.{Config}
+use Rattle.amr_stated.specs.Config.{Config}
 use Rattle.amr_config.specs.Routing.{repeat_interval_of}
 use Rattle.amr_config.specs.Settled.{settings_of}
 use Rattle.amr_config.specs.declared.settings.Settings.{Settings}

@@ -3,8 +3,8 @@ use Rattle.std.specs.Prelude.{◌≡◌, ℕ, List, Option, Result, Ok, Err, len
 use Rattle.std.specs.Option.{option_map}
 use Rattle.amr_time.specs.Time.{Moment}
 use Rattle.amr_events.specs.Events.{Event}
-use Rattle.amr_events.specs.declared.reason.Reason as code
-use Rattle.amr_events.specs.Reasons.{reason_number}
+use Rattle.amr_posts.specs.declared.reason.Reason as code
+use Rattle.amr_posts.specs.Reasons.{reason_number}
 use Rattle.amr_state.specs.declared.due.Due.{Due}
 use Rattle.amr_state.specs.State.{State}
 use Rattle.amr_engine.specs.declared.apply.Done.{Done}

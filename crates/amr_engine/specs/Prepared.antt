@@ -4,8 +4,8 @@ use Rattle.std.specs.List.{fold}
 use Rattle.amr_labels.specs.Map.{insert}
 use Rattle.amr_time.specs.Time.{Moment}
 use Rattle.amr_events.specs.Events.{Act}
-use Rattle.amr_events.specs.declared.reason.Reason as code
-use Rattle.amr_events.specs.Reasons.{reason_number}
+use Rattle.amr_posts.specs.declared.reason.Reason as code
+use Rattle.amr_posts.specs.Reasons.{reason_number}
 use Rattle.amr_rules.specs.Silencing.{update_stored}
 use Rattle.amr_state.specs.State.{State}
 use Rattle.amr_engine.specs.Weight.{reload_entries, alerts_weight, act_weight}

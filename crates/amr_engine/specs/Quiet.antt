@@ -6,7 +6,7 @@ use Rattle.amr_time.specs.Time.{Moment, Span}
 use Rattle.amr_stated.specs.declared.receiver.Integration.{Integration}
 use Rattle.amr_stated.specs.declared.rule.InhibitRule.{InhibitRule}
 use Rattle.amr_labels.specs.Labels.{LabelSet}
-use Rattle.amr_config.specs.Config.{Config}
+use Rattle.amr_stated.specs.Config.{Config}
 use Rattle.amr_config.specs.Routing.{active_intervals_of, mute_intervals_of, group_interval_of, repeat_interval_of, integrations_of}
 use Rattle.amr_rules.specs.Muting.{Alerts}
 use Rattle.amr_rules.specs.Silences.{Silences}

@@ -1,7 +1,8 @@
 -- The next move and the outcome of an event, defined by relations and not by a computation.
 use Rattle.std.specs.Prelude.{◌≡◌, ℕ, suc, is_ok, true, false, List, [], ◌∷◌, Ok, Err, length, ◌≤◌, nat_lt, ◌⊎◌}
 use Rattle.std.specs.Ordering.{is_gt}
-use Rattle.amr_events.specs.Events.{Event, Reason}
+use Rattle.amr_posts.specs.Reasons.{Reason}
+use Rattle.amr_events.specs.Events.{Event}
 use Rattle.amr_state.specs.declared.due.Due.{Due}
 use Rattle.amr_state.specs.State.{State}
 use Rattle.amr_engine.specs.Runs.{Begins}

@@ -8,8 +8,8 @@ ghost use Rattle.amr_engine.specs.Explain.{waiting, logged, heard, finding, time
 
 use crate::flush::log_key;
 use crate::stages::taken_away;
-use amr_events::SilenceId;
 use amr_labels::{Labels, Text};
+use amr_posts::SilenceId;
 use amr_rules::{Alert, LogEntry};
 use amr_state::{GroupTimer, RouteLabels, Store, group_key};
 use amr_stated::Integration;

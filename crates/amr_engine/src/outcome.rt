@@ -2,8 +2,8 @@
 //! store.
 ghost use Rattle.std.specs.Prelude.{◌≡◌};
 
-use amr_events::Reason;
 use amr_labels::{Listing, Shared};
+use amr_posts::Reason;
 use amr_state::Notification;
 
 /// The outcome of an event.

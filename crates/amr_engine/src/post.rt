@@ -9,8 +9,8 @@ ghost use Rattle.amr_state.specs.Kept.{GrownBy, undone};
 ghost use Rattle.amr_engine.specs.Events.{put, skipped_from};
 ghost use Rattle.amr_engine.specs.Weight.{alert_weight, alerts_weight};
 
-use amr_events::PostedAlert;
 use amr_labels::{Labels, Listing};
+use amr_posts::PostedAlert;
 use amr_rules::{Alert, complete_alert, merge};
 use amr_state::{Store, place};
 use amr_time::{Moment, Span};

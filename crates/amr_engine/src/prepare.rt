@@ -7,7 +7,8 @@ ghost use Rattle.amr_events.specs.Events.{Act as act};
 
 use crate::post::{Sifted, sift};
 use amr_config::Config;
-use amr_events::{Act, PostedAlert, PostedSilence, Reason, SilenceId};
+use amr_events::Act;
+use amr_posts::{PostedAlert, PostedSilence, Reason, SilenceId};
 use amr_rules::{Silence, SilenceUpdate, set_silence, silence_expire};
 use amr_state::Store;
 use amr_time::Moment;

@@ -6,7 +6,7 @@ ghost use Rattle.amr_rules.specs.Silencing.{update_stored};
 ghost use Rattle.amr_state.specs.Kept.{GrownBy, undone};
 ghost use Rattle.amr_engine.specs.Events.{with_silences};
 
-use amr_events::SilenceId;
+use amr_posts::SilenceId;
 use amr_rules::{Silence, SilenceUpdate};
 use amr_state::Store;
 use std::alloc::AllocError;

@@ -17,8 +17,8 @@ use Rattle.amr_events.specs.PostedSilences.{id_at, named_id_in, new_id_in, if_na
 use Rattle.amr_events.specs.Lines.{act_count, post_of, silencing_of, expiry_of, reload_of, tick_if, tick_of, act_of_stated, act_in}
 use Rattle.amr_events.specs.Refused.{ActIs}
 use Rattle.amr_events.specs.EventLaws.{IsStatable, AlertIsStatable, ActIsStatable, ReadEventsAreStatable}
-use Rattle.amr_events.specs.declared.event.PostedAlert.{PostedAlert}
-use Rattle.amr_events.specs.declared.event.PostedSilence.{PostedSilence}
+use Rattle.amr_posts.specs.declared.posted_alert.PostedAlert.{PostedAlert}
+use Rattle.amr_posts.specs.declared.posted_silence.PostedSilence.{PostedSilence}
 
 -- a step that gave something
 record Step {A B : Type 0} (o : Option A) (f : A → Option B) (y : B) : Type 0 where

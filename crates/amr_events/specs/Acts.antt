@@ -1,14 +1,14 @@
 -- The actions of the code's events, as actions of the definitions.
 use Rattle.std.specs.Prelude.{Result, Ok, Err}
 use Rattle.amr_time.specs.Time.{Moment}
-use Rattle.amr_config.specs.Config.{Config}
-use Rattle.amr_events.specs.Events.{Reason, Act, Event}
+use Rattle.amr_stated.specs.Config.{Config}
+use Rattle.amr_posts.specs.Reasons.{Reason, reason_number}
+use Rattle.amr_events.specs.Events.{Act, Event}
 use Rattle.amr_events.specs.Events as events
-use Rattle.amr_events.specs.Reasons.{reason_number}
 use Rattle.amr_events.specs.declared.event.Act as code
 use Rattle.amr_events.specs.declared.event.Act.TheVariants.{Post, Silence, Expire, Reload, Tick}
 use Rattle.amr_events.specs.declared.event.Event.TheInside.{Inside}
-use Rattle.amr_events.specs.declared.reason.Reason as reason
+use Rattle.amr_posts.specs.declared.reason.Reason as reason
 
 -- a reason as its number
 abbrev pub by_number : Result Config reason.Reason → Result Config Reason

@@ -4,7 +4,7 @@ use Rattle.amr_time.specs.Time.{Moment, latest_read}
 use Rattle.amr_events.specs.Events.{Act, Event}
 use Rattle.amr_events.specs.Events as events
 use Rattle.amr_events.specs.Refused.{LineIs}
-use Rattle.amr_events.specs.declared.event.PostedAlert.{PostedAlert}
+use Rattle.amr_posts.specs.declared.posted_alert.PostedAlert.{PostedAlert}
 
 -- the moment is one that a text can spell
 abbrev pub IsStatable : Moment → Type 0

@@ -11,7 +11,7 @@ use Rattle.amr_time.specs.MomentRead.{moment_at}
 use Rattle.amr_events.specs.Events.{Annotations}
 use Rattle.amr_stated.specs.Members.{present}
 use Rattle.amr_events.specs.Shapes.{◌>>=◌, each_item, texts_in}
-use Rattle.amr_events.specs.declared.event.PostedAlert.{PostedAlert}
+use Rattle.amr_posts.specs.declared.posted_alert.PostedAlert.{PostedAlert}
 
 -- a fraction of this many zeros
 abbrev pub zero_fraction : ℕ → Text

@@ -7,10 +7,10 @@ use Rattle.amr_labels.specs.Labels.{Text, is_empty}
 use Rattle.amr_matchers.specs.Matchers.{Matcher}
 use Rattle.amr_matchers.specs.declared.Operator.{Operator}
 use Rattle.amr_matchers.specs.declared.Operator.TheVariants.{Equal, NotEqual, Matches, NotMatches}
-use Rattle.amr_events.specs.Ids.{id_of}
+use Rattle.amr_posts.specs.Ids.{id_of}
 use Rattle.amr_stated.specs.Members.{present}
 use Rattle.amr_events.specs.Shapes.{◌>>=◌, each_item, text_under, flag_under, moment_under}
-use Rattle.amr_events.specs.declared.event.PostedSilence.{PostedSilence}
+use Rattle.amr_posts.specs.declared.posted_silence.PostedSilence.{PostedSilence}
 
 -- the operator by `isRegex` and `isEqual`
 abbrev pub operator_by : Bool → Bool → Operator

@@ -4,14 +4,15 @@ use Rattle.serde_json.specs.Data.{Data}
 use Rattle.serde_json.specs.Find.{get}
 use Rattle.amr_matchers.specs.Matchers.{Matcher}
 use Rattle.amr_matchers.specs.MatcherRefusals.{MayBeRefused}
-use Rattle.amr_config.specs.Config.{Config}
+use Rattle.amr_stated.specs.Config.{Config}
 use Rattle.amr_config.specs.Reading.{ConfigIs}
 use Rattle.amr_stated.specs.declared.error.Refusal.{Refusal}
-use Rattle.amr_events.specs.Events.{Act, Event, Reason}
+use Rattle.amr_posts.specs.Reasons.{Reason}
+use Rattle.amr_events.specs.Events.{Act, Event}
 use Rattle.amr_events.specs.Events as events
 use Rattle.amr_events.specs.Shapes.{moment_under}
 use Rattle.amr_events.specs.Lines.{json_of, numbered, reload_of, act_in}
-use Rattle.amr_events.specs.declared.event.PostedSilence.{PostedSilence}
+use Rattle.amr_posts.specs.declared.posted_silence.PostedSilence.{PostedSilence}
 
 -- there are matchers, and `regex` may refuse one of them
 pub record MayLack (stated : Option (List Matcher)) : Type 0 where

@@ -3,42 +3,11 @@
 ghost use Rattle.std.specs.Prelude.{◌≡◌, ◌≤◌};
 ghost use Rattle.amr_time.specs.Time.{latest_read};
 
-use crate::posted_labels::PostedLabels;
-use crate::reason::Reason;
-use crate::silence_id::SilenceId;
 use amr_config::Config;
-use amr_labels::{Listing, TextMap};
-use amr_matchers::Matchers;
+use amr_labels::Listing;
+use amr_posts::{PostedAlert, PostedSilence, Reason, SilenceId};
 use amr_time::Moment;
 use std::marker::Model;
-
-/// An alert as it is posted (a postable alert of Alertmanager's API v2). Its times may be missing.
-#[derive(Debug, Drop)]
-pub struct PostedAlert {
-    /// The names with their values, in the byte order of the names. Empty values are kept here;
-    /// they are dropped when the post is made.
-    pub labels: PostedLabels,
-    pub annotations: TextMap,
-    /// The start, if the post gives one.
-    pub starts_at: Option<Moment>,
-    /// The end, if the post gives one.
-    pub ends_at: Option<Moment>,
-}
-
-/// A silence as it is posted (a postable silence of Alertmanager's API v2).
-#[derive(Debug, Drop)]
-pub struct PostedSilence {
-    /// The stored silence that the post updates, if it names one.
-    pub id: Option<SilenceId>,
-    /// The id for a new silence. A script gives it, because nothing here is random.
-    pub new_id: SilenceId,
-    /// The matchers; `None` if a name is empty or `regex` refused a pattern, which makes the
-    /// silence invalid.
-    pub matchers: Option<Matchers>,
-    pub starts_at: Moment,
-    /// The end of the silence. It is expired from this moment on.
-    pub ends_at: Moment,
-}
 
 /// The action of an event.
 #[derive(Debug, Drop)]

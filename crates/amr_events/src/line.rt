@@ -2,6 +2,8 @@
 //! `script.rt` says which keys it has.
 ghost use Rattle.std.specs.Prelude.{◌≡◌, codes, option_map, IfOk};
 ghost use Rattle.serde_json.specs.View.{view};
+ghost use Rattle.amr_posts.specs.Reasons.{reason_number};
+ghost use Rattle.amr_stated.specs.Numbers.{number_of};
 ghost use Rattle.amr_events.specs.Answers.{Reads, ReadsSuch};
 ghost use Rattle.amr_events.specs.Acts.{by_number, act_of};
 ghost use Rattle.amr_events.specs.Events as events;
@@ -12,11 +14,11 @@ use crate::error::LineError;
 use crate::event::{Act, Event};
 use crate::posted::alerts;
 use crate::posted_silence::{id, silence};
-use crate::reason::Reason;
 use crate::seen_texts::SeenTexts;
 use crate::shapes::moment;
 use amr_config::Config;
-use amr_stated::ConfigError;
+use amr_posts::Reason;
+use amr_stated::{ConfigError, Refusal};
 use serde_json::Value;
 use std::alloc::{AllocError, Global};
 
@@ -67,13 +69,28 @@ fn tick(value: &Value) -> Result<(), LineError>
     }
 }
 
+/// Returns the reason that refuses the reload of a faulty configuration.
+fn reason_of(refusal: &Refusal) -> Reason
+    ensures { reason_number result ≡ number_of refusal.now }
+{
+    match refusal {
+        Refusal::BadConfig { path: _ } => Reason::BadConfig,
+        Refusal::UnknownReceiver => Reason::UnknownReceiver,
+        Refusal::DuplicateReceiver => Reason::DuplicateReceiver,
+        Refusal::RootRoute => Reason::RootRoute,
+        Refusal::ZeroInterval => Reason::ZeroInterval,
+        Refusal::BadGroupBy => Reason::BadGroupBy,
+        Refusal::TooDeep => Reason::TooDeep,
+    }
+}
+
 /// Reads the configuration of a reload, or returns why it can't be loaded.
 fn reload(alloc: Global, value: &Value) -> Result<Result<Config, Reason>, AllocError>
     ensures { IfOk result (λ read. ReloadIs (view value.now) (by_number read)) }
 {
     match Config::read(alloc, value) {
         Ok(config) => Ok(Ok(config)),
-        Err(ConfigError::Refused(refusal)) => Ok(Err(Reason::of_refusal(&refusal))),
+        Err(ConfigError::Refused(refusal)) => Ok(Err(reason_of(&refusal))),
         Err(ConfigError::Memory) => Err(AllocError),
     }
 }

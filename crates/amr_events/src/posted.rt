@@ -7,10 +7,10 @@ ghost use Rattle.amr_events.specs.Answers.{Reads};
 ghost use Rattle.amr_events.specs.Posted.{is_missing as is_missing_text, time_of, time_in, annotations_in, alert_of, alerts_of};
 
 use crate::error::LineError;
-use crate::event::PostedAlert;
 use crate::seen_texts::SeenTexts;
 use crate::shapes::{member, texts};
 use amr_labels::{Listing, TextMap};
+use amr_posts::PostedAlert;
 use amr_time::{BadTime, Moment, read_moment};
 use serde_json::Value;
 use std::alloc::Global;

@@ -13,11 +13,10 @@ ghost use Rattle.amr_events.specs.PostedSilences.{operator_by, matcher_of, match
 ghost use Rattle.amr_events.specs.Refused.{MatchersAre, SilenceIs};
 
 use crate::error::LineError;
-use crate::event::PostedSilence;
 use crate::shapes::{flag, member, moment, text};
-use crate::silence_id::SilenceId;
 use amr_labels::Text;
 use amr_matchers::{Matcher, MatcherError, Matchers, Operator};
+use amr_posts::{PostedSilence, SilenceId};
 use serde_json::Value;
 use std::alloc::{AllocError, Global};
 use std::marker::Model;

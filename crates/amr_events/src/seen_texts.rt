@@ -3,8 +3,8 @@
 //! each text once, and the labels of an alert once, however often they are posted.
 ghost use Rattle.std.specs.Prelude.{◌≡◌, true, IfOk, IfSome};
 
-use crate::posted_labels::PostedLabels;
 use amr_labels::{Labels, Text};
+use amr_posts::PostedLabels;
 use amr_tables::Keyed;
 use std::alloc::{AllocError, Global};
 use std::cmp::Ordering;

@@ -2,7 +2,8 @@
 -- says, and a refused one is refused for the reason that `Refuses` gives.
 use Rattle.std.specs.Prelude.{◌≡◌, ◌↔◌, ℕ, ◌<◌, ◌≤◌, List, Some, None, length, drop}
 use Rattle.amr_time.specs.Time.{Moment}
-use Rattle.amr_events.specs.Events.{Event, Reason}
+use Rattle.amr_posts.specs.Reasons.{Reason}
+use Rattle.amr_events.specs.Events.{Event}
 use Rattle.amr_state.specs.declared.due.Due.{Due}
 use Rattle.amr_state.specs.declared.notification.Notification.{Notification}
 use Rattle.amr_state.specs.State.{State}

@@ -6,18 +6,17 @@ ghost use Rattle.std.specs.Ordering.{nat_cmp};
 ghost use Rattle.std.specs.Map.Iter.{deref_pair};
 ghost use Rattle.amr_labels.specs.Labels.{is_empty, value_of};
 ghost use Rattle.amr_matchers.specs.Matchers.{all_hold};
-ghost use Rattle.amr_config.specs.RuleMatches.{rule_match, rule_matches};
+ghost use Rattle.amr_stated.specs.RuleMatches.{rule_match, rule_matches};
 ghost use Rattle.amr_tables.specs.Numbered.{shown};
-ghost use Rattle.amr_config.specs.Config.{Config};
+ghost use Rattle.amr_stated.specs.Config.{Config};
 ghost use Rattle.amr_rules.specs.Muting.{agree_on, first_source, has_some_label, SharesLabel, ListsSources, rule_mutes, inhibits, is_inhibited, inhibitor_by, inhibition_from, silences_labels, is_silenced, silencer_of};
 
 use crate::alert::Alert;
 use crate::alert_store::{AlertStore, has_value};
 use crate::silence::Silence;
-use amr_config::{RuleMatch, rule_matches};
-use amr_events::SilenceId;
 use amr_labels::{Labels, Text};
-use amr_stated::InhibitRule;
+use amr_posts::SilenceId;
+use amr_stated::{InhibitRule, RuleMatch, rule_matches};
 use amr_tables::Keyed;
 use amr_time::Moment;
 use std::alloc::{AllocError, Global};
@@ -202,7 +201,7 @@ pub fn inhibited_by<A: AlertStore>(
 }
 
 /// Returns what `inhibited_by` returns, given which sides of each rule the labels are on
-/// (`rule_matches` of `amr_config`). It asks no matcher for them.
+/// (`rule_matches` of `amr_stated`). It asks no matcher for them.
 pub fn inhibited_by_matched<A: AlertStore>(
     alloc: Global,
     rules: &[InhibitRule],

@@ -8,9 +8,9 @@ ghost use Rattle.amr_rules.specs.Silences.{Silences};
 
 use crate::silence::Silence;
 use crate::silence_period::SilencePeriod;
-use amr_events::SilenceId;
 use amr_labels::{Labels, Listing};
 use amr_matchers::Candidate;
+use amr_posts::SilenceId;
 use amr_time::Moment;
 use std::alloc::{AllocError, Global};
 

@@ -6,9 +6,9 @@ ghost use Rattle.std.specs.Option.{option_copied, option_map_or};
 ghost use Rattle.amr_labels.specs.Map as map;
 
 use crate::silence::{Silence, silence_expire};
-use amr_events::PostedSilence;
 use amr_labels::Labels;
 use amr_matchers::{Matcher, Operator};
+use amr_posts::PostedSilence;
 use amr_time::Moment;
 use std::alloc::{AllocError, Global};
 

@@ -10,7 +10,7 @@ use Rattle.std.specs.Ordering.{is_eq}
 use Rattle.std.proofs.Common.{ap, sym, refl, ◌∙◌}
 use Rattle.amr_labels.specs.Map.{Map, get, insert, get-insert, get_tied, same_map}
 use Rattle.amr_labels.specs.Labels.{LabelSet}
-use Rattle.amr_config.specs.Config.{Config}
+use Rattle.amr_stated.specs.Config.{Config}
 use Rattle.amr_config.specs.Routing.{chosen, group_wait_of}
 use Rattle.amr_config.specs.Groups.{groups_of, group_at}
 use Rattle.amr_config.specs.declared.router.RouteGroup.{RouteGroup}

@@ -15,7 +15,7 @@ use Rattle.std.proofs.lemmas.List.{append_assoc, at_drop_more}
 use Rattle.std.proofs.lemmas.List.Kept.{IsStrictlySortedBy-filter}
 use Rattle.amr_labels.specs.Labels.{LabelSet, label_set_cmp}
 use Rattle.amr_labels.specs.Map.{Map, get, set, empty, keys, entries, len, get-set, get-entries, entries-sorted}
-use Rattle.amr_config.specs.Config.{Config}
+use Rattle.amr_stated.specs.Config.{Config}
 use Rattle.amr_rules.specs.declared.alert.Alert.{Alert}
 use Rattle.amr_tables.specs.Numbered.{Numbered, shown, is_entered, entry_of, HasPlaces}
 use Rattle.amr_tables.specs.Queued.{Queued, values_of, has, in_order}

@@ -9,7 +9,7 @@ use Rattle.amr_state.specs.declared.membership.Membership.{Membership}
 use Rattle.amr_state.specs.declared.notification.LogKey.{LogKey}
 use Rattle.amr_state.specs.declared.notification.GroupTimer.{GroupTimer}
 use Rattle.amr_state.specs.declared.notification.Notification.{Notification}
-use Rattle.amr_config.specs.Config.{Config}
+use Rattle.amr_stated.specs.Config.{Config}
 use Rattle.amr_rules.specs.declared.alert.Alert.{Alert}
 use Rattle.amr_rules.specs.declared.silence.Silence.{Silence}
 use Rattle.amr_rules.specs.declared.update.LogEntry.{LogEntry}

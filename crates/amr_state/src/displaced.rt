@@ -4,8 +4,8 @@ use crate::membership::Membership;
 use crate::notification::{GroupTimer, LogKey};
 use crate::route_labels::TimedGroup;
 use amr_config::Router;
-use amr_events::SilenceId;
 use amr_labels::Labels;
+use amr_posts::SilenceId;
 use amr_rules::{Alert, LogEntry, Silence};
 use amr_time::Moment;
 

@@ -8,9 +8,9 @@ ghost use Rattle.amr_rules.specs.SilencePeriods.{silence_periods, silence_rows, 
 ghost use Rattle.amr_rules.specs.Silences.{Silences};
 ghost use Rattle.amr_tables.specs.Numbered.{shown, has_place, entry_of, Enters, GrowsBy, KeepsPlaces, SamePlaces, SameEntered, NoneEntered, IsUnchanged, HasPlaces, places_for};
 
-use amr_events::SilenceId;
 use amr_labels::{Labels, Listing};
 use amr_matchers::Answers;
+use amr_posts::SilenceId;
 use amr_rules::{
     Silence, SilencePeriod, SilenceRow, periods_at, silence_periods, silence_rows, silenced_by,
     silenced_in, unexpired,

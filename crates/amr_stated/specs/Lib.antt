@@ -1,4 +1,5 @@
 pub mod Answers
+pub mod Config
 pub mod DefinedNames
 pub mod Faults
 pub mod Keys
@@ -14,6 +15,7 @@ pub mod ReadRoutes
 pub mod ReadRules
 pub mod Readings
 pub mod RouteParts
+pub mod RuleMatches
 pub mod StatedLaws
 pub mod Table
 pub mod Timeout

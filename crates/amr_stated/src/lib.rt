@@ -19,6 +19,7 @@ mod read_rules;
 mod receiver;
 mod route;
 mod rule;
+mod rule_sides;
 mod stated;
 mod whole;
 
@@ -30,4 +31,5 @@ pub use read_routes::is_too_deep;
 pub use receiver::{Integration, Receiver};
 pub use route::{Grouping, Route};
 pub use rule::InhibitRule;
+pub use rule_sides::{RuleMatch, rule_matches, rule_matches_remembered};
 pub use stated::Stated;

@@ -5,8 +5,8 @@ use Rattle.amr_labels.specs.Labels.{Text}
 use Rattle.amr_time.specs.Time.{Moment, second, minute}
 use Rattle.amr_stated.specs.declared.route.Route.{Route}
 use Rattle.amr_stated.specs.declared.route.Grouping.TheVariants.{Named}
-use Rattle.amr_config.specs.Config.{Config}
-use Rattle.amr_events.specs.declared.event.PostedAlert.{PostedAlert}
+use Rattle.amr_stated.specs.Config.{Config}
+use Rattle.amr_posts.specs.declared.posted_alert.PostedAlert.{PostedAlert}
 use Rattle.amr_events.specs.Events.{Event, Act}
 use Rattle.amr_state.specs.declared.notification.Notification.{Notification}
 

@@ -4,7 +4,7 @@ use Rattle.std.proofs.Common.{refl}
 use Rattle.amr_labels.specs.Map.{entries}
 use Rattle.amr_labels.specs.Labels.{Text, LabelSet}
 use Rattle.amr_time.specs.Time.{Moment, second, minute, hour}
-use Rattle.amr_events.specs.declared.event.PostedAlert.{PostedAlert}
+use Rattle.amr_posts.specs.declared.posted_alert.PostedAlert.{PostedAlert}
 use Rattle.amr_state.specs.declared.notification.GroupTimer.{GroupTimer}
 use Rattle.amr_state.specs.declared.route_labels.RouteLabels.{RouteLabels}
 use Rattle.amr_engine.specs.Events.{run_of, replaying}

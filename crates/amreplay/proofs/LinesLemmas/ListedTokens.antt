@@ -7,7 +7,7 @@ use Rattle.amr_labels.specs.Map.{entries}
 use Rattle.amr_labels.specs.Set.{items}
 use Rattle.amr_labels.specs.Labels.{LabelSet}
 use Rattle.amr_matchers.specs.Matchers.{Matcher}
-use Rattle.amr_events.specs.Ids.{id_text}
+use Rattle.amr_posts.specs.Ids.{id_text}
 use Rattle.amr_rules.specs.declared.alert.Alert.{Alert}
 use Rattle.amr_rules.specs.declared.silence.Silence.{Silence}
 use Rattle.amr_rules.specs.declared.update.LogEntry.{LogEntry}

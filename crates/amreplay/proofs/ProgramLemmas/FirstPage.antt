@@ -5,7 +5,7 @@ use Rattle.std.proofs.Common.{refl}
 use Rattle.amr_labels.specs.Map.{empty}
 use Rattle.amr_time.specs.Time.{Moment, second, minute, hour}
 use Rattle.amr_time.specs.Calendar.{date_of}
-use Rattle.amr_config.specs.Config.{Config}
+use Rattle.amr_stated.specs.Config.{Config}
 use Rattle.amr_stated.specs.declared.route.Grouping.TheVariants.{Named}
 use Rattle.amr_events.specs.Events.{Event, Act}
 use Rattle.amr_engine.specs.Events.{replaying}

@@ -7,7 +7,7 @@ use Rattle.std.specs.List.{slice_get}
 use Rattle.std.specs.Io.KnownBytes.{Appends, Keeps}
 use Rattle.std.proofs.KnownBytes.{Appends-nil, Appends-trans, Appends-kept}
 use Rattle.amr_labels.specs.Labels.{Text}
-use Rattle.amr_config.specs.Config.{Config}
+use Rattle.amr_stated.specs.Config.{Config}
 use Rattle.amr_events.specs.Events.{Event}
 use Rattle.amr_state.specs.State.{State, start}
 use Rattle.amr_engine.specs.Events.{Outcome, outcome_of, after_event, after_events, run_of}

@@ -3,7 +3,7 @@ use Rattle.std.specs.Prelude.{ℕ, ◌+◌, ◌-◌, ◌<◌, ◌≤◌, nat_lt,
 use Rattle.std.specs.List.{flat_map, sum_by}
 use Rattle.amr_labels.specs.Map.{entries}
 use Rattle.amr_labels.specs.Labels.{Text}
-use Rattle.amr_config.specs.Config.{Config}
+use Rattle.amr_stated.specs.Config.{Config}
 use Rattle.amr_events.specs.Events.{Event}
 use Rattle.amr_state.specs.State.{State}
 use Rattle.amr_engine.specs.Events.{Outcome, Accepted, Refused, outcome_of}

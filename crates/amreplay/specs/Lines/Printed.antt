@@ -4,7 +4,7 @@ use Rattle.std.specs.List.{flat_map}
 use Rattle.serde_json.specs.Data.{Data, Members, unsigned, null, boolean, number, string, array, object, no_members, put}
 use Rattle.serde_json.specs.View.{items_of}
 use Rattle.serde_json.specs.Written.{compact_text}
-use Rattle.amr_events.specs.Ids.{id_text}
+use Rattle.amr_posts.specs.Ids.{id_text}
 use Rattle.amr_matchers.specs.declared.Operator.{Operator}
 use Rattle.amr_matchers.specs.declared.Operator.TheVariants as operator
 use Rattle.amr_labels.specs.Map.{entries}

@@ -6,7 +6,7 @@ use Rattle.amr_engine.specs.declared.explain.Finding.{Finding}
 use Rattle.amr_engine.specs.declared.explain.Finding.TheVariants.{Waiting, Inhibited, OutsideActive, TimeMuted, Silenced, Nowhere, Told, Due}
 use Rattle.amr_engine.specs.declared.explain.Verdict.{Verdict}
 use Rattle.amr_engine.specs.declared.explain.Verdict.TheVariants.{Unknown, Ended, AtRoute}
-use Rattle.amr_events.specs.Ids.{id_text}
+use Rattle.amr_posts.specs.Ids.{id_text}
 use Rattle.amreplay.specs.Lines.Printed.{object_of, number_data, moment_data, labels_data, data_line}
 
 abbrev pub finding_name : Finding → Text

@@ -3,7 +3,7 @@ use Rattle.std.specs.Prelude.{◌≡◌, ◌⊎◌, ℕ, List, [], ◌∷◌, co
 use Rattle.std.specs.Io.KnownBytes.{Appends, Keeps}
 use Rattle.serde_json.specs.Data.{Data, object}
 use Rattle.amr_labels.specs.Labels.{Text}
-use Rattle.amr_config.specs.Config as config
+use Rattle.amr_stated.specs.Config as config
 use Rattle.amreplay.specs.declared.program.fault.Fault.{Fault}
 use Rattle.amreplay.specs.declared.program.fault.Fault.TheVariants.{Config, Script, CannotReadConfig, CannotReadScript, CannotReadCommands, CannotWrite, OutOfMemory, Usage}
 use Rattle.amreplay.specs.Program.Files.{ConfigFileIs}

@@ -5,7 +5,7 @@ use Rattle.std.specs.Io.KnownBytes.{Appends, Keeps}
 use Rattle.serde_json.specs.Data.{Data}
 use Rattle.serde_json.specs.Read.{read}
 use Rattle.amr_labels.specs.Labels.{Text}
-use Rattle.amr_config.specs.Config as config
+use Rattle.amr_stated.specs.Config as config
 use Rattle.amr_events.specs.Events.{Event}
 use Rattle.amr_stated.specs.declared.error.Refusal.{Refusal}
 use Rattle.amr_stated.specs.declared.error.Refusal.TheVariants.{BadConfig}

@@ -11,9 +11,9 @@ use crate::lines::json_text::{
     write_annotations, write_flag, write_label_sets, write_labels, write_moment_member,
     write_number, write_set, write_since, write_text,
 };
-use amr_events::SilenceId;
 use amr_labels::Labels;
 use amr_matchers::{Matcher, Matchers, Operator};
+use amr_posts::SilenceId;
 use amr_rules::{Alert, LogEntry, Silence};
 use amr_state::{Group, LogKey};
 use json::Writer;

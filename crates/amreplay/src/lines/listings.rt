@@ -6,8 +6,8 @@ ghost use Rattle.amreplay.specs.Lines.Printed.{alert_line, silence_line, group_s
 
 use crate::lines::json_text::{end_line, line_writer, text_of};
 use crate::lines::listed_text::{write_alert, write_entry, write_group, write_silence};
-use amr_events::SilenceId;
 use amr_labels::Labels;
+use amr_posts::SilenceId;
 use amr_rules::{Alert, LogEntry, Silence};
 use amr_state::{Group, LogKey};
 use std::alloc::{AllocError, Global};

@@ -1,9 +1,9 @@
 use Rattle.std.proofs.Common.{Err, Result, sym, subst}
-use Rattle.amr_config.specs.Config.{Config}
+use Rattle.amr_stated.specs.Config.{Config}
 use Rattle.amr_events.specs.Events.{Act}
 use Rattle.amr_events.specs.Acts.{by_number}
-use Rattle.amr_events.specs.Reasons.{reason_number}
-use Rattle.amr_events.specs.declared.reason.Reason.{Reason}
+use Rattle.amr_posts.specs.Reasons.{reason_number}
+use Rattle.amr_posts.specs.declared.reason.Reason.{Reason}
 use Rattle.amr_engine.specs.Prepared.{IsPrepared, Does}
 use Rattle.amr_engine.specs.declared.prepare.Prepared.TheVariants as prepared
 use Rattle.amr_engine.proofs.Preparing.{some_reload, no_reload}

@@ -2,8 +2,8 @@ use Rattle.std.proofs.Common.{◌≡◌, subst, ap, ◌∙◌, string_bytes}
 use Rattle.std.specs.Prelude.{IfOk}
 use Rattle.std.specs.Int.{w128, to_be_bytes}
 use Rattle.uuid.specs.Text.{hyphenated_text, lower}
-use Rattle.amr_events.specs.Ids.{id_text}
-use Rattle.amr_events.proofs.silence_id.SilenceId.text.Goals as goal
+use Rattle.amr_posts.specs.Ids.{id_text}
+use Rattle.amr_posts.proofs.silence_id.SilenceId.text.Goals as goal
 
 pub returns : goal.returns
 unfolding id_text

@@ -1,11 +1,11 @@
 //! The sides of the inhibition rules that a label set is on. A pattern costs far more than a look-up,
 //! so `Router` remembers these answers, and `amr_rules` takes them in place of the matchers.
 ghost use Rattle.std.specs.Prelude.{◌≡◌, IfOk};
-ghost use Rattle.amr_config.specs.RuleMatches.{rule_match, rule_matches};
+ghost use Rattle.amr_stated.specs.RuleMatches.{rule_match, rule_matches};
 
+use crate::rule::InhibitRule;
 use amr_labels::{Labels, Listing};
 use amr_matchers::Answers;
-use amr_stated::InhibitRule;
 use std::alloc::{AllocError, Global};
 
 /// Whether a label set matches the source matchers and the target matchers of an inhibition rule.
@@ -29,7 +29,7 @@ pub fn rule_matches(
 
 /// Works out the same. It asks the patterns of the matchers through the remembered answers.
 #[tactic(auto, unfolding(crate::specs::RuleMatches::rule_matches))]
-pub(crate) fn rule_matches_remembered(
+pub fn rule_matches_remembered(
     alloc: Global,
     answers: &mut Answers,
     rules: &[InhibitRule],

@@ -1,10 +1,7 @@
 //! The reasons that refuse an event, with the numbers that `docs/RULES.md` lists. Those of a
 //! reload are the refusals of its configuration.
 ghost use Rattle.std.specs.Prelude.{◌≡◌};
-ghost use Rattle.amr_stated.specs.Numbers.{number_of};
-ghost use Rattle.amr_events.specs.Reasons.{reason_number};
-
-use amr_stated::Refusal;
+ghost use Rattle.amr_posts.specs.Reasons.{reason_number};
 
 /// Why an event is refused. A refused event changes nothing.
 #[derive(Clone, Copy, Debug, PartialEq, Eq)]
@@ -38,21 +35,6 @@ pub enum Reason {
 }
 
 impl Reason {
-    /// Returns the reason that refuses the reload of a faulty configuration.
-    pub(crate) fn of_refusal(refusal: &Refusal) -> Reason
-        ensures { reason_number result ≡ number_of refusal.now }
-    {
-        match refusal {
-            Refusal::BadConfig { path: _ } => Reason::BadConfig,
-            Refusal::UnknownReceiver => Reason::UnknownReceiver,
-            Refusal::DuplicateReceiver => Reason::DuplicateReceiver,
-            Refusal::RootRoute => Reason::RootRoute,
-            Refusal::ZeroInterval => Reason::ZeroInterval,
-            Refusal::BadGroupBy => Reason::BadGroupBy,
-            Refusal::TooDeep => Reason::TooDeep,
-        }
-    }
-
     /// Returns the number that is printed.
     pub fn number(self) -> u64
         ensures { result ≡ reason_number self }

@@ -1,9 +1,13 @@
 -- The numbers of the reasons that refuse an event.
 use Rattle.std.specs.Prelude.{ℕ}
-use Rattle.amr_events.specs.declared.reason.Reason.{Reason}
-use Rattle.amr_events.specs.declared.reason.Reason.TheVariants.{BadConfig, UnknownReceiver, DuplicateReceiver, RootRoute, ZeroInterval, BadGroupBy, TooDeep, BadAlert, BadSilence, UnknownSilence, SilenceIdTaken, Backwards, TooManyMoves}
+use Rattle.amr_posts.specs.declared.reason.Reason as code
+use Rattle.amr_posts.specs.declared.reason.Reason.TheVariants.{BadConfig, UnknownReceiver, DuplicateReceiver, RootRoute, ZeroInterval, BadGroupBy, TooDeep, BadAlert, BadSilence, UnknownSilence, SilenceIdTaken, Backwards, TooManyMoves}
 
-abbrev pub reason_number : Reason → ℕ
+-- a reason in the definitions is its number
+abbrev pub Reason : Type 0
+Reason = ℕ
+
+abbrev pub reason_number : code.Reason → ℕ
 reason_number BadConfig = 5
 reason_number UnknownReceiver = 6
 reason_number DuplicateReceiver = 7

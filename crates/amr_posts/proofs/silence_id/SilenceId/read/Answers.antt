@@ -2,8 +2,8 @@ use Rattle.std.proofs.Common.{◌≡◌, List, ℕ, Option, Some, None, refl, ap
 use Rattle.std.specs.Int.{w128, from_be_bytes}
 use Rattle.std.proofs.lemmas.Bool.{false≢true}
 use Rattle.uuid.specs.Text.{parsed}
-use Rattle.amr_events.specs.Ids.{id_of}
-use Rattle.amr_events.proofs.silence_id.SilenceId.read.Goals as goal
+use Rattle.amr_posts.specs.Ids.{id_of}
+use Rattle.amr_posts.proofs.silence_id.SilenceId.read.Goals as goal
 
 none_of : (p : Option (List ℕ)) → ((u : List ℕ) → p ≡ Some u → ⊥) → None ≡ p
 none_of None h = refl

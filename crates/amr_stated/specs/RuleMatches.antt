@@ -3,7 +3,7 @@ use Rattle.std.specs.Prelude.{List, map}
 use Rattle.amr_labels.specs.Labels.{LabelSet}
 use Rattle.amr_matchers.specs.Matchers.{all_hold}
 use Rattle.amr_stated.specs.declared.rule.InhibitRule.{InhibitRule}
-use Rattle.amr_config.specs.declared.rule_sides.RuleMatch.{RuleMatch}
+use Rattle.amr_stated.specs.declared.rule_sides.RuleMatch.{RuleMatch}
 
 -- whether the labels match the source matchers and the target matchers of the rule
 abbrev pub rule_match : LabelSet → InhibitRule → RuleMatch

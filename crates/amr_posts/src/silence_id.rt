@@ -5,7 +5,7 @@ ghost use Rattle.std.proofs.Common.{rules};
 ghost use Rattle.std.specs.Cmp.{partial_order_from_own_ties};
 ghost use Rattle.std.specs.Cmp.Rules.{comparing};
 ghost use Rattle.std.specs.Ordering.{as_partial_cmp, nat_cmp, eq_by_cmp};
-ghost use Rattle.amr_events.specs.Ids.{id_of, id_text};
+ghost use Rattle.amr_posts.specs.Ids.{id_of, id_text};
 
 use amr_labels::Exact;
 use amr_tables::Key;
