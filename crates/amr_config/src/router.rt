@@ -14,6 +14,7 @@ use amr_stated::{RuleMatch, rule_matches, rule_matches_remembered};
 use amr_tables::Keyed;
 use std::alloc::{AllocError, Global};
 use std::marker::Model;
+use std::mem;
 
 /// A configuration that remembers what it worked out of label sets. Contracts see the
 /// configuration.
@@ -97,6 +98,16 @@ impl Router {
             Some(known) => known.rules.clone(),
             None => self.rule_matches_afresh(labels),
         }
+    }
+
+    /// Swaps what doesn't depend on the configuration with another router: what patterns answered,
+    /// and the group labels that were made. So a reload, and undoing it, lose neither.
+    pub fn swap_answers(&mut self, other: &mut Router)
+        ensures same { self.new ≡ self.old }
+        ensures other { other.new ≡ other.old }
+    {
+        mem::swap(&mut self.answers, &mut other.answers);
+        mem::swap(&mut self.group_labels, &mut other.group_labels);
     }
 
     /// Works out which sides of the configuration's inhibition rules these labels are on.

@@ -20,17 +20,33 @@ may_silence from labels silence = not (is_expired_at from silence) && all_hold s
 abbrev pub period_of : ℕ × Silence → SilencePeriod
 period_of stored = record { id = stored.0; starts_at = stored.1.starts_at; ends_at = stored.1.ends_at }
 
+-- the periods of those of these silences that may mute the labels at this moment or later
+abbrev pub periods_among : Moment → LabelSet → List (ℕ × Silence) → List SilencePeriod
+periods_among from labels listed = map period_of (filter (λ stored. may_silence from labels stored.1) listed)
+
 -- the periods of the silences that may mute the labels at this moment or later, in the order of ids
 abbrev pub silence_periods : Moment → LabelSet → Silences → List SilencePeriod
-silence_periods from labels silences = map period_of (filter (λ stored. may_silence from labels stored.1) (entries silences))
+silence_periods from labels silences = periods_among from labels (entries silences)
 
 -- a silence's period, and the label sets of a list with whether the silence matches them
 abbrev pub row_of : List LabelSet → ℕ × Silence → SilenceRow
 row_of label_sets stored = record { period = period_of stored; candidates = with_matches stored.1.matchers label_sets }
 
+-- those of these silences that aren't expired at this moment
+abbrev pub unexpired_of : Moment → List (ℕ × Silence) → List (ℕ × Silence)
+unexpired_of from listed = filter (λ stored. not (is_expired_at from stored.1)) listed
+
+-- the silences that aren't expired at this moment, in the order of ids
+abbrev pub unexpired : Moment → Silences → List (ℕ × Silence)
+unexpired from silences = unexpired_of from (entries silences)
+
+-- a row for each of these silences that isn't expired at this moment
+abbrev pub rows_among : Moment → List LabelSet → List (ℕ × Silence) → List SilenceRow
+rows_among from label_sets listed = map (row_of label_sets) (unexpired_of from listed)
+
 -- a row for each silence that isn't expired at this moment, in the order of ids
 abbrev pub silence_rows : Moment → List LabelSet → Silences → List SilenceRow
-silence_rows from label_sets silences = map (row_of label_sets) (filter (λ stored. not (is_expired_at from stored.1)) (entries silences))
+silence_rows from label_sets silences = rows_among from label_sets (entries silences)
 
 -- whether the silence matches the label set at this place of the list
 abbrev pub matches_at : ℕ → SilenceRow → Bool

@@ -25,7 +25,7 @@ pub struct SilencePeriod {
     pub ends_at: Moment,
 }
 
-ghost use Rattle.amr_rules.specs.SilencePeriods.{may_silence, covers, silence_periods, silenced_in};
+ghost use Rattle.amr_rules.specs.SilencePeriods.{may_silence, covers, periods_among, silence_periods, silenced_in, unexpired};
 
 impl SilencePeriod {
     /// Returns whether the silence is active at a moment.
@@ -36,20 +36,41 @@ impl SilencePeriod {
     }
 }
 
-/// Lists the silences that match labels and aren't expired at a moment, with their periods, in the
-/// order of their ids. It asks the patterns of the matchers through the remembered answers.
+/// Lists the silences that aren't expired at a moment, with their ids, in the order of the ids. At
+/// this moment or later, no other silence mutes.
+pub fn unexpired(
+    alloc: Global,
+    silences: &Keyed<SilenceId, Silence>,
+    from: Moment,
+) -> Result<Vec<(SilenceId, Silence)>, AllocError>
+    ensures { IfOk result (λ listed. listed.items ≡ unexpired from (shown nat_cmp silences.now)) }
+{
+    let mut listed = Vec::new(alloc);
+    for (id, silence) in silences.iter() {
+        if !silence.is_expired_at(from) {
+            listed.push((*id, silence.clone()?))?;
+        }
+    }
+    Ok(listed)
+}
+
+/// Lists those of these silences that match labels and aren't expired at a moment, with their
+/// periods. It asks the patterns of the matchers through the remembered answers.
 pub fn silence_periods(
     alloc: Global,
     answers: &mut Answers,
-    silences: &Keyed<SilenceId, Silence>,
+    listed: &[(SilenceId, Silence)],
     from: Moment,
     labels: &Labels,
 ) -> Result<Listing<SilencePeriod>, AllocError>
-    ensures { IfOk result (λ periods. periods
-        ≡ silence_periods from labels.now (shown nat_cmp silences.now)) }
+    ensures among { IfOk result (λ periods. periods
+        ≡ periods_among from labels.now listed.now) }
+    ensures all { IfOk result (λ periods. (earlier : Moment) (silences : Silences)
+        → earlier ≤ from → listed.now ≡ unexpired earlier silences
+        → periods ≡ silence_periods from labels.now silences) }
 {
     let mut periods = Listing::new(alloc);
-    for (id, silence) in silences.iter() {
+    for (id, silence) in listed {
         if may_silence(answers, from, silence, labels)? {
             periods.push(SilencePeriod {
                 id: *id,

@@ -1,10 +1,8 @@
 //! The silences that match each of many label sets, for a flush of a group with many members. The
 //! state calls `silence_rows` once for all of them, and then `periods_at` for each.
-ghost use Rattle.std.specs.Prelude.{◌≡◌, ◌<◌, List, length, get_or, IfOk};
-ghost use Rattle.std.specs.Ordering.{nat_cmp};
+ghost use Rattle.std.specs.Prelude.{◌≡◌, ◌<◌, ◌≤◌, List, length, get_or, IfOk};
 ghost use Rattle.amr_labels.specs.Labels.{LabelSet};
 ghost use Rattle.amr_labels.specs.Map as map;
-ghost use Rattle.amr_tables.specs.Numbered.{shown};
 ghost use Rattle.amr_time.specs.Time.{Moment};
 ghost use Rattle.amr_rules.specs.Silences.{Silences};
 
@@ -13,7 +11,6 @@ use crate::silence_period::SilencePeriod;
 use amr_labels::{Labels, Listing};
 use amr_matchers::Candidate;
 use amr_posts::SilenceId;
-use amr_tables::Keyed;
 use amr_time::Moment;
 use std::alloc::{AllocError, Global};
 
@@ -24,21 +21,24 @@ pub struct SilenceRow {
     pub candidates: Listing<Candidate>,
 }
 
-ghost use Rattle.amr_rules.specs.SilencePeriods.{row_of, silence_rows, matches_at, periods_at, silence_periods};
+ghost use Rattle.amr_rules.specs.SilencePeriods.{row_of, rows_among, silence_rows, matches_at, periods_at, silence_periods, unexpired};
 
-/// Asks each silence that isn't expired at a moment whether it matches these label sets. It prepares
-/// a search for each pattern, which serves all label sets.
+/// Asks each of these silences that isn't expired at a moment whether it matches these label sets.
+/// It prepares a search for each pattern, which serves all label sets.
 pub fn silence_rows(
     alloc: Global,
-    silences: &Keyed<SilenceId, Silence>,
+    listed: &[(SilenceId, Silence)],
     from: Moment,
     label_sets: &[Labels],
 ) -> Result<Vec<SilenceRow>, AllocError>
-    ensures { IfOk result (λ rows. rows.items
-        ≡ silence_rows from label_sets.now (shown nat_cmp silences.now)) }
+    ensures among { IfOk result (λ rows. rows.items
+        ≡ rows_among from label_sets.now listed.now) }
+    ensures all { IfOk result (λ rows. (earlier : Moment) (silences : Silences)
+        → earlier ≤ from → listed.now ≡ unexpired earlier silences
+        → rows.items ≡ silence_rows from label_sets.now silences) }
 {
     let mut rows = Vec::new(alloc);
-    for (id, silence) in silences.iter() {
+    for (id, silence) in listed {
         if !silence.is_expired_at(from) {
             rows.push(row_of(alloc, *id, silence, label_sets)?)?;
         }

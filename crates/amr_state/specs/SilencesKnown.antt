@@ -1,5 +1,5 @@
 -- What the table of silences remembers of label sets.
-use Rattle.std.specs.Prelude.{◌≡◌, ◌≢◌, ◌≤◌, ◌<◌, ℕ, Bool, false, List, length, get_or, Some}
+use Rattle.std.specs.Prelude.{◌≡◌, ◌≢◌, ◌≤◌, ◌<◌, ℕ, Bool, false, List, length, get_or, Option, Some, None}
 use Rattle.std.specs.List.{filter, list_any}
 use Rattle.std.specs.Ordering.{nat_cmp, eq_by_cmp}
 use Rattle.amr_labels.specs.Map.{get}
@@ -7,8 +7,9 @@ use Rattle.amr_labels.specs.Labels.{LabelSet, label_set_cmp}
 use Rattle.amr_tables.specs.Numbered.{Numbered, shown}
 use Rattle.amr_rules.specs.declared.silence_period.SilencePeriod.{SilencePeriod}
 use Rattle.amr_rules.specs.Silences.{Silences}
-use Rattle.amr_rules.specs.SilencePeriods.{silence_periods}
+use Rattle.amr_rules.specs.SilencePeriods.{silence_periods, unexpired}
 use Rattle.amr_state.specs.declared.silence_table.KnownPeriods.{KnownPeriods}
+use Rattle.amr_state.specs.declared.silence_table.Unexpired.{Unexpired}
 
 -- the silence with this id has one of the periods
 abbrev pub lists : List SilencePeriod → ℕ → Bool
@@ -40,3 +41,8 @@ AreKnown silences changes known = (labels : LabelSet) (found : KnownPeriods) →
 -- only the silence with this id may have changed
 abbrev pub SameOthers : ℕ → Silences → Silences → Type 0
 SameOthers id old changed = (other : ℕ) → other ≢ id → get changed other ≡ get old other
+
+-- if silences are listed, they are those that aren't expired at the moment of the list
+abbrev pub AreUnexpired : Silences → Option Unexpired → Type 0
+AreUnexpired silences None = Unit {0}
+AreUnexpired silences (Some kept) = kept.listed.items ≡ unexpired kept.from silences

@@ -104,16 +104,17 @@ impl AlertTable {
         self.sources.arrived()
     }
 
-    /// Works out which label sets can be sources of a rule, so that `sources` needn't ask the rule's
-    /// matchers. It asks them once for each label set.
-    pub(crate) fn learn_side(&mut self, rule: &InhibitRule) -> Result<(), AllocError>
+    /// Works out which label sets can be sources of the rule at a place of the configuration, so
+    /// that `sources` needn't ask the rule's matchers. It asks them once for each label set.
+    pub(crate) fn learn_side(&mut self, place: usize, rule: &InhibitRule) -> Result<(), AllocError>
         ensures { self.new ≡ self.old }
     {
-        self.sources.learn(rule)
+        self.sources.learn(place, rule)
     }
 
-    /// Clears the marks of all places, so that the open record takes their next change again. It
-    /// takes no memory.
+    /// Clears the marks of all places, so that the open record takes their next change again. Each
+    /// event does it, and each change of the configuration, after which other rules are at the
+    /// places. It takes no memory.
     pub(crate) fn clear_entered(&mut self)
         ensures entered { NoneEntered label_set_cmp self.new }
         ensures shown { shown label_set_cmp self.new ≡ shown label_set_cmp self.old }
@@ -121,6 +122,7 @@ impl AlertTable {
         ensures keys { self.new.numbers ≡ self.old.numbers }
     {
         self.alerts.clear_entered();
+        self.sources.forget_places();
     }
 
     /// Sets or removes the alert with these labels. It makes a place for it and marks the place as

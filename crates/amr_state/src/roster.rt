@@ -201,15 +201,17 @@ impl Roster {
         enrol(&mut self.index, member, was, is);
     }
 
-    /// Replaces the configuration, while no group has members, and returns the one before. It takes
-    /// no memory.
+    /// Replaces the configuration, while no group has members, and returns the one before. The new
+    /// one takes over what patterns answered. It takes no memory.
     pub(crate) fn replace_config(&mut self, config: Router) -> Router
         requires { shown route_labels_cmp self.old.placements ≡ map.empty }
         ensures before { result ≡ self.old.config }
         ensures config { self.new.config ≡ config }
         ensures placements { self.new.placements ≡ self.old.placements }
     {
-        mem::replace(&mut self.config, config)
+        let mut was = mem::replace(&mut self.config, config);
+        self.config.swap_answers(&mut was);
+        was
     }
 }
 

@@ -66,6 +66,9 @@ pub(crate) struct RuleSources {
     arrived: Vec<Labels>,
     numbers: BTreeMap<SourceSide, usize>,
     sides: Vec<KnownSide>,
+    /// How many label sets had come when each rule's side was learned in this event, by the rule's
+    /// place in the configuration; 0 if it wasn't. It saves look-ups, and no answer depends on it.
+    learned: Vec<usize>,
 }
 
 impl Model for RuleSources {
@@ -96,6 +99,7 @@ impl RuleSources {
             arrived: Vec::new(alloc),
             numbers: BTreeMap::new(alloc),
             sides: Vec::new(alloc),
+            learned: Vec::new(alloc),
         }
     }
 
@@ -137,8 +141,48 @@ impl RuleSources {
         Ok(Some(known.sources.part(&values)?))
     }
 
-    /// Takes in all label sets at a rule's source side, so that `agreeing` answers for it.
-    pub(crate) fn learn(&mut self, rule: &InhibitRule) -> Result<(), AllocError>
+    /// Takes in all label sets at the source side of the rule at a place of the configuration, so
+    /// that `agreeing` answers for it.
+    pub(crate) fn learn(&mut self, place: usize, rule: &InhibitRule) -> Result<(), AllocError>
+        ensures { self.new ≡ self.old }
+    {
+        if self.has_learned(place) {
+            return Ok(());
+        }
+        self.learn_afresh(rule)?;
+        self.note_learned(place)
+    }
+
+    /// Forgets which rules were learned, since other rules may be at their places from now on.
+    pub(crate) fn forget_places(&mut self)
+        ensures { self.new ≡ self.old }
+    {
+        self.learned.clear();
+    }
+
+    /// Returns whether the rule at a place was learned, and no label set came since.
+    fn has_learned(&self, place: usize) -> bool {
+        match self.learned.get(place) {
+            None => false,
+            Some(seen) => *seen == self.arrived.len() && *seen > 0,
+        }
+    }
+
+    /// Notes that the rule at a place is learned.
+    fn note_learned(&mut self, place: usize) -> Result<(), AllocError>
+        ensures { self.new ≡ self.old }
+    {
+        if self.learned.len() <= place {
+            self.learned.resize(place.saturating_add(1), 0)?;
+        }
+        if let Some(learned) = self.learned.get_mut(place) {
+            *learned = self.arrived.len();
+        }
+        Ok(())
+    }
+
+    /// Takes in all label sets at a rule's source side.
+    fn learn_afresh(&mut self, rule: &InhibitRule) -> Result<(), AllocError>
         ensures { self.new ≡ self.old }
     {
         let number = self.number_of(rule)?;
@@ -191,6 +235,7 @@ impl RuleSources {
         if self.sides.len() >= MOST_SIDES {
             self.numbers.clear();
             self.sides.clear();
+            self.learned.clear();
         }
     }
 

@@ -4,7 +4,7 @@ ghost use Rattle.std.specs.Prelude.{◌≡◌, ◌<◌, ◌≤◌, ℕ, false, I
 ghost use Rattle.std.specs.Ordering.{nat_cmp};
 ghost use Rattle.amr_labels.specs.Map as map;
 ghost use Rattle.amr_rules.specs.Muting.{is_silenced, silencer_of};
-ghost use Rattle.amr_rules.specs.SilencePeriods.{silence_periods, silence_rows, silenced_in};
+ghost use Rattle.amr_rules.specs.SilencePeriods.{silence_periods, silence_rows, silenced_in, unexpired};
 ghost use Rattle.amr_rules.specs.Silences.{Silences};
 ghost use Rattle.amr_tables.specs.Numbered.{shown, has_place, entry_of, Enters, GrowsBy, KeepsPlaces, SamePlaces, SameEntered, NoneEntered, IsUnchanged, HasPlaces, places_for};
 
@@ -13,7 +13,7 @@ use amr_matchers::Answers;
 use amr_posts::SilenceId;
 use amr_rules::{
     Silence, SilencePeriod, SilenceRow, periods_at, silence_periods, silence_rows, silenced_by,
-    silenced_in,
+    silenced_in, unexpired,
 };
 use amr_tables::{Journal, Keyed, change};
 use amr_time::Moment;
@@ -48,6 +48,16 @@ pub(crate) struct SilenceTable {
     changes: Vec<SilenceId>,
     /// The number of label sets, in the order of arrival, that the silences were asked ahead for.
     asked_ahead: usize,
+    /// The silences that are left to ask, if they were listed since the last change.
+    unexpired: Option<Unexpired>,
+}
+
+/// The silences that aren't expired at a moment. Those that are expired then don't mute later, and
+/// mostly they are many more.
+#[derive(Drop)]
+pub(crate) struct Unexpired {
+    pub(crate) from: Moment,
+    pub(crate) listed: Vec<(SilenceId, Silence)>,
 }
 
 /// When silences that match a label set are active, from a moment on.
@@ -61,7 +71,7 @@ pub(crate) struct KnownPeriods {
     pub(crate) periods: Listing<SilencePeriod>,
 }
 
-ghost use Rattle.amr_state.specs.SilencesKnown.{lists, IsApart, AreKnown, SameOthers};
+ghost use Rattle.amr_state.specs.SilencesKnown.{lists, IsApart, AreKnown, AreUnexpired, SameOthers};
 
 impl Model for SilenceTable {
     ghost use Rattle.std.specs.Prelude.{ℕ};
@@ -70,7 +80,7 @@ impl Model for SilenceTable {
     ghost use Rattle.amr_rules.specs.declared.silence.Silence.{Silence};
     ghost use Rattle.std.specs.Ordering.{nat_cmp};
     ghost use Rattle.amr_tables.specs.Numbered.{Numbered, shown};
-    ghost use Rattle.amr_state.specs.SilencesKnown.{AreKnown};
+    ghost use Rattle.amr_state.specs.SilencesKnown.{AreKnown, AreUnexpired};
 
     ghost Value = { Numbered ℕ Silence };
 
@@ -78,7 +88,8 @@ impl Model for SilenceTable {
 
     ghost view = { λ t. t.silences };
 
-    ghost invariant = { λ t. AreKnown (shown nat_cmp t.silences) t.changes.items t.known };
+    ghost invariant = { λ t. AreKnown (shown nat_cmp t.silences) t.changes.items t.known
+        × AreUnexpired (shown nat_cmp t.silences) t.unexpired };
 }
 
 impl SilenceTable {
@@ -96,6 +107,7 @@ impl SilenceTable {
             known: Keyed::new(alloc),
             changes: Vec::new(alloc),
             asked_ahead: 0,
+            unexpired: None,
         }
     }
 
@@ -228,15 +240,52 @@ impl SilenceTable {
         Ok(Some((known.from, periods)))
     }
 
-    /// Works out when silences that match these label sets are active, and remembers it. For few of
-    /// them, remembered answers are faster than preparing the search of each pattern.
+    /// Works out when silences that match these label sets are active, and remembers it. It asks
+    /// only silences that aren't expired, and keeps the list of them until a silence changes.
     fn learn_some(&mut self, at: Moment, label_sets: &[Labels]) -> Result<(), AllocError>
         ensures { self.new ≡ self.old }
     {
-        if label_sets.len() < FEWEST_AT_ONCE {
-            return self.learn_one_by_one(at, label_sets);
+        let kept = self.unexpired_at(at)?;
+        let learned = self.learn_from(at, label_sets, kept.listed.as_slice(), kept.from);
+        self.unexpired = Some(kept);
+        learned
+    }
+
+    /// Takes the list of the silences that aren't expired at a moment or weren't before. It makes a
+    /// new list if there is none.
+    fn unexpired_at(&mut self, at: Moment) -> Result<Unexpired, AllocError>
+        ensures same { self.new ≡ self.old }
+        ensures before { IfOk result (λ kept. kept.from ≤ at) }
+        ensures listed { IfOk result (λ kept. kept.listed.items
+            ≡ unexpired kept.from (shown nat_cmp self.old)) }
+    {
+        match self.unexpired.take() {
+            Some(kept) if kept.from <= at => Ok(kept),
+            _ => Ok(Unexpired {
+                from: at,
+                listed: unexpired(self.alloc, &self.silences, at)?,
+            }),
         }
-        let rows = silence_rows(self.alloc, &self.silences, at, label_sets)?;
+    }
+
+    /// Works out when those of these silences that match the label sets are active, and remembers
+    /// it. No other silence is unexpired. For few label sets, remembered answers are faster than
+    /// preparing the search of each pattern.
+    fn learn_from(
+        &mut self,
+        at: Moment,
+        label_sets: &[Labels],
+        listed: &[(SilenceId, Silence)],
+        from: Moment,
+    ) -> Result<(), AllocError>
+        requires before { from ≤ at }
+        requires listed { listed.now ≡ unexpired from (shown nat_cmp self.old) }
+        ensures { self.new ≡ self.old }
+    {
+        if label_sets.len() < FEWEST_AT_ONCE {
+            return self.learn_one_by_one(at, label_sets, listed, from);
+        }
+        let rows = silence_rows(self.alloc, listed, at, label_sets)?;
         self.learn_rows(at, label_sets, rows.as_slice())
     }
 
@@ -257,18 +306,21 @@ impl SilenceTable {
         Ok(())
     }
 
-    /// Asks the silences for each of these label sets, and remembers the answers of patterns.
-    fn learn_one_by_one(&mut self, at: Moment, label_sets: &[Labels]) -> Result<(), AllocError>
+    /// Asks these silences for each of these label sets, and remembers the answers of patterns. No
+    /// other silence is unexpired.
+    fn learn_one_by_one(
+        &mut self,
+        at: Moment,
+        label_sets: &[Labels],
+        listed: &[(SilenceId, Silence)],
+        from: Moment,
+    ) -> Result<(), AllocError>
+        requires before { from ≤ at }
+        requires listed { listed.now ≡ unexpired from (shown nat_cmp self.old) }
         ensures { self.new ≡ self.old }
     {
         for labels in label_sets {
-            let periods = silence_periods(
-                self.alloc,
-                &mut self.answers,
-                &self.silences,
-                at,
-                labels,
-            )?;
+            let periods = silence_periods(self.alloc, &mut self.answers, listed, at, labels)?;
             self.remember(at, labels, periods)?;
         }
         Ok(())
@@ -342,6 +394,7 @@ impl SilenceTable {
         ensures current { journal.new.current ≡ journal.old.current }
         ensures record_room { journal.new.record_room ≡ journal.old.record_room }
     {
+        self.unexpired = None;
         // Room for this change and for its undoing. Without room everything known is forgotten.
         drop(self.changes.reserve(2));
         let asked = &mut self.asked_ahead;
@@ -359,6 +412,7 @@ impl SilenceTable {
         ensures keys { self.new.numbers ≡ self.old.numbers }
         ensures enough { HasPlaces nat_cmp self.new }
     {
+        self.unexpired = None;
         let asked = &mut self.asked_ahead;
         note_change(self.alloc, &mut self.known, &mut self.changes, asked, id);
         drop(self.silences.displace(id, silence));

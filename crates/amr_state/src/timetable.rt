@@ -230,7 +230,7 @@ fn learn_sides(
 {
     for (place, rule) in rules.iter().enumerate() {
         match matched.get(place) {
-            Some(side) if side.is_target => alerts.learn_side(rule)?,
+            Some(side) if side.is_target => alerts.learn_side(place, rule)?,
             _ => {}
         }
     }

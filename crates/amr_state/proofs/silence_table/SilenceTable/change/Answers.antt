@@ -7,7 +7,9 @@ use Rattle.amr_state.proofs.silence_table.SilenceTable.change.Goals as goal
 
 pub invariant_of-self : goal.invariant_of-self
 invariant_of-self g c =
-    let t = c.self.inside in
-    c.note_change.ensures (shown nat_cmp t.silences) (shown nat_cmp c.change.new.table)
-    (subst (λ cs. AreKnown (shown nat_cmp t.silences) cs t.known) (sym c.reserve.ensures.items) c.self.invariant)
-    (changed_others c.change.result c.args.id.now t.silences c.change.new.table c.args.silence c.change.ensures.shown c.change.ensures.err)
+    let t = c.self.inside in (
+      c.note_change.ensures (shown nat_cmp t.silences) (shown nat_cmp c.change.new.table)
+          (subst (λ cs. AreKnown (shown nat_cmp t.silences) cs t.known) (sym c.reserve.ensures.items) c.self.invariant.0)
+          (changed_others c.change.result c.args.id.now t.silences c.change.new.table c.args.silence c.change.ensures.shown c.change.ensures.err),
+      tt,
+    )

@@ -20,6 +20,6 @@ returns c =
     let found : get (shown label_set_cmp t.known) labels ≡ Some known = sym c.in_ok-known.ensures in
     let le : known.from ≤ at = first_of (search rules, grind (arith, common_steps)) in
     let seen : known.seen ≡ length t.changes.items = first_of (omega arith, grind (arith, common_steps)) in
-    ap (silenced_in at) (c.as_slice.ensures ∙ all_seen (shown nat_cmp t.silences) t.changes.items labels known (c.self.invariant labels known found) seen)
+    ap (silenced_in at) (c.as_slice.ensures ∙ all_seen (shown nat_cmp t.silences) t.changes.items labels known (c.self.invariant.0 labels known found) seen)
     ∙ silencer_in at known.from labels (shown nat_cmp t.silences) le
     ∙ ap (λ (v : Numbered ℕ Silence). silencer_of at labels (shown nat_cmp v)) c.self.view_is

@@ -9,6 +9,8 @@ use Rattle.amr_state.proofs.silence_table.SilenceTable.put_back.Goals as goal
 pub invariant_of-self : goal.invariant_of-self
 invariant_of-self c =
     let t = c.self.inside in
-    let id = c.args.id.now in
-    c.note_change.ensures (shown nat_cmp t.silences) (shown nat_cmp c.displace.new.self) c.self.invariant
-    (subst (λ (m : Silences). SameOthers id (shown nat_cmp t.silences) m) (sym c.displace.ensures.shown) (set_others id (shown nat_cmp t.silences) c.args.silence))
+    let id = c.args.id.now in (
+      c.note_change.ensures (shown nat_cmp t.silences) (shown nat_cmp c.displace.new.self) c.self.invariant.0
+          (subst (λ (m : Silences). SameOthers id (shown nat_cmp t.silences) m) (sym c.displace.ensures.shown) (set_others id (shown nat_cmp t.silences) c.args.silence)),
+      tt,
+    )

@@ -19,5 +19,5 @@ returns-clause-known c =
     subst (λ (cs : List ℕ). (i : ℕ) → known.seen ≤ i → i < length cs → IsApart (shown nat_cmp t.silences) labels known (get_or cs i 0))
     c.as_slice-changes.ensures.value (c.in_ok-some_touches.ensures c.if-branch.false) in
     c.in_ok-periods.ensures ∙ c.as_slice.ensures
-    ∙ known_silences.unchanged (shown nat_cmp t.silences) t.changes.items labels known (c.self.invariant labels known found) apart
+    ∙ known_silences.unchanged (shown nat_cmp t.silences) t.changes.items labels known (c.self.invariant.0 labels known found) apart
     ∙ ap (λ (v : Numbered ℕ Silence). silence_periods known.from labels (shown nat_cmp v)) c.self.view_is
