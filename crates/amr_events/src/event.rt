@@ -13,7 +13,7 @@ use amr_time::Moment;
 use std::marker::Model;
 
 /// An alert as it is posted (a postable alert of Alertmanager's API v2). Its times may be missing.
-#[derive(Debug, Drop)]
+#[derive(Drop)]
 pub struct PostedAlert {
     /// The names with their values, in the byte order of the names. Empty values are kept here;
     /// they are dropped when the post is made.
@@ -26,7 +26,7 @@ pub struct PostedAlert {
 }
 
 /// A silence as it is posted (a postable silence of Alertmanager's API v2).
-#[derive(Debug, Drop)]
+#[derive(Drop)]
 pub struct PostedSilence {
     /// The stored silence that the post updates, if it names one.
     pub id: Option<SilenceId>,
@@ -41,7 +41,7 @@ pub struct PostedSilence {
 }
 
 /// The action of an event.
-#[derive(Debug, Drop)]
+#[derive(Drop)]
 pub enum Act {
     /// Posts alerts.
     Post(Listing<PostedAlert>),
@@ -57,7 +57,7 @@ pub enum Act {
 
 /// An action at a moment. The moment is one that a script can have, from 1970 to the end of the
 /// year 8999.
-#[derive(Debug, Drop)]
+#[derive(Drop)]
 pub struct Event {
     at: Moment,
     act: Act,
