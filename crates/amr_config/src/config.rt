@@ -21,7 +21,7 @@ use std::marker::Model;
 use std::rc::Rc;
 
 /// The content of a configuration: what the file says, and the resolved settings of each route.
-#[derive(Debug, Drop)]
+#[derive(Drop)]
 pub(crate) struct Parts {
     pub(crate) stated: Stated,
     pub(crate) settings: Listing<Settings>,
@@ -30,7 +30,7 @@ pub(crate) struct Parts {
 /// A configuration. Clones share its content.
 ///
 /// Routes are named by their numbers, which count them in preorder; the root is 0.
-#[derive(Debug, Drop)]
+#[derive(Drop)]
 pub struct Config {
     shared: Rc<Parts>,
 }

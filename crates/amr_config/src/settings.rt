@@ -8,7 +8,7 @@ use amr_time::Span;
 
 /// The settings of a route. Each is the route's own, or that of the nearest route above that has
 /// it, or the default.
-#[derive(Debug, Drop)]
+#[derive(Drop)]
 pub struct Settings {
     pub parent: Option<usize>,
     /// The route's own matchers.

@@ -10,7 +10,7 @@ use amr_time::Moment;
 use std::marker::Model;
 
 /// The action of an event.
-#[derive(Debug, Drop)]
+#[derive(Drop)]
 pub enum Act {
     /// Posts alerts.
     Post(Listing<PostedAlert>),
@@ -26,7 +26,7 @@ pub enum Act {
 
 /// An action at a moment. The moment is one that a script can have, from 1970 to the end of the
 /// year 8999.
-#[derive(Debug, Drop)]
+#[derive(Drop)]
 pub struct Event {
     at: Moment,
     act: Act,

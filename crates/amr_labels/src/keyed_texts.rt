@@ -11,7 +11,7 @@ use std::cmp::Ordering;
 use std::marker::Model;
 
 /// Texts under names, with their sort key. Contracts see the texts.
-#[derive(Debug, Drop)]
+#[derive(Drop)]
 pub(crate) struct KeyedTexts {
     texts: TextMap,
     /// All names and values, with a zero byte after each, or `None` if one of them has a zero byte

@@ -20,7 +20,7 @@ use std::marker::Model;
 
 /// A label set: values under the names of labels (`LabelSet` of Alertmanager's API v2). An absent
 /// label counts as empty. Clones share the texts.
-#[derive(Debug, Drop)]
+#[derive(Drop)]
 pub struct Labels {
     shared: Shared<KeyedTexts>,
 }

@@ -7,7 +7,7 @@ use std::marker::Model;
 use std::rc::Rc;
 
 /// A value that its clones share. Contracts see the value.
-#[derive(Debug, Drop)]
+#[derive(Drop)]
 pub struct Shared<T> {
     held: Rc<T>,
 }

@@ -17,7 +17,7 @@ use std::marker::Model;
 use std::rc::Rc;
 
 /// Texts under names, in the order of the names. Clones share the texts.
-#[derive(Debug, Drop)]
+#[derive(Drop)]
 pub struct TextMap {
     pairs: Rc<Vec<(Text, Text)>>,
 }

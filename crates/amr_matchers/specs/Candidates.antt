@@ -1,6 +1,7 @@
 -- Label sets of which a list of matchers is asked one matcher after the other.
 use Rattle.std.specs.Prelude.{Bool, ◌&&◌, not, List, map, if◌then◌else◌}
-use Rattle.amr_labels.specs.Labels.{LabelSet, Text, value_of}
+use Rattle.std.specs.Ordering.{eq_by_cmp}
+use Rattle.amr_labels.specs.Labels.{LabelSet, Text, text_cmp, value_of}
 use Rattle.amr_matchers.specs.Patterns.{pattern_matches}
 use Rattle.amr_matchers.specs.Matchers.{Matcher, holds, all_hold}
 
@@ -19,6 +20,10 @@ kept_where test name candidates = map (λ candidate. (candidate.0, candidate.1 &
 -- whether a pattern matches a value, or whether it doesn't
 abbrev pub found_or_not : Bool → Text → Text → Bool
 found_or_not negated pattern value = if negated then not (pattern_matches pattern value) else pattern_matches pattern value
+
+-- whether a matcher's own value equals a value, or whether it doesn't
+abbrev pub equal_or_not : Bool → Text → Text → Bool
+equal_or_not negated own value = if negated then not (eq_by_cmp text_cmp value own) else eq_by_cmp text_cmp value own
 
 -- each label set with whether all matchers match it
 abbrev pub with_matches : List Matcher → List LabelSet → List Candidate

@@ -1,8 +1,9 @@
 //! How a matcher compares the value of a label with its own value. `matcher.rt` uses it; a pattern
 //! is built here, once.
-ghost use Rattle.std.specs.Prelude.{◌≡◌, IfOk, IsErrOf, IsOk, false, true};
+ghost use Rattle.std.specs.Prelude.{◌≡◌, ◌&&◌, IfOk, IsErrOf, IsOk, false, true};
+ghost use Rattle.amr_labels.specs.Labels.{value_of};
 ghost use Rattle.amr_matchers.specs.Matchers.{compares, takes_pattern};
-ghost use Rattle.amr_matchers.specs.Candidates.{kept_where};
+ghost use Rattle.amr_matchers.specs.Candidates.{kept_where, equal_or_not};
 ghost use Rattle.amr_matchers.specs.Comparisons.{operator_of, own_value};
 ghost use Rattle.amr_matchers.specs.Patterns.{MayRefuse};
 ghost use Rattle.amr_matchers.specs.declared.pattern.MatcherError.TheVariants.{BadPattern};
@@ -16,7 +17,7 @@ use std::alloc::{AllocError, Global};
 use std::cmp::Ordering;
 
 /// How a matcher compares a label's value with its own. Clones share the pattern.
-#[derive(Debug, Drop)]
+#[derive(Drop)]
 pub(crate) enum Comparison {
     Is(Text),
     IsNot(Text),
@@ -89,31 +90,11 @@ impl Comparison {
             name.now candidates.now) }
     {
         match self {
-            Comparison::Is(_) => self.keep_equal(alloc, name, candidates),
-            Comparison::IsNot(_) => self.keep_equal(alloc, name, candidates),
+            Comparison::Is(own) => keep_equal(alloc, own, false, name, candidates),
+            Comparison::IsNot(own) => keep_equal(alloc, own, true, name, candidates),
             Comparison::Matches(pattern) => pattern.get().keep(alloc, name, false, candidates),
             Comparison::MatchesNot(pattern) => pattern.get().keep(alloc, name, true, candidates),
         }
-    }
-
-    /// Compares the values of the label with this name one by one.
-    fn keep_equal(
-        &self,
-        alloc: Global,
-        name: &str,
-        candidates: &[Candidate],
-    ) -> Result<Vec<Candidate>, AllocError>
-        ensures { IfOk result (λ kept. kept.items
-            ≡ kept_where (compares (operator_of self.now) (own_value self.now))
-            name.now candidates.now) }
-    {
-        let mut answers = Answers::none(alloc);
-        let mut kept = Vec::new(alloc);
-        for (labels, matches) in candidates {
-            let found = *matches && self.compares(&mut answers, labels.value_of(name))?;
-            kept.push((labels.clone()?, found))?;
-        }
-        Ok(kept)
     }
 
     /// Returns whether a label's value passes the comparison. Only patterns' answers are remembered.
@@ -129,6 +110,51 @@ impl Comparison {
             Comparison::MatchesNot(pattern) => Ok(!answers.matches(pattern.get(), value)?),
         }
     }
+}
+
+/// Compares the values of the label with this name one by one: keeps those that equal the matcher's
+/// own value, or those that don't if `negated`.
+fn keep_equal(
+    alloc: Global,
+    own: &Text,
+    negated: bool,
+    name: &str,
+    candidates: &[Candidate],
+) -> Result<Vec<Candidate>, AllocError>
+    ensures { IfOk result (λ kept. kept.items
+        ≡ kept_where (equal_or_not negated own.now) name.now candidates.now) }
+{
+    let mut kept = Vec::new(alloc);
+    for candidate in candidates {
+        kept.push(ask(own, negated, name, candidate)?)?;
+    }
+    Ok(kept)
+}
+
+/// Returns a candidate with the answer for its value of the label with this name.
+fn ask(
+    own: &Text,
+    negated: bool,
+    name: &str,
+    candidate: &Candidate,
+) -> Result<Candidate, AllocError>
+    ensures { IfOk result (λ asked. asked ≡ (
+      candidate.now.0,
+      candidate.now.1 && equal_or_not negated own.now (value_of candidate.now.0 name.now),
+    )) }
+{
+    let labels = candidate.0.clone()?;
+    let found = candidate.1 && is_equal(own, negated, labels.value_of(name));
+    Ok((labels, found))
+}
+
+/// Returns whether a label's value equals the matcher's own value, or whether it doesn't if
+/// `negated`.
+fn is_equal(own: &Text, negated: bool, value: &str) -> bool
+    ensures { result ≡ equal_or_not negated own.now value.now }
+{
+    let is_own = value.cmp(own.as_str()) == Ordering::Equal;
+    if negated { !is_own } else { is_own }
 }
 
 impl Clone for Comparison {

@@ -21,7 +21,7 @@ pub use parse::ParseError;
 pub use pattern::{MatcherError, Pattern};
 
 /// How a matcher compares a label's value with its own.
-#[derive(Clone, Copy, Debug, PartialEq, Eq)]
+#[derive(Clone, Copy, PartialEq, Eq)]
 pub enum Operator {
     Equal,
     NotEqual,

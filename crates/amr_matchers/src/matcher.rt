@@ -23,7 +23,7 @@ use std::marker::Model;
 /// A matcher: a label's name, an operator, and a value, like Alertmanager's `alertname="X"`,
 /// `team!="a"`, `zone=~"a|b"` and `zone!~"a|b"`. An absent label counts as empty, and a pattern has
 /// to match the whole value. Clones share the pattern, which is built once.
-#[derive(Debug, Drop)]
+#[derive(Drop)]
 pub struct Matcher {
     name: Text,
     comparison: Comparison,

@@ -145,9 +145,16 @@ impl Reader {
         match ending(reader.braced, reader.place) {
             Some(part) => {
                 reader.add(alloc, part)?;
-                Ok(Some(reader.drafts))
+                Ok(Some(reader.into_drafts()))
             }
             None => Ok(None),
         }
+    }
+
+    /// Returns the matchers before the one that is being read.
+    fn into_drafts(self) -> Vec<Draft>
+        ensures { result.items ≡ self.matchers }
+    {
+        self.drafts
     }
 }

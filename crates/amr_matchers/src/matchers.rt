@@ -18,7 +18,7 @@ use std::marker::Model;
 use std::rc::Rc;
 
 /// A list of matchers. Contracts see the list. Clones share it.
-#[derive(Debug, Drop)]
+#[derive(Drop)]
 pub struct Matchers {
     shared: Rc<Vec<Matcher>>,
 }

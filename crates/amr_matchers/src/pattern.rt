@@ -11,7 +11,6 @@ use crate::candidates::Candidate;
 use amr_labels::{Text, spread_of};
 use regex::{Error, Matcher as Search, Regex};
 use std::alloc::{AllocError, AllocFailed, Global};
-use std::fmt;
 use std::marker::Model;
 
 /// Why a matcher wasn't made.
@@ -114,9 +113,25 @@ impl Pattern {
             ≡ kept_where (found_or_not negated self.now) name.now candidates.now) }
     {
         let mut search = self.regex.matcher(alloc)?;
+        self.ask_each(alloc, &mut search, name, negated, candidates)
+    }
+
+    /// Returns each candidate with the answer for its value of the label with this name.
+    fn ask_each(
+        &self,
+        alloc: Global,
+        search: &mut Search<'_>,
+        name: &str,
+        negated: bool,
+        candidates: &[Candidate],
+    ) -> Result<Vec<Candidate>, AllocError>
+        requires { IsSearchFor search.old self.now }
+        ensures { IfOk result (λ kept. kept.items
+            ≡ kept_where (found_or_not negated self.now) name.now candidates.now) }
+    {
         let mut kept = Vec::new(alloc);
         for candidate in candidates {
-            kept.push(self.ask(&mut search, name, negated, candidate)?)?;
+            kept.push(self.ask(search, name, negated, candidate)?)?;
         }
         Ok(kept)
     }
@@ -163,11 +178,5 @@ impl Pattern {
     {
         let mut matcher = self.regex.matcher(alloc)?;
         Ok(matcher.is_match(value))
-    }
-}
-
-impl fmt::Debug for Pattern {
-    fn fmt<W: fmt::Write>(&self, f: &mut fmt::Formatter<W>) -> fmt::Result {
-        fmt::Debug::fmt(&self.text, f)
     }
 }

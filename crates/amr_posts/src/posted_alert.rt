@@ -5,7 +5,7 @@ use amr_labels::TextMap;
 use amr_time::Moment;
 
 /// An alert as it is posted (a postable alert of Alertmanager's API v2). Its times may be missing.
-#[derive(Debug, Drop)]
+#[derive(Drop)]
 pub struct PostedAlert {
     /// The names with their values, in the byte order of the names. Empty values are kept here;
     /// they are dropped when the post is made.

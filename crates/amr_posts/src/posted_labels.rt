@@ -10,7 +10,7 @@ use std::marker::Model;
 
 /// Names and values with their label set, which is `None` if it would have a label with an empty
 /// name.
-#[derive(Debug, Drop)]
+#[derive(Drop)]
 struct LabeledPairs {
     pairs: Vec<(Text, Text)>,
     labels: Option<Labels>,
@@ -32,7 +32,7 @@ impl Model for LabeledPairs {
 
 /// The labels of a posted alert: the names with their values, as they are posted. Clones share
 /// them.
-#[derive(Debug, Drop)]
+#[derive(Drop)]
 pub struct PostedLabels {
     shared: Shared<LabeledPairs>,
 }

@@ -5,7 +5,7 @@ use amr_matchers::Matchers;
 use amr_time::Moment;
 
 /// A silence as it is posted (a postable silence of Alertmanager's API v2).
-#[derive(Debug, Drop)]
+#[derive(Drop)]
 pub struct PostedSilence {
     /// The stored silence that the post updates, if it names one.
     pub id: Option<SilenceId>,

@@ -15,7 +15,7 @@ use std::marker::Model;
 use uuid::Uuid;
 
 /// The id of a silence: the 128 bits of its UUID.
-#[derive(Clone, Copy, Debug)]
+#[derive(Clone, Copy)]
 pub struct SilenceId {
     bits: u128,
 }

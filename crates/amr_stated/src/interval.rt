@@ -5,7 +5,7 @@ use amr_labels::Text;
 use amr_time::TimeInterval;
 
 /// A time interval, and the name under which routes refer to it.
-#[derive(Debug, Drop)]
+#[derive(Drop)]
 pub struct NamedInterval {
     pub name: Text,
     pub interval: TimeInterval,

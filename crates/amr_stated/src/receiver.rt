@@ -6,7 +6,7 @@ use amr_labels::{Exact, Listing, Text};
 use std::alloc::AllocError;
 
 /// An integration of a receiver: one entry of a list such as `webhook_configs`.
-#[derive(Debug, Drop)]
+#[derive(Drop)]
 pub struct Integration {
     /// The integration's name: the key without `_configs`, such as `webhook`.
     pub kind: Text,
@@ -33,7 +33,7 @@ impl Exact for Integration {
 }
 
 /// A receiver, with its integrations by name and then by index.
-#[derive(Debug, Drop)]
+#[derive(Drop)]
 pub struct Receiver {
     pub name: Text,
     pub integrations: Listing<Integration>,

@@ -7,7 +7,7 @@ use amr_time::Span;
 use std::alloc::AllocError;
 
 /// How a route groups alerts, by `group_by` of Alertmanager's configuration.
-#[derive(Debug, Drop)]
+#[derive(Drop)]
 pub enum Grouping {
     /// By all labels; stated as `["..."]`.
     AllLabels,
@@ -34,7 +34,7 @@ impl Exact for Grouping {
 ///
 /// Routes are in a list in preorder, the root first. `parent` is the index of the parent in that
 /// list, and `None` for the root.
-#[derive(Debug, Drop)]
+#[derive(Drop)]
 pub struct Route {
     pub parent: Option<usize>,
     /// The matchers of `match`, then those of `match_re`, then those of `matchers`.

@@ -5,7 +5,7 @@ use amr_matchers::Matchers;
 
 /// An inhibition rule: a firing source alert mutes target alerts (`inhibit_rules` of Alertmanager's
 /// configuration).
-#[derive(Debug, Drop)]
+#[derive(Drop)]
 pub struct InhibitRule {
     /// The matchers of the alerts that mute.
     pub source: Matchers,

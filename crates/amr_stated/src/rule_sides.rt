@@ -9,7 +9,7 @@ use amr_matchers::Answers;
 use std::alloc::{AllocError, Global};
 
 /// Whether a label set matches the source matchers and the target matchers of an inhibition rule.
-#[derive(Clone, Copy, Debug, PartialEq, Eq)]
+#[derive(Clone, Copy, PartialEq, Eq)]
 pub struct RuleMatch {
     pub is_source: bool,
     pub is_target: bool,

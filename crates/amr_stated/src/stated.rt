@@ -9,7 +9,7 @@ use amr_labels::Listing;
 use amr_time::Span;
 
 /// A configuration as its file states it, neither validated nor with inherited settings.
-#[derive(Debug, Drop)]
+#[derive(Drop)]
 pub struct Stated {
     /// The routes in preorder, the root first.
     pub routes: Listing<Route>,

@@ -1,4 +1,5 @@
 mod Adding
+pub mod Leaning
 pub mod Entering
 pub mod Marking
 pub mod Numbering

@@ -45,6 +45,10 @@ day_at bytes = do
   number ← day_number year.0 month.0 day.0
   Some (number, day.1)
 
+-- the minutes since midnight of a time of day, and the bytes after it
+abbrev pub in_day_at : ℕ → ℕ → List ℕ → Option (ℕ × List ℕ)
+in_day_at hour minute rest = if nat_lt hour 24 && nat_lt minute 60 then Some (hour * 60 + minute, rest) else None
+
 -- hours and minutes, in minutes
 unfoldable pub minutes_at : List ℕ → Option (ℕ × List ℕ)
 minutes_at bytes = do

@@ -9,14 +9,14 @@ use crate::moments::Moment;
 use amr_labels::Listing;
 
 /// A time interval. A moment is in it if one of its members holds at the moment.
-#[derive(Debug, Drop)]
+#[derive(Drop)]
 pub struct TimeInterval {
     pub members: Listing<IntervalMember>,
 }
 
 /// A member of a time interval. It holds if each field that is present holds, which is if one of
 /// the field's ranges does. An empty list never holds.
-#[derive(Debug, Drop)]
+#[derive(Drop)]
 pub struct IntervalMember {
     pub times: Option<Listing<TimeRange>>,
     /// Counted from Sunday, which is 0.
@@ -28,21 +28,21 @@ pub struct IntervalMember {
 }
 
 /// A part of each day, in minutes since midnight, from the start to just before the end.
-#[derive(Clone, Copy, Debug, PartialEq, Eq)]
+#[derive(Clone, Copy, PartialEq, Eq)]
 pub struct TimeRange {
     pub start: u32,
     pub end: u32,
 }
 
 /// Numbers of weekdays, months or years, from the first to the last.
-#[derive(Clone, Copy, Debug, PartialEq, Eq)]
+#[derive(Clone, Copy, PartialEq, Eq)]
 pub struct Range {
     pub first: u64,
     pub last: u64,
 }
 
 /// A day of a month.
-#[derive(Clone, Copy, Debug, PartialEq, Eq)]
+#[derive(Clone, Copy, PartialEq, Eq)]
 pub enum MonthDay {
     /// Counted from the month's first day, which is 1.
     FromStart(u32),
@@ -51,7 +51,7 @@ pub enum MonthDay {
 }
 
 /// Days of each month, from the first to the last.
-#[derive(Clone, Copy, Debug, PartialEq, Eq)]
+#[derive(Clone, Copy, PartialEq, Eq)]
 pub struct DayRange {
     pub first: MonthDay,
     pub last: MonthDay,

@@ -9,7 +9,7 @@ use std::marker::Model;
 const SECOND: u128 = 1_000_000_000;
 
 /// A point in time: whole nanoseconds since 1970-01-01T00:00:00Z, before the year 10000.
-#[derive(Clone, Copy, Debug, PartialEq, Eq, PartialOrd, Ord, Hash)]
+#[derive(Clone, Copy, PartialEq, Eq, PartialOrd, Ord)]
 pub struct Moment {
     nanoseconds: u128,
 }

@@ -5,7 +5,7 @@ ghost use Rattle.std.specs.Result.{result_ok};
 ghost use Rattle.jiff_core.specs.Calendar.{IsEpochDay, IsWithin};
 ghost use Rattle.amr_time.specs.Time.{latest_read};
 ghost use Rattle.amr_time.specs.MomentText.{IsMomentText};
-ghost use Rattle.amr_time.specs.MomentRead.{mark_at, two_at, four_at, day_at, minutes_at, seconds_at, fraction_digits_at, fraction_at, offset_at, time_mark_at, in_range, moment_at};
+ghost use Rattle.amr_time.specs.MomentRead.{mark_at, two_at, four_at, day_at, in_day_at, minutes_at, seconds_at, fraction_digits_at, fraction_at, offset_at, time_mark_at, in_range, moment_at};
 
 use crate::digits::{capped, digit_count, is_digit};
 use crate::moments::Moment;
@@ -88,6 +88,14 @@ pub(crate) fn minutes(bytes: &[u8]) -> Option<(u32, &[u8])>
 {
     let (hour, rest) = two(bytes)?;
     let (minute, rest) = two(mark(rest, b':')?)?;
+    in_day(hour, minute, rest)
+}
+
+/// Returns the minutes since midnight of a time of day, if there is one, and the rest.
+fn in_day(hour: u8, minute: u8, rest: &[u8]) -> Option<(u32, &[u8])>
+    ensures value { option_map (λ x. (x.0, x.1.now)) result ≡ in_day_at hour minute rest.now }
+    ensures bound { IfSome result (λ x. x.0 < 1440) }
+{
     if hour < 24 && minute < 60 {
         Some((hour as u32 * 60 + minute as u32, rest))
     } else {

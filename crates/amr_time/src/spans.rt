@@ -10,7 +10,7 @@ use crate::digits::{capped, digit_count, is_digit};
 use std::marker::Model;
 
 /// A duration in whole nanoseconds, at most ten years of 365 days.
-#[derive(Clone, Copy, Debug, PartialEq, Eq, PartialOrd, Ord, Hash)]
+#[derive(Clone, Copy, PartialEq, Eq, PartialOrd, Ord)]
 pub struct Span {
     nanoseconds: u64,
 }

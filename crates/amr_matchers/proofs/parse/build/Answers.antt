@@ -1,7 +1,7 @@
 use Rattle.std.proofs.Common.{◌≡◌, List, ◌∷◌, ◌++◌, ◌+◌, take, drop, Err, sym, ap, ◌∙◌}
 use Rattle.std.proofs.lemmas.Result.{err_from_is_err_and}
 use Rattle.std.proofs.lemmas.List.{at_drop_more, take-append-drop}
-use Rattle.amr_matchers.specs.declared.pattern.MatcherError.TheVariants.{BadPattern}
+use Rattle.amr_matchers.specs.declared.pattern.MatcherError.TheVariants.{Memory, BadPattern}
 use Rattle.amr_matchers.specs.Matchers.{Matcher}
 use Rattle.amr_matchers.proofs.parse.build.Goals as goal
 
@@ -15,3 +15,10 @@ returns-in_err-matcher-clause-refused c =
     rw (p.1, p.2) (λ refused.
     let same : c.in_err-matcher.field-0.0 ≡ BadPattern = cc in
     (take i xs, drop (i + 1) xs, c.draft-item.result, parts, c.in_err-matcher.ensures.refused (ap Err same)))
+
+pub returns-in_err-push-clause-refused : goal.returns-in_err-push-clause-refused
+returns-in_err-push-clause-refused c =
+    let p = err_from_is_err_and c.from_residual-in_err-push.result c.from_residual-in_err-push.ensures.1 in
+    rw (p.1, p.2) (λ refused.
+    let other : Memory ≡ BadPattern = cc in
+    absurd (cc))

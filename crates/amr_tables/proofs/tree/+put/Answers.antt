@@ -2,6 +2,7 @@ use Rattle.std.proofs.Common.{◌≡◌, ◌+◌, ◌++◌, ◌∷◌, false, le
 use Rattle.std.specs.Ordering.{is_lt}
 use Rattle.std.specs.declared.cmp.Ordering.TheVariants.{Less}
 use Rattle.amr_tables.proofs.Ascending.{left_is_sorted, right_is_sorted, has_left, has_right, put_left, put_right, less_of, is_above}
+use Rattle.amr_tables.proofs.Leaning.{length-fork, higher_left, higher_right}
 use Rattle.amr_tables.proofs.tree.+put.Goals as goal
 
 pub put-left-requires : goal.put-left-requires
@@ -59,3 +60,41 @@ returns-else-is_lt-clause-list g t c =
     c.balance-else-is_lt.ensures.list
     ∙ ap (λ r. p.left.0 ++ p.item ∷ r) c.put-right.ensures.list
     ∙ sym (put_right _ g.met.D.Ord.total _ p.left.0 p.item p.right.0 c.args.item c.in-Some.ensures.list c.requires.sorted above)
+
+pub balance-requires : goal.balance-requires
+balance-requires g t c =
+    let p = c.in-Some.parts in
+    let near = c.in-Some.ensures.balanced in
+    let whole = length-fork p.left.0 p.item p.right.0 c.in-Some.ensures.list in
+    record { near = (omega arith, omega arith); fits = omega arith }
+
+pub returns-then-is_lt-clause-longer : goal.returns-then-is_lt-clause-longer
+returns-then-is_lt-clause-longer g t c =
+    let p = c.in-Some.parts in
+    let whole = length-fork p.left.0 p.item p.right.0 c.in-Some.ensures.list in
+    let part = length-fork c.put-left.result.0 p.item p.right.0 c.balance.ensures.list in
+    omega arith
+
+pub returns-then-is_lt-clause-height : goal.returns-then-is_lt-clause-height
+returns-then-is_lt-clause-height g t c =
+    let p = c.in-Some.parts in
+    higher_left p.left.1 p.right.1 _ _ _ c.in-Some.ensures.height c.in-Some.ensures.balanced c.put-left.ensures.height c.balance.ensures.height
+
+pub balance-requires-else-is_lt : goal.balance-requires-else-is_lt
+balance-requires-else-is_lt g t c =
+    let p = c.in-Some.parts in
+    let near = c.in-Some.ensures.balanced in
+    let whole = length-fork p.left.0 p.item p.right.0 c.in-Some.ensures.list in
+    record { near = (omega arith, omega arith); fits = omega arith }
+
+pub returns-else-is_lt-clause-longer : goal.returns-else-is_lt-clause-longer
+returns-else-is_lt-clause-longer g t c =
+    let p = c.in-Some.parts in
+    let whole = length-fork p.left.0 p.item p.right.0 c.in-Some.ensures.list in
+    let part = length-fork p.left.0 p.item c.put-right.result.0 c.balance-else-is_lt.ensures.list in
+    omega arith
+
+pub returns-else-is_lt-clause-height : goal.returns-else-is_lt-clause-height
+returns-else-is_lt-clause-height g t c =
+    let p = c.in-Some.parts in
+    higher_right p.left.1 p.right.1 _ _ _ c.in-Some.ensures.height c.in-Some.ensures.balanced c.put-right.ensures.height c.balance-else-is_lt.ensures.height

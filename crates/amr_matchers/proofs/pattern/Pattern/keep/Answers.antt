@@ -1,26 +1,13 @@
-use Rattle.std.proofs.Common.{◌&&◌, ◌++◌, ◌∷◌, [], ap, sym, ◌∙◌, is_some}
-use Rattle.std.proofs.lemmas.List.{map_more}
+use Rattle.std.proofs.Common.{ap, ◌∙◌, is_some}
 use Rattle.regex.specs.Patterns.{find_str}
-use Rattle.amr_labels.specs.Labels.{Text, value_of}
+use Rattle.amr_labels.specs.Labels.{Text}
 use Rattle.amr_matchers.specs.Patterns.{pattern_matches, IsSearchFor}
-use Rattle.amr_matchers.specs.Candidates.{Candidate, found_or_not}
 use Rattle.amr_matchers.proofs.Finds.{finds_is}
 use Rattle.amr_matchers.proofs.pattern.Pattern.keep.Goals as goal
 
--- src/pattern.rt:104:23
-pub ask-requires : goal.ask-requires
+pub ask_each-requires : goal.ask_each-requires
 unfolding IsSearchFor
-ask-requires c = λ value bytes.
-    ap (λ re. is_some (find_str re value 0)) (c.loop-candidate.invariant.0 ∙ c.in_ok-search.ensures.pattern)
+ask_each-requires c = λ value bytes.
+    ap (λ re. is_some (find_str re value 0)) c.in_ok-search.ensures.pattern
     ∙ finds_is c.self.inside.regex _ value c.self.invariant bytes
     ∙ ap (λ (text : Text). pattern_matches text value) c.self.view_is
-
--- src/pattern.rt:103:9
-pub loop-candidate-preserved : goal.loop-candidate-preserved
-loop-candidate-preserved c =
-    let asked : Candidate → Candidate = λ candidate. (candidate.0, candidate.1 && found_or_not c.args.negated c.args.self.now (value_of candidate.0 c.args.name.now)) in (
-      c.in_ok-ask.ensures.same ∙ c.loop-candidate.invariant.0,
-      c.in_ok-push.ensures.items
-          ∙ (λ i. c.loop-candidate.invariant.1 i ++ (c.in_ok-ask.ensures.asked ∙ ap asked c.candidate-item.is) i ∷ [])
-          ∙ sym (map_more asked c.args.candidates.now c.loop-candidate.candidate-index c.candidate-item.result c.loop-candidate-test.true),
-    )

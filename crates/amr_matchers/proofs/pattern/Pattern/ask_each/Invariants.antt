@@ -1,7 +1,7 @@
 use Rattle.std.proofs.Common.{◌≡◌, take}
 use Rattle.regex.specs.Strings.{matcher_pattern}
 use Rattle.amr_matchers.specs.Candidates.{kept_where, found_or_not}
-use Rattle.amr_matchers.proofs.pattern.Pattern.keep.Given as goal
+use Rattle.amr_matchers.proofs.pattern.Pattern.ask_each.Given as goal
 
 abbrev pub invariant-loop-candidate : goal.invariant-loop-candidate
 invariant-loop-candidate l =
