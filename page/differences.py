@@ -44,7 +44,7 @@ def _alike(before: bytes, i: int, after: bytes, j: int) -> int:
     end = min(len(before) - i, len(after) - j)
     while count < end and size > 0:
         size = min(size, end - count)
-        if before[i + count : i + count + size] == after[j + count : j + count + size]:
+        if _is_there(before, i + count, after, j + count, size):
             count += size
             size = min(2 * size, LARGEST_BLOCK)
         else:
@@ -57,12 +57,18 @@ def _lines_alike(before: bytes, i: int, after: bytes, j: int, size: int, start: 
     low = 0
     while size > 1:
         half = size // 2
-        if before[i + low : i + low + half] == after[j + low : j + low + half]:
+        if _is_there(before, i + low, after, j + low, half):
             low += half
             size -= half
         else:
             size = half
     return max(before.rfind(b"\n", start, i + low) + 1, start)
+
+
+def _is_there(before: bytes, i: int, after: bytes, j: int, size: int) -> bool:
+    """Returns whether two blocks are alike. It copies neither."""
+    with memoryview(after) as view:
+        return before.startswith(view[j : j + size], i)
 
 
 def _until_alike(before: bytes, i: int, after: bytes, j: int) -> tuple[list[bytes], list[bytes]]:

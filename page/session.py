@@ -1,11 +1,13 @@
-"""Converses with `amreplay session`: commands go in by a thread, and answers are read meanwhile."""
+"""Converses with `amreplay session`: many short answers by a thread that writes the commands meanwhile, long ones in turn."""
 from __future__ import annotations
 
 import fcntl
 import json
+import os
 import subprocess
 import tempfile
 import threading
+from contextlib import contextmanager
 from dataclasses import dataclass
 from typing import Any, Iterable, Iterator
 
@@ -39,11 +41,15 @@ class Answer:
     """The answer to one command: the text before its last line, and the last line."""
 
     text: bytes
-    last: dict[str, Any]
+    last_line: bytes
 
     @property
     def lines(self) -> list[bytes]:
         return lines_of(self.text)
+
+    @property
+    def last(self) -> dict[str, Any]:
+        return json.loads(self.last_line)
 
 
 def converse(source: Source, commands: Iterable[str]) -> Iterator[Answer]:
@@ -62,6 +68,24 @@ def converse(source: Source, commands: Iterable[str]) -> Iterator[Answer]:
             process.kill()
             process.wait()
             feeder.join()
+
+
+def converse_in_turn(source: Source, commands: Iterable[str]) -> Iterator[Answer]:
+    """Does the same, but writes a command only once it has read the answer before: then an answer ends where there is no more to read, and
+    long answers aren't searched for their ends. The program works on an answer while the caller uses the one before."""
+    with tempfile.TemporaryFile() as errors:
+        process = _start(source, errors)
+        try:
+            yield from _answers_in_turn(process.stdin.fileno(), process.stdout.fileno(), commands)
+            process.stdin.close()
+            status = process.wait()
+            if status != 0:
+                raise _fault(errors, status)
+        finally:
+            process.stdin.close()
+            process.stdout.close()
+            process.kill()
+            process.wait()
 
 
 def answers_of(source: Source, commands: list[str]) -> list[Answer]:
@@ -111,7 +135,7 @@ def _answers(pipe: Any) -> Iterator[Answer]:
         while start >= 0 and (end := held.find(b"\n", start + 1)) >= 0:
             with memoryview(held) as view:
                 text = bytes(view[1 : start + 1])
-            yield Answer(text, json.loads(held[start + 1 : end]))
+            yield Answer(text, bytes(held[start + 1 : end]))
             del held[:end]
             start = _last_line(held, 0)
         searched = start if start >= 0 else max(0, len(held) - len(LAST_LINE))
@@ -123,6 +147,45 @@ def _last_line(held: bytearray, start: int) -> int:
     while (start := held.find(SHORT_START, start)) >= 0 and not LAST_LINE.startswith(held[start : start + len(LAST_LINE)]):
         start += 1
     return start
+
+
+def _answers_in_turn(commands_in: int, answers_out: int, commands: Iterable[str]) -> Iterator[Answer]:
+    """Yields each answer after the next command has been written. It ends early where the program does."""
+    answer: Answer | None = None
+    for command in commands:
+        _write(commands_in, command)
+        if answer is not None:
+            yield answer
+        answer = _whole_answer(answers_out)
+        if answer is None:
+            return
+    if answer is not None:
+        yield answer
+
+
+def _write(pipe: int, command: str) -> None:
+    """Writes a command. The status of a program that ended early says so."""
+    try:
+        os.write(pipe, command.encode() + b"\n")
+    except BrokenPipeError:
+        pass
+
+
+def _whole_answer(pipe: int) -> Answer | None:
+    """Reads until a last line ends what was read. Returns None if the program has ended."""
+    pieces: list[bytes] = []
+    while piece := os.read(pipe, PIPE_BYTES):
+        pieces.append(piece)
+        if not piece.endswith(b"\n"):
+            continue
+        start = piece.rfind(b"\n", 0, -1) + 1
+        if start == 0:
+            piece = b"".join(pieces)
+            pieces = [piece]
+            start = piece.rfind(b"\n", 0, -1) + 1
+        if piece.startswith(LAST_LINE[1:], start):
+            return Answer(b"".join([*pieces[:-1], piece[:start]]), piece[start:])
+    return None
 
 
 def _fault(errors: Any, status: int) -> Fault:

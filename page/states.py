@@ -8,7 +8,7 @@ from typing import Iterator
 
 from .differences import Change, change
 from .progress import Progress
-from .session import Answer, Source, answers_of, converse
+from .session import Answer, Source, answers_of, converse, converse_in_turn
 from .workers import PIECES, Part, count_done, over
 
 LISTS = ("alerts", "silences", "groups", "log")
@@ -123,7 +123,7 @@ def _asked(steps: list[Step], stops: frozenset[int]) -> dict[int, tuple[str, ...
 def _watch_piece(source: Source, asked: dict[int, tuple[str, ...]]) -> list[dict[str, Change] | None]:
     """Asks the lists from the cursor before one piece on, in a session of its own. Returns how they differ from those before at each cursor, or
     None where none are asked."""
-    answers = converse(source, (command for cursor, names in asked.items() if names for command in (f"seek {cursor}", *names)))
+    answers = converse_in_turn(source, (command for cursor, names in asked.items() if names for command in (f"seek {cursor}", *names)))
     lists = dict.fromkeys(LISTS, b"")
     found = []
     for at, names in enumerate(asked.values()):
