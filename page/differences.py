@@ -3,8 +3,8 @@ from __future__ import annotations
 
 from dataclasses import dataclass
 
-FIRST_BLOCK = 1 << 10
-LARGEST_BLOCK = 1 << 16
+FIRST_BLOCK = 1 << 12
+LARGEST_BLOCK = 1 << 18
 MANY_LINES = 256
 
 

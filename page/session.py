@@ -184,7 +184,7 @@ def _whole_answer(pipe: int) -> Answer | None:
             pieces = [piece]
             start = piece.rfind(b"\n", 0, -1) + 1
         if piece.startswith(LAST_LINE[1:], start):
-            return Answer(b"".join([*pieces[:-1], piece[:start]]), piece[start:])
+            return Answer(b"".join([*pieces[:-1], memoryview(piece)[:start]]), piece[start:])
     return None
 
 
