@@ -12,7 +12,7 @@ from .session import Answer, Source, answers_of, converse, converse_in_turn
 from .workers import PIECES, Part, count_done, over
 
 LISTS = ("alerts", "silences", "groups", "log")
-SAMPLES = 8
+SAMPLES = 16
 LISTS_WITHOUT_MOVES = LISTS[:-1]
 LISTED_BYTES_AT_MOST = 24_000_000_000
 BYTES_FOR_ONE_SESSION = 64_000_000
@@ -26,6 +26,15 @@ class Step:
     now: str
     moves: int
     printed: list[bytes]
+
+
+@dataclass(frozen=True)
+class Size:
+    """How many bytes the lists have at a cursor: the log, and the others."""
+
+    cursor: int
+    log: int
+    others: int
 
 
 @dataclass(frozen=True)
@@ -56,9 +65,9 @@ def count_events(source: Source) -> int:
 def watch(source: Source, part: Part, progress: Progress, name: str) -> Watched:
     """Returns what is seen over the part. Lists that are too many bytes in all are asked at each so many events alone."""
     steps, sizes = _walk(source, part)
-    size = max(size for _, size in sizes)
+    size = max(size.log + size.others for size in sizes)
     stride = max(1, -(-size * (len(part) + 1) // LISTED_BYTES_AT_MOST))
-    pieces = _pieces(part, sizes, PIECES if size * len(part) > BYTES_FOR_ONE_SESSION else 1)
+    pieces = _pieces(part, _listed(steps, sizes), PIECES if size * len(part) > BYTES_FOR_ONE_SESSION else 1)
     stops = _stops(part, pieces, stride)
     watched = Watched(part, sorted(stops))
     asked = [_asked(steps[piece.first - part.first : piece.last - part.first + 2], stops) for piece in pieces]
@@ -73,7 +82,7 @@ def _stops(part: Part, pieces: list[Part], stride: int) -> frozenset[int]:
     return frozenset(range(part.first - 1, part.last + 1, stride)) | {piece.last for piece in pieces}
 
 
-def _walk(source: Source, part: Part) -> tuple[list[Step], list[tuple[int, int]]]:
+def _walk(source: Source, part: Part) -> tuple[list[Step], list[Size]]:
     """Steps over the part, and returns what each step printed, and how many bytes the lists have at some cursors. The first step is the
     cursor before the part."""
     sampled = sorted({part.first - 1 + len(part) * i // SAMPLES for i in range(SAMPLES + 1)})
@@ -83,7 +92,8 @@ def _walk(source: Source, part: Part) -> tuple[list[Step], list[tuple[int, int]]
         moved, clock = next(answers), next(answers)
         steps.append(Step(cursor, clock.last["now"], moved.last.get("moves", 0), moved.lines))
         if cursor in sampled:
-            sizes.append((cursor, sum(len(next(answers).text) for _ in LISTS)))
+            *others, log = (len(next(answers).text) for _ in LISTS)
+            sizes.append(Size(cursor, log, sum(others)))
     return steps, sizes
 
 
@@ -92,20 +102,21 @@ def _walking(part: Part, sampled: frozenset[int]) -> Iterator[str]:
         yield from (f"seek {cursor}" if cursor < part.first else "step", "cursor", *(LISTS if cursor in sampled else ()))
 
 
-def _pieces(part: Part, sizes: list[tuple[int, int]], count: int) -> list[Part]:
-    """Cuts the part into pieces whose lists have about as many bytes."""
-    if count == 1:
-        return [part]
-    done = [0.0]
-    for (cursor, size), (next_cursor, next_size) in zip(sizes, sizes[1:]):
-        done.append(done[-1] + (next_cursor - cursor) * (size + next_size + 1) / 2)
-    ends = {part.last}
-    for i in range(1, count):
-        wanted = done[-1] * i / count
-        at = max(0, bisect_left(done, wanted) - 1)
-        (cursor, _), (next_cursor, _) = sizes[at], sizes[at + 1]
-        ends.add(cursor + round((next_cursor - cursor) * (wanted - done[at]) / (done[at + 1] - done[at])))
-    edges = [part.first - 1, *sorted(end for end in ends if end >= part.first)]
+def _listed(steps: list[Step], sizes: list[Size]) -> list[int]:
+    """Returns about how many bytes the lists print that are asked up to each cursor, from their sizes at some. The log counts after moves alone."""
+    listed = [0]
+    for before, after in zip(sizes, sizes[1:]):
+        others, log = (before.others + after.others) // 2 + 1, (before.log + after.log) // 2
+        first = steps[0].cursor
+        for step in steps[before.cursor - first + 1 : after.cursor - first + 1]:
+            listed.append(listed[-1] + others + (log if step.moves > 0 else 0))
+    return listed
+
+
+def _pieces(part: Part, listed: list[int], count: int) -> list[Part]:
+    """Cuts the part into pieces whose lists print about as many bytes."""
+    ends = {part.first - 1 + bisect_left(listed, listed[-1] * i // count) for i in range(1, count)}
+    edges = [part.first - 1, *sorted(end for end in ends if part.first <= end < part.last), part.last]
     return [Part(before + 1, end) for before, end in zip(edges, edges[1:])]
 
 
