@@ -4,7 +4,7 @@ from __future__ import annotations
 from bisect import bisect_left
 from dataclasses import dataclass, field
 from functools import partial
-from typing import Iterator
+from typing import Any, Callable, Iterator
 
 from .differences import Change, change
 from .progress import Progress
@@ -13,7 +13,7 @@ from .workers import PIECES, Part, count_done, over
 
 LISTS = ("alerts", "silences", "groups", "log")
 SAMPLES = 16
-LISTS_WITHOUT_MOVES = LISTS[:-1]
+LISTS_WITHOUT_LOG = LISTS[:-1]
 LISTED_BYTES_AT_MOST = 24_000_000_000
 BYTES_FOR_ONE_SESSION = 64_000_000
 
@@ -70,8 +70,8 @@ def watch(source: Source, part: Part, progress: Progress, name: str) -> Watched:
     pieces = _pieces(part, _listed(steps, sizes), PIECES if size * len(part) > BYTES_FOR_ONE_SESSION else 1)
     stops = _stops(part, pieces, stride)
     watched = Watched(part, sorted(stops))
-    asked = [_asked(steps[piece.first - part.first : piece.last - part.first + 2], stops) for piece in pieces]
-    found = over([partial(_watch_piece, source, names) for names in asked], part, name, progress)
+    in_pieces = [steps[piece.first - part.first : piece.last - part.first + 2] for piece in pieces]
+    found = over([partial(_watch_piece, source, piece, stops) for piece in in_pieces], part, name, progress)
     changes_in_order = [*found[0], *(changes for piece in found[1:] for changes in piece[1:])]
     watched.seen += [Seen(step.cursor, step.now, step.moves, step.printed, changes) for step, changes in zip(steps, changes_in_order)]
     return watched
@@ -120,27 +120,57 @@ def _pieces(part: Part, listed: list[int], count: int) -> list[Part]:
     return [Part(before + 1, end) for before, end in zip(edges, edges[1:])]
 
 
-def _asked(steps: list[Step], stops: frozenset[int]) -> dict[int, tuple[str, ...]]:
-    """Returns which lists are asked at which of these cursors: at the first all, and at a stop the log only after moves, since only a flush
-    writes to it, and a flush is a move. At other cursors none are."""
-    asked, has_moved = {steps[0].cursor: LISTS}, False
-    for step in steps[1:]:
+def _watch_piece(source: Source, steps: list[Step], stops: frozenset[int]) -> list[dict[str, Change] | None]:
+    """Asks the lists at the stops of one piece, from the cursor before it on. Returns how they differ from those before at each cursor, or None
+    where none are asked."""
+    logged = _logged(steps, stops)
+    asked = {step.cursor: LISTS if step.cursor in logged else LISTS_WITHOUT_LOG if step.cursor in stops else () for step in steps}
+    found = _differences(source, asked, count_done)
+    doubts = _in_doubt(steps, logged, found)
+    if doubts:
+        between = _differences(source, {cursor: ("log",) for first, last in doubts for cursor in range(first, last + 1)})
+        for cursor in (cursor for first, last in doubts for cursor in range(first + 1, last + 1)):
+            found[cursor]["log"] = between[cursor]["log"]
+    return list(found.values())
+
+
+def _logged(steps: list[Step], stops: frozenset[int]) -> set[int]:
+    """Returns the stops at which the log is asked: the first, and others only after moves, since only a flush writes to the log, and a flush is
+    a move. Where each cursor is a stop, it is asked only beside a step that printed something, or at one that took no time, and at the last: if
+    it is the same at two such stops, it was the same in between, since an entry has the moment of the flush that wrote it."""
+    logged, has_moved = {steps[0].cursor}, False
+    is_each = all(step.cursor in stops for step in steps)
+    for before, step, after in zip(steps, steps[1:], [*steps[2:], None]):
         has_moved = has_moved or step.moves > 0
-        asked[step.cursor] = () if step.cursor not in stops else LISTS if has_moved else LISTS_WITHOUT_MOVES
-        has_moved = has_moved and step.cursor not in stops
-    return asked
+        is_beside = after is None or step.printed or after.printed or step.now == before.now
+        if has_moved and step.cursor in stops and (is_beside or not is_each):
+            logged.add(step.cursor)
+            has_moved = False
+    return logged
 
 
-def _watch_piece(source: Source, asked: dict[int, tuple[str, ...]]) -> list[dict[str, Change] | None]:
-    """Asks the lists from the cursor before one piece on, in a session of its own. Returns how they differ from those before at each cursor, or
-    None where none are asked."""
+def _in_doubt(steps: list[Step], logged: set[int], found: dict[int, Any]) -> list[tuple[int, int]]:
+    """Returns the cursors between which the log changed with no line that tells where, each with the cursor before at which the log was asked."""
+    doubts, last, has_moved = [], steps[0].cursor, False
+    for step in steps[1:]:
+        if step.cursor in logged:
+            if has_moved and found[step.cursor]["log"] != Change([], []):
+                doubts.append((last, step.cursor))
+            last, has_moved = step.cursor, False
+        elif found[step.cursor] is not None:
+            has_moved = has_moved or step.moves > 0
+    return doubts
+
+
+def _differences(source: Source, asked: dict[int, tuple[str, ...]], done: Callable[[], None] = lambda: None) -> dict[int, dict[str, Change] | None]:
+    """Asks lists at cursors, in a session of its own. Returns how each differs from the one before, or None at a cursor where none are asked."""
     answers = converse_in_turn(source, (command for cursor, names in asked.items() if names for command in (f"seek {cursor}", *names)))
     lists = dict.fromkeys(LISTS, b"")
-    found = []
-    for at, names in enumerate(asked.values()):
-        found.append(_changes(answers, names, lists) if names else None)
-        if at > 0:
-            count_done()
+    found: dict[int, dict[str, Change] | None] = {}
+    for cursor, names in asked.items():
+        found[cursor] = _changes(answers, names, lists) if names else None
+        if len(found) > 1:
+            done()
     return found
 
 

@@ -68,6 +68,22 @@ class Collected(WithRoom):
         reader = self.check(*files(EXAMPLES / "a-flapping-alert"), "--from", "2024-05-01T22:10:00Z", "--to", "2024-05-02T01:30:00+02:00")
         self.assertEqual((reader.first, reader.last), (2, 3))
 
+    def test_log_entries_that_no_line_tells_of(self) -> None:
+        """An email integration doesn't send resolved alerts, but their entry is written."""
+        config, script = self.room / "config.json", self.room / "script.jsonl"
+        route = {"receiver": "ops", "group_by": ["alertname"], "group_wait": "30s", "group_interval": "5m"}
+        config.write_text(json.dumps({"route": route, "receivers": [{"name": "ops", "email_configs": [{}]}]}))
+        alerts = [
+            {"labels": {"alertname": name}, "startsAt": "2024-05-01T10:00:00Z", "endsAt": f"2024-05-01T10:{end:02}:00Z"}
+            for name, end in (("Brief", 4), ("Longer", 14), ("Longest", 34))
+        ]
+        events = [{"at": "2024-05-01T10:00:00Z", "alerts": alerts}]
+        events += [{"at": f"2024-05-01T10:{minute:02}:31Z", "tick": True} for minute in range(30)]
+        script.write_text("".join(json.dumps(event) + "\n" for event in events))
+        reader = self.check(config, script)
+        silent = [cursor for cursor in range(1, reader.last + 1) if not reader.printed(cursor)]
+        self.assertTrue(any(reader.listed("log", cursor) != reader.listed("log", cursor - 1) for cursor in silent))
+
     def test_an_alert_that_is_named_and_not_stored(self) -> None:
         reader = self.check(*files(EXAMPLES / "first-page"), "--explain", '{"alertname":"Nothing"}')
         self.assertIn({"alertname": "Nothing"}, reader.alerts())
