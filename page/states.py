@@ -103,13 +103,14 @@ def _walking(part: Part, sampled: frozenset[int]) -> Iterator[str]:
 
 
 def _listed(steps: list[Step], sizes: list[Size]) -> list[int]:
-    """Returns about how many bytes the lists print that are asked up to each cursor, from their sizes at some. The log counts after moves alone."""
+    """Returns about how many bytes the lists print that are asked up to each cursor, from their sizes at some. The log counts twice where
+    something was printed, since it is asked before it too."""
     listed = [0]
     for before, after in zip(sizes, sizes[1:]):
         others, log = (before.others + after.others) // 2 + 1, (before.log + after.log) // 2
         first = steps[0].cursor
         for step in steps[before.cursor - first + 1 : after.cursor - first + 1]:
-            listed.append(listed[-1] + others + (log if step.moves > 0 else 0))
+            listed.append(listed[-1] + others + (2 * log if step.printed else 0))
     return listed
 
 
