@@ -18,7 +18,7 @@ pub use last_lines::{
     cursor_text, moves_text, place_text, write_back, write_backward_seek, write_refused,
 };
 pub use lines::{event_text, line_text, notes_text};
-pub use listings::{alerts_text, groups_text, log_text, silences_text};
+pub use listings::{alert_lines, group_lines, log_lines, silence_lines};
 pub use outlet::{Outlet, WriteFailed, flush, write_parts, write_whole};
 pub use verdicts::verdicts_text;
 pub use word::{Word, word_text};

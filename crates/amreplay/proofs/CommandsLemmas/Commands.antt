@@ -1,5 +1,6 @@
 -- What each command leaves.
 use Rattle.std.proofs.Common.{◌≡◌, ℕ, ◌+◌, ◌-◌, ◌<◌, ◌≤◌, true, false, nat_lt, nat_le, length, refl, sym, ap, ◌∙◌, inl, inr, arith, rules, tests, String, string_bytes}
+use Rattle.std.specs.Global.{Vec}
 use Rattle.std.specs.declared.alloc.Global.{Global}
 use Rattle.amr_time.specs.Time.{Moment}
 use Rattle.amr_events.specs.Events.{Event}
@@ -18,7 +19,7 @@ use Rattle.amreplay.specs.Commands.Replies.{Incident, Reply, incident_of, state_
 use Rattle.amreplay.specs.Commands.Answer.{left, Answered, Moves}
 use Rattle.amreplay.specs.declared.commands.answer.Refusal.TheVariants.{AtEnd, AtStart, OutOfRange}
 use Rattle.amreplay.specs.declared.commands.answer.Answer.{Answer}
-use Rattle.amreplay.specs.declared.commands.answer.Answer.TheVariants.{Built, WentBack, Refused}
+use Rattle.amreplay.specs.declared.commands.answer.Answer.TheVariants.{Built, Listed, WentBack, Refused}
 
 -- a command that moves the cursor
 moves_answered : (i : Incident) (n n' to : ℕ) (move : Move) (answer : Answer) → reply_to i n (command.Move move) ≡ moved i n (word_of_move move) to → (n < to → TakesMemory i n (command.Move move))
@@ -70,9 +71,9 @@ trial_reply i n event text e = ap (λ t. let r : Reply = record { cursor = n; te
 state_of : (s : View) → s ≡ at_cursor s.config s.events s.cursor → state_in (incident_of s) s.cursor ≡ s.state
 state_of s view = sym (ap (λ (v : View). v.state) view)
 
-pub query_reply : (s : View) → s ≡ at_cursor s.config s.events s.cursor → (query : Query) (text : String Global) → string_bytes text ≡ listed s.cursor query s.state → reply_to (incident_of s) s.cursor (command.Query query) ≡ left s.cursor (Built text)
+pub query_reply : (s : View) → s ≡ at_cursor s.config s.events s.cursor → (query : Query) (lines : Vec ℕ) → lines.items ≡ listed s.cursor query s.state → reply_to (incident_of s) s.cursor (command.Query query) ≡ left s.cursor (Listed lines)
 unfolding reply_to
-query_reply s view query text e =
+query_reply s view query lines e =
     ap (λ (st : State). let r : Reply = record { cursor = s.cursor; text = listed s.cursor query st } in r) (state_of s view)
     ∙ ap (λ t. let r : Reply = record { cursor = s.cursor; text = t } in r) (sym e)
 

@@ -12,7 +12,7 @@ use Rattle.amreplay.specs.Commands.Talk.{LineOutcome, reply, MayBe}
 use Rattle.amreplay.specs.declared.commands.answer.Refusal.{Refusal}
 use Rattle.amreplay.specs.declared.commands.answer.Refusal.TheVariants.{Memory, BadTime, BadLine, LineTooLong, AtEnd, AtStart, OutOfRange}
 use Rattle.amreplay.specs.declared.commands.answer.Answer.{Answer}
-use Rattle.amreplay.specs.declared.commands.answer.Answer.TheVariants.{Nothing, Built, WentBack, SoughtBack, Refused}
+use Rattle.amreplay.specs.declared.commands.answer.Answer.TheVariants.{Nothing, Built, Listed, WentBack, SoughtBack, Refused}
 
 abbrev pub refusal_number : Refusal → ℕ
 refusal_number Memory = 0
@@ -27,6 +27,7 @@ refusal_number OutOfRange = 24
 abbrev pub answer_text : ℕ → Answer → Text
 answer_text cursor Nothing = []
 answer_text cursor (Built text) = string_bytes text
+answer_text cursor (Listed lines) = lines.items
 answer_text cursor WentBack = cursor_line word.Back cursor
 answer_text cursor (SoughtBack word) = moves_line word cursor 0
 answer_text cursor (Refused word refusal) = refused_line word cursor (refusal_number refusal)

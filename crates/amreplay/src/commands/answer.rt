@@ -45,13 +45,15 @@ impl Refusal {
     }
 }
 
-/// What is written for a command. Only `Built` has taken memory; the others are written without
-/// any.
+/// What is written for a command. Only `Built` and `Listed` have taken memory; the others are written
+/// without any.
 #[derive(Drop)]
 pub(crate) enum Answer {
     Nothing,
     /// The whole output of a command.
     Built(String),
+    /// The lines of a listing, and its last line.
+    Listed(Vec<u8>),
     /// The line of a step back.
     WentBack,
     /// The line of a seek that passed no event.
@@ -72,6 +74,7 @@ pub(crate) fn write_answer<W: Write>(
     match answer {
         Answer::Nothing => Ok(()),
         Answer::Built(text) => write_whole(out, text.as_bytes()),
+        Answer::Listed(lines) => write_whole(out, lines.as_slice()),
         Answer::WentBack => write_back(out, cursor),
         Answer::SoughtBack(word) => write_backward_seek(out, *word, cursor),
         Answer::Refused(word, refusal) => write_refused(out, *word, cursor, refusal.number()),

@@ -17,7 +17,7 @@ use json::Writer;
 use std::alloc::{AllocError, Global};
 
 /// The room of a line's buffer at first, in bytes: most lines of listings are shorter.
-const LINE_ROOM: usize = 512;
+const LINE_ROOM: usize = 1024;
 
 /// Writes an object with these texts under their names. The names are in order.
 fn write_texts(out: &mut Writer, texts: &[(Text, Text)]) -> Result<(), AllocError>

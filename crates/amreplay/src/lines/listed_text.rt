@@ -23,17 +23,19 @@ use std::alloc::{AllocError, Global};
 pub(crate) fn write_alert(
     out: &mut Writer,
     alloc: Global,
-    alert: &(Labels, Alert),
+    labels: &Labels,
+    alert: &Alert,
 ) -> Result<(), AllocError>
-    ensures { OnOk result (Adds out.old out.new (data_tokens (alert_data alert.now))) }
+    ensures { OnOk result (Adds out.old out.new
+        (data_tokens (alert_data (labels.now, alert.now)))) }
 {
     out.begin_object()?;
-    write_annotations(out, &alert.1.annotations)?;
-    write_moment_member(out, alloc, "endsAt", alert.1.ends_at)?;
-    write_labels(out, "labels", &alert.0)?;
-    write_moment_member(out, alloc, "startsAt", alert.1.starts_at)?;
-    write_flag(out, "timeout", alert.1.timed_out)?;
-    write_moment_member(out, alloc, "updatedAt", alert.1.last_post)?;
+    write_annotations(out, &alert.annotations)?;
+    write_moment_member(out, alloc, "endsAt", alert.ends_at)?;
+    write_labels(out, "labels", labels)?;
+    write_moment_member(out, alloc, "startsAt", alert.starts_at)?;
+    write_flag(out, "timeout", alert.timed_out)?;
+    write_moment_member(out, alloc, "updatedAt", alert.last_post)?;
     out.end_object()
 }
 
@@ -41,16 +43,17 @@ pub(crate) fn write_alert(
 pub(crate) fn write_silence(
     out: &mut Writer,
     alloc: Global,
-    silence: &(SilenceId, Silence),
+    id: SilenceId,
+    silence: &Silence,
 ) -> Result<(), AllocError>
-    ensures { OnOk result (Adds out.old out.new (data_tokens (silence_data silence.now))) }
+    ensures { OnOk result (Adds out.old out.new (data_tokens (silence_data (id, silence.now)))) }
 {
     out.begin_object()?;
-    write_moment_member(out, alloc, "endsAt", silence.1.ends_at)?;
-    write_text(out, "id", silence.0.text(alloc)?.as_str())?;
+    write_moment_member(out, alloc, "endsAt", silence.ends_at)?;
+    write_text(out, "id", id.text(alloc)?.as_str())?;
     out.key("matchers")?;
-    write_matchers(out, silence.1.matchers.as_slice())?;
-    write_moment_member(out, alloc, "startsAt", silence.1.starts_at)?;
+    write_matchers(out, silence.matchers.as_slice())?;
+    write_moment_member(out, alloc, "startsAt", silence.starts_at)?;
     out.end_object()
 }
 
@@ -72,21 +75,20 @@ pub(crate) fn write_group(out: &mut Writer, alloc: Global, group: &Group) -> Res
 pub(crate) fn write_entry(
     out: &mut Writer,
     alloc: Global,
-    entry: &(LogKey, LogEntry),
+    key: &LogKey,
+    entry: &LogEntry,
 ) -> Result<(), AllocError>
-    ensures { OnOk result (Adds out.old out.new (data_tokens (log_data entry.now))) }
+    ensures { OnOk result (Adds out.old out.new (data_tokens (log_data (key.now, entry.now)))) }
 {
-    let key = &entry.0;
-    let last = &entry.1;
     out.begin_object()?;
-    write_moment_member(out, alloc, "at", last.time)?;
-    write_set(out, "firing", &last.firing)?;
+    write_moment_member(out, alloc, "at", entry.time)?;
+    write_set(out, "firing", &entry.firing)?;
     write_labels(out, "groupLabels", &key.group)?;
     write_text(out, "integration", key.kind.as_str())?;
     write_path(out, key.path.as_slice())?;
     write_number(out, "place", key.place)?;
     write_text(out, "receiver", key.receiver.as_str())?;
-    write_set(out, "resolved", &last.resolved)?;
+    write_set(out, "resolved", &entry.resolved)?;
     out.end_object()
 }
 

@@ -4,7 +4,7 @@ use Rattle.amreplay.proofs.lines.listed_text.write_alert.Goals as goal
 
 pub returns : goal.returns
 returns c =
-    rw (alert_tokens c.args.alert.now)
+    rw (alert_tokens (c.args.labels.now, c.args.alert.now))
     (after _ _ _ _ _ _ (adds_token _ _ _ _ c.in_ok-begin_object.ensures)
     (after _ _ _ _ _ _ c.in_ok-write_annotations.ensures
     (after _ _ _ _ _ _ c.in_ok-write_moment_member.ensures

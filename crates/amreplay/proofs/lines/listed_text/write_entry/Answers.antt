@@ -4,7 +4,7 @@ use Rattle.amreplay.proofs.lines.listed_text.write_entry.Goals as goal
 
 pub returns : goal.returns
 returns c =
-    rw (log_tokens c.args.entry.now)
+    rw (log_tokens (c.args.key.now, c.args.entry.now))
     (after _ _ _ _ _ _ (adds_token _ _ _ _ c.in_ok-begin_object.ensures)
     (after _ _ _ _ _ _ c.in_ok-write_moment_member.ensures
     (after _ _ _ _ _ _ c.in_ok-write_set.ensures

@@ -4,7 +4,7 @@ use Rattle.amreplay.proofs.lines.listed_text.write_silence.Goals as goal
 
 pub returns : goal.returns
 returns c =
-    rw (silence_tokens c.args.silence.now)
+    rw (silence_tokens (c.args.id, c.args.silence.now))
     (after _ _ _ _ _ _ (adds_token _ _ _ _ c.in_ok-begin_object.ensures)
     (after _ _ _ _ _ _ c.in_ok-write_moment_member.ensures
     (after _ _ _ _ _ _ (rw (c.as_str.ensures.value, c.in_ok-text.ensures) at c.in_ok-write_text.ensures)
