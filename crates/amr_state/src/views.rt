@@ -1,16 +1,15 @@
-//! Copies of what the state holds, in the order in which the program lists it: alerts, silences,
-//! groups and the notification log. The listing commands call them, and a change of the
-//! configuration reads the alerts. They change nothing.
+//! Copies of what the state holds, in the order in which the program lists it: alerts, which a
+//! change of the configuration reads, and groups, which a listing command prints. They change
+//! nothing.
 ghost use Rattle.std.specs.Prelude.{◌≡◌, IfOk, map};
 ghost use Rattle.amr_labels.specs.Map.{entries};
 ghost use Rattle.amr_state.specs.State.{members};
 
-use crate::notification::{GroupTimer, LogKey};
+use crate::notification::GroupTimer;
 use crate::route_labels::RouteLabels;
 use crate::store::Store;
 use amr_labels::{Labels, Listing};
-use amr_posts::SilenceId;
-use amr_rules::{Alert, LogEntry, Silence};
+use amr_rules::Alert;
 use amr_time::Moment;
 use std::alloc::AllocError;
 
@@ -40,28 +39,6 @@ pub fn alerts(store: &Store) -> Result<Vec<(Labels, Alert)>, AllocError>
     let mut found = Vec::new(store.alloc());
     for (labels, alert) in store.alerts().iter() {
         found.push((labels.clone()?, alert.clone()?))?;
-    }
-    Ok(found)
-}
-
-/// Returns the silences, by id.
-pub fn silences(store: &Store) -> Result<Vec<(SilenceId, Silence)>, AllocError>
-    ensures { IfOk result (λ found. found.items ≡ entries store.now.state.silences) }
-{
-    let mut found = Vec::new(store.alloc());
-    for (id, silence) in store.silences().iter() {
-        found.push((*id, silence.clone()?))?;
-    }
-    Ok(found)
-}
-
-/// Returns the entries of the notification log, by key.
-pub fn log(store: &Store) -> Result<Vec<(LogKey, LogEntry)>, AllocError>
-    ensures { IfOk result (λ found. found.items ≡ entries store.now.state.log) }
-{
-    let mut found = Vec::new(store.alloc());
-    for (key, entry) in store.log().iter() {
-        found.push((key.clone()?, entry.clone()?))?;
     }
     Ok(found)
 }
