@@ -24,8 +24,9 @@ use std::marker::Model;
 /// answers take.
 const MOST_AT_ONCE: usize = 256;
 
-/// How many label sets the silences are asked for at once at least.
-const FEWEST_AT_ONCE: usize = 2;
+/// How many label sets the silences are asked for at once at least. For fewer, remembered answers
+/// are faster than preparing the search of each pattern.
+const FEWEST_AT_ONCE: usize = 4;
 
 /// A flush that meets this many unknown label sets also asks the silences for others ahead. They
 /// were most likely posted just now, and the next flushes meet the others.
@@ -269,8 +270,7 @@ impl SilenceTable {
     }
 
     /// Works out when those of these silences that match the label sets are active, and remembers
-    /// it. No other silence is unexpired. For few label sets, remembered answers are faster than
-    /// preparing the search of each pattern.
+    /// it. No other silence is unexpired.
     fn learn_from(
         &mut self,
         at: Moment,
