@@ -1,3 +1,4 @@
+pub mod Ascending
 pub mod Firsts
 pub mod Pairs
 pub mod Proper

@@ -3,7 +3,9 @@ use Rattle.std.proofs.Common.{◌≡◌, ℕ, ◌+◌, ◌<◌, Bool, cond, T, L
 use Rattle.std.specs.Cmp.{IsTotalOrder, tied_itself}
 use Rattle.std.specs.FinMap.{find, is_sorted}
 use Rattle.std.specs.FinMap.Entries.{below_all, where_key, is_sorted-where_key}
-use Rattle.std.specs.List.{AllByRecursion, filter}
+use Rattle.std.specs.List.{AllByRecursion, filter, list_all}
+use Rattle.std.specs.Prelude.{◌&&◌, true, false}
+use Rattle.std.proofs.lemmas.Bool.{true≢false}
 use Rattle.std.specs.Option.{unwrap_or}
 use Rattle.std.specs.Ordering.{is_eq, ordering_reverse}
 use Rattle.std.specs.declared.cmp.Ordering.{Ordering}
@@ -22,6 +24,15 @@ last_counts {K} {X} R pairs i pair within is =
 filter_alike : {X : Type 0} (p q : X → Bool) (xs : List X) → AllByRecursion (λ x. p x ≡ q x) xs → filter p xs ≡ filter q xs
 filter_alike p q [] h = refl
 filter_alike p q (x ∷ xs) h = λ i. cond (h.0 i) (x ∷ filter_alike p q xs h.1 i) (filter_alike p q xs h.1 i)
+
+-- a test that each item passes keeps all
+filter_all : {X : Type 0} (p : X → Bool) (xs : List X) → list_all p xs ≡ true → filter p xs ≡ xs
+filter_all p [] h = refl
+filter_all p (x ∷ xs) h =
+    elim (p x) as (λ b. (b && list_all p xs) ≡ true → cond b (x ∷ filter p xs) (filter p xs) ≡ x ∷ xs) [
+      | true ↦ λ t. ap (λ ys. x ∷ ys) (filter_all p xs t)
+      | false ↦ λ t. absurd (true≢false (sym t))
+    ] h
 
 module _ {K X : Type 0} {R : K → K → Ordering} (o : IsTotalOrder R) where
   -- what is found among greater entries doesn't change if a lesser one is put in front
@@ -59,3 +70,8 @@ module _ {K X : Type 0} {R : K → K → Ordering} (o : IsTotalOrder R) where
   retained m test es e =
       ap (from_sorted {R = R}) e
       ∙ same_entries_map _ _ (entries-from_sorted R _ (is_sorted-where_key R test (entries m) (entries-sorted m)) ∙ sym (entries-retain_keys m test))
+
+  -- all entries are kept if all values pass the test
+  pub all_retained : (m : Map R X) (test : X → Bool) (none : X) → list_all (λ e. test e.1) (entries m) ≡ true → retain_keys m (λ k. test (unwrap_or (get m k) none)) ≡ m
+  all_retained m test none all =
+      same_entries_map _ _ (entries-retain_keys m _ ∙ sym (filter_by_values m test none) ∙ filter_all _ (entries m) all)

@@ -1,8 +1,8 @@
 //! A map from names to texts, sorted by name. Annotations are one; `Labels` is one with the rules
 //! of label sets.
 ghost use Rattle.std.specs.Prelude.{◌≡◌, ◌==◌, ℕ, List, T, not, length, reverse, IfOk};
-ghost use Rattle.std.specs.List.{filter, list_any};
-ghost use Rattle.std.specs.Ordering.{eq_by_cmp};
+ghost use Rattle.std.specs.List.{filter, list_all, list_any};
+ghost use Rattle.std.specs.Ordering.{eq_by_cmp, is_lt};
 ghost use Rattle.std.specs.Option.{option_copied};
 ghost use Rattle.std.specs.BTreeMap.{IsOrdered};
 ghost use Rattle.std.specs.FinMap.{find, is_sorted};
@@ -38,6 +38,27 @@ impl Model for TextMap {
     ghost invariant = { λ texts. T (is_sorted text_cmp texts.pairs.value.items) };
 }
 
+/// Returns whether the names strictly ascend, as those of a JSON object do.
+fn ascend(pairs: &[(Text, Text)]) -> bool
+    ensures { result ≡ is_sorted text_cmp pairs.now }
+{
+    let is_before = |former: &(Text, Text), latter: &(Text, Text)| -> bool
+        ensures { result ≡ is_lt (text_cmp former.now.0 latter.now.0) }
+    { former.0.cmp(&latter.0).is_lt() };
+    pairs.is_sorted_by(is_before)
+}
+
+/// Clones pairs.
+fn copies(alloc: Global, pairs: &[(Text, Text)]) -> Result<Vec<(Text, Text)>, AllocError>
+    ensures { IfOk result (λ copies. copies.items ≡ pairs.now) }
+{
+    let mut copies = Vec::with_capacity(alloc, pairs.len())?;
+    for pair in pairs {
+        copies.push(copied(pair)?)?;
+    }
+    Ok(copies)
+}
+
 /// Returns the tree of the pairs. If a name is repeated, the last text counts.
 fn tree_of(alloc: Global, pairs: &[(Text, Text)]) -> Result<BTreeMap<Text, Text>, AllocError>
     ensures ordered { IfOk result (λ tree. IsOrdered text_cmp tree) }
@@ -63,6 +84,13 @@ fn copied(pair: &(Text, Text)) -> Result<(Text, Text), AllocError>
     ensures { IfOk result (λ copy. copy ≡ pair.now) }
 {
     Ok((pair.0.clone()?, pair.1.clone()?))
+}
+
+/// Returns whether no text is empty.
+fn are_filled(pairs: &[(Text, Text)]) -> bool
+    ensures { result ≡ list_all (λ pair. not (is_empty pair.1)) pairs.now }
+{
+    pairs.iter().all(|pair| !pair.1.is_empty())
 }
 
 /// Returns the pairs whose texts aren't empty.
@@ -163,10 +191,15 @@ impl TextMap {
         })
     }
 
-    /// Returns the map of names and texts. If a name is repeated, the last text counts.
+    /// Returns the map of names and texts. If a name is repeated, the last text counts. Pairs in
+    /// ascending order of names are only cloned, and no tree is built.
     pub fn from_pairs(alloc: Global, pairs: &[(Text, Text)]) -> Result<TextMap, AllocError>
         ensures { IfOk result (λ texts. texts ≡ map.from_entries (reverse pairs.now)) }
     {
+        if ascend(pairs) {
+            let copies = copies(alloc, pairs)?;
+            return TextMap::of_sorted(alloc, copies);
+        }
         let tree = tree_of(alloc, pairs)?;
         let sorted = pairs_of(alloc, tree)?;
         TextMap::of_sorted(alloc, sorted)
@@ -196,11 +229,14 @@ impl TextMap {
         }
     }
 
-    /// Returns the map without its empty texts.
+    /// Returns the map without its empty texts. It shares the texts if none is empty.
     pub fn without_empty_texts(&self, alloc: Global) -> Result<TextMap, AllocError>
         ensures { IfOk result (λ kept. kept
             ≡ map.retain_keys self.now (λ name. not (is_empty (value_of self.now name)))) }
     {
+        if are_filled(self.entries()) {
+            return Ok(self.clone()?);
+        }
         let kept = filled(alloc, self.entries())?;
         TextMap::of_sorted(alloc, kept)
     }
