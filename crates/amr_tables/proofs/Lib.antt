@@ -6,3 +6,4 @@ pub mod Numbering
 pub mod Lowness
 pub mod Ascending
 pub mod Queueing
+pub mod Opening

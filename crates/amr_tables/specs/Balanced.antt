@@ -1,5 +1,5 @@
 -- A balanced tree as a list and a height.
-use Rattle.std.specs.Prelude.{◌≡◌, ℕ, ◌+◌, ◌*◌, ◌^◌, ◌≤◌, max, List, length, [], ◌∷◌, ◌++◌, Option, None, Some, Box}
+use Rattle.std.specs.Prelude.{◌≡◌, ℕ, ◌+◌, ◌*◌, ◌^◌, ◌<◌, ◌≤◌, max, List, length, [], ◌∷◌, ◌++◌, Option, None, Some, Box}
 use Rattle.std.specs.declared.alloc.Global.{Global}
 use Rattle.amr_tables.specs.declared.tree.Node.{Node}
 use Rattle.amr_tables.specs.declared.tree.Node.TheVariants.{Spare, Fork}
@@ -28,6 +28,15 @@ module _ {D : Type 0} where
   root_view None = ([], 0)
   root_view (Some node) = node_view node.value
 
+  -- the heights of the two sides
+  abbrev pub node_sides : Node D → ℕ × ℕ
+  node_sides Spare = (0, 0)
+  node_sides (Fork l item height r) = (l.1, r.1)
+
+  abbrev pub sides_of : Option (Box (Node D) Global) → ℕ × ℕ
+  sides_of None = (0, 0)
+  sides_of (Some node) = node_sides node.value
+
   -- the stored height is right and low enough, and the heights of the sides differ by at most one
   abbrev pub IsBalanced : Node D → Type 0
   IsBalanced Spare = ⊥
@@ -36,3 +45,13 @@ module _ {D : Type 0} where
   abbrev pub IsBalancedRoot : Option (Box (Node D) Global) → Type 0
   IsBalancedRoot None = Unit {0}
   IsBalancedRoot (Some node) = IsBalanced node.value
+
+  -- one of the sides has changed: their heights differ by at most two, and the stored height may be
+  -- wrong
+  abbrev pub IsNearlyBalancedNode : Node D → Type 0
+  IsNearlyBalancedNode Spare = ⊥
+  IsNearlyBalancedNode (Fork l item height r) = DifferByAtMost 2 l.1 r.1 × (length (l.0 ++ item ∷ r.0) < 2 ^ 64)
+
+  abbrev pub IsNearlyBalanced : Option (Box (Node D) Global) → Type 0
+  IsNearlyBalanced None = ⊥
+  IsNearlyBalanced (Some node) = IsNearlyBalancedNode node.value

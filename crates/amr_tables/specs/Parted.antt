@@ -1,5 +1,5 @@
 -- Trees that are split at their roots, or after their first items.
-use Rattle.std.specs.Prelude.{◌≡◌, ℕ, ◌+◌, ◌≤◌, max, List, ◌∷◌, ◌++◌}
+use Rattle.std.specs.Prelude.{◌≡◌, ℕ, ◌+◌, ◌≤◌, max, List, [], ◌∷◌, ◌++◌}
 use Rattle.amr_tables.specs.declared.tree.Parts.{Parts}
 use Rattle.amr_tables.specs.declared.tree.First.{First}
 use Rattle.amr_tables.specs.Balanced.{DifferByAtMost}
@@ -11,8 +11,12 @@ module _ {D : Type 0} where
     pub height : tree.1 ≡ max parts.left.1 parts.right.1 + 1
     pub balanced : DifferByAtMost 1 parts.left.1 parts.right.1
 
+  -- both trees are empty
+  abbrev pub AreEmpty : List D × ℕ → List D × ℕ → Type 0
+  AreEmpty tree rest = (tree ≡ ([], 0)) × (rest ≡ ([], 0))
+
   -- the first item and the rest make up the tree, and the rest is lower by at most one
-  pub record IsFirstOf (tree : List D × ℕ) (first : First D) : Type 0 where
-    pub list : tree.0 ≡ first.item ∷ first.rest.0
-    pub not_lower : tree.1 ≤ first.rest.1 + 1
-    pub not_higher : first.rest.1 ≤ tree.1
+  pub record IsFirstOf (tree rest : List D × ℕ) (first : First D) : Type 0 where
+    pub list : tree.0 ≡ first.item ∷ rest.0
+    pub not_lower : tree.1 ≤ rest.1 + 1
+    pub not_higher : rest.1 ≤ tree.1

@@ -12,7 +12,6 @@ use crate::parts::InParts;
 use crate::tree::{self, Node, Tree};
 use std::alloc::{AllocError, Global};
 use std::marker::Model;
-use std::mem;
 
 /// A sorted queue. Contracts see the list of its items, and the number of further items that it has
 /// room for.
@@ -97,8 +96,7 @@ impl<D: Ord + Drop> Queue<D> {
     {
         match self.spares.pop() {
             Some(memory) => {
-                let dues = mem::replace(&mut self.tree, Tree::new());
-                self.tree = tree::put(dues, memory, due);
+                tree::put(&mut self.tree, memory, due);
                 self.len += 1;
             }
             None => unreachable!(),
@@ -114,10 +112,7 @@ impl<D: Ord + Drop> Queue<D> {
         ensures room { self.new.room ≡ self.old.room + (if result then 1 else 0) }
         ensures len { length self.old.dues ≡ length self.new.dues + (if result then 1 else 0) }
     {
-        let dues = mem::replace(&mut self.tree, Tree::new());
-        let taken = tree::take(dues, due);
-        self.tree = taken.tree;
-        match taken.memory {
+        match tree::take(&mut self.tree, due) {
             None => false,
             Some(memory) => {
                 self.len -= 1;

@@ -5,9 +5,9 @@ ghost use Rattle.std.specs.Prelude.{◌≡◌, ◌+◌, ◌^◌, ◌<◌, ◌≤
 ghost use Rattle.std.specs.List.Sorted.{IsStrictlySortedBy};
 ghost use Rattle.std.specs.Option.{option_copied};
 ghost use Rattle.std.specs.BTreeSet.{insert_key};
-ghost use Rattle.amr_tables.specs.Balanced.{node_view, IsBalanced, DifferByAtMost, IsHeightOf, IsLow};
+ghost use Rattle.amr_tables.specs.Balanced.{root_view, sides_of, IsBalancedRoot, IsNearlyBalanced, DifferByAtMost, IsHeightOf, IsLow};
 ghost use Rattle.amr_tables.specs.InParts.{items_of};
-ghost use Rattle.amr_tables.specs.Parted.{IsPartsOf, IsFirstOf};
+ghost use Rattle.amr_tables.specs.Parted.{AreEmpty, IsPartsOf, IsFirstOf};
 ghost use Rattle.amr_tables.specs.Queued.{values_of, has, without, count_of};
 
 use crate::parts::InParts;
@@ -160,6 +160,28 @@ fn balance<D: Drop>(memory: Box<Node<D>>, left: Tree<D>, item: D, right: Tree<D>
     }
 }
 
+/// Takes a tree apart, and joins its sides again.
+fn rebuild<D: Drop>(root: &mut Option<Box<Node<D>>>)
+    requires { IsNearlyBalanced root.old }
+    ensures list { (root_view root.new).0 ≡ (root_view root.old).0 }
+    ensures height { IsHeightOf (sides_of root.old).0 (sides_of root.old).1 (root_view root.new).1 }
+    ensures balanced { IsBalancedRoot root.new }
+{
+    let Some(mut memory) = root.take() else {
+        return
+    };
+    let Node::Fork {
+        left,
+        item,
+        right,
+        ..
+    } = mem::replace(&mut *memory, Node::Spare)
+    else {
+        return;
+    };
+    *root = balance(memory, left, item, right).root;
+}
+
 /// Joins two trees around an item, if the left one is higher by two.
 fn lean_right<D: Drop>(memory: Box<Node<D>>, left: Tree<D>, item: D, right: Tree<D>) -> Tree<D>
     requires two_higher { left.1 ≡ right.1 + 2 }
@@ -204,12 +226,11 @@ fn lean_left<D: Drop>(memory: Box<Node<D>>, left: Tree<D>, item: D, right: Tree<
     fork(inner.memory, first, inner.item, second)
 }
 
-/// The first item of a tree, its memory, and the rest of the tree.
+/// The first item of a tree, and its memory.
 #[derive(Drop)]
 struct First<D> {
     item: D,
     memory: Box<Node<D>>,
-    rest: Tree<D>,
 }
 
 /// Appends the items of a part to a list, in order. It visits a side of a node only if that side
@@ -245,100 +266,145 @@ pub(crate) fn list_part<'a, D: InParts>(
     }
 }
 
-/// Adds an item to a tree, in order. It uses the memory that is given.
-pub(crate) fn put<D: Ord + Drop>(tree: Tree<D>, memory: Box<Node<D>>, item: D) -> Tree<D>
-    requires sorted { IsStrictlySortedBy D.cmp tree.0 }
-    requires absent { has D.cmp tree.0 item ≡ false }
-    requires fits { length tree.0 + 1 < 2 ^ 64 }
-    ensures list { result.0 ≡ insert_key D.cmp tree.0 item }
-    ensures longer { length result.0 ≡ length tree.0 + 1 }
-    ensures height { (tree.1 ≤ result.1) × (result.1 ≤ tree.1 + 1) }
+/// Restores the balance and the stored height of a tree, after one of its sides has changed. The tree
+/// stays as it is, unless the heights of the sides differ by two.
+fn rebalance<D: Drop>(root: &mut Option<Box<Node<D>>>)
+    requires { IsNearlyBalanced root.old }
+    ensures list { (root_view root.new).0 ≡ (root_view root.old).0 }
+    ensures height { IsHeightOf (sides_of root.old).0 (sides_of root.old).1 (root_view root.new).1 }
+    ensures balanced { IsBalancedRoot root.new }
 {
-    let Some(parts) = tree.take_apart() else {
-        return fork(memory, Tree::new(), item, Tree::new());
+    let Some(node) = root else { return };
+    let Node::Fork {
+        left,
+        height,
+        right,
+        ..
+    } = &mut **node
+    else {
+        return;
     };
-    if item.cmp(&parts.item).is_lt() {
-        let left = put(parts.left, memory, item);
-        balance(parts.memory, left, parts.item, parts.right)
-    } else {
-        let right = put(parts.right, memory, item);
-        balance(parts.memory, parts.left, parts.item, right)
+    let (left_height, right_height) = (left.height(), right.height());
+    if left_height <= right_height + 1 && right_height <= left_height + 1 {
+        *height = left_height.max(right_height) + 1;
+        return;
+    }
+    rebuild(root);
+}
+
+/// Adds an item to a tree, in order. It uses the memory that is given.
+pub(crate) fn put<D: Ord + Drop>(tree: &mut Tree<D>, memory: Box<Node<D>>, item: D)
+    requires sorted { IsStrictlySortedBy D.cmp tree.old.0 }
+    requires absent { has D.cmp tree.old.0 item ≡ false }
+    requires fits { length tree.old.0 + 1 < 2 ^ 64 }
+    ensures list { tree.new.0 ≡ insert_key D.cmp tree.old.0 item }
+    ensures longer { length tree.new.0 ≡ length tree.old.0 + 1 }
+    ensures height { (tree.old.1 ≤ tree.new.1) × (tree.new.1 ≤ tree.old.1 + 1) }
+{
+    match &mut tree.root {
+        None => *tree = fork(memory, Tree::new(), item, Tree::new()),
+        Some(node) => match &mut **node {
+            Node::Spare => (),
+            Node::Fork {
+                left,
+                item: other,
+                right,
+                ..
+            } => {
+                if item.cmp(other).is_lt() {
+                    put(left, memory, item);
+                    rebalance(&mut tree.root);
+                } else {
+                    put(right, memory, item);
+                    rebalance(&mut tree.root);
+                }
+            }
+        },
     }
 }
 
 /// Removes the first item of a tree. Returns `None` for an empty tree.
-fn take_first<D: Drop>(tree: Tree<D>) -> Option<First<D>>
-    requires fits { length tree.0 < 2 ^ 64 }
-    ensures { MatchOption result (tree ≡ ([], 0)) (IsFirstOf tree) }
+fn take_first<D: Drop>(tree: &mut Tree<D>) -> Option<First<D>>
+    requires fits { length tree.old.0 < 2 ^ 64 }
+    ensures { MatchOption result (AreEmpty tree.old tree.new) (IsFirstOf tree.old tree.new) }
 {
-    let parts = tree.take_apart()?;
-    match take_first(parts.left) {
-        None => Some(First {
-            item: parts.item,
-            memory: parts.memory,
-            rest: parts.right,
-        }),
-        Some(first) => Some(First {
-            item: first.item,
-            memory: first.memory,
-            rest: balance(parts.memory, first.rest, parts.item, parts.right),
-        }),
+    match &mut tree.root {
+        None => None,
+        Some(node) => match &mut **node {
+            Node::Spare => None,
+            Node::Fork { left, .. } => match take_first(left) {
+                None => {
+                    let mut memory = tree.root.take()?;
+                    match mem::replace(&mut *memory, Node::Spare) {
+                        Node::Spare => None,
+                        Node::Fork { item, right, .. } => {
+                            *tree = right;
+                            Some(First { item, memory })
+                        }
+                    }
+                }
+                Some(first) => {
+                    rebalance(&mut tree.root);
+                    Some(first)
+                }
+            },
+        },
     }
 }
 
 /// Joins two trees, one after the other.
-fn join<D: Drop>(left: Tree<D>, right: Tree<D>) -> Tree<D>
+fn join<D: Drop>(left: Tree<D>, mut right: Tree<D>) -> Tree<D>
     requires near { DifferByAtMost 1 left.1 right.1 }
     requires fits { length left.0 + length right.0 < 2 ^ 64 }
     ensures list { result.0 ≡ left.0 ++ right.0 }
     ensures height { (max left.1 right.1 ≤ result.1) × (result.1 ≤ max left.1 right.1 + 1) }
 {
-    match take_first(right) {
+    match take_first(&mut right) {
         None => left,
-        Some(first) => balance(first.memory, left, first.item, first.rest),
+        Some(first) => balance(first.memory, left, first.item, right),
     }
 }
 
-/// A tree without the item that was removed, and the memory of that item, if there was one.
-#[derive(Drop)]
-pub(crate) struct Taken<D> {
-    pub(crate) tree: Tree<D>,
-    pub(crate) memory: Option<Box<Node<D>>>,
-}
-
-/// Removes an item from a tree, if it is there.
-pub(crate) fn take<D: Ord + Drop>(tree: Tree<D>, item: &D) -> Taken<D>
-    requires sorted { IsStrictlySortedBy D.cmp tree.0 }
-    requires fits { length tree.0 < 2 ^ 64 }
-    ensures list { result.tree.0 ≡ without D.cmp tree.0 item.now }
-    ensures found { is_some result.memory ≡ has D.cmp tree.0 item.now }
-    ensures shorter { length tree.0 ≡ length result.tree.0 + count_of result.memory }
-    ensures height { (tree.1 ≤ result.tree.1 + 1) × (result.tree.1 ≤ tree.1) }
+/// Removes an item from a tree, if it is there, and returns its memory.
+pub(crate) fn take<D: Ord + Drop>(tree: &mut Tree<D>, item: &D) -> Option<Box<Node<D>>>
+    requires sorted { IsStrictlySortedBy D.cmp tree.old.0 }
+    requires fits { length tree.old.0 < 2 ^ 64 }
+    ensures list { tree.new.0 ≡ without D.cmp tree.old.0 item.now }
+    ensures found { is_some result ≡ has D.cmp tree.old.0 item.now }
+    ensures shorter { length tree.old.0 ≡ length tree.new.0 + count_of result }
+    ensures height { (tree.old.1 ≤ tree.new.1 + 1) × (tree.new.1 ≤ tree.old.1) }
 {
-    let Some(parts) = tree.take_apart() else {
-        return Taken {
-            tree: Tree::new(),
-            memory: None,
-        };
-    };
-    match item.cmp(&parts.item) {
-        Ordering::Less => {
-            let taken = take(parts.left, item);
-            Taken {
-                tree: balance(parts.memory, taken.tree, parts.item, parts.right),
-                memory: taken.memory,
-            }
-        }
-        Ordering::Equal => Taken {
-            tree: join(parts.left, parts.right),
-            memory: Some(parts.memory),
+    match &mut tree.root {
+        None => None,
+        Some(node) => match &mut **node {
+            Node::Spare => None,
+            Node::Fork {
+                left,
+                item: other,
+                right,
+                ..
+            } => match item.cmp(other) {
+                Ordering::Less => {
+                    let memory = take(left, item);
+                    rebalance(&mut tree.root);
+                    memory
+                }
+                Ordering::Equal => {
+                    let mut memory = tree.root.take()?;
+                    match mem::replace(&mut *memory, Node::Spare) {
+                        Node::Spare => None,
+                        Node::Fork { left, right, .. } => {
+                            *tree = join(left, right);
+                            Some(memory)
+                        }
+                    }
+                }
+                Ordering::Greater => {
+                    let memory = take(right, item);
+                    rebalance(&mut tree.root);
+                    memory
+                }
+            },
         },
-        Ordering::Greater => {
-            let taken = take(parts.right, item);
-            Taken {
-                tree: balance(parts.memory, parts.left, parts.item, taken.tree),
-                memory: taken.memory,
-            }
-        }
     }
 }

@@ -3,98 +3,109 @@ use Rattle.std.specs.Ordering.{is_lt}
 use Rattle.std.specs.declared.cmp.Ordering.TheVariants.{Less}
 use Rattle.amr_tables.proofs.Ascending.{left_is_sorted, right_is_sorted, has_left, has_right, put_left, put_right, less_of, is_above}
 use Rattle.amr_tables.proofs.Leaning.{length-fork, higher_left, higher_right}
+use Rattle.amr_tables.proofs.Opening.{parts_of}
 use Rattle.amr_tables.proofs.tree.+put.Goals as goal
 
-pub put-left-requires : goal.put-left-requires
-put-left-requires g t c κs within =
-    let p = c.in-Some.parts in
-    let whole = c.in-Some.ensures.list in
-    let below : g.D.Ord.cmp c.args.item p.item ≡ Less = less_of _ (cc) in
-    let items : length c.args.tree.0 ≡ length p.left.0 + (length p.right.0 + 1) = omega (arith, ap length whole, length-append p.left.0 (p.item ∷ p.right.0)) in (
+pub put-requires : goal.put-requires
+put-requires g t c κs within =
+    let n = c.in-Fork in
+    let e = parts_of c.tree.view_is c.tree.invariant c.in-Some.is (sym c.deref_mut.ensures.value ∙ n.is) in
+    let below : g.D.Ord.cmp c.args.item n.other ≡ Less = less_of _ (cc) in
+    let items : length c.args.tree.now.0 ≡ length n.left.0 + (length n.right.0 + 1) = omega (arith, ap length e.list, length-append n.left.0 (n.other ∷ n.right.0)) in (
       omega (arith, items),
       (
         within,
         (
-          left_is_sorted _ g.met.D.Ord.total _ p.left.0 p.item p.right.0 c.args.item whole c.requires.sorted,
+          left_is_sorted _ g.met.D.Ord.total _ n.left.0 n.other n.right.0 c.args.item e.list c.requires.sorted,
           (
-            sym (has_left _ g.met.D.Ord.total _ p.left.0 p.item p.right.0 c.args.item whole c.requires.sorted below) ∙ c.requires.absent,
+            sym (has_left _ g.met.D.Ord.total _ n.left.0 n.other n.right.0 c.args.item e.list c.requires.sorted below) ∙ c.requires.absent,
             omega (arith, items, c.requires.fits),
           ),
         ),
       ),
     )
+
+pub put-requires-else-is_lt : goal.put-requires-else-is_lt
+put-requires-else-is_lt g t c κs within =
+    let n = c.in-Fork in
+    let e = parts_of c.tree.view_is c.tree.invariant c.in-Some.is (sym c.deref_mut.ensures.value ∙ n.is) in
+    let not_below : is_lt (g.D.Ord.cmp c.args.item n.other) ≡ false = cc in
+    let above = is_above _ g.met.D.Ord.total _ n.left.0 n.other n.right.0 c.args.item e.list c.requires.sorted c.requires.absent not_below in
+    let items : length c.args.tree.now.0 ≡ length n.left.0 + (length n.right.0 + 1) = omega (arith, ap length e.list, length-append n.left.0 (n.other ∷ n.right.0)) in (
+      omega (arith, items),
+      (
+        within,
+        (
+          right_is_sorted _ g.met.D.Ord.total _ n.left.0 n.other n.right.0 c.args.item e.list c.requires.sorted,
+          (
+            sym (has_right _ g.met.D.Ord.total _ n.left.0 n.other n.right.0 c.args.item e.list c.requires.sorted above) ∙ c.requires.absent,
+            omega (arith, items, c.requires.fits),
+          ),
+        ),
+      ),
+    )
+
+pub rebalance-requires : goal.rebalance-requires
+rebalance-requires g t c =
+    let n = c.in-Fork in
+    let e = parts_of c.tree.view_is c.tree.invariant c.in-Some.is (sym c.deref_mut.ensures.value ∙ n.is) in
+    let near = e.balanced in
+    let more = c.put.ensures.height in
+    let items : length c.args.tree.now.0 ≡ length n.left.0 + (length n.right.0 + 1) = omega (arith, ap length e.list, length-append n.left.0 (n.other ∷ n.right.0)) in
+    ((omega arith, omega arith), omega (arith, items, c.requires.fits, c.put.ensures.longer, length-append c.put.new.tree.0 (n.other ∷ n.right.0)))
+
+pub rebalance-requires-else-is_lt : goal.rebalance-requires-else-is_lt
+rebalance-requires-else-is_lt g t c =
+    let n = c.in-Fork in
+    let e = parts_of c.tree.view_is c.tree.invariant c.in-Some.is (sym c.deref_mut.ensures.value ∙ n.is) in
+    let near = e.balanced in
+    let more = c.put-else-is_lt.ensures.height in
+    let items : length c.args.tree.now.0 ≡ length n.left.0 + (length n.right.0 + 1) = omega (arith, ap length e.list, length-append n.left.0 (n.other ∷ n.right.0)) in
+    ((omega arith, omega arith), omega (arith, items, c.requires.fits, c.put-else-is_lt.ensures.longer, length-append n.left.0 (n.other ∷ c.put-else-is_lt.new.tree.0)))
 
 pub returns-then-is_lt-clause-list : goal.returns-then-is_lt-clause-list
 returns-then-is_lt-clause-list g t c =
-    let p = c.in-Some.parts in
-    let below : g.D.Ord.cmp c.args.item p.item ≡ Less = less_of _ (cc) in
-    c.balance.ensures.list
-    ∙ ap (λ l. l ++ p.item ∷ p.right.0) c.put-left.ensures.list
-    ∙ sym (put_left _ g.met.D.Ord.total _ p.left.0 p.item p.right.0 c.args.item c.in-Some.ensures.list c.requires.sorted below)
-
-pub put-right-requires : goal.put-right-requires
-put-right-requires g t c κs within =
-    let p = c.in-Some.parts in
-    let whole = c.in-Some.ensures.list in
-    let not_below : is_lt (g.D.Ord.cmp c.args.item p.item) ≡ false = cc in
-    let above = is_above _ g.met.D.Ord.total _ p.left.0 p.item p.right.0 c.args.item whole c.requires.sorted c.requires.absent not_below in
-    let items : length c.args.tree.0 ≡ length p.left.0 + (length p.right.0 + 1) = omega (arith, ap length whole, length-append p.left.0 (p.item ∷ p.right.0)) in (
-      omega (arith, items),
-      (
-        within,
-        (
-          right_is_sorted _ g.met.D.Ord.total _ p.left.0 p.item p.right.0 c.args.item whole c.requires.sorted,
-          (
-            sym (has_right _ g.met.D.Ord.total _ p.left.0 p.item p.right.0 c.args.item whole c.requires.sorted above) ∙ c.requires.absent,
-            omega (arith, items, c.requires.fits),
-          ),
-        ),
-      ),
-    )
+    let n = c.in-Fork in
+    let e = parts_of c.tree.view_is c.tree.invariant c.in-Some.is (sym c.deref_mut.ensures.value ∙ n.is) in
+    let below : g.D.Ord.cmp c.args.item n.other ≡ Less = less_of _ (cc) in
+    c.rebalance.ensures.list
+    ∙ ap (λ l. l ++ n.other ∷ n.right.0) c.put.ensures.list
+    ∙ sym (put_left _ g.met.D.Ord.total _ n.left.0 n.other n.right.0 c.args.item e.list c.requires.sorted below)
 
 pub returns-else-is_lt-clause-list : goal.returns-else-is_lt-clause-list
 returns-else-is_lt-clause-list g t c =
-    let p = c.in-Some.parts in
-    let not_below : is_lt (g.D.Ord.cmp c.args.item p.item) ≡ false = cc in
-    let above = is_above _ g.met.D.Ord.total _ p.left.0 p.item p.right.0 c.args.item c.in-Some.ensures.list c.requires.sorted c.requires.absent not_below in
-    c.balance-else-is_lt.ensures.list
-    ∙ ap (λ r. p.left.0 ++ p.item ∷ r) c.put-right.ensures.list
-    ∙ sym (put_right _ g.met.D.Ord.total _ p.left.0 p.item p.right.0 c.args.item c.in-Some.ensures.list c.requires.sorted above)
-
-pub balance-requires : goal.balance-requires
-balance-requires g t c =
-    let p = c.in-Some.parts in
-    let near = c.in-Some.ensures.balanced in
-    let whole = length-fork p.left.0 p.item p.right.0 c.in-Some.ensures.list in
-    record { near = (omega arith, omega arith); fits = omega arith }
+    let n = c.in-Fork in
+    let e = parts_of c.tree.view_is c.tree.invariant c.in-Some.is (sym c.deref_mut.ensures.value ∙ n.is) in
+    let not_below : is_lt (g.D.Ord.cmp c.args.item n.other) ≡ false = cc in
+    let above = is_above _ g.met.D.Ord.total _ n.left.0 n.other n.right.0 c.args.item e.list c.requires.sorted c.requires.absent not_below in
+    c.rebalance-else-is_lt.ensures.list
+    ∙ ap (λ r. n.left.0 ++ n.other ∷ r) c.put-else-is_lt.ensures.list
+    ∙ sym (put_right _ g.met.D.Ord.total _ n.left.0 n.other n.right.0 c.args.item e.list c.requires.sorted above)
 
 pub returns-then-is_lt-clause-longer : goal.returns-then-is_lt-clause-longer
 returns-then-is_lt-clause-longer g t c =
-    let p = c.in-Some.parts in
-    let whole = length-fork p.left.0 p.item p.right.0 c.in-Some.ensures.list in
-    let part = length-fork c.put-left.result.0 p.item p.right.0 c.balance.ensures.list in
-    omega arith
-
-pub returns-then-is_lt-clause-height : goal.returns-then-is_lt-clause-height
-returns-then-is_lt-clause-height g t c =
-    let p = c.in-Some.parts in
-    higher_left p.left.1 p.right.1 _ _ _ c.in-Some.ensures.height c.in-Some.ensures.balanced c.put-left.ensures.height c.balance.ensures.height
-
-pub balance-requires-else-is_lt : goal.balance-requires-else-is_lt
-balance-requires-else-is_lt g t c =
-    let p = c.in-Some.parts in
-    let near = c.in-Some.ensures.balanced in
-    let whole = length-fork p.left.0 p.item p.right.0 c.in-Some.ensures.list in
-    record { near = (omega arith, omega arith); fits = omega arith }
+    let n = c.in-Fork in
+    let e = parts_of c.tree.view_is c.tree.invariant c.in-Some.is (sym c.deref_mut.ensures.value ∙ n.is) in
+    let whole = length-fork n.left.0 n.other n.right.0 e.list in
+    let part = length-fork c.put.new.tree.0 n.other n.right.0 c.rebalance.ensures.list in
+    omega (arith, c.put.ensures.longer, whole, part)
 
 pub returns-else-is_lt-clause-longer : goal.returns-else-is_lt-clause-longer
 returns-else-is_lt-clause-longer g t c =
-    let p = c.in-Some.parts in
-    let whole = length-fork p.left.0 p.item p.right.0 c.in-Some.ensures.list in
-    let part = length-fork p.left.0 p.item c.put-right.result.0 c.balance-else-is_lt.ensures.list in
-    omega arith
+    let n = c.in-Fork in
+    let e = parts_of c.tree.view_is c.tree.invariant c.in-Some.is (sym c.deref_mut.ensures.value ∙ n.is) in
+    let whole = length-fork n.left.0 n.other n.right.0 e.list in
+    let part = length-fork n.left.0 n.other c.put-else-is_lt.new.tree.0 c.rebalance-else-is_lt.ensures.list in
+    omega (arith, c.put-else-is_lt.ensures.longer, whole, part)
+
+pub returns-then-is_lt-clause-height : goal.returns-then-is_lt-clause-height
+returns-then-is_lt-clause-height g t c =
+    let n = c.in-Fork in
+    let e = parts_of c.tree.view_is c.tree.invariant c.in-Some.is (sym c.deref_mut.ensures.value ∙ n.is) in
+    higher_left n.left.1 n.right.1 _ _ _ e.height e.balanced c.put.ensures.height c.rebalance.ensures.height
 
 pub returns-else-is_lt-clause-height : goal.returns-else-is_lt-clause-height
 returns-else-is_lt-clause-height g t c =
-    let p = c.in-Some.parts in
-    higher_right p.left.1 p.right.1 _ _ _ c.in-Some.ensures.height c.in-Some.ensures.balanced c.put-right.ensures.height c.balance-else-is_lt.ensures.height
+    let n = c.in-Fork in
+    let e = parts_of c.tree.view_is c.tree.invariant c.in-Some.is (sym c.deref_mut.ensures.value ∙ n.is) in
+    higher_right n.left.1 n.right.1 _ _ _ e.height e.balanced c.put-else-is_lt.ensures.height c.rebalance-else-is_lt.ensures.height

@@ -1,0 +1,32 @@
+-- A tree that is opened at its root.
+use Rattle.std.proofs.Common.{◌≡◌, ℕ, List, [], ◌++◌, sym, ap, ◌∙◌, subst}
+use Rattle.std.specs.Prelude.{Option, None, Some, Box}
+use Rattle.std.specs.Box.{with_value}
+use Rattle.std.specs.declared.alloc.Global.{Global}
+use Rattle.amr_tables.specs.declared.tree.Node.{Node}
+use Rattle.amr_tables.specs.declared.tree.Node.TheVariants.{Spare, Fork}
+use Rattle.amr_tables.specs.Balanced.{root_view, node_view, IsBalanced, IsBalancedRoot}
+use Rattle.amr_tables.specs.Parted.{IsPartsOf}
+
+pub parts_of : {D : Type 0} {tree l r : List D × ℕ} {root : Option (Box (Node D) Global)} {node : Box (Node D) Global} {x : D} {h : ℕ} → root_view root ≡ tree → IsBalancedRoot root → root ≡ Some node → node.value ≡ Fork l x h r → IsPartsOf tree (record { memory = node; left = l; item = x; right = r })
+parts_of {node = node} view good some fork =
+    let whole = sym view ∙ ap root_view some ∙ ap node_view fork in
+    let balanced = subst IsBalanced fork (subst IsBalancedRoot some good) in
+    record {
+      list = ap (λ t. t.0) whole;
+      height = ap (λ t. t.1) whole ∙ balanced.0;
+      balanced = balanced.1;
+    }
+
+-- the items of the two sides
+abbrev others_of : {D : Type 0} → Node D → List D
+others_of Spare = []
+others_of (Fork l item height r) = l.0 ++ r.0
+
+abbrev others_in : {D : Type 0} → Option (Box (Node D) Global) → List D
+others_in None = []
+others_in (Some node) = others_of node.value
+
+-- of a node that is taken out of its memory
+pub same_others : {D : Type 0} {l r m s : List D × ℕ} {x y : D} {h k : ℕ} {memory : Box (Node D) Global} (node : Box (Node D) Global) → Some memory ≡ Some (with_value node (Fork m y k s)) → Fork l x h r ≡ memory.value → l.0 ++ r.0 ≡ m.0 ++ s.0
+same_others node some fork = ap others_of fork ∙ ap others_in some
