@@ -6,8 +6,8 @@ use amr_matchers::Matchers;
 use amr_stated::Grouping;
 use amr_time::Span;
 
-/// The settings of a route. Each is the route's own, or that of the nearest route above that has
-/// it, or the default.
+/// The settings of a route. The receiver, the grouping and the three times are the route's own, or
+/// those of the nearest route above that has them, or the defaults.
 #[derive(Drop)]
 pub struct Settings {
     pub parent: Option<usize>,

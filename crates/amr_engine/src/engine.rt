@@ -126,7 +126,8 @@ impl Engine {
         self.store.forget();
     }
 
-    /// Returns the state. `amr_state::views` lists its parts.
+    /// Returns the state. `Store` has a getter for each part, and `amr_state::views` lists the
+    /// groups.
     pub fn state(&self) -> &Store
         ensures { result.now.state ≡ self.now.state }
     {

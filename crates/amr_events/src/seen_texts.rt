@@ -10,7 +10,8 @@ use std::alloc::{AllocError, Global};
 use std::cmp::Ordering;
 use std::collections::BTreeSet;
 
-/// Texts and labels that were read before. Looking one up takes about the logarithm of their number.
+/// Texts and labels that were read before. Looking up a text takes about the logarithm of their
+/// number, and looking up labels mostly one or two comparisons.
 #[derive(Drop)]
 pub(crate) struct SeenTexts {
     texts: BTreeSet<Text>,

@@ -1,5 +1,5 @@
 //! What patterns were asked, and what they answered. `regex` takes several microseconds for each
-//! match, so routing asks each pattern once for one value.
+//! match, so routes, rules and silences look here before they ask it.
 ghost use Rattle.std.specs.Prelude.{◌≡◌, true, IfOk, IfSome};
 ghost use Rattle.std.specs.List.{All};
 ghost use Rattle.amr_matchers.specs.Patterns.{pattern_matches};

@@ -1,5 +1,5 @@
-//! Asking a list of matchers for many label sets at once, one matcher after the other. Flushes ask
-//! all silences for the members of a group like this.
+//! Asking a list of matchers for many label sets at once, one matcher after the other. Flushes with
+//! several new members ask silences like this.
 ghost use Rattle.std.specs.Prelude.{◌≡◌, true, map, IfOk};
 ghost use Rattle.std.specs.List.{list_any};
 ghost use Rattle.amr_matchers.specs.Candidates.{with_matches};

@@ -274,7 +274,8 @@ impl Session {
         self.engine.explain(labels)
     }
 
-    /// Returns the state at the cursor. `amr_state::views` lists its parts.
+    /// Returns the state at the cursor. `Store` has a getter for each part, and `amr_state::views`
+    /// lists the groups.
     pub fn state(&self) -> &Store
         ensures { result.now.state ≡ self.now.state }
     {

@@ -121,8 +121,8 @@ fn possible_sources<'a, A: AlertStore>(
     }
 }
 
-/// Returns the label that the fewest alerts have, among those of these names that have a value in a
-/// label set. The count of alerts is not part of the contract.
+/// Returns the label that the fewest label sets have that were ever stored, among those of these
+/// names that have a value in a label set. The count is not part of the contract.
 fn rarest_label<'a, A: AlertStore>(
     names: &'a [Text],
     labels: &'a Labels,

@@ -10,8 +10,9 @@ use amr_labels::{Exact, LabelMap, Labels};
 use amr_time::{Moment, Span};
 use std::alloc::{AllocError, Global};
 
-/// An entry of the notification log: what the last notification of a group to an integration was
-/// about.
+/// An entry of the notification log: the alerts of a group for which an integration was last due. It
+/// is also written, and nobody notified, if only resolved alerts are left and the integration doesn't
+/// send them.
 #[derive(Drop)]
 pub struct LogEntry {
     pub time: Moment,
@@ -69,7 +70,7 @@ fn is_before(moment: Moment, span: Span, now: Moment) -> bool
     moment.nanoseconds() + u128::from(span.nanoseconds()) < now.nanoseconds()
 }
 
-/// Returns whether a notification is due, given the entry of the last one.
+/// Returns whether a new entry is due, given the last one.
 fn differs(
     entry: &LogEntry,
     firing: &LabelMap<()>,

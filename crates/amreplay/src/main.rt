@@ -1,5 +1,5 @@
 //! The program `amreplay`: it replays incidents of Prometheus Alertmanager. Here are only its
-//! arguments and its files; all else is in `program`.
+//! arguments and its files; all else is in the modules, and `program` calls the others.
 #![tactic(auto)]
 
 ghost use Rattle.std.specs.Prelude.{◌≡◌};
