@@ -10,9 +10,9 @@ use amr_labels::{Exact, LabelMap, Labels};
 use amr_time::{Moment, Span};
 use std::alloc::{AllocError, Global};
 
-/// An entry of the notification log: the alerts of a group for which an integration was last due. It
-/// is also written, and nobody notified, if only resolved alerts are left and the integration doesn't
-/// send them.
+/// An entry of the notification log: the alerts of a group for which an integration was last due.
+/// It is also written, and nobody notified, if only resolved alerts are left and the integration
+/// doesn't send them.
 #[derive(Drop)]
 pub struct LogEntry {
     pub time: Moment,
