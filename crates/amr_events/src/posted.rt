@@ -79,7 +79,7 @@ fn alert(alloc: Global, seen: &mut SeenTexts, alert: &Value) -> Result<PostedAle
     ensures { Reads (λ a. a) result (alert_of (view alert.now)) }
 {
     let stated = alert.get("labels").ok_or(LineError::Faulty)?;
-    let labels = seen.share_labels(alloc, texts(alloc, stated)?)?;
+    let labels = seen.labels(alloc, stated)?;
     let annotations = annotations(alloc, seen, alert)?;
     let starts_at = time(alert, "startsAt")?;
     let ends_at = time(alert, "endsAt")?;

@@ -2,10 +2,17 @@
 //! repeated in most lines, and most alerts are posted again, so `Script::read` shares them: it holds
 //! each text once, and the labels of an alert once, however often they are posted.
 ghost use Rattle.std.specs.Prelude.{◌≡◌, true, IfOk, IfSome};
+ghost use Rattle.serde_json.specs.View.{view};
+ghost use Rattle.amr_events.specs.Answers.{Reads};
+ghost use Rattle.amr_events.specs.Shapes.{texts_in};
 
+use crate::error::LineError;
+use crate::latest_labels::LatestLabels;
+use crate::shapes::texts;
 use amr_labels::{Labels, Text};
 use amr_posts::PostedLabels;
 use amr_tables::Keyed;
+use serde_json::Value;
 use std::alloc::{AllocError, Global};
 use std::cmp::Ordering;
 use std::collections::BTreeSet;
@@ -14,6 +21,7 @@ use std::collections::BTreeSet;
 /// number, and looking up labels mostly one or two comparisons.
 #[derive(Drop)]
 pub(crate) struct SeenTexts {
+    latest: LatestLabels,
     texts: BTreeSet<Text>,
     posted: Keyed<Labels, PostedLabels>,
 }
@@ -22,6 +30,7 @@ impl SeenTexts {
     /// Returns a memory of texts and labels that holds none.
     pub(crate) fn new(alloc: Global) -> SeenTexts {
         SeenTexts {
+            latest: LatestLabels::new(alloc),
             texts: BTreeSet::new(alloc),
             posted: Keyed::new(alloc),
         }
@@ -53,9 +62,26 @@ impl SeenTexts {
         Ok(shared)
     }
 
+    /// Reads the labels that an object of texts states. They are shared with equal labels that were
+    /// read before.
+    pub(crate) fn labels(
+        &mut self,
+        alloc: Global,
+        stated: &Value,
+    ) -> Result<PostedLabels, LineError>
+        ensures { Reads (λ labels. labels) result (texts_in (view stated.now)) }
+    {
+        if let Some(known) = self.latest.get(stated) {
+            return Ok(known.clone()?);
+        }
+        let labels = self.share_labels(alloc, texts(alloc, stated)?)?;
+        self.latest.note(stated, labels.clone()?)?;
+        Ok(labels)
+    }
+
     /// Returns the posted labels of names and values. They are shared with equal labels that were
     /// returned before.
-    pub(crate) fn share_labels(
+    fn share_labels(
         &mut self,
         alloc: Global,
         pairs: Vec<(Text, Text)>,
