@@ -1,5 +1,5 @@
 //! Tests of what no command of the program shows: places of faulty matcher texts, the last moment,
-//! numbers of label sets, and copies.
+//! numbers of label sets, copies, and label sets of names that aren't in order.
 use amr_interner::Interner;
 use amr_labels::{Labels, Text};
 use amr_matchers::{Matchers, ParseError};
@@ -119,5 +119,26 @@ fn a_copy_of_a_label_set_is_equal(rt: HostRuntime) -> Result<(), Fail> {
     let labels = label_set(rt.alloc(), "alertname")?;
     let copy = labels.copy()?;
     assert!(rt; copy == labels && copy.len() == 1 && copy.value_of("alertname") == "1");
+    Ok(())
+}
+
+/// Names and values that aren't in order: one name is repeated, and one value is empty. The names of
+/// a JSON object are in order, so no script has such a list.
+const UNORDERED: [(&str, &str); 4] = [("b", "1"), ("a", "2"), ("b", "3"), ("c", "")];
+
+/// Returns the label set of names that aren't in order.
+fn unordered_labels(alloc: Global) -> Result<Labels, Fail> {
+    let mut pairs = Vec::new(alloc);
+    for (name, value) in &UNORDERED {
+        pairs.push((Text::from_str(alloc, name)?, Text::from_str(alloc, value)?))?;
+    }
+    let found = Labels::of_pairs(alloc, pairs.as_slice())?;
+    Ok(found.ok_or("a name is empty")?)
+}
+
+#[test]
+fn of_a_repeated_name_the_last_value_counts(rt: HostRuntime) -> Result<(), Fail> {
+    let labels = unordered_labels(rt.alloc())?;
+    assert!(rt; labels.len() == 2 && labels.value_of("a") == "2" && labels.value_of("b") == "3");
     Ok(())
 }
