@@ -11,5 +11,6 @@ pub mod Copied
 pub mod Growing
 pub mod QuietLaws
 pub mod QuietStays
+pub mod MovesNoted
 pub mod Remembering
 pub mod Forgetting

@@ -387,3 +387,19 @@ pub still_by : (s : State) (from until end : Moment) → end ≤ until → no_si
 still_by s from until end sooner silences alerts =
     let same : from ≤ from = omega arith in
     record { sources = all_sources from end s.alerts s.config.rules alerts; silences = silences_later from from until end same sooner (entries s.silences) silences }
+
+outside_now : (from until m : Moment) → until ≡ from + 1 → is_outside from until m ≡ true
+outside_now from until m next = grind (arith, nat_tests)
+
+module _ (from until : Moment) (next : until ≡ from + 1) where
+  alerts_now : (stored : List (LabelSet × Alert)) → list_all (λ one. is_outside from until one.1.ends_at) stored ≡ true
+  alerts_now [] = refl
+  alerts_now (one ∷ stored) = λ i. outside_now from until one.1.ends_at next i && alerts_now stored i
+
+  silences_now : (stored : List (ℕ × Silence)) → list_all (λ one. is_outside from until one.1.starts_at && is_outside from until one.1.ends_at) stored ≡ true
+  silences_now [] = refl
+  silences_now (one ∷ stored) = λ i. (outside_now from until one.1.starts_at next i && outside_now from until one.1.ends_at next i) && silences_now stored i
+
+  -- nothing changes within a nanosecond
+  pub still_now : (s : State) → IsStill s from until
+  still_now s = record { sources = all_sources from until s.alerts s.config.rules (alerts_now (entries s.alerts)); silences = silences_now (entries s.silences) }

@@ -11,6 +11,7 @@ ghost use Rattle.amr_engine.specs.Outcomes.{acceptance, outcome_view};
 ghost use Rattle.amr_engine.specs.Applied.{Leads, IsDone, run_moved};
 ghost use Rattle.amr_engine.specs.Prepared.{performed, skipped_by, entries_of};
 ghost use Rattle.amr_engine.specs.Weight.{first_weight};
+ghost use Rattle.amr_engine.specs.QuietMoves.{AreQuietMoves};
 ghost use Rattle.amr_engine.specs.Kept.{IsLightIfDone, IsLightIfAccepted};
 
 use crate::moves::advance;
@@ -18,6 +19,7 @@ use crate::outcome::Outcome;
 use crate::post::put_all;
 use crate::prepare::{Prepared, prepare};
 use crate::quiet::QuietGroups;
+use crate::quiet_moves::QuietMoves;
 use crate::reload::reload;
 use crate::silencing::store_update;
 use amr_events::Event;
@@ -29,22 +31,26 @@ use std::alloc::{AllocError, Global};
 
 /// Applies an event to the store in place. If the event is refused, or an allocation fails, the
 /// store is left half-changed. The caller must then put the open record back and clear `memory`,
-/// which is what the engine remembers of quiet groups.
+/// which is what the engine remembers of quiet groups. What `quiet` knows and learns holds of the
+/// state before the event.
 pub(crate) fn attempt(
     store: &mut Store,
     memory: &mut QuietGroups,
+    quiet: &mut QuietMoves,
     event: &Event,
 ) -> Result<Outcome, AllocError>
-    requires { IsTrueOf memory.old store.old.state }
+    requires memory { IsTrueOf memory.old store.old.state }
+    requires quiet { AreQuietMoves quiet.old store.old.state }
     ensures outcome { IfOk result
         (λ outcome. Leads store.old.state event.now store.new.state outcome) }
     ensures kept { undone store.new ≡ undone store.old }
     ensures light { IfOk result (λ outcome.
         IsLightIfAccepted store.old event.now store.new outcome) }
     ensures memory { OnOk result (IsTrueOf memory.new store.new.state) }
+    ensures quiet { AreQuietMoves quiet.new store.old.state }
 {
     let earlier = store.notes().len();
-    match happen(store, memory, event)? {
+    match happen(store, memory, quiet, event)? {
         Ok(done) => accepted(store, earlier, done),
         Err(reason) => Ok(Outcome::Refused(reason)),
     }
@@ -64,13 +70,16 @@ struct Done {
 fn happen(
     store: &mut Store,
     memory: &mut QuietGroups,
+    quiet: &mut QuietMoves,
     event: &Event,
 ) -> Result<Result<Done, Reason>, AllocError>
-    requires { IsTrueOf memory.old store.old.state }
+    requires memory { IsTrueOf memory.old store.old.state }
+    requires quiet { AreQuietMoves quiet.old store.old.state }
     ensures done { IfOk result (λ done. IsDone store.old.state event.now store.new.state done) }
     ensures kept { undone store.new ≡ undone store.old }
     ensures light { IfOk result (λ done. IsLightIfDone store.old event.now store.new done) }
     ensures memory { OnOk result (IsTrueOf memory.new store.new.state) }
+    ensures quiet { AreQuietMoves quiet.new store.old.state }
 {
     let at = event.at();
     if at.nanoseconds() < store.moment().nanoseconds() {
@@ -78,7 +87,7 @@ fn happen(
     }
     match prepare(store, at, event.act())? {
         Err(reason) => Ok(Err(reason)),
-        Ok(prepared) => match go_to(store, memory, at)? {
+        Ok(prepared) => match go_to(store, memory, quiet, at)? {
             None => Ok(Err(Reason::TooManyMoves)),
             Some(moves) => {
                 let skipped = perform(store, memory, prepared)?;
@@ -93,18 +102,21 @@ fn happen(
 fn go_to(
     store: &mut Store,
     memory: &mut QuietGroups,
+    quiet: &mut QuietMoves,
     at: Moment,
 ) -> Result<Option<usize>, AllocError>
     requires late { at ≤ latest_read }
     requires memory { IsTrueOf memory.old store.old.state }
+    requires quiet { AreQuietMoves quiet.old store.old.state }
     ensures made { IfOk result (λ made. moves_to store.new.state made
         ≡ run_moved at (advance move_limit at store.old.state)) }
     ensures kept { undone store.new ≡ undone store.old }
     ensures grown { OnOk result (GrownBy (1 + 2 * first_weight move_limit at store.old.state)
         store.old store.new) }
     ensures memory { OnOk result (IsTrueOf memory.new store.new.state) }
+    ensures quiet { AreQuietMoves quiet.new store.old.state }
 {
-    let made = advance(store, memory, at)?;
+    let made = advance(store, memory, quiet, at)?;
     store.set_moment(at)?;
     Ok(made)
 }

@@ -7,12 +7,14 @@ ghost use Rattle.amr_state.specs.declared.displaced.Displaced.{Displaced};
 ghost use Rattle.amr_engine.specs.Events.{after_event, outcome_of};
 ghost use Rattle.amr_engine.specs.Outcomes.{outcome_view};
 ghost use Rattle.amr_engine.specs.Kept.{Records, RecordOf};
+ghost use Rattle.amr_engine.specs.QuietMoves.{AreQuietMoves};
 ghost use Rattle.amr_engine.specs.Explain.{verdicts};
 
 use crate::apply::attempt;
 use crate::explain::{self, Verdict};
 use crate::outcome::Outcome;
 use crate::quiet::QuietGroups;
+use crate::quiet_moves::QuietMoves;
 use amr_config::Config;
 use amr_events::Event;
 use amr_labels::Labels;
@@ -71,8 +73,29 @@ impl Engine {
             (r : List Displaced) × RecordOf self.old event.now self.new outcome r) }
         ensures err { OnErr result (self.new ≡ self.old) }
     {
+        let mut quiet = QuietMoves::new(self.store.alloc());
+        self.apply_noting(&mut quiet, event)
+    }
+
+    /// Applies an event as `apply` does. What `quiet` knows of the moves from this state saves work,
+    /// and it learns of those that the event makes.
+    pub fn apply_noting(
+        &mut self,
+        quiet: &mut QuietMoves,
+        event: &Event,
+    ) -> Result<Outcome, AllocError>
+        requires { AreQuietMoves quiet.old self.old.state }
+        ensures quiet { AreQuietMoves quiet.new self.old.state }
+        ensures outcome { IfOk result (λ outcome. outcome_view outcome
+            ≡ outcome_of self.old.state event.now) }
+        ensures state { OnOk result (self.new.state ≡ after_event self.old.state event.now) }
+        ensures past { OnOk result (self.new.past ≡ self.old.past ++ self.old.state ∷ []) }
+        ensures record_kept { IfOk result (λ outcome.
+            (r : List Displaced) × RecordOf self.old event.now self.new outcome r) }
+        ensures err { OnErr result (self.new ≡ self.old) }
+    {
         self.store.begin()?;
-        match attempt(&mut self.store, &mut self.memory, event) {
+        match attempt(&mut self.store, &mut self.memory, quiet, event) {
             Ok(outcome) => {
                 if outcome.is_refused() {
                     self.store.undo_open();

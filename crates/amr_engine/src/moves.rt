@@ -1,15 +1,18 @@
 //! The moves of an event: the timers that fire at or before a moment, the earliest first. A move is
 //! the removal of an alert, the removal of a group, or the flush of a group. Flushes go through the
 //! memory of quiet groups (`quiet.rt`).
-ghost use Rattle.std.specs.Prelude.{◌≡◌, ◌≤◌, ◌*◌, OnOk, IfOk};
+ghost use Rattle.std.specs.Prelude.{◌≡◌, ◌≤◌, ◌*◌, true, OnOk, IfOk};
 ghost use Rattle.amr_time.specs.Time.{latest_read};
 ghost use Rattle.amr_state.specs.Kept.{GrownBy, undone};
 ghost use Rattle.amr_engine.specs.Remembered.{IsTrueOf};
 ghost use Rattle.amr_engine.specs.Moves.{move, advance, counted_run, moves_to};
 ghost use Rattle.amr_engine.specs.Events.{move_limit};
 ghost use Rattle.amr_engine.specs.Weight.{move_weight, first_weight};
+ghost use Rattle.amr_engine.specs.QuietMoves.{OnlySets, AreQuietMoves};
 
+use crate::flush::reset_timer;
 use crate::quiet::QuietGroups;
+use crate::quiet_moves::QuietMoves;
 use amr_state::{Due, Kind, RouteLabels, Store, next_due};
 use amr_time::Moment;
 use std::alloc::AllocError;
@@ -17,11 +20,42 @@ use std::alloc::AllocError;
 /// The most moves that one event may make. It bounds the work of an event far in the future.
 const MOST_MOVES: usize = 10_000;
 
-/// Makes a move, at its own moment and not at the event's.
-fn make(store: &mut Store, memory: &mut QuietGroups, due: Due) -> Result<(), AllocError>
+/// Makes a move, at its own moment and not at the event's. If the move is known to only set a group
+/// timer, it does just that. Returns whether the move is known to have done only that.
+fn make(
+    store: &mut Store,
+    memory: &mut QuietGroups,
+    due: Due,
+    is_quiet: bool,
+) -> Result<bool, AllocError>
+    requires late { due.moment ≤ latest_read }
+    requires memory { IsTrueOf memory.old store.old.state }
+    requires quiet { is_quiet ≡ true → OnlySets store.old.state due }
+    ensures ok { OnOk result (store.new.state ≡ move due store.old.state) }
+    ensures quiet { IfOk result (λ quiet. quiet ≡ true → OnlySets store.old.state due) }
+    ensures kept { undone store.new ≡ undone store.old }
+    ensures grown { GrownBy (2 * move_weight store.old.state due due.kind) store.old store.new }
+    ensures memory { OnOk result (IsTrueOf memory.new store.new.state) }
+{
+    if !is_quiet {
+        return fire(store, memory, due);
+    }
+    let at = Moment::from_nanoseconds(due.moment);
+    let group = RouteLabels {
+        route: due.route,
+        labels: due.labels,
+    };
+    reset_timer(store, at, &group)?;
+    Ok(true)
+}
+
+/// Fires a timer: removes an alert or a group, or flushes a group. Returns whether this is known to
+/// have set a group timer alone.
+fn fire(store: &mut Store, memory: &mut QuietGroups, due: Due) -> Result<bool, AllocError>
     requires late { due.moment ≤ latest_read }
     requires memory { IsTrueOf memory.old store.old.state }
     ensures ok { OnOk result (store.new.state ≡ move due store.old.state) }
+    ensures quiet { IfOk result (λ quiet. quiet ≡ true → OnlySets store.old.state due) }
     ensures kept { undone store.new ≡ undone store.old }
     ensures grown { GrownBy (2 * move_weight store.old.state due due.kind) store.old store.new }
     ensures memory { OnOk result (IsTrueOf memory.new store.new.state) }
@@ -35,9 +69,13 @@ fn make(store: &mut Store, memory: &mut QuietGroups, due: Due) -> Result<(), All
     match kind {
         Kind::AlertRemoval => {
             memory.alert_leaves(store, &labels);
-            store.remove_alert(&labels)
+            store.remove_alert(&labels)?;
+            Ok(false)
         }
-        Kind::GroupRemoval => store.remove_timer(&RouteLabels { route, labels }),
+        Kind::GroupRemoval => {
+            store.remove_timer(&RouteLabels { route, labels })?;
+            Ok(false)
+        }
         Kind::GroupFlush => {
             let at = Moment::from_nanoseconds(moment);
             memory.flush(store, at, &RouteLabels { route, labels })
@@ -46,25 +84,32 @@ fn make(store: &mut Store, memory: &mut QuietGroups, due: Due) -> Result<(), All
 }
 
 /// Makes every move due at or before a moment, and returns how many there were. Returns `None` if
-/// there are more than `MOST_MOVES`; the caller then undoes those that were made.
+/// there are more than `MOST_MOVES`; the caller then undoes those that were made. Moves that `quiet`
+/// knows to set a group timer alone do just that, and it learns of the others whether they do.
 pub(crate) fn advance(
     store: &mut Store,
     memory: &mut QuietGroups,
+    quiet: &mut QuietMoves,
     at: Moment,
 ) -> Result<Option<usize>, AllocError>
     requires late { at ≤ latest_read }
     requires memory { IsTrueOf memory.old store.old.state }
+    requires quiet { AreQuietMoves quiet.old store.old.state }
     ensures ok { IfOk result (λ made. moves_to store.new.state made
         ≡ counted_run (advance move_limit at store.old.state)) }
     ensures kept { undone store.new ≡ undone store.old }
     ensures grown { OnOk result (GrownBy (2 * first_weight move_limit at store.old.state)
         store.old store.new) }
     ensures memory { OnOk result (IsTrueOf memory.new store.new.state) }
+    ensures quiet { AreQuietMoves quiet.new store.old.state }
 {
     for made in 0..MOST_MOVES {
         match next_due(store, at)? {
             None => return Ok(Some(made)),
-            Some(due) => make(store, memory, due)?,
+            Some(due) => {
+                let is_quiet = make(store, memory, due, quiet.is_quiet(made))?;
+                quiet.note(made, is_quiet)?;
+            }
         }
     }
     if next_due(store, at)?.is_some() {

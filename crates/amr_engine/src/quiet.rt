@@ -109,24 +109,28 @@ impl QuietGroups {
     }
 
     /// Flushes a group at a moment, as `flush` of `flush.rt` does. For a quiet group it only sets the
-    /// group timer, which takes no look at the members. After any other flush it forgets the groups with the same labels,
-    /// because they may share entries of the notification log.
+    /// group timer, which takes no look at the members. After any other flush it forgets the groups
+    /// with the same labels, because they may share entries of the notification log. Returns whether
+    /// the flush is known to have set the group timer alone.
     pub(crate) fn flush(
         &mut self,
         store: &mut Store,
         at: Moment,
         group: &RouteLabels,
-    ) -> Result<(), AllocError>
+    ) -> Result<bool, AllocError>
         requires late { at ≤ latest_read }
         requires memory { IsTrueOf self.old store.old.state }
         ensures ok { OnOk result (store.new.state ≡ flush at group.now store.old.state) }
+        ensures quiet { IfOk result (λ quiet. quiet ≡ true
+            → flush at group.now store.old.state ≡ with_timer_reset at group.now store.old.state) }
         ensures kept { undone store.new ≡ undone store.old }
         ensures grown { GrownBy (2 * flush_weight store.old.state group.now) store.old store.new }
         ensures memory { OnOk result (IsTrueOf self.new store.new.state) }
     {
         if self.is_known(at, group) {
             self.has_saved = true;
-            return reset_timer(store, at, group);
+            reset_timer(store, at, group)?;
+            return Ok(true);
         }
         self.flush_unknown(store, at, group)
     }
@@ -138,10 +142,12 @@ impl QuietGroups {
         store: &mut Store,
         at: Moment,
         group: &RouteLabels,
-    ) -> Result<(), AllocError>
+    ) -> Result<bool, AllocError>
         requires late { at ≤ latest_read }
         requires memory { IsTrueOf self.old store.old.state }
         ensures ok { OnOk result (store.new.state ≡ flush at group.now store.old.state) }
+        ensures quiet { IfOk result (λ quiet. quiet ≡ true
+            → flush at group.now store.old.state ≡ with_timer_reset at group.now store.old.state) }
         ensures kept { undone store.new ≡ undone store.old }
         ensures grown { GrownBy (2 * flush_weight store.old.state group.now) store.old store.new }
         ensures memory { OnOk result (IsTrueOf self.new store.new.state) }
@@ -149,15 +155,16 @@ impl QuietGroups {
         let members = members_of(store, group)?;
         let through = let_through(store, at, group.route, members.as_slice())?;
         if self.is_quiet(store, at, group, members.as_slice(), through.as_slice())? {
-            return reset_timer(store, at, group);
+            reset_timer(store, at, group)?;
+            return Ok(true);
         }
-        self.flushes = self.flushes.saturating_add(1);
         self.forget(&group.labels);
-        flush(store, at, group, members.as_slice(), through.as_slice())
+        flush(store, at, group, members.as_slice(), through.as_slice())?;
+        Ok(false)
     }
 
     /// Returns whether a flush of the group with these members, of which no stage mutes `through`,
-    /// only sets its timer. A `false` may only mean that finding out isn't worth it yet.
+    /// only sets its timer. If it isn't worth it yet to find out until when, nothing is remembered.
     fn is_quiet(
         &mut self,
         store: &Store,
@@ -175,7 +182,10 @@ impl QuietGroups {
         ensures memory { OnOk result (IsTrueOf self.new store.now.state) }
     {
         match self.still_until(store, at) {
-            None => Ok(false),
+            None => {
+                self.flushes = self.flushes.saturating_add(1);
+                is_quiet_now(store, at, group, members, through)
+            }
             Some(until) => self.find(store, at, group, members, through, until),
         }
     }
@@ -347,6 +357,27 @@ fn of_others(
         }
     }
     Ok(others)
+}
+
+/// Returns whether a flush of the group with these members, of which no stage mutes `through`, only
+/// sets its timer.
+fn is_quiet_now(
+    store: &Store,
+    at: Moment,
+    group: &RouteLabels,
+    members: &[Member],
+    through: &[Member],
+) -> Result<bool, AllocError>
+    requires members { members.now ≡ state.members store.now.state group.now }
+    requires through { through.now ≡ let_through store.now.state at group.now.route members.now }
+    ensures { IfOk result (λ quiet. quiet ≡ true
+        → flush at group.now store.now.state ≡ with_timer_reset at group.now store.now.state) }
+{
+    let next = at.nanoseconds() + 1;
+    match quiet_until(store, at, group, members, through, next)? {
+        None => Ok(false),
+        Some(_) => Ok(true),
+    }
 }
 
 /// Returns until when a group with these members is quiet from a moment on, at the latest until

@@ -3,6 +3,7 @@ use Rattle.std.specs.Prelude.{◌≡◌, ◌≤◌, length, take}
 use Rattle.amr_state.specs.State.{start}
 use Rattle.amr_replay.specs.Session.{View, at_cursor}
 use Rattle.amr_replay.specs.Records.{AreRecords}
+use Rattle.amr_replay.specs.QuietEvents.{AreNoted}
 use Rattle.amr_replay.specs.declared.session.Session.TheInside.{Inside}
 
 abbrev pub view_of : Inside → View
@@ -15,7 +16,9 @@ view_of session = record {
 }
 
 -- The session shows the run of the events before its cursor, and has one record for each of them.
+-- What it notes of moves holds.
 pub record IsAtCursor (session : Inside) : Type 0 where
   pub view : view_of session ≡ at_cursor session.config session.script session.cursor
   pub within : session.cursor ≤ length session.script
   pub records : AreRecords (start session.config) (take session.cursor session.script) session.engine.records
+  pub quiet : AreNoted session.config session.script session.quiet

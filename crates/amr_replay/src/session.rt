@@ -8,6 +8,7 @@ ghost use Rattle.amr_engine.specs.Explain.{verdicts};
 ghost use Rattle.amr_replay.specs.Session.{at_cursor, state_at, outcomes_passed, events_until};
 ghost use Rattle.amr_replay.specs.Records.{HasEntries};
 
+use crate::quiet_events::QuietEvents;
 use amr_config::Config;
 use amr_engine::{Engine, Outcome, Verdict};
 use amr_events::{Event, Script};
@@ -51,6 +52,7 @@ pub struct Session {
     script: Script,
     cursor: usize,
     engine: Engine,
+    quiet: QuietEvents,
 }
 
 impl Model for Session {
@@ -82,6 +84,7 @@ impl Session {
             script,
             cursor: 0,
             engine,
+            quiet: QuietEvents::new(alloc),
         })
     }
 
@@ -139,7 +142,11 @@ impl Session {
         if self.cursor == self.script.len() {
             return Err(SessionError::AtEnd);
         }
-        let outcome = self.engine.apply(self.script.event(self.cursor))?;
+        let mut quiet = self.quiet.take(self.cursor);
+        let event = self.script.event(self.cursor);
+        let applied = self.engine.apply_noting(&mut quiet, event);
+        self.quiet.put(self.cursor, quiet);
+        let outcome = applied?;
         self.cursor += 1;
         Ok(outcome)
     }
@@ -262,7 +269,10 @@ impl Session {
             ≡ outcome_of self.old.state event.now) }
         ensures same { self.new ≡ self.old }
     {
-        let outcome = self.engine.apply(event)?;
+        let mut quiet = self.quiet.take(self.cursor);
+        let applied = self.engine.apply_noting(&mut quiet, event);
+        self.quiet.put(self.cursor, quiet);
+        let outcome = applied?;
         self.engine.undo_last();
         Ok(outcome)
     }

@@ -4,6 +4,7 @@ use Rattle.amr_engine.specs.Moves.{advance, counted_run}
 use Rattle.amr_engine.specs.Weight.{first_weight}
 use Rattle.amr_engine.proofs.Growing.{none_spent, spent}
 use Rattle.amr_engine.proofs.Cascade.{plus_moves, stops, is_over, goes_on, begins, no_value, some_value, limit_is}
+use Rattle.amr_engine.proofs.MovesNoted.{known_move, note_move, one_more}
 use Rattle.amr_engine.proofs.moves.advance.Goals as goal
 
 pub returns-in-None-clause-ok : goal.returns-in-None-clause-ok
@@ -16,19 +17,30 @@ loop-made-init c = record {
   kept = refl;
   grown = none_spent move_limit c.args.at c.args.store.now.state (length c.args.store.now.current);
   memory = c.requires.memory;
+  here = refl;
+  quiet = c.requires.quiet;
 }
+
+pub make-requires-clause-quiet : goal.make-requires-clause-quiet
+make-requires-clause-quiet c =
+    λ is. known_move c.loop-made.quiet c.loop-made.made c.args.store.now.state c.loop-made.store.state c.args.at c.in-Some.due c.loop-made.invariant.here c.loop-made.invariant.quiet
+    (rw c.in-Some.is at c.in_ok-next_due.ensures.due) (sym c.is_quiet.ensures ∙ is)
 
 pub loop-made-preserved : goal.loop-made-preserved
 loop-made-preserved c =
     let less : c.loop-made.made < move_limit = omega (arith, limit_is, c.loop-made-test.true) in
+    let next = rw c.in-Some.is at c.in_ok-next_due.ensures.due in
+    let made = c.in_ok-is_quiet-in-Some.ensures in
     record {
-      ok = goes_on move_limit c.loop-made.made c.args.at c.loop-made.store.state c.args.store.now.state c.in-Some.due c.loop-made.invariant.ok less (rw c.in-Some.is at c.in_ok-next_due.ensures.due)
-          ∙ ap (λ s. plus_moves (counted_run (advance (move_limit - (c.loop-made.made + 1)) c.args.at s)) (c.loop-made.made + 1)) (sym c.in_ok-make-in-Some.ensures.ok);
-      kept = c.in_ok-make-in-Some.ensures.kept ∙ c.loop-made.invariant.kept;
+      ok = goes_on move_limit c.loop-made.made c.args.at c.loop-made.store.state c.args.store.now.state c.in-Some.due c.loop-made.invariant.ok less next
+          ∙ ap (λ s. plus_moves (counted_run (advance (move_limit - (c.loop-made.made + 1)) c.args.at s)) (c.loop-made.made + 1)) (sym made.ok);
+      kept = made.kept ∙ c.loop-made.invariant.kept;
       grown = spent move_limit c.loop-made.made c.args.at c.loop-made.store.state c.make.new.store.state c.in-Some.due (length c.loop-made.store.current) (length c.make.new.store.current)
-          (length c.args.store.now.current + 2 * first_weight move_limit c.args.at c.args.store.now.state) c.loop-made.invariant.grown less (rw c.in-Some.is at c.in_ok-next_due.ensures.due)
-          c.in_ok-make-in-Some.ensures.ok c.in_ok-make-in-Some.ensures.grown;
-      memory = c.in_ok-make-in-Some.ensures.memory;
+          (length c.args.store.now.current + 2 * first_weight move_limit c.args.at c.args.store.now.state) c.loop-made.invariant.grown less next made.ok made.grown;
+      memory = made.memory;
+      here = one_more c.loop-made.made c.args.store.now.state c.loop-made.store.state c.make.new.store.state c.args.at c.in-Some.due c.loop-made.invariant.here next made.ok;
+      quiet = note_move c.loop-made.quiet c.note.new.self c.loop-made.made c.in_ok-is_quiet-in-Some.is_quiet c.args.store.now.state c.loop-made.store.state c.args.at c.in-Some.due
+          c.loop-made.invariant.here c.loop-made.invariant.quiet next made.quiet c.in_ok-note-in-Some.ensures.ok;
     }
 
 pub returns-then-is_some-clause-ok : goal.returns-then-is_some-clause-ok

@@ -2,6 +2,7 @@ use Rattle.std.proofs.Common.{◌≡◌, ◌≤◌, ◌+◌, ◌*◌, ◌-◌, l
 use Rattle.amr_engine.specs.Events.{move_limit}
 use Rattle.amr_engine.specs.Moves.{advance, counted_run}
 use Rattle.amr_engine.specs.Remembered.{IsTrueOf}
+use Rattle.amr_engine.specs.QuietMoves.{moved_times, AreQuietMoves}
 use Rattle.amr_state.specs.Kept.{undone}
 use Rattle.amr_engine.specs.Weight.{first_weight}
 use Rattle.amr_engine.proofs.Cascade.{plus_moves}
@@ -14,4 +15,6 @@ invariant-loop-made l = record {
   kept : undone l.store ≡ undone l.fn.store;
   grown : length l.store.current + 2 * first_weight (move_limit - l.made) l.at l.store.state ≤ length l.fn.store.current + 2 * first_weight move_limit l.at l.fn.store.state;
   memory : IsTrueOf l.memory l.store.state;
+  here : l.store.state ≡ moved_times l.made l.fn.store.state;
+  quiet : AreQuietMoves l.quiet l.fn.store.state;
 }

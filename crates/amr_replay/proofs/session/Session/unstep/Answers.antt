@@ -12,6 +12,7 @@ invariant_of-self c =
       view = at_before a.config a.script a.cursor (a.cursor - 1) a.engine.state _ a.engine.past _ (omega arith) c.self.invariant.within c.self.invariant.view c.undo_last.ensures.past;
       within = omega (arith, c.self.invariant.within);
       records = records_last a.config a.script a.cursor (a.cursor - 1) a.engine.records _ c.undo_last.ensures.records.0 (omega arith) c.self.invariant.within c.self.invariant.records c.undo_last.ensures.records.1;
+      quiet = c.self.invariant.quiet;
     }
 
 pub returns : goal.returns

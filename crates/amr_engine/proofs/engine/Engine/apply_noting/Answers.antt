@@ -9,8 +9,8 @@ use Rattle.amr_engine.specs.Remembered.{IsTrueOf}
 use Rattle.amr_engine.specs.declared.engine.Engine.TheInside.{Inside}
 use Rattle.amr_engine.specs.Weight.{event_weight}
 use Rattle.amr_engine.proofs.Settling.{IsLeft, Settled, settled, has_room, past_is, records_are, state_back, put_back_whole, is_idle}
-use Rattle.amr_engine.proofs.engine.Engine.apply.Goals as goal
-use Rattle.amr_engine.proofs.engine.Engine.apply.Goals.{then-is_refused, else-is_refused}
+use Rattle.amr_engine.proofs.engine.Engine.apply_noting.Goals as goal
+use Rattle.amr_engine.proofs.engine.Engine.apply_noting.Goals.{then-is_refused, else-is_refused}
 
 abbrev steps_of : State → List (List Displaced) → Steps
 steps_of state records = record { state = state; past = befores records state; records = records }

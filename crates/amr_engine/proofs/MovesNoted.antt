@@ -1,0 +1,87 @@
+-- What is noted of the moves from a state holds of them.
+use Rattle.std.specs.Prelude.{◌≡◌, ℕ, zero, suc, Bool, true, false, if◌then◌else◌, ◌==◌, ◌+◌, ◌≤◌, ◌*◌, List, [], ◌∷◌, ◌++◌, Option, Some, None, length, get_or, nat_le}
+use Rattle.std.specs.Option.{option_map_or}
+use Rattle.std.proofs.Common.{refl, sym, ap, ◌∙◌, subst, arith}
+use Rattle.std.proofs.lemmas.Bool.Decides.{nat_tests}
+use Rattle.amr_time.specs.Time.{Moment}
+use Rattle.amr_state.specs.declared.due.Due.{Due}
+use Rattle.amr_state.specs.declared.due.Kind.{Kind}
+use Rattle.amr_state.specs.declared.due.Kind.TheVariants.{AlertRemoval, GroupRemoval, GroupFlush}
+use Rattle.amr_state.specs.State.{State, on_route}
+use Rattle.amr_state.specs.Dues.{dues, least_due, due_by, next_due}
+use Rattle.amr_engine.specs.Moves.{move}
+use Rattle.amr_engine.specs.Quiet.{with_timer_reset}
+use Rattle.amr_engine.specs.QuietMoves.{first_due, moved, moved_times, OnlySets, IsQuietMove, AreQuietMoves, noted}
+use Rattle.amr_engine.specs.Weight.{move_weight}
+
+-- a timer that is due by a moment is the first of all
+first_by : (at : Moment) (first : Option Due) (due : Due) → due_by at first ≡ Some due → first ≡ Some due
+first_by at None due is = absurd (cc)
+first_by at (Some first) due is =
+    elim (nat_le first.moment at) as (λ b. (if b then Some first else None) ≡ Some due → Some first ≡ Some due) [
+      | true ↦ λ e. e
+      | false ↦ λ e. absurd (cc)
+    ] is
+
+pub next_is_first : (at : Moment) (s : State) (due : Due) → Some due ≡ next_due at s → first_due s ≡ Some due
+unfolding next_due
+next_is_first at s due is = first_by at (least_due (dues s)) due (sym is)
+
+pub moved_by : (s : State) (due : Due) → first_due s ≡ Some due → moved s ≡ move due s
+moved_by s due is = ap (λ o. option_map_or (λ d. move d s) o s) is
+
+-- one more move
+pub moved_more : (n : ℕ) (s : State) → moved_times (suc n) s ≡ moved (moved_times n s)
+moved_more zero s = refl
+moved_more (suc n) s = moved_more n (moved s)
+
+pub quiet_move : (moves : List Bool) (n : ℕ) (s : State) → AreQuietMoves moves s → get_or moves n false ≡ true → IsQuietMove (moved_times n s)
+quiet_move [] n s known is = absurd (cc)
+quiet_move (quiet ∷ moves) zero s known is = known.0 is
+quiet_move (quiet ∷ moves) (suc n) s known is = quiet_move moves n (moved s) known.1 is
+
+pub one_noted : (moves : List Bool) (quiet : Bool) (s : State) → AreQuietMoves moves s → (quiet ≡ true → IsQuietMove (moved_times (length moves) s)) → AreQuietMoves (moves ++ quiet ∷ []) s
+one_noted [] quiet s known one = (one, tt)
+one_noted (first ∷ moves) quiet s known one = (known.0, one_noted moves quiet (moved s) known.1 one)
+
+-- one more move is noted
+pub still_noted : (moves : List Bool) (made : ℕ) (quiet : Bool) (s : State) → AreQuietMoves moves s → (quiet ≡ true → IsQuietMove (moved_times made s)) → AreQuietMoves (noted made quiet moves) s
+still_noted moves made quiet s known one =
+    elim (made == length moves) as (λ b. (made == length moves) ≡ b → AreQuietMoves (if b then moves ++ quiet ∷ [] else moves) s) [
+      | true ↦ λ e.
+          let all : made ≡ length moves = grind (arith, nat_tests) in
+          one_noted moves quiet s known (subst (λ n. quiet ≡ true → IsQuietMove (moved_times n s)) all one)
+      | false ↦ λ e. known
+    ] refl
+
+same_due : (first : Option Due) (a b : Due) → first ≡ Some a → first ≡ Some b → a ≡ b
+same_due first a b is is' = ap (λ o. option_map_or (λ d. d) o a) (sym is ∙ is')
+
+-- a move of which it is known is the first one
+pub is_quiet_move : (s : State) (due : Due) → first_due s ≡ Some due → OnlySets s due → IsQuietMove s
+is_quiet_move s due is only other is' = subst (OnlySets s) (same_due (first_due s) due other is is') only
+
+-- what is known of a move that comes next
+pub known_move : (moves : List Bool) (made : ℕ) (start s : State) (at : Moment) (due : Due) → s ≡ moved_times made start → AreQuietMoves moves start → Some due ≡ next_due at s
+    → get_or moves made false ≡ true → OnlySets s due
+known_move moves made start s at due here known next quiet =
+    subst (λ (x : State). IsQuietMove x) (sym here) (quiet_move moves made start known quiet) due (next_is_first at s due next)
+
+-- one more move is noted after it was made
+pub note_move : (moves after : List Bool) (made : ℕ) (quiet : Bool) (start s : State) (at : Moment) (due : Due) → s ≡ moved_times made start → AreQuietMoves moves start → Some due ≡ next_due at s
+    → (quiet ≡ true → OnlySets s due) → after ≡ noted made quiet moves → AreQuietMoves after start
+note_move moves after made quiet start s at due here known next only are =
+    subst (λ bits. AreQuietMoves bits start) (sym are)
+    (still_noted moves made quiet start known (λ is. subst (λ (x : State). IsQuietMove x) here (is_quiet_move s due (next_is_first at s due next) (only is))))
+
+-- the state after one more move
+pub one_more : (made : ℕ) (start s after : State) (at : Moment) (due : Due) → s ≡ moved_times made start → Some due ≡ next_due at s → after ≡ move due s → after ≡ moved_times (made + 1) start
+one_more made start s after at due here next moves =
+    let more : suc made ≡ made + 1 = omega arith in
+    moves ∙ sym (moved_by s due (next_is_first at s due next)) ∙ ap moved here ∙ sym (moved_more made start) ∙ ap (λ n. moved_times n start) more
+
+-- a move displaces something
+pub some_weight : (s : State) (due : Due) (kind : Kind) → 1 ≤ 2 * move_weight s due kind
+some_weight s due AlertRemoval = omega arith
+some_weight s due GroupRemoval = omega arith
+some_weight s due GroupFlush = omega arith

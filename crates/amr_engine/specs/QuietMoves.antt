@@ -1,0 +1,37 @@
+-- Which of the moves from a state only set a group timer.
+use Rattle.std.specs.Prelude.{◌≡◌, ℕ, zero, suc, Bool, true, if◌then◌else◌, ◌==◌, List, [], ◌∷◌, ◌++◌, Option, Some, length}
+use Rattle.std.specs.Option.{option_map_or}
+use Rattle.amr_state.specs.declared.due.Due.{Due}
+use Rattle.amr_state.specs.State.{State, on_route}
+use Rattle.amr_state.specs.Dues.{dues, least_due}
+use Rattle.amr_engine.specs.Moves.{move}
+use Rattle.amr_engine.specs.Quiet.{with_timer_reset}
+
+-- the timer that fires first, whenever that is
+abbrev pub first_due : State → Option Due
+first_due s = least_due (dues s)
+
+-- the state after the first timer fired
+abbrev pub moved : State → State
+moved s = option_map_or (λ due. move due s) (first_due s) s
+
+abbrev pub moved_times : ℕ → State → State
+moved_times zero s = s
+moved_times (suc n) s = moved_times n (moved s)
+
+-- the move only sets a group timer
+abbrev pub OnlySets : State → Due → Type 0
+OnlySets s due = move due s ≡ with_timer_reset due.moment (on_route due.route due.labels) s
+
+-- the first move from a state only sets a group timer
+abbrev pub IsQuietMove : State → Type 0
+IsQuietMove s = (due : Due) → first_due s ≡ Some due → OnlySets s due
+
+-- the moves from a state for which the list says so only set a group timer
+abbrev pub AreQuietMoves : List Bool → State → Type 0
+AreQuietMoves [] s = Unit {0}
+AreQuietMoves (quiet ∷ rest) s = (quiet ≡ true → IsQuietMove s) × AreQuietMoves rest (moved s)
+
+-- one more move is noted, if it comes after those that are
+abbrev pub noted : ℕ → Bool → List Bool → List Bool
+noted made quiet moves = if made == length moves then moves ++ quiet ∷ [] else moves
