@@ -1,18 +1,14 @@
 -- What is noted of the moves from a state holds of them.
-use Rattle.std.specs.Prelude.{◌≡◌, ℕ, zero, suc, Bool, true, false, if◌then◌else◌, ◌==◌, ◌+◌, ◌≤◌, ◌*◌, List, [], ◌∷◌, ◌++◌, Option, Some, None, length, get_or, nat_le}
+use Rattle.std.specs.Prelude.{◌≡◌, ℕ, zero, suc, Bool, true, false, if◌then◌else◌, ◌==◌, ◌+◌, List, [], ◌∷◌, ◌++◌, Option, Some, None, length, get_or, nat_le}
 use Rattle.std.specs.Option.{option_map_or}
 use Rattle.std.proofs.Common.{refl, sym, ap, ◌∙◌, subst, arith}
 use Rattle.std.proofs.lemmas.Bool.Decides.{nat_tests}
 use Rattle.amr_time.specs.Time.{Moment}
 use Rattle.amr_state.specs.declared.due.Due.{Due}
-use Rattle.amr_state.specs.declared.due.Kind.{Kind}
-use Rattle.amr_state.specs.declared.due.Kind.TheVariants.{AlertRemoval, GroupRemoval, GroupFlush}
-use Rattle.amr_state.specs.State.{State, on_route}
+use Rattle.amr_state.specs.State.{State}
 use Rattle.amr_state.specs.Dues.{dues, least_due, due_by, next_due}
 use Rattle.amr_engine.specs.Moves.{move}
-use Rattle.amr_engine.specs.Quiet.{with_timer_reset}
 use Rattle.amr_engine.specs.QuietMoves.{first_due, moved, moved_times, OnlySets, IsQuietMove, AreQuietMoves, noted}
-use Rattle.amr_engine.specs.Weight.{move_weight}
 
 -- a timer that is due by a moment is the first of all
 first_by : (at : Moment) (first : Option Due) (due : Due) → due_by at first ≡ Some due → first ≡ Some due
@@ -79,9 +75,3 @@ pub one_more : (made : ℕ) (start s after : State) (at : Moment) (due : Due) �
 one_more made start s after at due here next moves =
     let more : suc made ≡ made + 1 = omega arith in
     moves ∙ sym (moved_by s due (next_is_first at s due next)) ∙ ap moved here ∙ sym (moved_more made start) ∙ ap (λ n. moved_times n start) more
-
--- a move displaces something
-pub some_weight : (s : State) (due : Due) (kind : Kind) → 1 ≤ 2 * move_weight s due kind
-some_weight s due AlertRemoval = omega arith
-some_weight s due GroupRemoval = omega arith
-some_weight s due GroupFlush = omega arith

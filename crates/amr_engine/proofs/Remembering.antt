@@ -246,27 +246,6 @@ looked before after stretch s times still holds is = record {
 pub reset_true : (s : State) (at : Moment) (group : RouteLabels) (memory : QuietGroups) → IsTrueOf memory s → IsTrueOf memory (with_timer_reset at group s)
 reset_true s at group memory holds = stays_true s s.moment (with_timer_reset at group s).timers s.notes memory holds
 
--- a flush that only sets the group timer, in a store that is as before
-module _ {T E : Type 0} (r : Result T E) (before held after : Kept) (same : held ≡ before) (at : Moment) (group : RouteLabels) where
-  pub only_reset : flush at group before.state ≡ with_timer_reset at group before.state → OnOk r (after.state ≡ with_timer_reset at group held.state) → OnOk r (after.state ≡ flush at group before.state)
-  only_reset quiet resets =
-      on_ok r (after.state ≡ with_timer_reset at group held.state) (after.state ≡ flush at group before.state)
-      (λ e. e ∙ ap (λ (k : Kept). with_timer_reset at group k.state) same ∙ sym quiet) resets
-
-  pub still_true : (memory : QuietGroups) → IsTrueOf memory before.state → OnOk r (after.state ≡ with_timer_reset at group held.state) → OnOk r (IsTrueOf memory after.state)
-  still_true memory holds resets =
-      true_then r memory (with_timer_reset at group before.state) after.state (reset_true before.state at group memory holds)
-      (on_ok r (after.state ≡ with_timer_reset at group held.state) (after.state ≡ with_timer_reset at group before.state) (λ e. e ∙ ap (λ (k : Kept). with_timer_reset at group k.state) same) resets)
-
-  pub flushed_same : OnOk r (after.state ≡ flush at group held.state) → OnOk r (after.state ≡ flush at group before.state)
-  flushed_same done =
-      on_ok r (after.state ≡ flush at group held.state) (after.state ≡ flush at group before.state) (λ e. e ∙ ap (λ (k : Kept). flush at group k.state) same) done
-
-  pub flushed_true : (memory left : QuietGroups) → IsTrueOf memory before.state → remembered left ≡ remove (remembered memory) group.labels → left.still ≡ memory.still
-      → OnOk r (after.state ≡ flush at group held.state) → OnOk r (IsTrueOf left after.state)
-  flushed_true memory left holds times still done =
-      true_then r left (flush at group before.state) after.state (forgotten before.state memory left group at times still holds) (flushed_same done)
-
 -- what a step adds to the open record of a store that is as before
 pub grown_same : (n m : ℕ) (before held after : Kept) → held ≡ before → n ≤ m → GrownBy n held after → GrownBy m before after
 grown_same n m before held after same more grown =

@@ -26,7 +26,7 @@ impl Model for QuietMoves {
 }
 
 impl QuietMoves {
-    /// Knows of no move.
+    /// Returns an empty list, which knows of no move.
     pub fn new(alloc: Global) -> QuietMoves
         ensures { result ≡ [] }
     {
