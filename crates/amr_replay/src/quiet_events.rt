@@ -32,7 +32,7 @@ impl Model for QuietEvents {
 }
 
 impl QuietEvents {
-    /// Knows of no move at any place.
+    /// Returns a table with no place, which knows of no move.
     pub(crate) fn new(alloc: Global) -> QuietEvents
         ensures { result ≡ [] }
     {

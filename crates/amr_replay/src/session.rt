@@ -270,9 +270,9 @@ impl Session {
         ensures same { self.new ≡ self.old }
     {
         let mut quiet = self.quiet.take(self.cursor);
-        let applied = self.engine.apply_noting(&mut quiet, event);
+        let tried = self.engine.apply_noting(&mut quiet, event);
         self.quiet.put(self.cursor, quiet);
-        let outcome = applied?;
+        let outcome = tried?;
         self.engine.undo_last();
         Ok(outcome)
     }
