@@ -1,9 +1,9 @@
-//! Tests of what no command of the program shows: places of faulty matcher texts, the last moment,
-//! numbers of label sets, copies, and label sets of names that aren't in order.
+//! Tests of what no command of the program shows: places of faulty matcher texts, texts of errors,
+//! the last moment, numbers of label sets, copies, and label sets of names that aren't in order.
 use amr_interner::Interner;
 use amr_labels::{Labels, Text};
-use amr_matchers::{Matchers, ParseError};
-use amr_time::{Moment, Span, next_multiple, write_moment};
+use amr_matchers::{MatcherError, Matchers, ParseError};
+use amr_time::{BadDuration, BadTime, Moment, Span, next_multiple, write_moment};
 use std::alloc::{AllocError, Global};
 use std::test::Fail;
 
@@ -51,6 +51,23 @@ fn faulty_matcher_texts_are_refused_at_their_places(rt: HostRuntime) -> Result<(
     for (text, place) in &FAULTY {
         assert_eq!(rt; place_of_fault(rt.alloc(), text)?, Some(*place), "{text}");
     }
+    Ok(())
+}
+
+#[test]
+fn errors_say_what_is_wrong(rt: HostRuntime) -> Result<(), Fail> {
+    let alloc = rt.alloc();
+    let bad_time = format!(in alloc; "{}", BadTime)?;
+    assert_eq!(rt; bad_time.as_str(), "the text isn't a moment of RFC 3339");
+    let bad_duration = format!(in alloc; "{}", BadDuration)?;
+    assert_eq!(rt; bad_duration.as_str(), "the text isn't a duration");
+    let bad_pattern = format!(in alloc; "{}", MatcherError::BadPattern)?;
+    assert_eq!(rt; bad_pattern.as_str(), "the pattern is refused");
+    let bad_matcher = format!(in alloc; "{}", ParseError::BadMatcher { at: 3 })?;
+    assert_eq!(rt;
+        bad_matcher.as_str(),
+        "no list of matchers continues at byte 3 as the text does"
+    );
     Ok(())
 }
 
@@ -122,8 +139,8 @@ fn a_copy_of_a_label_set_is_equal(rt: HostRuntime) -> Result<(), Fail> {
     Ok(())
 }
 
-/// Names and values that aren't in order: one name is repeated, and one value is empty. The names of
-/// a JSON object are in order, so no script has such a list.
+/// Names and values that aren't in order: one name is repeated, and one value is empty. The names
+/// of a JSON object are in order, so no script has such a list.
 const UNORDERED: [(&str, &str); 4] = [("b", "1"), ("a", "2"), ("b", "3"), ("c", "")];
 
 /// Returns the label set of names that aren't in order.

@@ -13,49 +13,27 @@ use amr_stated::{Grouping, Route, Stated};
 use amr_time::Span;
 use std::alloc::{AllocError, Global};
 
-/// Returns the name of a route's receiver: its own, or else its parent's.
-fn receiver_under(
-    alloc: Global,
-    route: &Route,
-    above: Option<&Settings>,
-) -> Result<Text, AllocError>
-    ensures { IfOk result (λ name. name
-        ≡ receiver_under route.now (option_copied above.entry)) }
+/// Returns the settings of all routes. A parent comes before its children, so one pass is enough.
+pub(crate) fn inherit(alloc: Global, stated: &Stated) -> Result<Listing<Settings>, AllocError>
+    requires { AreParentsFirst (stated_config stated.now) }
+    ensures { IfOk result (λ settings. settings ≡ settled (stated_config stated.now)) }
 {
-    match (&route.receiver, above) {
-        (Some(name), _) => name.clone(),
-        (None, Some(settings)) => settings.receiver.clone(),
-        (None, None) => Text::from_str(alloc, ""),
+    let mut settings = Vec::new(alloc);
+    for route in stated.routes.as_slice() {
+        let made = settings_under(alloc, route, above(settings.as_slice(), route.parent))?;
+        settings.push(made)?;
     }
+    Ok(Listing::from_vec(settings))
 }
 
-/// Returns how a route groups alerts: its own `group_by`, or else its parent's.
-fn grouping_under(route: &Route, above: Option<&Settings>) -> Result<Option<Grouping>, AllocError>
-    ensures { IfOk result (λ grouping. grouping
-        ≡ grouping_under route.now (option_copied above.entry)) }
+/// Returns the settings of a parent, if there is one.
+fn above<'a>(settings: &'a [Settings], parent: Option<usize>) -> Option<&'a Settings>
+    ensures { option_copied result ≡ option_and_then (slice_get settings.now) parent }
 {
-    match (&route.group_by, above) {
-        (Some(grouping), _) => Ok(Some(grouping.clone()?)),
-        (None, Some(settings)) => settings.group_by.clone(),
-        (None, None) => Ok(None),
+    match parent {
+        Some(parent) => settings.get(parent),
+        None => None,
     }
-}
-
-/// Returns the parent's path with the route's own matchers, sorted, at its end.
-fn path_under(
-    alloc: Global,
-    route: &Route,
-    above: Option<&Settings>,
-) -> Result<Listing<Matchers>, AllocError>
-    ensures { IfOk result (λ path. path
-        ≡ path_under route.now (option_copied above.entry)) }
-{
-    let mut path = match above {
-        Some(settings) => settings.path.clone()?,
-        None => Listing::new(alloc),
-    };
-    path.push(sorted(alloc, &route.matchers)?)?;
-    Ok(path)
 }
 
 /// Returns the settings of a route, given those of its parent, if it has one.
@@ -95,25 +73,47 @@ fn settings_under(
     })
 }
 
-/// Returns the settings of a parent, if there is one.
-fn above<'a>(settings: &'a [Settings], parent: Option<usize>) -> Option<&'a Settings>
-    ensures { option_copied result ≡ option_and_then (slice_get settings.now) parent }
+/// Returns the parent's path with the route's own matchers, sorted, at its end.
+fn path_under(
+    alloc: Global,
+    route: &Route,
+    above: Option<&Settings>,
+) -> Result<Listing<Matchers>, AllocError>
+    ensures { IfOk result (λ path. path
+        ≡ path_under route.now (option_copied above.entry)) }
 {
-    match parent {
-        Some(parent) => settings.get(parent),
-        None => None,
+    let mut path = match above {
+        Some(settings) => settings.path.clone()?,
+        None => Listing::new(alloc),
+    };
+    path.push(sorted(alloc, &route.matchers)?)?;
+    Ok(path)
+}
+
+/// Returns how a route groups alerts: its own `group_by`, or else its parent's.
+fn grouping_under(route: &Route, above: Option<&Settings>) -> Result<Option<Grouping>, AllocError>
+    ensures { IfOk result (λ grouping. grouping
+        ≡ grouping_under route.now (option_copied above.entry)) }
+{
+    match (&route.group_by, above) {
+        (Some(grouping), _) => Ok(Some(grouping.clone()?)),
+        (None, Some(settings)) => settings.group_by.clone(),
+        (None, None) => Ok(None),
     }
 }
 
-/// Returns the settings of all routes. A parent comes before its children, so one pass is enough.
-pub(crate) fn inherit(alloc: Global, stated: &Stated) -> Result<Listing<Settings>, AllocError>
-    requires { AreParentsFirst (stated_config stated.now) }
-    ensures { IfOk result (λ settings. settings ≡ settled (stated_config stated.now)) }
+/// Returns the name of a route's receiver: its own, or else its parent's.
+fn receiver_under(
+    alloc: Global,
+    route: &Route,
+    above: Option<&Settings>,
+) -> Result<Text, AllocError>
+    ensures { IfOk result (λ name. name
+        ≡ receiver_under route.now (option_copied above.entry)) }
 {
-    let mut settings = Vec::new(alloc);
-    for route in stated.routes.as_slice() {
-        let made = settings_under(alloc, route, above(settings.as_slice(), route.parent))?;
-        settings.push(made)?;
+    match (&route.receiver, above) {
+        (Some(name), _) => name.clone(),
+        (None, Some(settings)) => settings.receiver.clone(),
+        (None, None) => Text::from_str(alloc, ""),
     }
-    Ok(Listing::from_vec(settings))
 }

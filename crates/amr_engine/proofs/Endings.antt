@@ -3,8 +3,8 @@ use Rattle.std.proofs.Common.{◌≡◌, true, false, ℕ, List, Option, None, S
 use Rattle.std.specs.Prelude.{if◌then◌else◌, nat_lt}
 use Rattle.amr_time.specs.Time.{Moment}
 use Rattle.amr_posts.specs.Reasons.{Reason, reason_number}
-use Rattle.amr_events.specs.Events.{Event, Act}
-use Rattle.amr_events.specs.Acts.{event_at}
+use Rattle.amr_actions.specs.Events.{Event, Act}
+use Rattle.amr_actions.specs.Acts.{event_at}
 use Rattle.amr_state.specs.declared.due.Due.{Due}
 use Rattle.amr_state.specs.State.{State}
 use Rattle.amr_state.specs.Dues.{next_due}
@@ -12,7 +12,7 @@ use Rattle.amr_engine.specs.Moves.{move, advance}
 use Rattle.amr_engine.specs.Events.{do_within, do_event, after_event, outcome_of, outcome_from, skipped_of, judge, finish, after_act, at_moment, on_ok, move_limit}
 use Rattle.amr_engine.specs.Outcomes.{acceptance, refusal}
 use Rattle.amr_engine.specs.Applied.{ComesTo, run_moved}
-use Rattle.amr_engine.specs.Prepared.{IsPrepared, Does, Stays, performed, skipped_by}
+use Rattle.amr_engine.specs.Prepared.{IsPrepared, DoesAsPrepared, Stays, performed, skipped_by}
 use Rattle.amr_engine.specs.declared.prepare.Prepared as prepare
 use Rattle.amr_posts.specs.declared.reason.Reason as code
 use Rattle.amr_engine.proofs.RunsLaws.{run_within-sound}
@@ -115,12 +115,12 @@ module _ (s : State) (event : Event) (at : Moment) (act : Act) (at_is : at ≡ e
   refused_by_act reason own = subst (λ (e : Event). ComesTo s e s (refusal (reason_number reason))) the_event (act_refused s at act (reason_number reason) h own)
 
   -- too many moves are due
-  pub refused_by_moves : (prepared : prepare.Prepared) → Does s at act prepared → None ≡ run_moved at (advance move_limit at s) → ComesTo s event s (refusal 21)
+  pub refused_by_moves : (prepared : prepare.Prepared) → DoesAsPrepared s at act prepared → None ≡ run_moved at (advance move_limit at s) → ComesTo s event s (refusal 21)
   refused_by_moves prepared does over =
       subst (λ (e : Event). ComesTo s e s (refusal 21)) the_event (act_is_over s at act (performed prepared (at_moment at s)) h (does.does (at_moment at s) (at_first s at)) over)
 
   -- the action is done after the moves
-  pub done_after_moves : (prepared : prepare.Prepared) (count : ℕ) (next done : State) (skipped : List ℕ) → Does s at act prepared → Some (count, next) ≡ run_moved at (advance move_limit at s)
+  pub done_after_moves : (prepared : prepare.Prepared) (count : ℕ) (next done : State) (skipped : List ℕ) → DoesAsPrepared s at act prepared → Some (count, next) ≡ run_moved at (advance move_limit at s)
       → done ≡ performed prepared next → skipped ≡ skipped_by prepared → ComesTo s event done (acceptance count (drop (length s.notes) done.notes) skipped)
   done_after_moves prepared count next done skipped does ran acted left =
       subst (λ (e : Event). ComesTo s e done (acceptance count (drop (length s.notes) done.notes) skipped)) the_event

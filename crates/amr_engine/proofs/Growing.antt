@@ -12,8 +12,8 @@ use Rattle.amr_time.specs.Time.{Moment}
 use Rattle.amr_stated.specs.Config.{Config}
 use Rattle.amr_config.specs.Routing.{chosen}
 use Rattle.amr_rules.specs.declared.alert.Alert.{Alert}
-use Rattle.amr_events.specs.Events.{Event, Act}
-use Rattle.amr_events.specs.Acts.{event_at}
+use Rattle.amr_actions.specs.Events.{Event, Act}
+use Rattle.amr_actions.specs.Acts.{event_at}
 use Rattle.amr_state.specs.declared.due.Due.{Due}
 use Rattle.amr_state.specs.State.{State}
 use Rattle.amr_state.specs.Kept.{Kept}
@@ -25,7 +25,7 @@ use Rattle.amr_engine.specs.Runs.{after_step}
 use Rattle.amr_engine.specs.Moves.{move, advance}
 use Rattle.amr_engine.specs.Events.{at_moment, move_limit, with_config}
 use Rattle.amr_engine.specs.Applied.{run_moved}
-use Rattle.amr_engine.specs.Prepared.{Does, entries_of}
+use Rattle.amr_engine.specs.Prepared.{DoesAsPrepared, entries_of}
 use Rattle.amr_engine.specs.Weight.{move_weight, moves_weight, first_weight, reload_entries, alert_weight, alerts_weight, copies, act_weight, weight, event_weight}
 use Rattle.amr_engine.specs.Kept.{IsLight, IsLightIfAccepted}
 use Rattle.amr_engine.proofs.Endings.{Ran, some_run, stays}
@@ -78,15 +78,6 @@ spent limit made at s next d now later bound so_far less some is grown =
     let same : first_weight (limit - (made + 1)) at next ≡ first_weight (limit - (made + 1)) at (move d s) = ap (λ (x : State). first_weight (limit - (made + 1)) at x) is in
     omega (arith, left, same, so_far, grown)
 
--- what follows for the value of a result
-pub on_value : {T E : Type 0} (r : Result T E) (P : T → Type 0) → ((x : T) → P x) → IfOk r P
-on_value (Ok x) P f = f x
-on_value (Err e) P f = tt
-
-pub light_outcome : (before : Kept) (event : Event) (after : Kept) → IsLight before event after → (outcome : Outcome) → IsLightIfAccepted before event after outcome
-light_outcome before event after light (Accepted moves notes skipped) = light
-light_outcome before event after light (Refused reason) = tt
-
 -- one more item of a list is done, and the rest is left
 one_more : {X : Type 0} (f : X → ℕ) (xs : List X) (i : ℕ) (x : X) → i < length xs → x ≡ get_or xs i x → sum_by f (drop i xs) ≡ f x + sum_by f (drop (i + 1) xs)
 one_more f xs i x less is = sum_by-drop_more f xs i x less ∙ ap (λ y. f y + sum_by f (drop (i + 1) xs)) (sym is)
@@ -119,7 +110,7 @@ reloaded s config replacing alerts after now replaced placed is same all first t
     omega (arith, members, first, then)
 
 -- an accepted event as a whole
-light_event : (s : State) (at : Moment) (act : Act) (prepared : prepare.Prepared) (count : ℕ) (next after : State) (now moved done : ℕ) → Does s at act prepared
+light_event : (s : State) (at : Moment) (act : Act) (prepared : prepare.Prepared) (count : ℕ) (next after : State) (now moved done : ℕ) → DoesAsPrepared s at act prepared
     → Some (count, next) ≡ run_moved at (advance move_limit at s) → moved ≤ now + (1 + 2 * first_weight move_limit at s) → done ≤ moved + entries_of prepared next after
     → done ≤ now + 4 * event_weight s (event_at at act) after
 light_event s at act prepared count next after now moved done does ran went acted =
@@ -132,7 +123,7 @@ light_event s at act prepared count next after now moved done does ran went acte
     omega (arith, light, ends, moves, whole, went, acted)
 
 pub light_done : (s : State) (event : Event) (at : Moment) (act : Act) (at_is : at ≡ event.at) (act_is : act ≡ event.act) (prepared : prepare.Prepared) (count : ℕ) (next after : State)
-    (now moved done : ℕ) → Does s at act prepared
+    (now moved done : ℕ) → DoesAsPrepared s at act prepared
     → Some (count, next) ≡ run_moved at (advance move_limit at s) → moved ≤ now + (1 + 2 * first_weight move_limit at s) → done ≤ moved + entries_of prepared next after
     → done ≤ now + 4 * event_weight s event after
 light_done s event at act at_is act_is prepared count next after now moved done does ran went acted =

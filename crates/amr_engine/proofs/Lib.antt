@@ -5,7 +5,7 @@ pub mod RefusalLaws
 pub mod Cascade
 pub mod Endings
 pub mod Preparing
-pub mod Parted
+pub mod Partitions
 pub mod Settling
 pub mod Copied
 pub mod Growing

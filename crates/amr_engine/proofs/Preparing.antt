@@ -11,7 +11,7 @@ use Rattle.amr_stated.specs.Config.{Config}
 use Rattle.amr_posts.specs.declared.posted_alert.PostedAlert.{PostedAlert}
 use Rattle.amr_posts.specs.declared.posted_silence.PostedSilence.{PostedSilence}
 use Rattle.amr_posts.specs.Reasons.{Reason}
-use Rattle.amr_events.specs.Events.{Act}
+use Rattle.amr_actions.specs.Events.{Act}
 use Rattle.amr_rules.specs.declared.alert.Alert.{Alert}
 use Rattle.amr_rules.specs.declared.silence.Silence.{Silence}
 use Rattle.amr_rules.specs.declared.silence_update.SilenceUpdate.{SilenceUpdate}
@@ -22,7 +22,7 @@ use Rattle.amr_state.specs.State.{State}
 use Rattle.amr_engine.specs.declared.post.Sifted.{Sifted}
 use Rattle.amr_engine.specs.declared.prepare.Prepared.TheVariants as prepared
 use Rattle.amr_engine.specs.Events.{after_act, at_moment, on_ok, put, put_all, valid_alerts, skipped_from, with_silences, with_config}
-use Rattle.amr_engine.specs.Prepared.{Does, Stays}
+use Rattle.amr_engine.specs.Prepared.{DoesAsPrepared, Stays}
 use Rattle.amr_engine.specs.Weight.{alerts_weight}
 
 abbrev pub Valid : Type 0
@@ -55,7 +55,7 @@ same_valid s next at timeout posted valid stays same is =
 -- some alert of a post is valid
 pub some_valid : (s : State) (at : Moment) (timeout : Span) (posted : List PostedAlert) (sifted : Sifted) → timeout ≡ s.config.resolve_timeout
     → sifted.valid.items ≡ filter_map (completed at timeout) posted → sifted.skipped ≡ skipped_from 1 at timeout posted → (length sifted.valid.items == 0) ≡ false
-    → Does s at (Act.Post posted) (prepared.Put sifted)
+    → DoesAsPrepared s at (Act.Post posted) (prepared.Put sifted)
 unfolding after_act
 some_valid s at timeout posted sifted same is left some = record {
   does = λ next stays.
@@ -73,7 +73,7 @@ no_silence s at posted reason own = ap (on_ok (with_silences (at_moment at s))) 
 
 -- a silence is stored
 pub some_silence : (s : State) (at : Moment) (posted : PostedSilence) (silence_update : SilenceUpdate) → Ok (with_decision posted silence_update s.silences) ≡ after_post at posted s.silences
-    → Does s at (Act.Silence posted) (prepared.Silence posted.id posted.new_id silence_update)
+    → DoesAsPrepared s at (Act.Silence posted) (prepared.Silence posted.id posted.new_id silence_update)
 unfolding after_act
 some_silence s at posted silence_update own = record {
   does = λ next stays.
@@ -97,7 +97,7 @@ no_expiry s at id missing = ap (on_ok (with_silences (at_moment at s))) (expires
 
 -- a silence is expired
 pub some_expiry : (s : State) (at : Moment) (id : ℕ) (silence ended : Silence) → get s.silences id ≡ Some silence → ended ≡ expired at silence
-    → Does s at (Act.Expire id) (prepared.Expire id ended)
+    → DoesAsPrepared s at (Act.Expire id) (prepared.Expire id ended)
 unfolding after_act
 some_expiry s at id silence ended found is = record {
   does = λ next stays.
@@ -109,7 +109,7 @@ some_expiry s at id silence ended found is = record {
 }
 
 -- a configuration was read
-pub some_reload : (s : State) (at : Moment) (config loaded : Config) → loaded ≡ config → Does s at (Act.Reload (Ok config)) (prepared.Reload loaded)
+pub some_reload : (s : State) (at : Moment) (config loaded : Config) → loaded ≡ config → DoesAsPrepared s at (Act.Reload (Ok config)) (prepared.Reload loaded)
 unfolding after_act
 some_reload s at config loaded is = record {
   does = λ next stays. ap (λ (x : Config). Ok (with_config next x)) (sym is);
@@ -123,6 +123,6 @@ unfolding after_act
 no_reload s at reason = refl
 
 -- time passes
-pub some_tick : (s : State) (at : Moment) → Does s at Act.Tick prepared.Tick
+pub some_tick : (s : State) (at : Moment) → DoesAsPrepared s at Act.Tick prepared.Tick
 unfolding after_act
 some_tick s at = record { does = λ next stays. refl; skips = refl; light = λ next after stays. omega arith }

@@ -13,11 +13,11 @@ use Rattle.amr_stated.specs.Config.{Config}
 use Rattle.amr_config.specs.Routing.{is_active_at, is_muted_at, is_within, active_intervals_of, mute_intervals_of, integrations_of, repeat_interval_of}
 use Rattle.amr_rules.specs.declared.alert.Alert.{Alert}
 use Rattle.amr_rules.specs.declared.silence.Silence.{Silence}
-use Rattle.amr_rules.specs.declared.update.LogEntry.{LogEntry}
+use Rattle.amr_rules.specs.declared.dedup.LogEntry.{LogEntry}
 use Rattle.amr_rules.specs.Alerts.{is_resolved_at}
 use Rattle.amr_rules.specs.Muting.{Alerts, inhibits, rule_mutes, inhibition_from, silencer_of, silences_labels}
 use Rattle.amr_rules.specs.Silences.{Silences}
-use Rattle.amr_rules.specs.Updates.{LabelSets, needs_update}
+use Rattle.amr_rules.specs.Dedup.{LabelSets, needs_update}
 use Rattle.amr_state.specs.declared.route_labels.RouteLabels.{RouteLabels}
 use Rattle.amr_state.specs.State.{State, members, route_labels_cmp}
 use Rattle.amr_engine.specs.Stages.{taken_away}

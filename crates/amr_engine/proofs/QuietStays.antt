@@ -15,8 +15,8 @@ use Rattle.amr_stated.specs.declared.receiver.Integration.{Integration}
 use Rattle.amr_stated.specs.Config.{Config}
 use Rattle.amr_config.specs.Routing.{integrations_of, repeat_interval_of}
 use Rattle.amr_rules.specs.declared.alert.Alert.{Alert}
-use Rattle.amr_rules.specs.declared.update.LogEntry.{LogEntry}
-use Rattle.amr_rules.specs.Updates.{LabelSets, needs_update}
+use Rattle.amr_rules.specs.declared.dedup.LogEntry.{LogEntry}
+use Rattle.amr_rules.specs.Dedup.{LabelSets, needs_update}
 use Rattle.amr_state.specs.declared.notification.LogKey.{LogKey}
 use Rattle.amr_state.specs.declared.notification.GroupTimer.{GroupTimer}
 use Rattle.amr_state.specs.declared.notification.Notification.{Notification}

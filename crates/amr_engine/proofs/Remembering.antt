@@ -18,8 +18,8 @@ use Rattle.amr_config.specs.Routing.{repeat_interval_of}
 use Rattle.amr_config.specs.Settled.{settings_of}
 use Rattle.amr_config.specs.declared.settings.Settings.{Settings}
 use Rattle.amr_stated.specs.declared.route.Route.{Route}
-use Rattle.amr_rules.specs.declared.update.LogEntry.{LogEntry}
-use Rattle.amr_rules.specs.Updates.{LabelSets, needs_update}
+use Rattle.amr_rules.specs.declared.dedup.LogEntry.{LogEntry}
+use Rattle.amr_rules.specs.Dedup.{LabelSets, needs_update}
 use Rattle.amr_stated.specs.declared.rule.InhibitRule.{InhibitRule}
 use Rattle.amr_rules.specs.declared.alert.Alert.{Alert}
 use Rattle.amr_rules.specs.declared.silence.Silence.{Silence}
@@ -32,7 +32,7 @@ use Rattle.amr_state.specs.Kept.{Kept, GrownBy}
 use Rattle.amr_engine.specs.declared.explain.Finding.TheVariants.{Inhibited}
 use Rattle.amr_engine.specs.Stages.{by_active_time, by_mute_time, by_silence, taken_away}
 use Rattle.amr_engine.specs.Weight.{flush_weight}
-use Rattle.amr_engine.proofs.Parted.{on_ok}
+use Rattle.amr_engine.proofs.Partitions.{on_ok}
 use Rattle.amr_engine.specs.declared.quiet.Stretch.{Stretch}
 use Rattle.amr_engine.specs.declared.quiet.QuietTime.{QuietTime}
 use Rattle.amr_engine.specs.declared.quiet.QuietGroups.{QuietGroups}
@@ -218,21 +218,10 @@ module _ (s : State) (alerts : Alerts) (none : s.config.rules ≡ []) where
 
 -- ---- steps of the code
 
--- the memory is true of what a step leaves, if it is true of what the step leads to
-pub true_then : {T E : Type 0} (r : Result T E) (memory : QuietGroups) (s t : State) → IsTrueOf memory s → OnOk r (t ≡ s) → OnOk r (IsTrueOf memory t)
-true_then r memory s t holds leads = on_ok r (t ≡ s) (IsTrueOf memory t) (λ e. subst (IsTrueOf memory) (sym e) holds) leads
-
 -- what holds anyway
 pub anyway : {T E : Type 0} (r : Result T E) (P : Type 0) → P → OnOk r P
 anyway (Ok x) P p = p
 anyway (Err e) P p = tt
-
--- a memory that knows the same
-pub same_known : (before after : QuietGroups) (s : State) → remembered after ≡ remembered before → after.still ≡ before.still → IsTrueOf before s → IsTrueOf after s
-same_known before after s times still holds = record {
-  quiet = λ labels. subst (λ (m : Times). AreQuiet s labels (unwrap_or (get m labels) [])) (sym times) (holds.quiet labels);
-  still = subst (IsStillIn s) (sym still) holds.still;
-}
 
 -- a memory that knows another stretch in which nothing changes that may mute an alert
 pub looked : (before after : QuietGroups) (stretch : Stretch) (s : State) → remembered after ≡ remembered before → after.still ≡ Some stretch → IsTrueOf before s
@@ -245,15 +234,6 @@ looked before after stretch s times still holds is = record {
 -- a group timer that is set leaves the memory true
 pub reset_true : (s : State) (at : Moment) (group : RouteLabels) (memory : QuietGroups) → IsTrueOf memory s → IsTrueOf memory (with_timer_reset at group s)
 reset_true s at group memory holds = stays_true s s.moment (with_timer_reset at group s).timers s.notes memory holds
-
--- what a step adds to the open record of a store that is as before
-pub grown_same : (n m : ℕ) (before held after : Kept) → held ≡ before → n ≤ m → GrownBy n held after → GrownBy m before after
-grown_same n m before held after same more grown =
-    let current : length held.current ≡ length before.current = ap (λ (k : Kept). length k.current) same in
-    omega (arith, current, more, grown)
-
-pub resetting : (s : State) (group : RouteLabels) → 1 ≤ 2 * flush_weight s group
-resetting s group = omega arith
 
 -- ---- until when
 
@@ -306,32 +286,6 @@ found_quiet s group from until first end ms through all is untimed still first_w
     subst (IsQuietWith s group from end) all
     (is_settled s group from end ms (fire_sooner first end end_within ms fire) (still_later from from until end same within s still) untimed
     (ap (are_notified s group from end) (sym is) ∙ notified))
-
-no_repeat_sooner : (until end : Moment) (interval : Span) (entry : Option LogEntry) → end ≤ until → no_repeat_before until interval entry ≡ true → no_repeat_before end interval entry ≡ true
-no_repeat_sooner until end interval None sooner notified = refl
-no_repeat_sooner until end interval (Some entry) sooner notified = grind (arith, nat_tests)
-
--- what was notified until a moment was notified until each one before it
-pub notified_sooner : (s : State) (group : RouteLabels) (from until end : Moment) (firing : LabelSets) (integration : Integration) → end ≤ until
-    → is_notified s group from until firing integration ≡ true → is_notified s group from end firing integration ≡ true
-notified_sooner s group from until end firing integration sooner notified =
-    let parts = both (not (needs_update (get s.log (log_key_of s.config group integration)) firing (labels_of []) integration.send_resolved from (repeat_interval_of s.config group.route)))
-    (no_repeat_before until (repeat_interval_of s.config group.route) (get s.log (log_key_of s.config group integration))) notified in
-    (λ i. parts.0 i && no_repeat_sooner until end (repeat_interval_of s.config group.route) (get s.log (log_key_of s.config group integration)) sooner parts.1 i)
-
--- one more element passes a test that the rest of a list passes
-pub all_more : {X : Type 0} (p : X → Bool) (xs : List X) (i : ℕ) (x : X) → i < length xs → x ≡ get_or xs i x → p x ≡ true → list_all p (drop (i + 1) xs) ≡ true
-    → list_all p (drop i xs) ≡ true
-all_more p xs i x less is here rest =
-    at_drop_more (list_all p) xs i x less ∙ ap (λ b. p b && list_all p (drop (i + 1) xs)) (sym is) ∙ (λ j. here j && rest j)
-
-pub outside_sooner : (from until end m : Moment) → end ≤ until → is_outside from until m ≡ true → is_outside from end m ≡ true
-outside_sooner from until end m sooner out = grind (arith, nat_tests)
-
--- a route that doesn't exist has no time intervals
-pub no_route : (config : Config) (route : ℕ) → length config.routes ≤ route → true ≡ is_untimed config route
-no_route config route past =
-    sym (ap (λ (o : Option Route). (length (option_map_or (λ r. r.active_time_intervals) o []) == 0) && (length (option_map_or (λ r. r.mute_time_intervals) o []) == 0)) (slice_get_past config.routes route past))
 
 -- the settings of a route say whether it has time intervals
 pub untimed_by : (config : Config) (route : ℕ) (settings : Settings) (active mute : Bool) → settings ≡ settings_of config route

@@ -2,7 +2,7 @@
 use Rattle.std.specs.Prelude.{◌≡◌, ℕ, List, Option, Result, Ok, Err, length, drop}
 use Rattle.std.specs.Option.{option_map}
 use Rattle.amr_time.specs.Time.{Moment}
-use Rattle.amr_events.specs.Events.{Event}
+use Rattle.amr_actions.specs.Events.{Event}
 use Rattle.amr_posts.specs.declared.reason.Reason as code
 use Rattle.amr_posts.specs.Reasons.{reason_number}
 use Rattle.amr_state.specs.declared.due.Due.{Due}

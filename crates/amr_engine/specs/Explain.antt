@@ -9,7 +9,7 @@ use Rattle.amr_stated.specs.declared.receiver.Integration.{Integration}
 use Rattle.amr_config.specs.Routing.{chosen, group_of, receiver_name_of, integrations_of}
 use Rattle.amr_rules.specs.declared.alert.Alert.{Alert}
 use Rattle.amr_rules.specs.Alerts.{is_resolved_at}
-use Rattle.amr_rules.specs.declared.update.LogEntry.{LogEntry}
+use Rattle.amr_rules.specs.declared.dedup.LogEntry.{LogEntry}
 use Rattle.amr_state.specs.declared.notification.GroupTimer.{GroupTimer}
 use Rattle.amr_state.specs.declared.route_labels.RouteLabels.{RouteLabels}
 use Rattle.amr_engine.specs.declared.explain.Finding.{Finding}

@@ -1,6 +1,6 @@
 -- The record of an event, and how long it may be.
 use Rattle.std.specs.Prelude.{◌≡◌, ◌≤◌, ◌*◌, List, [], ◌∷◌, ◌++◌, length, Result, Ok, Err}
-use Rattle.amr_events.specs.Events.{Event}
+use Rattle.amr_actions.specs.Events.{Event}
 use Rattle.amr_posts.specs.declared.reason.Reason.{Reason}
 use Rattle.amr_state.specs.declared.displaced.Displaced.{Displaced}
 use Rattle.amr_state.specs.Kept.{Kept, GrownBy}

@@ -1,7 +1,7 @@
 -- A tick just before an event.
 use Rattle.std.specs.Prelude.{◌≡◌, ℕ, List, ◌++◌, Ok}
 use Rattle.amr_time.specs.Time.{Moment}
-use Rattle.amr_events.specs.Events.{Event, Act}
+use Rattle.amr_actions.specs.Events.{Event, Act}
 use Rattle.amr_state.specs.declared.due.Due.{Due}
 use Rattle.amr_state.specs.State.{State}
 use Rattle.amr_engine.specs.Events.{do_within}

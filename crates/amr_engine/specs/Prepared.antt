@@ -3,7 +3,7 @@ use Rattle.std.specs.Prelude.{◌≡◌, ◌≤◌, ℕ, ◌+◌, ◌*◌, List,
 use Rattle.std.specs.List.{fold}
 use Rattle.amr_labels.specs.Map.{insert}
 use Rattle.amr_time.specs.Time.{Moment}
-use Rattle.amr_events.specs.Events.{Act}
+use Rattle.amr_actions.specs.Events.{Act}
 use Rattle.amr_posts.specs.declared.reason.Reason as code
 use Rattle.amr_posts.specs.Reasons.{reason_number}
 use Rattle.amr_rules.specs.Silencing.{update_stored}
@@ -45,12 +45,12 @@ pub record Stays (s : State) (at : Moment) (next : State) : Type 0 where
   pub moment : next.moment ≡ at
 
 -- on each state that the moves may leave, the action does what was prepared
-pub record Does (s : State) (at : Moment) (act : Act) (prepared : prepare.Prepared) : Type 0 where
+pub record DoesAsPrepared (s : State) (at : Moment) (act : Act) (prepared : prepare.Prepared) : Type 0 where
   pub does : (next : State) → Stays s at next → after_act next act ≡ Ok (performed prepared next)
   pub skips : skipped_by prepared ≡ skipped_of (at_moment at s) act
   pub light : (next after : State) → Stays s at next → entries_of prepared next after ≤ 1 + 2 * act_weight next after act
 
 -- what an action is prepared as, or its own reason against it
 abbrev pub IsPrepared : State → Moment → Act → Result prepare.Prepared code.Reason → Type 0
-IsPrepared s at act (Ok prepared) = Does s at act prepared
+IsPrepared s at act (Ok prepared) = DoesAsPrepared s at act prepared
 IsPrepared s at act (Err reason) = after_act (at_moment at s) act ≡ Err (reason_number reason)

@@ -1,8 +1,9 @@
 -- The next move and the outcome of an event, defined by relations and not by a computation.
 use Rattle.std.specs.Prelude.{◌≡◌, ℕ, suc, is_ok, true, false, List, [], ◌∷◌, Ok, Err, length, ◌≤◌, nat_lt, ◌⊎◌}
 use Rattle.std.specs.Ordering.{is_gt}
-use Rattle.amr_posts.specs.Reasons.{Reason}
-use Rattle.amr_events.specs.Events.{Event}
+use Rattle.amr_posts.specs.Reasons.{Reason, reason_number}
+use Rattle.amr_posts.specs.declared.reason.Reason.TheVariants.{Backwards, TooManyMoves}
+use Rattle.amr_actions.specs.Events.{Event}
 use Rattle.amr_state.specs.declared.due.Due.{Due}
 use Rattle.amr_state.specs.State.{State}
 use Rattle.amr_engine.specs.Runs.{Begins}
@@ -34,7 +35,7 @@ pub record Does (limit : ℕ) (s : State) (event : Event) (moves : List Due) (af
 -- the event is before the clock
 pub record IsPast (s : State) (event : Event) (reason : Reason) : Type 0 where
   pub past : nat_lt event.at s.moment ≡ true
-  pub number : reason ≡ 20
+  pub number : reason ≡ reason_number Backwards
 
 -- the action has its own reason against it on the state before, with the clock at the event
 pub record HasOwnReason (s : State) (event : Event) (reason : Reason) : Type 0 where
@@ -48,7 +49,7 @@ pub record HasTooManyMoves (limit : ℕ) (s : State) (event : Event) (reason : R
   pub moves : List Due
   pub begin : Begins (next_due event.at) move s moves
   pub many : length moves ≡ suc limit
-  pub number : reason ≡ 21
+  pub number : reason ≡ reason_number TooManyMoves
 
 -- the first that applies is the reason that refuses the event
 abbrev pub Refuses : ℕ → State → Event → Reason → Type 0

@@ -22,7 +22,7 @@ use crate::quiet::QuietGroups;
 use crate::quiet_moves::QuietMoves;
 use crate::reload::reload;
 use crate::silencing::store_update;
-use amr_events::Event;
+use amr_actions::Event;
 use amr_labels::{Listing, Shared};
 use amr_posts::Reason;
 use amr_state::{Notification, Store};
@@ -30,27 +30,27 @@ use amr_time::Moment;
 use std::alloc::{AllocError, Global};
 
 /// Applies an event to the store in place. If the event is refused, or an allocation fails, the
-/// store is left half-changed. The caller must then put the open record back and clear `memory`,
-/// which is what the engine remembers of quiet groups. What `quiet` knows and learns holds of the
-/// state before the event.
+/// store is left half-changed. The caller must then put the open record back and clear
+/// `quiet_groups`, which is what the engine remembers of quiet groups. What `quiet_moves` knows and
+/// learns holds of the state before the event.
 pub(crate) fn attempt(
     store: &mut Store,
-    memory: &mut QuietGroups,
-    quiet: &mut QuietMoves,
+    quiet_groups: &mut QuietGroups,
+    quiet_moves: &mut QuietMoves,
     event: &Event,
 ) -> Result<Outcome, AllocError>
-    requires memory { IsTrueOf memory.old store.old.state }
-    requires quiet { AreQuietMoves quiet.old store.old.state }
+    requires memory { IsTrueOf quiet_groups.old store.old.state }
+    requires quiet { AreQuietMoves quiet_moves.old store.old.state }
     ensures outcome { IfOk result
         (λ outcome. Leads store.old.state event.now store.new.state outcome) }
     ensures kept { undone store.new ≡ undone store.old }
     ensures light { IfOk result (λ outcome.
         IsLightIfAccepted store.old event.now store.new outcome) }
-    ensures memory { OnOk result (IsTrueOf memory.new store.new.state) }
-    ensures quiet { AreQuietMoves quiet.new store.old.state }
+    ensures memory { OnOk result (IsTrueOf quiet_groups.new store.new.state) }
+    ensures quiet { AreQuietMoves quiet_moves.new store.old.state }
 {
     let earlier = store.notes().len();
-    match happen(store, memory, quiet, event)? {
+    match apply_in_order(store, quiet_groups, quiet_moves, event)? {
         Ok(done) => accepted(store, earlier, done),
         Err(reason) => Ok(Outcome::Refused(reason)),
     }
@@ -67,19 +67,19 @@ struct Done {
 /// Prepares the event's action, makes the moves that are due up to the event, and performs the
 /// action. The action's own reason is decided before the first move, so it counts before too many
 /// moves.
-fn happen(
+fn apply_in_order(
     store: &mut Store,
-    memory: &mut QuietGroups,
-    quiet: &mut QuietMoves,
+    quiet_groups: &mut QuietGroups,
+    quiet_moves: &mut QuietMoves,
     event: &Event,
 ) -> Result<Result<Done, Reason>, AllocError>
-    requires memory { IsTrueOf memory.old store.old.state }
-    requires quiet { AreQuietMoves quiet.old store.old.state }
+    requires memory { IsTrueOf quiet_groups.old store.old.state }
+    requires quiet { AreQuietMoves quiet_moves.old store.old.state }
     ensures done { IfOk result (λ done. IsDone store.old.state event.now store.new.state done) }
     ensures kept { undone store.new ≡ undone store.old }
     ensures light { IfOk result (λ done. IsLightIfDone store.old event.now store.new done) }
-    ensures memory { OnOk result (IsTrueOf memory.new store.new.state) }
-    ensures quiet { AreQuietMoves quiet.new store.old.state }
+    ensures memory { OnOk result (IsTrueOf quiet_groups.new store.new.state) }
+    ensures quiet { AreQuietMoves quiet_moves.new store.old.state }
 {
     let at = event.at();
     if at.nanoseconds() < store.moment().nanoseconds() {
@@ -87,10 +87,10 @@ fn happen(
     }
     match prepare(store, at, event.act())? {
         Err(reason) => Ok(Err(reason)),
-        Ok(prepared) => match go_to(store, memory, quiet, at)? {
+        Ok(prepared) => match advance_to(store, quiet_groups, quiet_moves, at)? {
             None => Ok(Err(Reason::TooManyMoves)),
             Some(moves) => {
-                let skipped = perform(store, memory, prepared)?;
+                let skipped = perform(store, quiet_groups, prepared)?;
                 Ok(Ok(Done { moves, skipped }))
             }
         },
@@ -99,47 +99,47 @@ fn happen(
 
 /// Makes every move due at or before `at`, then advances the clock to `at`. Returns the number of
 /// moves, or `None` if more than 10,000 are due.
-fn go_to(
+fn advance_to(
     store: &mut Store,
-    memory: &mut QuietGroups,
-    quiet: &mut QuietMoves,
+    quiet_groups: &mut QuietGroups,
+    quiet_moves: &mut QuietMoves,
     at: Moment,
 ) -> Result<Option<usize>, AllocError>
     requires late { at ≤ latest_read }
-    requires memory { IsTrueOf memory.old store.old.state }
-    requires quiet { AreQuietMoves quiet.old store.old.state }
+    requires memory { IsTrueOf quiet_groups.old store.old.state }
+    requires quiet { AreQuietMoves quiet_moves.old store.old.state }
     ensures made { IfOk result (λ made. moves_to store.new.state made
         ≡ run_moved at (advance move_limit at store.old.state)) }
     ensures kept { undone store.new ≡ undone store.old }
     ensures grown { OnOk result (GrownBy (1 + 2 * first_weight move_limit at store.old.state)
         store.old store.new) }
-    ensures memory { OnOk result (IsTrueOf memory.new store.new.state) }
-    ensures quiet { AreQuietMoves quiet.new store.old.state }
+    ensures memory { OnOk result (IsTrueOf quiet_groups.new store.new.state) }
+    ensures quiet { AreQuietMoves quiet_moves.new store.old.state }
 {
-    let made = advance(store, memory, quiet, at)?;
+    let made = advance(store, quiet_groups, quiet_moves, at)?;
     store.set_moment(at)?;
     Ok(made)
 }
 
-/// Performs a prepared action. Returns the positions of the alerts that it skips, from 1. The memory
-/// of quiet groups outlives only a tick, which changes nothing that it knows.
+/// Performs a prepared action. Returns the positions of the alerts that it skips, from 1. The
+/// memory of quiet groups outlives only a tick, which changes nothing that it knows.
 fn perform(
     store: &mut Store,
-    memory: &mut QuietGroups,
+    quiet_groups: &mut QuietGroups,
     prepared: Prepared,
 ) -> Result<Listing<usize>, AllocError>
-    requires { IsTrueOf memory.old store.old.state }
+    requires { IsTrueOf quiet_groups.old store.old.state }
     ensures done { IfOk result (λ skipped. store.new.state ≡ performed prepared store.old.state) }
     ensures skipped { IfOk result (λ skipped. skipped ≡ skipped_by prepared) }
     ensures kept { undone store.new ≡ undone store.old }
     ensures grown { OnOk result (GrownBy (entries_of prepared store.old.state store.new.state)
         store.old store.new) }
-    ensures memory { OnOk result (IsTrueOf memory.new store.new.state) }
+    ensures memory { OnOk result (IsTrueOf quiet_groups.new store.new.state) }
 {
     if let Prepared::Tick = &prepared {
         return Ok(Listing::new(store.alloc()));
     }
-    memory.clear();
+    quiet_groups.clear();
     change(store, prepared)
 }
 

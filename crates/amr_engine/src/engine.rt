@@ -15,8 +15,8 @@ use crate::explain::{self, Verdict};
 use crate::outcome::Outcome;
 use crate::quiet::QuietGroups;
 use crate::quiet_moves::QuietMoves;
+use amr_actions::Event;
 use amr_config::Config;
-use amr_events::Event;
 use amr_labels::Labels;
 use amr_state::Store;
 use std::alloc::{AllocError, Global};
@@ -28,7 +28,7 @@ use std::marker::Model;
 pub struct Engine {
     store: Store,
     /// Which groups are quiet, and until when. It follows from the state and is no part of it.
-    memory: QuietGroups,
+    quiet_groups: QuietGroups,
 }
 
 impl Model for Engine {
@@ -45,7 +45,7 @@ impl Model for Engine {
 
     ghost view = { λ engine. record { state = engine.store.state; past = befores engine.store.records engine.store.state; records = engine.store.records } };
 
-    ghost invariant = { λ engine. (engine.store.current ≡ []) × IsTrueOf engine.memory engine.store.state };
+    ghost invariant = { λ engine. (engine.store.current ≡ []) × IsTrueOf engine.quiet_groups engine.store.state };
 }
 
 impl Engine {
@@ -57,7 +57,7 @@ impl Engine {
     {
         Engine {
             store: Store::new(alloc, config),
-            memory: QuietGroups::new(alloc),
+            quiet_groups: QuietGroups::new(alloc),
         }
     }
 
@@ -73,19 +73,19 @@ impl Engine {
             (r : List Displaced) × RecordOf self.old event.now self.new outcome r) }
         ensures err { OnErr result (self.new ≡ self.old) }
     {
-        let mut quiet = QuietMoves::new(self.store.alloc());
-        self.apply_noting(&mut quiet, event)
+        let mut quiet_moves = QuietMoves::new(self.store.alloc());
+        self.apply_noting(&mut quiet_moves, event)
     }
 
-    /// Applies an event as `apply` does. What `quiet` knows of the moves from this state saves work,
-    /// and it learns of those that the event makes.
+    /// Applies an event as `apply` does. What `quiet_moves` knows of the moves from this state
+    /// saves work, and it learns of those that the event makes.
     pub fn apply_noting(
         &mut self,
-        quiet: &mut QuietMoves,
+        quiet_moves: &mut QuietMoves,
         event: &Event,
     ) -> Result<Outcome, AllocError>
-        requires { AreQuietMoves quiet.old self.old.state }
-        ensures quiet { AreQuietMoves quiet.new self.old.state }
+        requires { AreQuietMoves quiet_moves.old self.old.state }
+        ensures quiet { AreQuietMoves quiet_moves.new self.old.state }
         ensures outcome { IfOk result (λ outcome. outcome_view outcome
             ≡ outcome_of self.old.state event.now) }
         ensures state { OnOk result (self.new.state ≡ after_event self.old.state event.now) }
@@ -95,18 +95,18 @@ impl Engine {
         ensures err { OnErr result (self.new ≡ self.old) }
     {
         self.store.begin()?;
-        match attempt(&mut self.store, &mut self.memory, quiet, event) {
+        match attempt(&mut self.store, &mut self.quiet_groups, quiet_moves, event) {
             Ok(outcome) => {
                 if outcome.is_refused() {
                     self.store.undo_open();
-                    self.memory.clear();
+                    self.quiet_groups.clear();
                 }
                 self.store.close();
                 Ok(outcome)
             }
             Err(error) => {
                 self.store.undo_open();
-                self.memory.clear();
+                self.quiet_groups.clear();
                 Err(error)
             }
         }
@@ -121,7 +121,7 @@ impl Engine {
     {
         self.store.reopen();
         self.store.undo_open();
-        self.memory.clear();
+        self.quiet_groups.clear();
     }
 
     /// Returns the number of records, which is that of the events that can be undone.

@@ -59,118 +59,44 @@ pub enum Verdict {
     },
 }
 
-/// Returns the finding of a group that hasn't been flushed yet.
-fn waiting(timer: &GroupTimer) -> Option<Finding>
-    ensures { result ≡ waiting timer.now }
+/// Returns the verdicts for the alert with these labels, as of the clock.
+#[tactic(auto, unfolding(crate::specs::Explain::verdicts))]
+pub(crate) fn verdicts(store: &Store, labels: &Labels) -> Result<Vec<Verdict>, AllocError>
+    ensures { IfOk result (λ found. found.items ≡ verdicts store.now.state labels.now) }
 {
-    if timer.flushed {
-        None
-    } else {
-        Some(Finding::Waiting {
-            due: timer.next_flush,
-        })
-    }
+    verdicts_of_stored(store, labels, store.alerts().get(labels))
 }
 
-/// Returns what the log entry says: the integration was notified that the alert fires, or the next
-/// flush decides.
-fn logged(labels: &Labels, timer: &GroupTimer, entry: Option<&LogEntry>) -> Finding
-    ensures { result ≡ logged labels.now timer.now (option_copied entry.entry) }
-{
-    match entry {
-        Some(entry) if entry.firing.get(labels).is_some() => Finding::Told { at: entry.time },
-        _ => Finding::Due {
-            at: timer.next_flush,
-        },
-    }
-}
-
-/// Returns what the notification log says of the alert at an integration, or that the receiver has
-/// none.
-fn heard(
+/// Returns the verdicts for a stored alert, or the one for an alert that isn't stored.
+fn verdicts_of_stored(
     store: &Store,
-    group: &RouteLabels,
     labels: &Labels,
-    timer: &GroupTimer,
-    integration: Option<&Integration>,
-) -> Result<Finding, AllocError>
-    ensures { IfOk result (λ found. found
-        ≡ heard store.now.state group.now labels.now timer.now (option_copied integration.entry)) }
+    alert: Option<&Alert>,
+) -> Result<Vec<Verdict>, AllocError>
+    ensures { IfOk result (λ found. found.items
+        ≡ verdicts_of_stored store.now.state labels.now (option_copied alert.entry)) }
 {
-    match integration {
-        None => Ok(Finding::Nowhere),
-        Some(integration) => {
-            let key = log_key(store.alloc(), store.config(), group, integration)?;
-            Ok(logged(labels, timer, store.log().get(&key)))
+    match alert {
+        None => Ok(vec![in store.alloc(); Verdict::Unknown]?),
+        Some(alert) if alert.is_resolved_at(store.moment()) => {
+            Ok(vec![in store.alloc(); Verdict::Ended]?)
         }
+        Some(_) => verdicts_of_routes(store, labels),
     }
 }
 
-/// Returns the first finding that applies.
-fn first_finding(
-    store: &Store,
-    group: &RouteLabels,
-    labels: &Labels,
-    integration: Option<&Integration>,
-    timer: &GroupTimer,
-) -> Result<Finding, AllocError>
-    ensures { IfOk result (λ found. found
-        ≡ finding store.now.state group.now labels.now (option_copied integration.entry)
-        timer.now) }
+/// Returns the verdicts for each route that takes the alert.
+fn verdicts_of_routes(store: &Store, labels: &Labels) -> Result<Vec<Verdict>, AllocError>
+    ensures { IfOk result (λ found. found.items
+        ≡ flat_map (verdicts_at store.now.state labels.now)
+        (chosen store.now.state.config labels.now)) }
 {
-    if let Some(found) = waiting(timer) {
-        return Ok(found);
+    let routes = store.config().routes_of(store.alloc(), labels)?;
+    let mut found = Vec::new(store.alloc());
+    for route in &routes {
+        add_verdicts(store, labels, *route, &mut found)?;
     }
-    if let Some(found) = taken_away(store, store.moment(), group.route, labels)? {
-        return Ok(found);
-    }
-    heard(store, group, labels, timer, integration)
-}
-
-/// Returns the kind and the index of an integration, if there is one.
-fn kind_and_place(integration: Option<&Integration>) -> Result<Option<(Text, usize)>, AllocError>
-    ensures { IfOk result (λ named. named
-        ≡ option_map kind_and_place (option_copied integration.entry)) }
-{
-    match integration {
-        None => Ok(None),
-        Some(integration) => Ok(Some((integration.kind.clone()?, integration.place))),
-    }
-}
-
-/// Returns the verdict for an integration, or for a receiver without one.
-fn verdict_at(
-    store: &Store,
-    group: &RouteLabels,
-    labels: &Labels,
-    timer: &GroupTimer,
-    integration: Option<&Integration>,
-) -> Result<Verdict, AllocError>
-    ensures { IfOk result (λ verdict. verdict
-        ≡ verdict_at store.now.state group.now labels.now timer.now
-        (option_copied integration.entry)) }
-{
-    Ok(Verdict::AtRoute {
-        route: group.route,
-        receiver: store.config().receiver_name(store.alloc(), group.route)?,
-        integration: kind_and_place(integration)?,
-        finding: first_finding(store, group, labels, integration, timer)?,
-    })
-}
-
-/// Returns the group timer. A group with a member always has one; the timer at 1970 only completes
-/// the match.
-fn timer_of(store: &Store, group: &RouteLabels) -> GroupTimer
-    ensures { result ≡ timer_of store.now.state group.now }
-{
-    match store.timers().get(group) {
-        Some(timer) => *timer,
-        None => GroupTimer {
-            next_flush: Moment::START,
-            flushed: false,
-            empty_since: None,
-        },
-    }
+    Ok(found)
 }
 
 /// Appends the verdicts for a route: one for each integration, or one if the receiver has none.
@@ -196,42 +122,116 @@ fn add_verdicts(
     Ok(())
 }
 
-/// Returns the verdicts for each route that takes the alert.
-fn verdicts_of_routes(store: &Store, labels: &Labels) -> Result<Vec<Verdict>, AllocError>
-    ensures { IfOk result (λ found. found.items
-        ≡ flat_map (verdicts_at store.now.state labels.now)
-        (chosen store.now.state.config labels.now)) }
+/// Returns the group timer. A group with a member always has one; the timer at 1970 only completes
+/// the match.
+fn timer_of(store: &Store, group: &RouteLabels) -> GroupTimer
+    ensures { result ≡ timer_of store.now.state group.now }
 {
-    let routes = store.config().routes_of(store.alloc(), labels)?;
-    let mut found = Vec::new(store.alloc());
-    for route in &routes {
-        add_verdicts(store, labels, *route, &mut found)?;
+    match store.timers().get(group) {
+        Some(timer) => *timer,
+        None => GroupTimer {
+            next_flush: Moment::START,
+            flushed: false,
+            empty_since: None,
+        },
     }
-    Ok(found)
 }
 
-/// Returns the verdicts for a stored alert, or the one for an alert that isn't stored.
-fn verdicts_of_stored(
+/// Returns the verdict for an integration, or for a receiver without one.
+fn verdict_at(
     store: &Store,
+    group: &RouteLabels,
     labels: &Labels,
-    alert: Option<&Alert>,
-) -> Result<Vec<Verdict>, AllocError>
-    ensures { IfOk result (λ found. found.items
-        ≡ verdicts_of_stored store.now.state labels.now (option_copied alert.entry)) }
+    timer: &GroupTimer,
+    integration: Option<&Integration>,
+) -> Result<Verdict, AllocError>
+    ensures { IfOk result (λ verdict. verdict
+        ≡ verdict_at store.now.state group.now labels.now timer.now
+        (option_copied integration.entry)) }
 {
-    match alert {
-        None => Ok(vec![in store.alloc(); Verdict::Unknown]?),
-        Some(alert) if alert.is_resolved_at(store.moment()) => {
-            Ok(vec![in store.alloc(); Verdict::Ended]?)
-        }
-        Some(_) => verdicts_of_routes(store, labels),
+    Ok(Verdict::AtRoute {
+        route: group.route,
+        receiver: store.config().receiver_name(store.alloc(), group.route)?,
+        integration: kind_and_place(integration)?,
+        finding: first_finding(store, group, labels, integration, timer)?,
+    })
+}
+
+/// Returns the kind and the index of an integration, if there is one.
+fn kind_and_place(integration: Option<&Integration>) -> Result<Option<(Text, usize)>, AllocError>
+    ensures { IfOk result (λ named. named
+        ≡ option_map kind_and_place (option_copied integration.entry)) }
+{
+    match integration {
+        None => Ok(None),
+        Some(integration) => Ok(Some((integration.kind.clone()?, integration.place))),
     }
 }
 
-/// Returns the verdicts for the alert with these labels, as of the clock.
-#[tactic(auto, unfolding(crate::specs::Explain::verdicts))]
-pub(crate) fn verdicts(store: &Store, labels: &Labels) -> Result<Vec<Verdict>, AllocError>
-    ensures { IfOk result (λ found. found.items ≡ verdicts store.now.state labels.now) }
+/// Returns the first finding that applies.
+fn first_finding(
+    store: &Store,
+    group: &RouteLabels,
+    labels: &Labels,
+    integration: Option<&Integration>,
+    timer: &GroupTimer,
+) -> Result<Finding, AllocError>
+    ensures { IfOk result (λ found. found
+        ≡ finding store.now.state group.now labels.now (option_copied integration.entry)
+        timer.now) }
 {
-    verdicts_of_stored(store, labels, store.alerts().get(labels))
+    if let Some(found) = waiting(timer) {
+        return Ok(found);
+    }
+    if let Some(found) = taken_away(store, store.moment(), group.route, labels)? {
+        return Ok(found);
+    }
+    heard(store, group, labels, timer, integration)
+}
+
+/// Returns what the notification log says of the alert at an integration, or that the receiver has
+/// none.
+fn heard(
+    store: &Store,
+    group: &RouteLabels,
+    labels: &Labels,
+    timer: &GroupTimer,
+    integration: Option<&Integration>,
+) -> Result<Finding, AllocError>
+    ensures { IfOk result (λ found. found
+        ≡ heard store.now.state group.now labels.now timer.now (option_copied integration.entry)) }
+{
+    match integration {
+        None => Ok(Finding::Nowhere),
+        Some(integration) => {
+            let key = log_key(store.alloc(), store.config(), group, integration)?;
+            Ok(logged(labels, timer, store.log().get(&key)))
+        }
+    }
+}
+
+/// Returns what the log entry says: the integration was notified that the alert fires, or the next
+/// flush decides.
+fn logged(labels: &Labels, timer: &GroupTimer, entry: Option<&LogEntry>) -> Finding
+    ensures { result ≡ logged labels.now timer.now (option_copied entry.entry) }
+{
+    match entry {
+        Some(entry) if entry.firing.get(labels).is_some() => Finding::Told { at: entry.time },
+        _ => Finding::Due {
+            at: timer.next_flush,
+        },
+    }
+}
+
+/// Returns the finding of a group that hasn't been flushed yet.
+fn waiting(timer: &GroupTimer) -> Option<Finding>
+    ensures { result ≡ waiting timer.now }
+{
+    if timer.flushed {
+        None
+    } else {
+        Some(Finding::Waiting {
+            due: timer.next_flush,
+        })
+    }
 }

@@ -28,17 +28,17 @@ use std::alloc::{AllocError, Global};
 /// The members of a flush that nothing mutes, split into firing and resolved ones, with their label
 /// sets.
 #[derive(Drop)]
-struct Parted {
+struct Partition {
     firing: Vec<Member>,
     resolved: Vec<Member>,
     firing_labels: LabelMap<()>,
     resolved_labels: LabelMap<()>,
 }
 
-ghost use Rattle.amr_engine.specs.Parting.{IsParted, entry_of, needs_notification, record_parted, notified_by};
+ghost use Rattle.amr_engine.specs.Partition.{IsPartition, entry_of, is_entry_due, record_for, notified_by};
 
-/// Flushes a group at a moment: sets its timer, notifies, and drops its resolved members. The caller
-/// knows the group's members, and those that no stage mutes.
+/// Flushes a group at a moment: sets its timer, notifies, and drops its resolved members. `members`
+/// are the group's members, and `through` are those that no stage mutes.
 #[tactic(auto, unfolding(crate::specs::Flush::flush))]
 pub(crate) fn flush(
     store: &mut Store,
@@ -79,12 +79,12 @@ pub(crate) fn reset_timer(
     match store.timers().get(group).copied() {
         None => Ok(()),
         Some(timer) => {
-            let with_timer_reset = GroupTimer {
+            let reset = GroupTimer {
                 next_flush: at.plus(interval),
                 flushed: true,
                 ..timer
             };
-            store.set_timer(group, with_timer_reset)
+            store.set_timer(group, reset)
         }
     }
 }
@@ -112,9 +112,9 @@ fn run_pipeline(
     drop_resolved(store, at, group, members)
 }
 
-/// Returns the members that no stage mutes. It works out which silences match a member's labels, and
-/// which label sets can be sources of the rules that have it as a target, only if that isn't known.
-/// What it works out is remembered in the store and is no part of the state.
+/// Returns the members that no stage mutes. It works out which silences match a member's labels,
+/// and which label sets can be sources of the rules that have it as a target, only if that isn't
+/// known. What it works out is remembered in the store and is no part of the state.
 pub(crate) fn let_through(
     store: &mut Store,
     at: Moment,
@@ -164,19 +164,19 @@ fn notify_all(
     if through.is_empty() {
         return Ok(());
     }
-    let parted = part(store.alloc(), at, through)?;
-    notify_each(store, at, group, &parted)
+    let partition = partition_of(store.alloc(), at, through)?;
+    notify_each(store, at, group, &partition)
 }
 
 /// Splits members into firing and resolved ones.
-fn part(alloc: Global, at: Moment, members: &[Member]) -> Result<Parted, AllocError>
-    ensures { IfOk result (λ parted. IsParted at members.now parted) }
+fn partition_of(alloc: Global, at: Moment, members: &[Member]) -> Result<Partition, AllocError>
+    ensures { IfOk result (λ partition. IsPartition at members.now partition) }
 {
     let firing = firing_of(alloc, at, members)?;
     let resolved = resolved_of(alloc, at, members)?;
     let firing_labels = labels_of(alloc, firing.as_slice())?;
     let resolved_labels = labels_of(alloc, resolved.as_slice())?;
-    Ok(Parted {
+    Ok(Partition {
         firing,
         resolved,
         firing_labels,
@@ -216,37 +216,38 @@ fn notify_each(
     store: &mut Store,
     at: Moment,
     group: &RouteLabels,
-    parted: &Parted,
+    partition: &Partition,
 ) -> Result<(), AllocError>
     ensures ok { OnOk result (store.new.state
-        ≡ fold (notified_by at group.now parted.now) store.old.state
+        ≡ fold (notified_by at group.now partition.now) store.old.state
         (integrations_of store.old.state.config group.now.route)) }
     ensures kept { undone store.new ≡ undone store.old }
     ensures grown { GrownBy (2 * turns store.old.state group.now) store.old store.new }
 {
     let config = store.config().clone()?;
     for integration in config.integrations(group.route) {
-        notify(store, at, group, parted, integration)?;
+        notify(store, at, group, partition, integration)?;
     }
     Ok(())
 }
 
-/// Runs the dedup check for one integration and notifies it if needed.
+/// Runs the dedup check for one integration, and writes the log entry and appends the notification
+/// if they are due.
 fn notify(
     store: &mut Store,
     at: Moment,
     group: &RouteLabels,
-    parted: &Parted,
+    partition: &Partition,
     integration: &Integration,
 ) -> Result<(), AllocError>
     ensures ok { OnOk result (store.new.state
-        ≡ notified_by at group.now parted.now store.old.state integration.now) }
+        ≡ notified_by at group.now partition.now store.old.state integration.now) }
     ensures kept { undone store.new ≡ undone store.old }
     ensures grown { GrownBy 2 store.old store.new }
 {
     let key = log_key(store.alloc(), store.config(), group, integration)?;
-    if needs_notification(store, at, group, &key, parted, integration) {
-        record_notification(store, at, group, &key, parted, integration)?;
+    if is_entry_due(store, at, group, &key, partition, integration) {
+        record_notification(store, at, group, &key, partition, integration)?;
     }
     Ok(())
 }
@@ -269,24 +270,24 @@ pub(crate) fn log_key(
     })
 }
 
-/// Returns whether the dedup check says that an integration is notified now. The rule is
-/// `needs_update` of `amr_rules`, which `quiet.rt` calls too, to know until when a flush would notify
-/// nobody.
-fn needs_notification(
+/// Returns whether the dedup check says that a new log entry is due for an integration. The rule is
+/// `needs_update` of `amr_rules`, which `quiet.rt` calls too, to know until when a flush would
+/// notify nobody.
+fn is_entry_due(
     store: &Store,
     at: Moment,
     group: &RouteLabels,
     key: &LogKey,
-    parted: &Parted,
+    partition: &Partition,
     integration: &Integration,
 ) -> bool
     ensures { result
-        ≡ needs_notification store.now.state at group.now key.now parted.now integration.now }
+        ≡ is_entry_due store.now.state at group.now key.now partition.now integration.now }
 {
     needs_update(
         store.log().get(key),
-        &parted.firing_labels,
-        &parted.resolved_labels,
+        &partition.firing_labels,
+        &partition.resolved_labels,
         integration.send_resolved,
         at,
         store.config().repeat_interval(group.route),
@@ -300,30 +301,30 @@ fn record_notification(
     at: Moment,
     group: &RouteLabels,
     key: &LogKey,
-    parted: &Parted,
+    partition: &Partition,
     integration: &Integration,
 ) -> Result<(), AllocError>
     ensures ok { OnOk result (store.new.state
-        ≡ record_parted at group.now key.now parted.now integration.now.send_resolved
+        ≡ record_for at group.now key.now partition.now integration.now.send_resolved
         store.old.state) }
     ensures kept { undone store.new ≡ undone store.old }
     ensures grown { GrownBy 2 store.old store.new }
 {
-    let entry = log_entry(at, parted)?;
+    let entry = log_entry(at, partition)?;
     let send_resolved = integration.send_resolved;
-    let notification = notification_of(store.alloc(), at, group, key, send_resolved, parted)?;
+    let notification = notification_of(store.alloc(), at, group, key, send_resolved, partition)?;
     store.write_log(key, entry)?;
     append(store, notification)
 }
 
 /// Returns the log entry for a notification about these members.
-fn log_entry(at: Moment, parted: &Parted) -> Result<LogEntry, AllocError>
-    ensures { IfOk result (λ entry. entry ≡ entry_of at parted.now) }
+fn log_entry(at: Moment, partition: &Partition) -> Result<LogEntry, AllocError>
+    ensures { IfOk result (λ entry. entry ≡ entry_of at partition.now) }
 {
     Ok(LogEntry {
         time: at,
-        firing: parted.firing_labels.clone()?,
-        resolved: parted.resolved_labels.clone()?,
+        firing: partition.firing_labels.clone()?,
+        resolved: partition.resolved_labels.clone()?,
     })
 }
 
@@ -335,17 +336,17 @@ fn notification_of(
     group: &RouteLabels,
     key: &LogKey,
     send_resolved: bool,
-    parted: &Parted,
+    partition: &Partition,
 ) -> Result<Option<Notification>, AllocError>
     ensures { IfOk result (λ notification. option_to_list notification
-        ≡ notifications_of at group.now key.now send_resolved parted.now.firing.items
-        parted.now.resolved.items) }
+        ≡ notifications_of at group.now key.now send_resolved partition.now.firing.items
+        partition.now.resolved.items) }
 {
-    if parted.firing.is_empty() && !send_resolved {
+    if partition.firing.is_empty() && !send_resolved {
         return Ok(None);
     }
     let resolved = if send_resolved {
-        notified_resolved(alloc, parted.resolved.as_slice())?
+        notified_resolved(alloc, partition.resolved.as_slice())?
     } else {
         Listing::new(alloc)
     };
@@ -353,7 +354,7 @@ fn notification_of(
         at,
         route: group.route,
         key: key.clone()?,
-        firing: notified_firing(alloc, parted.firing.as_slice())?,
+        firing: notified_firing(alloc, partition.firing.as_slice())?,
         resolved,
     }))
 }

@@ -20,45 +20,52 @@ use std::alloc::AllocError;
 /// The most moves that one event may make. It bounds the work of an event far in the future.
 const MOST_MOVES: usize = 10_000;
 
-/// Makes a move, at its own moment and not at the event's. If the move is known to only set a group
-/// timer, it does just that. Returns whether the move is known to have done only that.
-fn make(
+/// Makes every move due at or before a moment, and returns how many there were. Returns `None` if
+/// there are more than `MOST_MOVES`; the caller then undoes those that were made. Moves that
+/// `quiet_moves` knows to set a group timer alone do just that, and it learns of the others whether
+/// they do.
+pub(crate) fn advance(
     store: &mut Store,
-    memory: &mut QuietGroups,
-    due: Due,
-    is_quiet: bool,
-) -> Result<bool, AllocError>
-    requires late { due.moment ≤ latest_read }
-    requires memory { IsTrueOf memory.old store.old.state }
-    requires quiet { is_quiet ≡ true → OnlySets store.old.state due }
-    ensures ok { OnOk result (store.new.state ≡ move due store.old.state) }
-    ensures quiet { IfOk result (λ quiet. quiet ≡ true → OnlySets store.old.state due) }
+    quiet_groups: &mut QuietGroups,
+    quiet_moves: &mut QuietMoves,
+    at: Moment,
+) -> Result<Option<usize>, AllocError>
+    requires late { at ≤ latest_read }
+    requires memory { IsTrueOf quiet_groups.old store.old.state }
+    requires quiet { AreQuietMoves quiet_moves.old store.old.state }
+    ensures ok { IfOk result (λ made. moves_to store.new.state made
+        ≡ counted_run (advance move_limit at store.old.state)) }
     ensures kept { undone store.new ≡ undone store.old }
-    ensures grown { GrownBy (2 * move_weight store.old.state due due.kind) store.old store.new }
-    ensures memory { OnOk result (IsTrueOf memory.new store.new.state) }
+    ensures grown { OnOk result (GrownBy (2 * first_weight move_limit at store.old.state)
+        store.old store.new) }
+    ensures memory { OnOk result (IsTrueOf quiet_groups.new store.new.state) }
+    ensures quiet { AreQuietMoves quiet_moves.new store.old.state }
 {
-    if !is_quiet {
-        return fire(store, memory, due);
+    for made in 0..MOST_MOVES {
+        match next_due(store, at)? {
+            None => return Ok(Some(made)),
+            Some(due) => {
+                let is_quiet = make(store, quiet_groups, due, quiet_moves.is_quiet(made))?;
+                quiet_moves.note(made, is_quiet)?;
+            }
+        }
     }
-    let at = Moment::from_nanoseconds(due.moment);
-    let group = RouteLabels {
-        route: due.route,
-        labels: due.labels,
-    };
-    reset_timer(store, at, &group)?;
-    Ok(true)
+    if next_due(store, at)?.is_some() {
+        return Ok(None);
+    }
+    Ok(Some(MOST_MOVES))
 }
 
 /// Fires a timer: removes an alert or a group, or flushes a group. Returns whether this is known to
 /// have set a group timer alone.
-fn fire(store: &mut Store, memory: &mut QuietGroups, due: Due) -> Result<bool, AllocError>
+fn fire(store: &mut Store, quiet_groups: &mut QuietGroups, due: Due) -> Result<bool, AllocError>
     requires late { due.moment ≤ latest_read }
-    requires memory { IsTrueOf memory.old store.old.state }
+    requires memory { IsTrueOf quiet_groups.old store.old.state }
     ensures ok { OnOk result (store.new.state ≡ move due store.old.state) }
     ensures quiet { IfOk result (λ quiet. quiet ≡ true → OnlySets store.old.state due) }
     ensures kept { undone store.new ≡ undone store.old }
     ensures grown { GrownBy (2 * move_weight store.old.state due due.kind) store.old store.new }
-    ensures memory { OnOk result (IsTrueOf memory.new store.new.state) }
+    ensures memory { OnOk result (IsTrueOf quiet_groups.new store.new.state) }
 {
     let Due {
         moment,
@@ -68,7 +75,7 @@ fn fire(store: &mut Store, memory: &mut QuietGroups, due: Due) -> Result<bool, A
     } = due;
     match kind {
         Kind::AlertRemoval => {
-            memory.alert_leaves(store, &labels);
+            quiet_groups.alert_leaves(store, &labels);
             store.remove_alert(&labels)?;
             Ok(false)
         }
@@ -78,42 +85,36 @@ fn fire(store: &mut Store, memory: &mut QuietGroups, due: Due) -> Result<bool, A
         }
         Kind::GroupFlush => {
             let at = Moment::from_nanoseconds(moment);
-            memory.flush(store, at, &RouteLabels { route, labels })
+            quiet_groups.flush(store, at, &RouteLabels { route, labels })
         }
     }
 }
 
-/// Makes every move due at or before a moment, and returns how many there were. Returns `None` if
-/// there are more than `MOST_MOVES`; the caller then undoes those that were made. Moves that `quiet`
-/// knows to set a group timer alone do just that, and it learns of the others whether they do.
-pub(crate) fn advance(
+/// Makes a move, at its own moment and not at the event's. If the move is known to only set a group
+/// timer, it does just that. Returns whether the move is known to have done only that.
+fn make(
     store: &mut Store,
-    memory: &mut QuietGroups,
-    quiet: &mut QuietMoves,
-    at: Moment,
-) -> Result<Option<usize>, AllocError>
-    requires late { at ≤ latest_read }
-    requires memory { IsTrueOf memory.old store.old.state }
-    requires quiet { AreQuietMoves quiet.old store.old.state }
-    ensures ok { IfOk result (λ made. moves_to store.new.state made
-        ≡ counted_run (advance move_limit at store.old.state)) }
+    quiet_groups: &mut QuietGroups,
+    due: Due,
+    is_quiet: bool,
+) -> Result<bool, AllocError>
+    requires late { due.moment ≤ latest_read }
+    requires memory { IsTrueOf quiet_groups.old store.old.state }
+    requires quiet { is_quiet ≡ true → OnlySets store.old.state due }
+    ensures ok { OnOk result (store.new.state ≡ move due store.old.state) }
+    ensures quiet { IfOk result (λ quiet. quiet ≡ true → OnlySets store.old.state due) }
     ensures kept { undone store.new ≡ undone store.old }
-    ensures grown { OnOk result (GrownBy (2 * first_weight move_limit at store.old.state)
-        store.old store.new) }
-    ensures memory { OnOk result (IsTrueOf memory.new store.new.state) }
-    ensures quiet { AreQuietMoves quiet.new store.old.state }
+    ensures grown { GrownBy (2 * move_weight store.old.state due due.kind) store.old store.new }
+    ensures memory { OnOk result (IsTrueOf quiet_groups.new store.new.state) }
 {
-    for made in 0..MOST_MOVES {
-        match next_due(store, at)? {
-            None => return Ok(Some(made)),
-            Some(due) => {
-                let is_quiet = make(store, memory, due, quiet.is_quiet(made))?;
-                quiet.note(made, is_quiet)?;
-            }
-        }
+    if !is_quiet {
+        return fire(store, quiet_groups, due);
     }
-    if next_due(store, at)?.is_some() {
-        return Ok(None);
-    }
-    Ok(Some(MOST_MOVES))
+    let at = Moment::from_nanoseconds(due.moment);
+    let group = RouteLabels {
+        route: due.route,
+        labels: due.labels,
+    };
+    reset_timer(store, at, &group)?;
+    Ok(true)
 }

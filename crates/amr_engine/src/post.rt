@@ -48,8 +48,8 @@ pub(crate) fn sift(
     Ok(Sifted { valid, skipped })
 }
 
-/// Returns the alert to store: the new alert, merged with the stored alert of the same labels if one
-/// exists.
+/// Returns the alert to store: the new alert, merged with the stored alert of the same labels if
+/// one exists.
 #[tactic(auto, unfolding(amr_rules::specs::Alerts::joined))]
 fn joined(store: &Store, labels: &Labels, alert: Alert) -> Alert
     ensures { result

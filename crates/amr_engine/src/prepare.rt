@@ -2,12 +2,12 @@
 //! `apply.rt` calls `prepare` and performs the result after the moves. Nothing is stored here.
 ghost use Rattle.std.specs.Prelude.{◌≡◌, ◌≤◌, ℕ, IfOk};
 ghost use Rattle.amr_time.specs.Time.{latest_read};
-ghost use Rattle.amr_events.specs.Acts.{act_of, by_number};
-ghost use Rattle.amr_events.specs.Events.{Act as act};
+ghost use Rattle.amr_actions.specs.Acts.{act_of, by_number};
+ghost use Rattle.amr_actions.specs.Events.{Act as act};
 
 use crate::post::{Sifted, sift};
+use amr_actions::Act;
 use amr_config::Config;
-use amr_events::Act;
 use amr_posts::{PostedAlert, PostedSilence, Reason, SilenceId};
 use amr_rules::{Silence, SilenceUpdate, set_silence, silence_expire};
 use amr_state::Store;

@@ -24,14 +24,14 @@ use amr_tables::Keyed;
 use amr_time::Moment;
 use std::alloc::{AllocError, Global};
 
-/// The number of stored alerts and silences that one flush in full pays to look at. Looking at this
-/// many takes less time than such a flush, which copies members and asks rules and silences. So the
-/// looks never cost more than the flushes. If thousands of groups are flushed at one tick, all after
-/// the first use that look.
+/// How many stored alerts and silences may be looked at for each flush in full. Looking at this
+/// many takes less time than such a flush, which copies members and asks rules and silences, so the
+/// looks never cost more than the flushes. If thousands of groups are flushed at one tick, all
+/// after the first use that look.
 const LOOKED_AT_PER_FLUSH: usize = 100;
 
-/// How many times rarer looks get at most while they are of no use. Between posts that come one
-/// after the other, what a look found is forgotten before it has saved a flush.
+/// The most by which looks are put off that save no flush. Between posts that come one after the
+/// other, what a look found is forgotten before it is of use.
 const MOST_PATIENCE: usize = 16;
 
 /// The moments from one until just before another, both in nanoseconds since 1970. The end may be
@@ -86,7 +86,7 @@ impl QuietGroups {
         }
     }
 
-    /// Forgets all groups.
+    /// Forgets all that depends on the state: the quiet groups, and when nothing ends or starts.
     pub(crate) fn clear(&mut self)
         ensures { (s : State) → IsTrueOf self.new s }
     {
@@ -108,10 +108,10 @@ impl QuietGroups {
         self.clear();
     }
 
-    /// Flushes a group at a moment, as `flush` of `flush.rt` does. For a quiet group it only sets the
-    /// group timer, which takes no look at the members. After any other flush it forgets the groups
-    /// with the same labels, because they may share entries of the notification log. Returns whether
-    /// the flush is known to have set the group timer alone.
+    /// Flushes a group at a moment, as `flush` of `flush.rt` does. For a quiet group it only sets
+    /// the group timer, which takes no look at the members. After any other flush it forgets the
+    /// groups with the same labels, because they may share entries of the notification log. Returns
+    /// whether the flush is known to have set the group timer alone.
     pub(crate) fn flush(
         &mut self,
         store: &mut Store,
@@ -135,8 +135,8 @@ impl QuietGroups {
         self.flush_unknown(store, at, group)
     }
 
-    /// Flushes a group that isn't remembered as quiet. It looks for the group's members and for what
-    /// mutes them once, to find out whether the group is quiet and to notify of them.
+    /// Flushes a group that isn't remembered as quiet. It looks for the group's members and for
+    /// what mutes them once, to find out whether the group is quiet and to notify of them.
     fn flush_unknown(
         &mut self,
         store: &mut Store,
@@ -163,8 +163,9 @@ impl QuietGroups {
         Ok(false)
     }
 
-    /// Returns whether a flush of the group with these members, of which no stage mutes `through`,
-    /// only sets its timer. If it isn't worth it yet to find out until when, nothing is remembered.
+    /// Returns true only if a flush of the group with these members, of which no stage mutes
+    /// `through`, is known to only set its timer. If it isn't worth it yet to find out until when,
+    /// nothing is remembered.
     fn is_quiet(
         &mut self,
         store: &Store,
@@ -313,7 +314,8 @@ impl QuietGroups {
     }
 }
 
-/// Returns how many times rarer the next looks are, by whether a flush was saved since the last one.
+/// Returns how many times rarer the next looks are, by whether a flush was saved since the last
+/// one.
 fn next_patience(patience: usize, has_saved: bool) -> usize {
     if has_saved {
         1
@@ -544,7 +546,8 @@ fn silence_turn(store: &Store, at: Moment, until: u128) -> u128
     until
 }
 
-/// Returns the first end of a stored alert after a moment if it is before `until`, and else `until`.
+/// Returns the first end of a stored alert after a moment if it is before `until`, and else
+/// `until`.
 fn alert_end(store: &Store, at: Moment, until: u128) -> u128
     ensures within { result ≤ until }
     ensures still { no_alert_ends at result store.now.state.alerts ≡ true }

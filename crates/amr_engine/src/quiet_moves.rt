@@ -1,5 +1,5 @@
-//! Which of the moves from a state only set a group timer. The moves up to a moment are the first of
-//! those up to a later one, whatever the event is. So a session notes them at each place of its
+//! Which of the moves from a state only set a group timer. The moves up to a moment are the first
+//! of those up to a later one, whatever the event is. So a session notes them at each place of its
 //! cursor, and makes them faster if it passes an event again or tries another one there.
 ghost use Rattle.std.specs.Prelude.{◌≡◌, false, [], ◌∷◌, ◌++◌, length, get_or, OnOk, OnErr};
 ghost use Rattle.amr_engine.specs.QuietMoves.{noted};
@@ -35,7 +35,8 @@ impl QuietMoves {
         }
     }
 
-    /// Returns whether a move is known to only set a group timer; `made` counts the moves before it.
+    /// Returns whether a move is known to only set a group timer; `made` counts the moves before
+    /// it.
     pub(crate) fn is_quiet(&self, made: usize) -> bool
         ensures { result ≡ get_or self.now made false }
     {

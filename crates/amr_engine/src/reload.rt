@@ -13,18 +13,6 @@ use amr_rules::Alert;
 use amr_state::{Store, place, views};
 use std::alloc::AllocError;
 
-/// Inserts alerts into the groups of their chosen routes, in order.
-fn place_all(store: &mut Store, alerts: &[(Labels, Alert)]) -> Result<(), AllocError>
-    ensures ok { OnOk result (store.new.state ≡ fold place store.old.state alerts.now) }
-    ensures kept { undone store.new ≡ undone store.old }
-    ensures grown { GrownBy (2 * copies store.old.state.config alerts.now) store.old store.new }
-{
-    for (labels, alert) in alerts {
-        place(store, labels, alert)?;
-    }
-    Ok(())
-}
-
 /// Replaces the configuration, drops all groups, and inserts every stored alert, resolved ones too,
 /// into groups of the new routing tree.
 #[tactic(auto, unfolding(crate::specs::Events::with_config))]
@@ -37,4 +25,16 @@ pub(crate) fn reload(store: &mut Store, config: Config) -> Result<(), AllocError
     let alerts = views::alerts(store)?;
     store.replace_config(config)?;
     place_all(store, alerts.as_slice())
+}
+
+/// Inserts alerts into the groups of their chosen routes, in order.
+fn place_all(store: &mut Store, alerts: &[(Labels, Alert)]) -> Result<(), AllocError>
+    ensures ok { OnOk result (store.new.state ≡ fold place store.old.state alerts.now) }
+    ensures kept { undone store.new ≡ undone store.old }
+    ensures grown { GrownBy (2 * copies store.old.state.config alerts.now) store.old store.new }
+{
+    for (labels, alert) in alerts {
+        place(store, labels, alert)?;
+    }
+    Ok(())
 }

@@ -8,8 +8,8 @@ use Rattle.serde_json.specs.Find.{get, as_str, as_bool, as_array}
 use Rattle.amr_time.specs.Time.{Moment, second, latest_read}
 use Rattle.amr_time.specs.MomentRead as moments
 use Rattle.amr_time.specs.MomentRead.{moment_at, in_range}
-use Rattle.amr_events.specs.Events.{Act, Event}
-use Rattle.amr_events.specs.Events as events
+use Rattle.amr_actions.specs.Events.{Act, Event}
+use Rattle.amr_actions.specs.Events as events
 use Rattle.amr_loading.specs.Members.{present}
 use Rattle.amr_events.specs.Shapes.{◌>>=◌, each_item, texts_in, moment_under}
 use Rattle.amr_events.specs.Posted.{is_missing, time_of, time_at, time_in, annotations_in, alert_of, alerts_of}

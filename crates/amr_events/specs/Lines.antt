@@ -6,12 +6,12 @@ use Rattle.serde_json.specs.Read.{read}
 use Rattle.serde_json.specs.Find.{get, as_bool}
 use Rattle.amr_labels.specs.Labels.{Text}
 use Rattle.amr_stated.specs.Config.{Config}
-use Rattle.amr_loading.specs.Numbers.{number_of}
+use Rattle.amr_loading.specs.Refusals.{number_of}
 use Rattle.amr_loading.specs.Reading.{config_of}
 use Rattle.amr_loading.specs.declared.error.Refusal.{Refusal}
 use Rattle.amr_posts.specs.Reasons.{Reason}
-use Rattle.amr_events.specs.Events.{Act, Event}
-use Rattle.amr_events.specs.Events as events
+use Rattle.amr_actions.specs.Events.{Act, Event}
+use Rattle.amr_actions.specs.Events as events
 use Rattle.amr_events.specs.Shapes.{◌>>=◌, moment_under}
 use Rattle.amr_events.specs.Posted.{alerts_of}
 use Rattle.amr_events.specs.PostedSilences.{id_at, silence_of}
@@ -21,12 +21,12 @@ unfoldable pub json_of : List ℕ → Option Data
 json_of line = if is_utf8 line then read line else None
 
 -- 1 if the object has the key, whatever its value
-abbrev pub stands : Text → Data → ℕ
-stands key d = if is_some (get key d) then 1 else 0
+abbrev pub count_of : Text → Data → ℕ
+count_of key d = if is_some (get key d) then 1 else 0
 
 -- how many actions the object has
 unfoldable pub act_count : Data → ℕ
-act_count d = stands (codes "alerts") d + stands (codes "silence") d + stands (codes "expire") d + stands (codes "reload") d + stands (codes "tick") d
+act_count d = count_of (codes "alerts") d + count_of (codes "silence") d + count_of (codes "expire") d + count_of (codes "reload") d + count_of (codes "tick") d
 
 -- a post of alerts
 unfoldable pub post_of : Data → Option Act

@@ -8,7 +8,7 @@ use Rattle.amr_labels.specs.Map.{from_entries}
 use Rattle.amr_labels.specs.Labels.{Text}
 use Rattle.amr_time.specs.Time.{Moment}
 use Rattle.amr_time.specs.MomentRead.{moment_at}
-use Rattle.amr_events.specs.Events.{Annotations}
+use Rattle.amr_actions.specs.Events.{Annotations}
 use Rattle.amr_loading.specs.Members.{present}
 use Rattle.amr_events.specs.Shapes.{◌>>=◌, each_item, texts_in}
 use Rattle.amr_posts.specs.declared.posted_alert.PostedAlert.{PostedAlert}

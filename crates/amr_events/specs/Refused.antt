@@ -8,8 +8,8 @@ use Rattle.amr_stated.specs.Config.{Config}
 use Rattle.amr_loading.specs.Reading.{ConfigIs}
 use Rattle.amr_loading.specs.declared.error.Refusal.{Refusal}
 use Rattle.amr_posts.specs.Reasons.{Reason}
-use Rattle.amr_events.specs.Events.{Act, Event}
-use Rattle.amr_events.specs.Events as events
+use Rattle.amr_actions.specs.Events.{Act, Event}
+use Rattle.amr_actions.specs.Events as events
 use Rattle.amr_events.specs.Shapes.{moment_under}
 use Rattle.amr_events.specs.Lines.{json_of, numbered, reload_of, act_in}
 use Rattle.amr_posts.specs.declared.posted_silence.PostedSilence.{PostedSilence}

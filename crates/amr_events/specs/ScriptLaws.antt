@@ -1,6 +1,6 @@
 -- A script is refused exactly if it can't be read.
 use Rattle.std.specs.Prelude.{◌≡◌, ℕ, List, Result, Err}
-use Rattle.amr_events.specs.Events.{Event}
+use Rattle.amr_actions.specs.Events.{Event}
 use Rattle.amr_events.specs.Scripts.{ScriptIs}
 use Rattle.amr_events.specs.declared.error.Fault.{Fault}
 

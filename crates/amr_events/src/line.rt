@@ -1,98 +1,56 @@
-//! Reading a line of a script: an object with a moment and exactly one action. `Event::read` in
+//! Reading a line of a script: an object with a moment and exactly one action. `read_event` in
 //! `script.rt` says which keys it has.
 ghost use Rattle.std.specs.Prelude.{◌≡◌, codes, option_map, IfOk};
 ghost use Rattle.serde_json.specs.View.{view};
 ghost use Rattle.amr_posts.specs.Reasons.{reason_number};
-ghost use Rattle.amr_loading.specs.Numbers.{number_of};
+ghost use Rattle.amr_loading.specs.Refusals.{number_of};
 ghost use Rattle.amr_events.specs.Answers.{Reads, ReadsSuch};
-ghost use Rattle.amr_events.specs.Acts.{by_number, act_of};
-ghost use Rattle.amr_events.specs.Events as events;
-ghost use Rattle.amr_events.specs.Lines.{json_of, stands as stands_in, act_count as count_of_acts, tick_of, act_in, event_in, event_of_line};
+ghost use Rattle.amr_actions.specs.Acts.{by_number, act_of};
+ghost use Rattle.amr_actions.specs.Events as events;
+ghost use Rattle.amr_events.specs.Lines.{json_of, count_of as count_in, act_count as count_of_acts, tick_of, act_in, event_in, event_of_line};
 ghost use Rattle.amr_events.specs.Refused.{ReloadIs, ActIs, EventIs, LineIs};
 
 use crate::error::LineError;
-use crate::event::{Act, Event};
 use crate::posted::alerts;
 use crate::posted_silence::{id, silence};
 use crate::seen_texts::SeenTexts;
 use crate::shapes::moment;
+use amr_actions::{Act, Event};
 use amr_config::Config;
 use amr_loading::{ConfigError, Refusal, load_config};
 use amr_posts::Reason;
 use serde_json::Value;
 use std::alloc::{AllocError, Global};
 
-/// Returns the JSON value that a text spells.
-#[tactic(auto, unfolding(crate::specs::Lines::json_of))]
-pub(crate) fn json(alloc: Global, line: &[u8]) -> Result<Value, LineError>
-    ensures { Reads view result (json_of line.now) }
+/// Reads the event of a line that is in no script.
+pub(crate) fn read_single_line(alloc: Global, line: &[u8]) -> Result<Event, LineError>
+    ensures { ReadsSuch (λ event. LineIs line.now event) result (event_of_line line.now) }
 {
-    match Value::from_slice(alloc, line) {
-        Ok(value) => Ok(value),
-        Err(error) => {
-            if error.is_memory() {
-                Err(LineError::Memory)
-            } else {
-                Err(LineError::Faulty)
-            }
-        }
-    }
+    let mut seen = SeenTexts::new(alloc);
+    read_line(alloc, &mut seen, line)
 }
 
-/// Returns 1 if the object has the key, whatever its value, and else 0.
-fn stands(value: &Value, key: &str) -> u64
-    ensures { result ≡ stands_in key.now (view value.now) }
+/// Reads the event of a line. It shares the texts of its alerts with those that were seen.
+#[tactic(auto, unfolding(crate::specs::Lines::event_of_line))]
+pub(crate) fn read_line(
+    alloc: Global,
+    seen: &mut SeenTexts,
+    line: &[u8],
+) -> Result<Event, LineError>
+    ensures { ReadsSuch (λ event. LineIs line.now event) result (event_of_line line.now) }
 {
-    u64::from(value.get(key).is_some())
+    let stated = json(alloc, line)?;
+    event(alloc, seen, &stated)
 }
 
-/// Returns how many actions the object has.
-#[tactic(auto, unfolding(crate::specs::Lines::act_count))]
-fn act_count(value: &Value) -> u64
-    ensures { result ≡ count_of_acts (view value.now) }
+/// Reads an event from its JSON value.
+#[tactic(auto, unfolding(crate::specs::Lines::event_in))]
+fn event(alloc: Global, seen: &mut SeenTexts, line: &Value) -> Result<Event, LineError>
+    ensures { ReadsSuch (λ event. EventIs (view line.now) event) result (event_in (view line.now)) }
 {
-    stands(value, "alerts")
-        + stands(value, "silence")
-        + stands(value, "expire")
-        + stands(value, "reload")
-        + stands(value, "tick")
-}
-
-/// Reads a tick, which must be `true`.
-#[tactic(auto, unfolding(crate::specs::Lines::tick_of))]
-fn tick(value: &Value) -> Result<(), LineError>
-    ensures { Reads (λ _. events.Act.Tick) result (tick_of (view value.now)) }
-{
-    match value.as_bool() {
-        Some(true) => Ok(()),
-        _ => Err(LineError::Faulty),
-    }
-}
-
-/// Returns the reason that refuses the reload of a faulty configuration.
-fn reason_of(refusal: &Refusal) -> Reason
-    ensures { reason_number result ≡ number_of refusal.now }
-{
-    match refusal {
-        Refusal::BadConfig { path: _ } => Reason::BadConfig,
-        Refusal::UnknownReceiver => Reason::UnknownReceiver,
-        Refusal::DuplicateReceiver => Reason::DuplicateReceiver,
-        Refusal::RootRoute => Reason::RootRoute,
-        Refusal::ZeroInterval => Reason::ZeroInterval,
-        Refusal::BadGroupBy => Reason::BadGroupBy,
-        Refusal::TooDeep => Reason::TooDeep,
-    }
-}
-
-/// Reads the configuration of a reload, or returns why it can't be loaded.
-fn reload(alloc: Global, value: &Value) -> Result<Result<Config, Reason>, AllocError>
-    ensures { IfOk result (λ read. ReloadIs (view value.now) (by_number read)) }
-{
-    match load_config(alloc, value) {
-        Ok(config) => Ok(Ok(config)),
-        Err(ConfigError::Refused(refusal)) => Ok(Err(reason_of(&refusal))),
-        Err(ConfigError::Memory) => Err(AllocError),
-    }
+    let at = moment(line, "at")?;
+    let act = act(alloc, seen, line)?;
+    Ok(Event::new(at, act))
 }
 
 /// Reads the action of the object. It fails unless there is exactly one.
@@ -121,33 +79,75 @@ fn act(alloc: Global, seen: &mut SeenTexts, line: &Value) -> Result<Act, LineErr
     Ok(Act::Tick)
 }
 
-/// Reads an event from its JSON value.
-#[tactic(auto, unfolding(crate::specs::Lines::event_in))]
-fn event(alloc: Global, seen: &mut SeenTexts, line: &Value) -> Result<Event, LineError>
-    ensures { ReadsSuch (λ event. EventIs (view line.now) event) result (event_in (view line.now)) }
+/// Reads the configuration of a reload, or returns why it can't be loaded.
+fn reload(alloc: Global, value: &Value) -> Result<Result<Config, Reason>, AllocError>
+    ensures { IfOk result (λ read. ReloadIs (view value.now) (by_number read)) }
 {
-    let at = moment(line, "at")?;
-    let act = act(alloc, seen, line)?;
-    Ok(Event::new(at, act))
+    match load_config(alloc, value) {
+        Ok(config) => Ok(Ok(config)),
+        Err(ConfigError::Refused(refusal)) => Ok(Err(reason_of(&refusal))),
+        Err(ConfigError::Memory) => Err(AllocError),
+    }
 }
 
-/// Reads the event of a line. It shares the texts of its alerts with those that were seen.
-#[tactic(auto, unfolding(crate::specs::Lines::event_of_line))]
-pub(crate) fn read_line(
-    alloc: Global,
-    seen: &mut SeenTexts,
-    line: &[u8],
-) -> Result<Event, LineError>
-    ensures { ReadsSuch (λ event. LineIs line.now event) result (event_of_line line.now) }
+/// Returns the reason that refuses the reload of a faulty configuration.
+fn reason_of(refusal: &Refusal) -> Reason
+    ensures { reason_number result ≡ number_of refusal.now }
 {
-    let stated = json(alloc, line)?;
-    event(alloc, seen, &stated)
+    match refusal {
+        Refusal::BadConfig { path: _ } => Reason::BadConfig,
+        Refusal::UnknownReceiver => Reason::UnknownReceiver,
+        Refusal::DuplicateReceiver => Reason::DuplicateReceiver,
+        Refusal::RootRoute => Reason::RootRoute,
+        Refusal::ZeroInterval => Reason::ZeroInterval,
+        Refusal::BadGroupBy => Reason::BadGroupBy,
+        Refusal::TooDeep => Reason::TooDeep,
+    }
 }
 
-/// Reads the event of a line that is in no script.
-pub(crate) fn read_single_line(alloc: Global, line: &[u8]) -> Result<Event, LineError>
-    ensures { ReadsSuch (λ event. LineIs line.now event) result (event_of_line line.now) }
+/// Reads a tick, which must be `true`.
+#[tactic(auto, unfolding(crate::specs::Lines::tick_of))]
+fn tick(value: &Value) -> Result<(), LineError>
+    ensures { Reads (λ _. events.Act.Tick) result (tick_of (view value.now)) }
 {
-    let mut seen = SeenTexts::new(alloc);
-    read_line(alloc, &mut seen, line)
+    match value.as_bool() {
+        Some(true) => Ok(()),
+        _ => Err(LineError::Faulty),
+    }
+}
+
+/// Returns how many actions the object has.
+#[tactic(auto, unfolding(crate::specs::Lines::act_count))]
+fn act_count(value: &Value) -> u64
+    ensures { result ≡ count_of_acts (view value.now) }
+{
+    count_of(value, "alerts")
+        + count_of(value, "silence")
+        + count_of(value, "expire")
+        + count_of(value, "reload")
+        + count_of(value, "tick")
+}
+
+/// Returns 1 if the object has the key, whatever its value, and else 0.
+fn count_of(value: &Value, key: &str) -> u64
+    ensures { result ≡ count_in key.now (view value.now) }
+{
+    u64::from(value.get(key).is_some())
+}
+
+/// Returns the JSON value that a text spells.
+#[tactic(auto, unfolding(crate::specs::Lines::json_of))]
+pub(crate) fn json(alloc: Global, line: &[u8]) -> Result<Value, LineError>
+    ensures { Reads view result (json_of line.now) }
+{
+    match Value::from_slice(alloc, line) {
+        Ok(value) => Ok(value),
+        Err(error) => {
+            if error.is_memory() {
+                Err(LineError::Memory)
+            } else {
+                Err(LineError::Faulty)
+            }
+        }
+    }
 }

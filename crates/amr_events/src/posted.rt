@@ -29,48 +29,21 @@ const MISSING_MARKS: [&str; 10] = [
     "0001-01-01T00:00:00.000000000Z",
 ];
 
-/// Returns whether the text means a missing time.
-#[tactic(auto, unfolding(crate::specs::Posted::is_missing))]
-fn is_missing(text: &str) -> bool
-    ensures { result ≡ is_missing_text text.now }
+/// Reads a list of posted alerts, in order.
+#[tactic(auto, unfolding(crate::specs::Posted::alerts_of))]
+pub(crate) fn alerts(
+    alloc: Global,
+    seen: &mut SeenTexts,
+    value: &Value,
+) -> Result<Listing<PostedAlert>, LineError>
+    ensures { Reads (λ alerts. alerts) result (alerts_of (view value.now)) }
 {
-    text.is_empty() || MISSING_MARKS.contains(&text)
-}
-
-/// Reads a time, which may be missing.
-#[tactic(auto, unfolding(crate::specs::Posted::time_of))]
-fn time_of(text: &str) -> Result<Option<Moment>, BadTime>
-    ensures { result_ok result ≡ time_of text.now }
-{
-    if is_missing(text) {
-        return Ok(None);
+    let items = value.as_array().ok_or(LineError::Faulty)?;
+    let mut alerts = Vec::with_capacity(alloc, items.len())?;
+    for item in items {
+        alerts.push(alert(alloc, seen, item)?)?;
     }
-    let moment = read_moment(text)?;
-    Ok(Some(moment))
-}
-
-/// Reads the time under a key, if the alert has one.
-#[tactic(auto, unfolding(crate::specs::Posted::time_in))]
-fn time(alert: &Value, key: &str) -> Result<Option<Moment>, BadTime>
-    ensures { result_ok result ≡ time_in key.now (view alert.now) }
-{
-    match member(alert, key) {
-        Some(value) => time_of(value.as_str().ok_or(BadTime)?),
-        None => Ok(None),
-    }
-}
-
-/// Reads the annotations of an alert; there may be none.
-#[tactic(auto, unfolding(crate::specs::Posted::annotations_in))]
-fn annotations(alloc: Global, seen: &mut SeenTexts, alert: &Value) -> Result<TextMap, LineError>
-    ensures { Reads (λ a. a) result (annotations_in (view alert.now)) }
-{
-    let texts = match member(alert, "annotations") {
-        Some(value) => texts(alloc, value)?,
-        None => Vec::new(alloc),
-    };
-    let shared = seen.share_pairs(alloc, texts.as_slice())?;
-    Ok(TextMap::from_pairs(alloc, shared.as_slice())?)
+    Ok(Listing::from_vec(alerts))
 }
 
 /// Reads a posted alert.
@@ -91,19 +64,46 @@ fn alert(alloc: Global, seen: &mut SeenTexts, alert: &Value) -> Result<PostedAle
     })
 }
 
-/// Reads a list of posted alerts, in order.
-#[tactic(auto, unfolding(crate::specs::Posted::alerts_of))]
-pub(crate) fn alerts(
-    alloc: Global,
-    seen: &mut SeenTexts,
-    value: &Value,
-) -> Result<Listing<PostedAlert>, LineError>
-    ensures { Reads (λ alerts. alerts) result (alerts_of (view value.now)) }
+/// Reads the annotations of an alert; there may be none.
+#[tactic(auto, unfolding(crate::specs::Posted::annotations_in))]
+fn annotations(alloc: Global, seen: &mut SeenTexts, alert: &Value) -> Result<TextMap, LineError>
+    ensures { Reads (λ a. a) result (annotations_in (view alert.now)) }
 {
-    let items = value.as_array().ok_or(LineError::Faulty)?;
-    let mut alerts = Vec::with_capacity(alloc, items.len())?;
-    for item in items {
-        alerts.push(alert(alloc, seen, item)?)?;
+    let texts = match member(alert, "annotations") {
+        Some(value) => texts(alloc, value)?,
+        None => Vec::new(alloc),
+    };
+    let shared = seen.share_pairs(alloc, texts.as_slice())?;
+    Ok(TextMap::from_pairs(alloc, shared.as_slice())?)
+}
+
+/// Reads the time under a key, if the alert has one.
+#[tactic(auto, unfolding(crate::specs::Posted::time_in))]
+fn time(alert: &Value, key: &str) -> Result<Option<Moment>, BadTime>
+    ensures { result_ok result ≡ time_in key.now (view alert.now) }
+{
+    match member(alert, key) {
+        Some(value) => time_of(value.as_str().ok_or(BadTime)?),
+        None => Ok(None),
     }
-    Ok(Listing::from_vec(alerts))
+}
+
+/// Reads a time, which may be missing.
+#[tactic(auto, unfolding(crate::specs::Posted::time_of))]
+fn time_of(text: &str) -> Result<Option<Moment>, BadTime>
+    ensures { result_ok result ≡ time_of text.now }
+{
+    if is_missing(text) {
+        return Ok(None);
+    }
+    let moment = read_moment(text)?;
+    Ok(Some(moment))
+}
+
+/// Returns whether the text means a missing time.
+#[tactic(auto, unfolding(crate::specs::Posted::is_missing))]
+fn is_missing(text: &str) -> bool
+    ensures { result ≡ is_missing_text text.now }
+{
+    text.is_empty() || MISSING_MARKS.contains(&text)
 }

@@ -37,135 +37,6 @@ impl Model for StatedMatcher {
     ghost view = { λ stated. record { name = stated.name; operator = stated.operator; value = stated.value } };
 }
 
-/// Returns the operator for `isRegex` and `isEqual` of the API.
-fn operator(is_regex: bool, is_equal: bool) -> Operator
-    ensures { result ≡ operator_by is_regex is_equal }
-{
-    match (is_regex, is_equal) {
-        (false, true) => Operator::Equal,
-        (false, false) => Operator::NotEqual,
-        (true, true) => Operator::Matches,
-        (true, false) => Operator::NotMatches,
-    }
-}
-
-/// Reads a matcher, without building its pattern.
-#[tactic(auto, unfolding(crate::specs::PostedSilences::matcher_of))]
-fn matcher(alloc: Global, value: &Value) -> Result<StatedMatcher, LineError>
-    ensures { Reads (λ matcher. matcher) result (matcher_of (view value.now)) }
-{
-    let name = text(alloc, value, "name")?;
-    let own = text(alloc, value, "value")?;
-    let is_regex = flag(value, "isRegex", false)?;
-    let is_equal = flag(value, "isEqual", true)?;
-    Ok(StatedMatcher {
-        name,
-        operator: operator(is_regex, is_equal),
-        value: own,
-    })
-}
-
-/// Reads a list of matchers, in order.
-#[tactic(auto, unfolding(crate::specs::PostedSilences::matchers_of))]
-fn matchers(alloc: Global, value: &Value) -> Result<Vec<StatedMatcher>, LineError>
-    ensures { Reads (λ matchers. matchers.items) result (matchers_of (view value.now)) }
-{
-    let items = value.as_array().ok_or(LineError::Faulty)?;
-    let mut matchers = Vec::new(alloc);
-    for item in items {
-        matchers.push(matcher(alloc, item)?)?;
-    }
-    Ok(matchers)
-}
-
-impl StatedMatcher {
-    /// Builds the pattern.
-    fn build(&self, alloc: Global) -> Result<Matcher, MatcherError>
-        ensures made { IfOk result (λ matcher. matcher ≡ self.now) }
-        ensures refused { IsErrOf result BadPattern → MayBeRefused self.now }
-    {
-        Matcher::new(
-            alloc,
-            self.name.clone()?,
-            self.operator,
-            self.value.clone()?,
-        )
-    }
-}
-
-/// Builds the patterns, each once.
-fn build(alloc: Global, stated: &[StatedMatcher]) -> Result<Matchers, MatcherError>
-    ensures made { IfOk result (λ matchers. matchers ≡ stated.now) }
-    ensures refused { IsErrOf result BadPattern → Any MayBeRefused stated.now }
-{
-    let mut matchers = Vec::new(alloc);
-    for matcher in stated {
-        matchers.push(matcher.build(alloc)?)?;
-    }
-    Ok(Matchers::from_vec(alloc, matchers)?)
-}
-
-/// Returns whether some matcher has an empty name.
-fn some_nameless(stated: &[StatedMatcher]) -> bool
-    ensures { result ≡ list_any (λ matcher. is_empty matcher.name) stated.now }
-{
-    stated.iter().any(|matcher| matcher.name.is_empty())
-}
-
-/// Returns the matchers, or `None` if a name is empty or `regex` refuses a pattern.
-fn built_matchers(alloc: Global, stated: &[StatedMatcher]) -> Result<Option<Matchers>, AllocError>
-    ensures { IfOk result (λ matchers. MatchersAre (if_named stated.now) matchers) }
-{
-    if some_nameless(stated) {
-        return Ok(None);
-    }
-    match build(alloc, stated) {
-        Ok(matchers) => Ok(Some(matchers)),
-        Err(MatcherError::BadPattern) => Ok(None),
-        Err(MatcherError::Memory) => Err(AllocError),
-    }
-}
-
-/// Reads the id of a silence.
-#[tactic(auto, unfolding(crate::specs::PostedSilences::id_at))]
-pub(crate) fn id(value: &Value) -> Result<SilenceId, LineError>
-    ensures { Reads (λ id. id) result (id_at (view value.now)) }
-{
-    let text = value.as_str().ok_or(LineError::Faulty)?;
-    SilenceId::read(text).ok_or(LineError::Faulty)
-}
-
-/// Reads an id from a text. The empty text names none, as in the API.
-#[tactic(auto, unfolding(crate::specs::PostedSilences::named_id))]
-fn named_id(text: &str) -> Result<Option<SilenceId>, LineError>
-    ensures { Reads (λ id. id) result (named_id_of text.now) }
-{
-    if text.is_empty() {
-        return Ok(None);
-    }
-    let id = SilenceId::read(text).ok_or(LineError::Faulty)?;
-    Ok(Some(id))
-}
-
-/// Reads the id of the silence that the post updates, if it names one.
-#[tactic(auto, unfolding(crate::specs::PostedSilences::named_id_in))]
-fn changed_id(silence: &Value) -> Result<Option<SilenceId>, LineError>
-    ensures { Reads (λ id. id) result (named_id_in (view silence.now)) }
-{
-    match member(silence, "id") {
-        Some(value) => named_id(value.as_str().ok_or(LineError::Faulty)?),
-        None => Ok(None),
-    }
-}
-
-/// Reads the id for a new silence.
-#[tactic(auto, unfolding(crate::specs::PostedSilences::new_id_in))]
-fn new_id(line: &Value) -> Result<SilenceId, LineError>
-    ensures { Reads (λ id. id) result (new_id_in (view line.now)) }
-{
-    id(line.get("newId").ok_or(LineError::Faulty)?)
-}
-
 /// Reads the silence that a line posts. The line has `newId` beside it.
 #[tactic(auto, unfolding(crate::specs::PostedSilences::silence_of))]
 pub(crate) fn silence(
@@ -188,4 +59,133 @@ pub(crate) fn silence(
         starts_at,
         ends_at,
     })
+}
+
+/// Reads the id for a new silence.
+#[tactic(auto, unfolding(crate::specs::PostedSilences::new_id_in))]
+fn new_id(line: &Value) -> Result<SilenceId, LineError>
+    ensures { Reads (λ id. id) result (new_id_in (view line.now)) }
+{
+    id(line.get("newId").ok_or(LineError::Faulty)?)
+}
+
+/// Reads the id of the silence that the post updates, if it names one.
+#[tactic(auto, unfolding(crate::specs::PostedSilences::named_id_in))]
+fn changed_id(silence: &Value) -> Result<Option<SilenceId>, LineError>
+    ensures { Reads (λ id. id) result (named_id_in (view silence.now)) }
+{
+    match member(silence, "id") {
+        Some(value) => named_id(value.as_str().ok_or(LineError::Faulty)?),
+        None => Ok(None),
+    }
+}
+
+impl StatedMatcher {
+    /// Builds the pattern.
+    fn build(&self, alloc: Global) -> Result<Matcher, MatcherError>
+        ensures made { IfOk result (λ matcher. matcher ≡ self.now) }
+        ensures refused { IsErrOf result BadPattern → MayBeRefused self.now }
+    {
+        Matcher::new(
+            alloc,
+            self.name.clone()?,
+            self.operator,
+            self.value.clone()?,
+        )
+    }
+}
+
+/// Reads an id from a text. The empty text names none, as in the API.
+#[tactic(auto, unfolding(crate::specs::PostedSilences::named_id))]
+fn named_id(text: &str) -> Result<Option<SilenceId>, LineError>
+    ensures { Reads (λ id. id) result (named_id_of text.now) }
+{
+    if text.is_empty() {
+        return Ok(None);
+    }
+    let id = SilenceId::read(text).ok_or(LineError::Faulty)?;
+    Ok(Some(id))
+}
+
+/// Reads the id of a silence.
+#[tactic(auto, unfolding(crate::specs::PostedSilences::id_at))]
+pub(crate) fn id(value: &Value) -> Result<SilenceId, LineError>
+    ensures { Reads (λ id. id) result (id_at (view value.now)) }
+{
+    let text = value.as_str().ok_or(LineError::Faulty)?;
+    SilenceId::read(text).ok_or(LineError::Faulty)
+}
+
+/// Returns the matchers, or `None` if a name is empty or `regex` refuses a pattern.
+fn built_matchers(alloc: Global, stated: &[StatedMatcher]) -> Result<Option<Matchers>, AllocError>
+    ensures { IfOk result (λ matchers. MatchersAre (if_named stated.now) matchers) }
+{
+    if some_nameless(stated) {
+        return Ok(None);
+    }
+    match build(alloc, stated) {
+        Ok(matchers) => Ok(Some(matchers)),
+        Err(MatcherError::BadPattern) => Ok(None),
+        Err(MatcherError::Memory) => Err(AllocError),
+    }
+}
+
+/// Returns whether some matcher has an empty name.
+fn some_nameless(stated: &[StatedMatcher]) -> bool
+    ensures { result ≡ list_any (λ matcher. is_empty matcher.name) stated.now }
+{
+    stated.iter().any(|matcher| matcher.name.is_empty())
+}
+
+/// Builds the patterns, each once.
+fn build(alloc: Global, stated: &[StatedMatcher]) -> Result<Matchers, MatcherError>
+    ensures made { IfOk result (λ matchers. matchers ≡ stated.now) }
+    ensures refused { IsErrOf result BadPattern → Any MayBeRefused stated.now }
+{
+    let mut matchers = Vec::new(alloc);
+    for matcher in stated {
+        matchers.push(matcher.build(alloc)?)?;
+    }
+    Ok(Matchers::from_vec(alloc, matchers)?)
+}
+
+/// Reads a list of matchers, in order.
+#[tactic(auto, unfolding(crate::specs::PostedSilences::matchers_of))]
+fn matchers(alloc: Global, value: &Value) -> Result<Vec<StatedMatcher>, LineError>
+    ensures { Reads (λ matchers. matchers.items) result (matchers_of (view value.now)) }
+{
+    let items = value.as_array().ok_or(LineError::Faulty)?;
+    let mut matchers = Vec::new(alloc);
+    for item in items {
+        matchers.push(matcher(alloc, item)?)?;
+    }
+    Ok(matchers)
+}
+
+/// Reads a matcher, without building its pattern.
+#[tactic(auto, unfolding(crate::specs::PostedSilences::matcher_of))]
+fn matcher(alloc: Global, value: &Value) -> Result<StatedMatcher, LineError>
+    ensures { Reads (λ matcher. matcher) result (matcher_of (view value.now)) }
+{
+    let name = text(alloc, value, "name")?;
+    let own = text(alloc, value, "value")?;
+    let is_regex = flag(value, "isRegex", false)?;
+    let is_equal = flag(value, "isEqual", true)?;
+    Ok(StatedMatcher {
+        name,
+        operator: operator(is_regex, is_equal),
+        value: own,
+    })
+}
+
+/// Returns the operator for `isRegex` and `isEqual` of the API.
+fn operator(is_regex: bool, is_equal: bool) -> Operator
+    ensures { result ≡ operator_by is_regex is_equal }
+{
+    match (is_regex, is_equal) {
+        (false, true) => Operator::Equal,
+        (false, false) => Operator::NotEqual,
+        (true, true) => Operator::Matches,
+        (true, false) => Operator::NotMatches,
+    }
 }

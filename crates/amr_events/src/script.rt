@@ -3,14 +3,14 @@
 ghost use Rattle.std.specs.Prelude.{◌≡◌, ◌<◌, ◌==◌, length, Some, OnOk, Err};
 ghost use Rattle.std.specs.List.{slice_get};
 ghost use Rattle.std.specs.Global.{Vec};
-ghost use Rattle.amr_events.specs.Events.{Event};
+ghost use Rattle.amr_actions.specs.Events.{Event};
 ghost use Rattle.amr_events.specs.Answers.{Answers, Stops};
 ghost use Rattle.amr_events.specs.Scripts.{is_blank as is_blank_line, HasFault, Adds, ScriptIs, OnlyLineIs};
 
 use crate::error::{Fault, LineError, ScriptError};
-use crate::event::Event;
 use crate::line::{read_line, read_single_line};
 use crate::seen_texts::SeenTexts;
+use amr_actions::Event;
 use amr_labels::Listing;
 use std::alloc::Global;
 use std::marker::Model;
@@ -25,7 +25,7 @@ impl Model for Script {
     ghost use Rattle.std.specs.Prelude.{List};
     ghost use Rattle.std.specs.Coded.{codes};
     ghost use Rattle.amr_labels.specs.Map as map;
-    ghost use Rattle.amr_events.specs.Events.{Event};
+    ghost use Rattle.amr_actions.specs.Events.{Event};
 
     ghost Value = { List Event };
 
@@ -78,38 +78,36 @@ fn add_line(
     }
 }
 
-impl Event {
-    /// Reads one line of a script; its number in a fault is 1.
-    ///
-    /// A line is an object with a moment (RFC 3339) under `at` and exactly one action:
-    ///
-    /// - `alerts`, a list of postable alerts (Alertmanager's API v2). An alert has `labels`, an
-    ///   object of texts, and may have `annotations`, an object of texts, `startsAt` and `endsAt`.
-    ///   A time is missing if it is absent, `null`, empty, or `0001-01-01T00:00:00Z`, also with a
-    ///   fraction of 1 to 9 zeros.
-    /// - `silence`, a postable silence, with `newId`, a UUID, beside it in the line. A silence has
-    ///   `startsAt`, `endsAt`, a list of `matchers`, each with the texts `name` and `value` and the
-    ///   booleans `isRegex` (false by default) and `isEqual` (true by default), and may have an
-    ///   `id`, a UUID. Its patterns are built here, once: there are no matchers if a name is empty
-    ///   or a pattern is refused.
-    /// - `expire`, a UUID.
-    /// - `reload`, a configuration of any shape. It is validated here, once.
-    /// - `tick`, which is `true`.
-    ///
-    /// Other keys are ignored. If a name is repeated in an object, the last member counts.
-    pub fn read(alloc: Global, line: &[u8]) -> Result<Event, ScriptError>
-        ensures { Answers (OnlyLineIs line.now) result }
-    {
-        match read_single_line(alloc, line) {
-            Ok(event) => Ok(event),
-            Err(LineError::Memory) => Err(ScriptError::Memory),
-            Err(LineError::Faulty) => Err(ScriptError::Refused(Fault::BadLine { line: 1 })),
-        }
+/// Reads one line of a script; its number in a fault is 1.
+///
+/// A line is an object with a moment (RFC 3339) under `at` and exactly one action:
+///
+/// - `alerts`, a list of postable alerts (Alertmanager's API v2). An alert has `labels`, an
+///   object of texts, and may have `annotations`, an object of texts, `startsAt` and `endsAt`.
+///   A time is missing if it is absent, `null`, empty, or `0001-01-01T00:00:00Z`, also with a
+///   fraction of 1 to 9 zeros.
+/// - `silence`, a postable silence, with `newId`, a UUID, beside it in the line. A silence has
+///   `startsAt`, `endsAt`, a list of `matchers`, each with the texts `name` and `value` and the
+///   booleans `isRegex` (false by default) and `isEqual` (true by default), and may have an
+///   `id`, a UUID. Its patterns are built here, once: there are no matchers if a name is empty
+///   or a pattern is refused.
+/// - `expire`, a UUID.
+/// - `reload`, a configuration of any shape. It is validated here, once.
+/// - `tick`, which is `true`.
+///
+/// Other keys are ignored. If a name is repeated in an object, the last member counts.
+pub fn read_event(alloc: Global, line: &[u8]) -> Result<Event, ScriptError>
+    ensures { Answers (OnlyLineIs line.now) result }
+{
+    match read_single_line(alloc, line) {
+        Ok(event) => Ok(event),
+        Err(LineError::Memory) => Err(ScriptError::Memory),
+        Err(LineError::Faulty) => Err(ScriptError::Refused(Fault::BadLine { line: 1 })),
     }
 }
 
 impl Script {
-    /// Reads a script: JSON lines (jsonlines.org), each an event as `Event::read` reads it.
+    /// Reads a script: JSON lines (jsonlines.org), each an event as `read_event` reads it.
     ///
     /// A line feed ends a line; the last line may lack it. Lines of nothing but JSON's white space
     /// are skipped, but counted. A line has at most 1,048,576 bytes, and a script at most 1,000,000

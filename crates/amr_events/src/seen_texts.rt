@@ -1,6 +1,6 @@
 //! The texts and the labels of a script that were read before. Names and values of labels are
-//! repeated in most lines, and most alerts are posted again, so `Script::read` shares them: it holds
-//! each text once, and the labels of an alert once, however often they are posted.
+//! repeated in most lines, and most alerts are posted again, so `Script::read` shares them: it
+//! holds each text once, and the labels of an alert once, however often they are posted.
 ghost use Rattle.std.specs.Prelude.{◌≡◌, true, IfOk, IfSome};
 ghost use Rattle.serde_json.specs.View.{view};
 ghost use Rattle.amr_events.specs.Answers.{Reads};

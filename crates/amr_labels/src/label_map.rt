@@ -59,14 +59,6 @@ impl<V: Drop> LabelMap<V> {
         Ok(())
     }
 
-    /// Removes the value under a label set, and returns it.
-    pub fn remove(&mut self, labels: &Labels) -> Option<V>
-        ensures value { result ≡ map.get self.old labels.now }
-        ensures left { self.new ≡ map.remove self.old labels.now }
-    {
-        self.tree.remove(labels)
-    }
-
     /// Returns an iterator over the label sets and their values, in the order of the label sets.
     pub fn iter(&self) -> Iter<'_, Labels, V>
         ensures { result ≡ map.entries self.now }

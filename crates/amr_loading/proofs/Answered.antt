@@ -13,7 +13,7 @@ use Rattle.amr_loading.specs.Table.{StatesWhole}
 use Rattle.amr_loading.specs.Faults.{Finding, first_fault, patterns_before, findings_of}
 use Rattle.amr_loading.proofs.Judged.{Judged, Tells}
 use Rattle.amr_loading.proofs.JudgedRoutes.{walked_judged}
-use Rattle.amr_loading.proofs.Standing.{deep_stands}
+use Rattle.amr_loading.proofs.DeepRoutes.{deep_route_of}
 use Rattle.amr_stated.specs.Config.{Config}
 use Rattle.amr_loading.specs.Judging.{refusal_of}
 use Rattle.amr_loading.specs.Reading.{unless_refused, reading_of}
@@ -59,7 +59,7 @@ not_too_deep : (d : Data) → ¬ HasDeepRoute d → is_too_deep d ≡ false
 not_too_deep d none = go (is_too_deep d) refl
   where
     go : (b : Bool) → is_too_deep d ≡ b → is_too_deep d ≡ false
-    go true is = absurd (none (deep_stands d is))
+    go true is = absurd (none (deep_route_of d is))
     go false is = is
 
 past_depth : (d : Data) → is_too_deep d ≡ false → reading_of d ≡ next (walked_at d) (λ stated. plain (unless_refused stated (refusal_of stated)))

@@ -21,7 +21,7 @@ use Rattle.amr_stated.specs.declared.receiver.Integration.{Integration}
 use Rattle.amr_stated.specs.declared.receiver.Receiver.{Receiver}
 use Rattle.amr_loading.specs.Members.{present, optional, stated, needed, or_faulty, flag_at, items_at, members_at}
 use Rattle.amr_loading.specs.Paths.{under, item_path}
-use Rattle.amr_loading.specs.ReadReceivers.{default_of, entry_into, entries_at, stands, kind_key, stated_entries, with_entries, entries_under, kind_into, kinds_at, name_at, receiver_at, receiver_into, receivers_list, receivers_at}
+use Rattle.amr_loading.specs.ReadReceivers.{default_of, entry_into, entries_at, is_on_side, kind_key, stated_entries, with_entries, entries_under, kind_into, kinds_at, name_at, receiver_at, receiver_into, receivers_list, receivers_at}
 use Rattle.amr_loading.proofs.Preorder.{ok_same, bind_ok}
 use Rattle.amr_stated.specs.declared.stated.Stated.{Stated}
 use Rattle.amr_loading.specs.ReadIntervals.{intervals_at}
@@ -210,7 +210,7 @@ one_key key other name e f = key_of_kind key name e ∙ sym (key_of_kind other n
 -- no integration is of a kind that a key on that side names
 abbrev Off : Bool → Members → List Integration → Type 0
 Off before no_members ks = Unit {0}
-Off before (member key d ms) ks = ((name : Text) → stands before key ≡ true → kind_key key ≡ Some name → Each (λ x. x.kind ≢ name) ks) × Off before ms ks
+Off before (member key d ms) ks = ((name : Text) → is_on_side before key ≡ true → kind_key key ≡ Some name → Each (λ x. x.kind ≢ name) ks) × Off before ms ks
 
 off_none : (before : Bool) (ms : Members) → Off before ms []
 off_none before no_members = tt
@@ -218,10 +218,10 @@ off_none before (member key d ms) = (λ name side is. tt, off_none before ms)
 
 -- a key on that side names the kind
 abbrev IsNamed : Bool → Integration → Type 0
-IsNamed before x = (key : Text) × (kind_key key ≡ Some x.kind) × (stands before key ≡ true)
+IsNamed before x = (key : Text) × (kind_key key ≡ Some x.kind) × (is_on_side before key ≡ true)
 
-not_both : (key : Text) → stands true key ≡ true → stands false key ≡ true → ⊥
-unfolding stands
+not_both : (key : Text) → is_on_side true key ≡ true → is_on_side false key ≡ true → ⊥
+unfolding is_on_side
 not_both key first second = go (text_cmp key (codes "name")) first second
   where
     go : (o : Ordering) → match_ordering o true false (not true) ≡ true → match_ordering o false false (not false) ≡ true → ⊥
@@ -244,22 +244,22 @@ off_with before key (member later d ms) ks kind entries is placed below off =
 record Brings (before : Bool) (key : Text) (ks out : List Integration) : Type 0 where
   kind : Text
   entries : List Integration
-  side : stands before key ≡ true
+  side : is_on_side before key ≡ true
   named : kind_key key ≡ Some kind
   placed : Placed kind 0 entries
   is : out ≡ with_entries ks kind entries
 
 kind_step : (before : Bool) (path : List ℕ) (key : Text) (d : Data) (ks out : List Integration) → (kind_into before path key d ks).value ≡ Ok out → (out ≡ ks) ⊎ Brings before key ks out
 unfolding kind_into
-kind_step before path key d ks out e = go (stands before key) refl e
+kind_step before path key d ks out e = go (is_on_side before key) refl e
   where
-    named : (o : Option Text) → kind_key key ≡ o → stands before key ≡ true → (entries_under (under path key) d ks o).value ≡ Ok out → (out ≡ ks) ⊎ Brings before key ks out
+    named : (o : Option Text) → kind_key key ≡ o → is_on_side before key ≡ true → (entries_under (under path key) d ks o).value ≡ Ok out → (out ≡ ks) ⊎ Brings before key ks out
     named None is side e = inl (sym (ok_same ks out e))
     named (Some name) is side e =
         let read = bind_ok (stated_entries name (under path key) d) _ out e in
         inr (record { kind = name; entries = read.0; side = side; named = is; placed = stated_placed name (under path key) d read.0 read.1; is = sym (ok_same _ out read.2) })
 
-    go : (b : Bool) → stands before key ≡ b → (if b then entries_under (under path key) d ks (kind_key key) else give ks).value ≡ Ok out → (out ≡ ks) ⊎ Brings before key ks out
+    go : (b : Bool) → is_on_side before key ≡ b → (if b then entries_under (under path key) d ks (kind_key key) else give ks).value ≡ Ok out → (out ≡ ks) ⊎ Brings before key ks out
     go true side e = named (kind_key key) refl side e
     go false side e = inl (sym (ok_same ks out e))
 

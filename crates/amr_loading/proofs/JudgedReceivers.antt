@@ -18,7 +18,7 @@ use Rattle.amr_stated.specs.declared.receiver.Receiver.{Receiver}
 use Rattle.amr_loading.specs.Paths.{under, item_path}
 use Rattle.amr_loading.specs.Members.{present, member_of, stated, or_faulty, flag_at}
 use Rattle.amr_loading.specs.Readings.{give, faulty, next, members_in_turn}
-use Rattle.amr_loading.specs.ReadReceivers.{default_of, entry_into, entries_at, stands, kind_key, stated_entries, with_entries, entries_under, kind_into, kinds_at, name_at, receiver_at, receiver_into, receivers_list, receivers_at}
+use Rattle.amr_loading.specs.ReadReceivers.{default_of, entry_into, entries_at, is_on_side, kind_key, stated_entries, with_entries, entries_under, kind_into, kinds_at, name_at, receiver_at, receiver_into, receivers_list, receivers_at}
 use Rattle.amr_loading.specs.Table.{IsText, IsFlag, IsListOf, StatesEach, StatesIf, StatesOr, HasAt, IsIntegration, AreIntegrations, IsMember, StatesIntegration, IsReceiver}
 use Rattle.amr_loading.specs.Faults.{unless_some, unless, flag_found, list_found, if_there, at, entry_found, entries_found, kinds_found, side_found, receiver_name_found, receiver_found}
 use Rattle.amr_loading.proofs.Judged.{Judged, by_findings, judged_ok, judged_fault, judged_then, judged_as, judged_map, judged_or_faulty, judged_optional, judged_stated, judged_needed, judged_flag, judged_object, judged_spelled, Adds, judged_list, judged_added}
@@ -71,9 +71,9 @@ judged_named path d before None = judged_ok before _ refl
 judged_named path d before (Some kind) =
     judged_map (stated_entries kind path d) (λ entries. with_entries before kind entries) _ (HasEntries kind d) (KindFrom (Some kind) d before) (judged_stated_entries kind path d) (λ entries has. (entries, has, refl))
 
-judged_kind : (side : Bool) (path : List ℕ) (key : Text) (d : Data) (before : List Integration) → Judged (kind_into side path key d before) (if stands side key then entries_found (under path key) d (kind_key key) else []) (KindIf (stands side key) key d before)
+judged_kind : (side : Bool) (path : List ℕ) (key : Text) (d : Data) (before : List Integration) → Judged (kind_into side path key d before) (if is_on_side side key then entries_found (under path key) d (kind_key key) else []) (KindIf (is_on_side side key) key d before)
 unfolding kind_into
-judged_kind side path key d before = go (stands side key)
+judged_kind side path key d before = go (is_on_side side key)
   where
     go : (b : Bool) → Judged (if b then entries_under (under path key) d before (kind_key key) else give before) (if b then entries_found (under path key) d (kind_key key) else []) (KindIf b key d before)
     go true = judged_named (under path key) d before (kind_key key)
@@ -82,12 +82,12 @@ judged_kind side path key d before = go (stands side key)
 -- what the members on a side do to the integrations, one after another
 abbrev KindsFrom : Bool → Members → List Integration → List Integration → Type 0
 KindsFrom side no_members before after = after ≡ before
-KindsFrom side (member key d ms) before after = (one : List Integration) × KindIf (stands side key) key d before one × KindsFrom side ms one after
+KindsFrom side (member key d ms) before after = (one : List Integration) × KindIf (is_on_side side key) key d before one × KindsFrom side ms one after
 
 judged_kinds : (side : Bool) (path : List ℕ) (ms : Members) (before : List Integration) → Judged (members_in_turn (kind_into side path) ms before) (kinds_found side path ms) (KindsFrom side ms before)
 judged_kinds side path no_members before = judged_ok before _ refl
 judged_kinds side path (member key d ms) before =
-    judged_then (kind_into side path key d before) (members_in_turn (kind_into side path) ms) _ (kinds_found side path ms) (KindIf (stands side key) key d before) _ (judged_kind side path key d before) (λ one from.
+    judged_then (kind_into side path key d before) (members_in_turn (kind_into side path) ms) _ (kinds_found side path ms) (KindIf (is_on_side side key) key d before) _ (judged_kind side path key d before) (λ one from.
     judged_as (members_in_turn (kind_into side path) ms one) (kinds_found side path ms) (KindsFrom side ms one) _ (judged_kinds side path ms one) (λ after rest. (one, from, rest)))
 
 -- the members on a side of an object
@@ -175,7 +175,7 @@ one_only whole true key d before one there from all = go (kind_key key) refl fro
 kinds_only : (side : Bool) (whole ms : Members) (before after : List Integration) → ((key : Text) (d : Data) → IsMember key d ms → IsMember key d whole) → KindsFrom side ms before after → AllOf whole before → AllOf whole after
 kinds_only side whole no_members before after sub from all = rw from all
 kinds_only side whole (member key d ms) before after sub (one, first, rest) all =
-    kinds_only side whole ms one after (λ k e is. sub k e (inr is)) rest (one_only whole (stands side key) key d before one (sub key d (inl (refl, refl))) first all)
+    kinds_only side whole ms one after (λ k e is. sub k e (inr is)) rest (one_only whole (is_on_side side key) key d before one (sub key d (inl (refl, refl))) first all)
 
 one_keeps : (b : Bool) (key : Text) (d : Data) (before one : List Integration) (x : Integration) → KindIf b key d before one → Contains before x → Contains one x
 one_keeps false key d before one x from c = rw from c
@@ -187,7 +187,7 @@ one_keeps true key d before one x from c = go (kind_key key) from
 
 kinds_keep : (side : Bool) (ms : Members) (before after : List Integration) (x : Integration) → KindsFrom side ms before after → Contains before x → Contains after x
 kinds_keep side no_members before after x from c = rw from c
-kinds_keep side (member key d ms) before after x (one, first, rest) c = kinds_keep side ms one after x rest (one_keeps (stands side key) key d before one x first c)
+kinds_keep side (member key d ms) before after x (one, first, rest) c = kinds_keep side ms one after x rest (one_keeps (is_on_side side key) key d before one x first c)
 
 -- the entries of this kind
 abbrev HasKind : Text → Data → List Integration → Type 0
@@ -200,12 +200,12 @@ one_brings : (b : Bool) (key : Text) (d : Data) (before one : List Integration) 
 one_brings false key d before one name side is from = cc
 one_brings true key d before one name side is from = named_brings d before one name (subst (λ o. KindFrom o d before one) is from)
 
-kinds_all : (side : Bool) (ms : Members) (before after : List Integration) (key : Text) (d : Data) (name : Text) → IsMember key d ms → stands side key ≡ true → kind_key key ≡ Some name → KindsFrom side ms before after → HasKind name d after
+kinds_all : (side : Bool) (ms : Members) (before after : List Integration) (key : Text) (d : Data) (name : Text) → IsMember key d ms → is_on_side side key ≡ true → kind_key key ≡ Some name → KindsFrom side ms before after → HasKind name d after
 kinds_all side no_members before after key d name there on is from = absurd there
 kinds_all side (member k e ms) before after key d name (inr there) on is (one, first, rest) = kinds_all side ms one after key d name there on is rest
 kinds_all side (member k e ms) before after key d name (inl (same_key, same_list)) on is (one, first, rest) =
-    let here = subst (λ (l : Text). KindIf (stands side l) l e before one) same_key first in
-    let found = subst (λ (v : Data). HasKind name v one) same_list (one_brings (stands side key) key e before one name on is here) in
+    let here = subst (λ (l : Text). KindIf (is_on_side side l) l e before one) same_key first in
+    let found = subst (λ (v : Data). HasKind name v one) same_list (one_brings (is_on_side side key) key e before one name on is here) in
     let (entries, has, within) = found in
     (entries, has, λ x c. kinds_keep side ms one after x rest (within x c))
 
@@ -309,8 +309,8 @@ not_the_name key name is same =
     let none : kind_key (codes "name") ≡ Some name = rw same at is in
     none-some name none
 
-on_a_side : (key name : Text) → kind_key key ≡ Some name → (stands true key ≡ true) ⊎ (stands false key ≡ true)
-unfolding stands
+on_a_side : (key name : Text) → kind_key key ≡ Some name → (is_on_side true key ≡ true) ⊎ (is_on_side false key ≡ true)
+unfolding is_on_side
 on_a_side key name is = go (text_cmp key (codes "name")) refl
   where
     go : (o : Ordering) → text_cmp key (codes "name") ≡ o → (match_ordering o true false (not true) ≡ true) ⊎ (match_ordering o false false (not false) ≡ true)

@@ -16,7 +16,7 @@ pub mod Preorder
 pub mod ReadKeys
 pub mod Readings
 pub mod Refused
-pub mod Standing
+pub mod DeepRoutes
 pub mod TreeOrder
 pub mod Turns
 pub mod WholeConfigs

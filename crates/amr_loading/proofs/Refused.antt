@@ -13,7 +13,7 @@ use Rattle.amr_loading.specs.Judging.{refusal_of, is_lost, are_named_apart, root
 use Rattle.amr_loading.specs.Reading.{unless_refused, reading_of, config_of}
 use Rattle.amr_loading.specs.Walking.{walked_at}
 use Rattle.amr_loading.specs.LevelLaws.{DeepIsRefused, DeepIsAnswered}
-use Rattle.amr_loading.proofs.Standing.{deep_stands, stands_deep}
+use Rattle.amr_loading.proofs.DeepRoutes.{deep_route_of, too_deep_by}
 use Rattle.amr_loading.specs.Table.{StatesWhole}
 use Rattle.amr_loading.specs.Faults.{Finding, findings_of}
 use Rattle.amr_loading.proofs.Judged.{Tells}
@@ -72,7 +72,7 @@ only_deep d true is refused = is
 only_deep d false is refused = absurd (shallow_config d is refused)
 
 pub deep_is_refused : DeepIsRefused
-deep_is_refused d = (λ refused. deep_stands d (only_deep d (is_too_deep d) refl refused), λ has. told d (stands_deep d has))
+deep_is_refused d = (λ refused. deep_route_of d (only_deep d (is_too_deep d) refl refused), λ has. told d (too_deep_by d has))
 
 -- ---- answers if a pattern may be refused
 
@@ -100,4 +100,4 @@ answered_deep reading (inr (path, text, met, may, faulty)) = absurd (cc)
 
 pub deep_is_answered : DeepIsAnswered
 deep_is_answered d answer is =
-    (λ refused. (deep_is_refused d).0 (answered_deep (reading_of d) (subst (λ (a : Result Config Refusal). MayGive (reading_of d) a) refused is)), λ has. only_answer (reading_of d) answer (nothing_else d (stands_deep d has)) is)
+    (λ refused. (deep_is_refused d).0 (answered_deep (reading_of d) (subst (λ (a : Result Config Refusal). MayGive (reading_of d) a) refused is)), λ has. only_answer (reading_of d) answer (nothing_else d (too_deep_by d has)) is)

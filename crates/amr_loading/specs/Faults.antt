@@ -17,7 +17,7 @@ use Rattle.amr_loading.specs.declared.read_intervals.Field.TheVariants.{Weekdays
 use Rattle.amr_loading.specs.Paths.{under, item_path}
 use Rattle.amr_loading.specs.Members.{present, member_of}
 use Rattle.amr_loading.specs.ReadIntervals.{range_in, day_range_in, is_defined, is_utc}
-use Rattle.amr_loading.specs.ReadReceivers.{default_of, stands, kind_key}
+use Rattle.amr_loading.specs.ReadReceivers.{default_of, is_on_side, kind_key}
 
 -- what is found at a path: a fault, or a pattern, which `regex` may refuse
 pub data Finding : Type 0 where
@@ -211,7 +211,7 @@ entries_found path d (Some kind) = if_there (list_found (entry_found kind) path)
 -- the entries under the keys that sort before `name`, or after it
 abbrev pub kinds_found : Bool → List ℕ → Members → List Finding
 kinds_found before path no_members = []
-kinds_found before path (member key d ms) = (if stands before key then entries_found (under path key) d (kind_key key) else []) ++ kinds_found before path ms
+kinds_found before path (member key d ms) = (if is_on_side before key then entries_found (under path key) d (kind_key key) else []) ++ kinds_found before path ms
 
 abbrev pub side_found : Bool → List ℕ → Option Members → List Finding
 side_found before path None = Fault path ∷ []

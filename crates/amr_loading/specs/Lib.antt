@@ -7,7 +7,7 @@ pub mod LevelLaws
 pub mod Levels
 pub mod Members
 pub mod NameSets
-pub mod Numbers
+pub mod Refusals
 pub mod Order
 pub mod Paths
 pub mod ReadIntervals

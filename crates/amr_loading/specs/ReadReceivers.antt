@@ -39,8 +39,8 @@ unfoldable pub entries_at : Text → List ℕ → Data → Reading (List Integra
 entries_at kind path d = items_at path d >>= λ ds. items_in_turn (entry_into kind path) 0 ds []
 
 -- whether a key sorts before the key `name`, or after it
-unfoldable pub stands : Bool → Text → Bool
-stands before key = match_ordering (text_cmp key (codes "name")) before false (not before)
+unfoldable pub is_on_side : Bool → Text → Bool
+is_on_side before key = match_ordering (text_cmp key (codes "name")) before false (not before)
 
 -- the integration's name in a key
 unfoldable pub kind_key : Text → Option Text
@@ -66,7 +66,7 @@ entries_under path d integrations (Some kind) = stated_entries kind path d >>= �
 
 -- a member whose key sorts on that side of `name`, if the key names an integration
 unfoldable pub kind_into : Bool → List ℕ → Text → Data → List Integration → Reading (List Integration)
-kind_into before path key d integrations = if stands before key then entries_under (under path key) d integrations (kind_key key) else give integrations
+kind_into before path key d integrations = if is_on_side before key then entries_under (under path key) d integrations (kind_key key) else give integrations
 
 -- all integrations whose keys sort on that side of `name`
 unfoldable pub kinds_at : Bool → List ℕ → Data → List Integration → Reading (List Integration)

@@ -2,10 +2,12 @@
 //! errors; the program prints them with their numbers.
 ghost use Rattle.std.specs.Prelude.{◌≡◌};
 ghost use Rattle.amr_loading.specs.declared.error.ConfigError.TheVariants.{Memory};
-ghost use Rattle.amr_loading.specs.Numbers.{number_of, path_in};
+ghost use Rattle.amr_loading.specs.Refusals.{name_of_refusal};
 
 use amr_labels::Text;
 use std::alloc::{AllocError, AllocFailed};
+use std::error::Error;
+use std::fmt;
 
 /// The reason why a value is refused as a configuration.
 #[derive(Debug, Drop)]
@@ -28,29 +30,43 @@ pub enum Refusal {
     TooDeep,
 }
 
-impl Refusal {
-    /// Returns the number under which the refusal is printed.
-    pub fn number(&self) -> u64
-        ensures { result ≡ number_of self.now }
-    {
+impl fmt::Display for Refusal {
+    fn fmt<W: fmt::Write>(&self, f: &mut fmt::Formatter<W>) -> fmt::Result {
         match self {
-            Refusal::BadConfig { path: _ } => 5,
-            Refusal::UnknownReceiver => 6,
-            Refusal::DuplicateReceiver => 7,
-            Refusal::RootRoute => 8,
-            Refusal::ZeroInterval => 9,
-            Refusal::BadGroupBy => 10,
-            Refusal::TooDeep => 11,
+            Refusal::BadConfig { path } => write!(f, "bad value at `{}`", path.as_str()),
+            Refusal::UnknownReceiver => f.write_str("a route names a receiver that doesn't exist"),
+            Refusal::DuplicateReceiver => f.write_str("two receivers have the same name"),
+            Refusal::RootRoute => {
+                f.write_str(
+                    "the root route has matchers, `continue` or time intervals, or no receiver",
+                )
+            },
+            Refusal::ZeroInterval => f.write_str("`group_interval` or `repeat_interval` is zero"),
+            Refusal::BadGroupBy => {
+                f.write_str(
+                    "`group_by` has an empty or a repeated name, or has `...` beside other names",
+                )
+            },
+            Refusal::TooDeep => f.write_str("the routing tree has more than 32 levels"),
         }
     }
+}
 
-    /// Returns the path of a `BadConfig`, and the empty text for the other refusals.
-    pub fn path(&self) -> &str
-        ensures { result.now ≡ path_in self.now }
+impl Error for Refusal {}
+
+impl Refusal {
+    /// Returns the number and the name that are printed.
+    pub fn printed_name(&self) -> &'static str
+        ensures { result.now ≡ name_of_refusal self.now }
     {
         match self {
-            Refusal::BadConfig { path } => path.as_str(),
-            _ => "",
+            Refusal::BadConfig { path: _ } => "5 BadConfig",
+            Refusal::UnknownReceiver => "6 UnknownReceiver",
+            Refusal::DuplicateReceiver => "7 DuplicateReceiver",
+            Refusal::RootRoute => "8 RootRoute",
+            Refusal::ZeroInterval => "9 ZeroInterval",
+            Refusal::BadGroupBy => "10 BadGroupBy",
+            Refusal::TooDeep => "11 TooDeep",
         }
     }
 }
@@ -62,6 +78,17 @@ pub enum ConfigError {
     Memory,
     Refused(Refusal),
 }
+
+impl fmt::Display for ConfigError {
+    fn fmt<W: fmt::Write>(&self, f: &mut fmt::Formatter<W>) -> fmt::Result {
+        match self {
+            ConfigError::Memory => f.write_str("out of memory"),
+            ConfigError::Refused(refusal) => write!(f, "{refusal}"),
+        }
+    }
+}
+
+impl Error for ConfigError {}
 
 impl From<AllocError> for ConfigError {
     ghost from_gives = { λ _ e. e ≡ Memory };

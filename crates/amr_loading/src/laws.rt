@@ -9,7 +9,7 @@ pub fn read_values_have_ordered_keys()
     ensures { ReadValuesHaveOrderedKeys }
 {}
 
-/// States that the integrations of each receiver are sorted by name, then by index.
+/// States that the integrations of each receiver are sorted by kind, then by index.
 pub fn integrations_are_in_order()
     ensures { IntegrationsAreInOrder }
 {}

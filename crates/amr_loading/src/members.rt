@@ -51,7 +51,7 @@ pub(crate) fn text<'v>(
     }
 }
 
-/// Returns a value that must be a truth value.
+/// Returns a value that must be a boolean.
 fn flag(alloc: Global, place: &Place, value: &Value) -> Result<bool, ConfigError>
     ensures { Gives (λ b. b) result (flag_at (place_path place.now) (view value.now)) }
 {
@@ -117,7 +117,7 @@ fn texts(alloc: Global, place: &Place, value: &Value) -> Result<Listing<Text>, C
     Ok(texts)
 }
 
-/// Reads the truth value under a key; `None` if there is no such member.
+/// Reads the boolean under a key; `None` if there is no such member.
 pub(crate) fn flag_member(
     alloc: Global,
     place: &Place,

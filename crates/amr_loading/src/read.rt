@@ -20,54 +20,6 @@ use amr_time::Span;
 use serde_json::Value;
 use std::alloc::Global;
 
-/// Reads `resolve_timeout` of the object under `global`.
-#[tactic(auto, unfolding(crate::specs::Timeout::timeout_in, crate::specs::Readings::next))]
-fn timeout(alloc: Global, place: &Place, value: &Value) -> Result<Option<Span>, ConfigError>
-    ensures { Gives (λ o. o) result (timeout_in (place_path place.now) (view value.now)) }
-{
-    if !value.is_object() {
-        return Err(place.faulty(alloc));
-    }
-    span_member(alloc, place, value, "resolve_timeout")
-}
-
-/// Reads `resolve_timeout` of `global`; `None` if there is no `global`.
-#[tactic(auto, unfolding(crate::specs::Readings::next))]
-fn timeout_member(alloc: Global, value: &Value) -> Result<Option<Option<Span>>, ConfigError>
-    ensures { Gives (λ o. o) result (stated timeout_in [] (codes "global") (view value.now)) }
-{
-    match member(value, "global") {
-        Some(found) => {
-            let here = Place::Member(&Place::Top, "global");
-            Ok(Some(timeout(alloc, &here, found)?))
-        }
-        None => Ok(None),
-    }
-}
-
-/// Returns the stated timeout, or 5 minutes, the default of Alertmanager's `resolve_timeout`.
-fn stated_timeout(timeout: Option<Option<Span>>) -> Span
-    ensures { result ≡ timeout_stated timeout }
-{
-    match timeout {
-        Some(Some(span)) => span,
-        Some(None) => Span::from_minutes(5),
-        None => Span::from_minutes(5),
-    }
-}
-
-/// Reads the timeout of a whole configuration, which must be an object.
-#[tactic(auto, unfolding(crate::specs::Timeout::timeout_at, crate::specs::Readings::next))]
-fn read_timeout(alloc: Global, value: &Value) -> Result<Span, ConfigError>
-    ensures { Gives (λ span. span) result (timeout_at (view value.now)) }
-{
-    if !value.is_object() {
-        return Err(Place::Top.faulty(alloc));
-    }
-    let timeout = timeout_member(alloc, value)?;
-    Ok(stated_timeout(timeout))
-}
-
 /// Reads a configuration. It visits members by key in byte order, and lists in order, and fails
 /// with the path of the first faulty value. It builds each pattern once, when it meets it. Callers
 /// check `is_too_deep` first; the depth limit here only bounds the recursion.
@@ -88,4 +40,52 @@ pub(crate) fn walk(alloc: Global, value: &Value) -> Result<Stated, ConfigError>
         resolve_timeout,
         time_intervals,
     })
+}
+
+/// Reads the timeout of a whole configuration, which must be an object.
+#[tactic(auto, unfolding(crate::specs::Timeout::timeout_at, crate::specs::Readings::next))]
+fn read_timeout(alloc: Global, value: &Value) -> Result<Span, ConfigError>
+    ensures { Gives (λ span. span) result (timeout_at (view value.now)) }
+{
+    if !value.is_object() {
+        return Err(Place::Top.faulty(alloc));
+    }
+    let timeout = timeout_member(alloc, value)?;
+    Ok(stated_timeout(timeout))
+}
+
+/// Returns the stated timeout, or 5 minutes, the default of Alertmanager's `resolve_timeout`.
+fn stated_timeout(timeout: Option<Option<Span>>) -> Span
+    ensures { result ≡ timeout_stated timeout }
+{
+    match timeout {
+        Some(Some(span)) => span,
+        Some(None) => Span::from_minutes(5),
+        None => Span::from_minutes(5),
+    }
+}
+
+/// Reads `resolve_timeout` of `global`; `None` if there is no `global`.
+#[tactic(auto, unfolding(crate::specs::Readings::next))]
+fn timeout_member(alloc: Global, value: &Value) -> Result<Option<Option<Span>>, ConfigError>
+    ensures { Gives (λ o. o) result (stated timeout_in [] (codes "global") (view value.now)) }
+{
+    match member(value, "global") {
+        Some(found) => {
+            let here = Place::Member(&Place::Top, "global");
+            Ok(Some(timeout(alloc, &here, found)?))
+        }
+        None => Ok(None),
+    }
+}
+
+/// Reads `resolve_timeout` of the object under `global`.
+#[tactic(auto, unfolding(crate::specs::Timeout::timeout_in, crate::specs::Readings::next))]
+fn timeout(alloc: Global, place: &Place, value: &Value) -> Result<Option<Span>, ConfigError>
+    ensures { Gives (λ o. o) result (timeout_in (place_path place.now) (view value.now)) }
+{
+    if !value.is_object() {
+        return Err(place.faulty(alloc));
+    }
+    span_member(alloc, place, value, "resolve_timeout")
 }

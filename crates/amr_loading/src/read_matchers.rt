@@ -16,47 +16,148 @@ use amr_matchers::{Matcher, MatcherError, Matchers, Operator, ParseError};
 use serde_json::Value;
 use std::alloc::{AllocError, Global};
 
-/// Builds the matcher of a label's name and value. Fails for an empty name, or a pattern that isn't
-/// valid.
-#[tactic(auto, unfolding(crate::specs::ReadMatchers::matcher_at))]
-fn matcher(
+/// Reads the matchers under three keys, in this order: an object of values, an object of patterns,
+/// and a list of matcher texts.
+#[tactic(auto, unfolding(crate::specs::ReadMatchers::matchers_at, crate::specs::Readings::next))]
+pub(crate) fn read_matchers(
     alloc: Global,
-    operator: Operator,
     place: &Place,
-    name: &str,
-    value: &str,
-) -> Result<Matcher, ConfigError>
-    ensures { Reads (λ m. m
-        ∷ []) result (matcher_at operator (place_path place.now) name.now value.now) }
+    equal: &str,
+    patterns: &str,
+    texts: &str,
+    value: &Value,
+) -> Result<Matchers, ConfigError>
+    ensures { Reads (λ ms. ms) result
+        (matchers_at (place_path place.now) equal.now patterns.now texts.now (view value.now)) }
 {
-    if name.is_empty() {
-        return Err(place.faulty(alloc));
-    }
-    let name = Text::from_str(alloc, name)?;
-    let value = Text::from_str(alloc, value)?;
-    match Matcher::new(alloc, name, operator, value) {
-        Ok(matcher) => Ok(matcher),
-        Err(MatcherError::Memory) => Err(ConfigError::Memory),
-        Err(MatcherError::BadPattern) => Err(place.faulty(alloc)),
+    let mut matchers = Vec::new(alloc);
+    add_object(alloc, Operator::Equal, place, value, equal, &mut matchers)?;
+    add_object(
+        alloc,
+        Operator::Matches,
+        place,
+        value,
+        patterns,
+        &mut matchers,
+    )?;
+    add_list(alloc, place, value, texts, &mut matchers)?;
+    Ok(Matchers::from_vec(alloc, matchers)?)
+}
+
+/// Appends the matchers of the list of matcher texts under a key, if there is one.
+#[tactic(auto, unfolding(crate::specs::ReadMatchers::list_into))]
+fn add_list(
+    alloc: Global,
+    place: &Place,
+    value: &Value,
+    key: &str,
+    matchers: &mut Vec<Matcher>,
+) -> Result<(), ConfigError>
+    ensures { ReadsInto (λ ms. ms.items) result matchers.new
+        (list_into (place_path place.now) key.now (view value.now) matchers.old.items) }
+{
+    match member(value, key) {
+        Some(found) => add_texts(alloc, &Place::Member(place, key), found, matchers),
+        None => Ok(()),
     }
 }
 
-/// Appends the matcher of a label whose value isn't `null`.
-#[tactic(auto, unfolding(crate::specs::ReadMatchers::stated_into, crate::specs::Readings::next))]
-fn add_stated(
+/// Appends the matchers of a list of matcher texts.
+#[tactic(auto, unfolding(crate::specs::ReadMatchers::texts_into, crate::specs::Readings::next))]
+fn add_texts(
     alloc: Global,
-    operator: Operator,
     place: &Place,
-    name: &str,
     value: &Value,
     matchers: &mut Vec<Matcher>,
 ) -> Result<(), ConfigError>
     ensures { ReadsInto (λ ms. ms.items) result matchers.new
-        (stated_into operator (place_path place.now) name.now (view value.now) matchers.old.items) }
+        (texts_into (place_path place.now) (view value.now) matchers.old.items) }
 {
-    let value = text(alloc, place, value)?;
-    let made = matcher(alloc, operator, place, name, value)?;
-    matchers.push(made)?;
+    let items = items(alloc, place, value)?;
+    for (index, item) in items.iter().enumerate() {
+        add_text(alloc, place, index, item, matchers)?;
+    }
+    Ok(())
+}
+
+/// Appends the matchers of the matcher text at an index of a list.
+#[tactic(auto, unfolding(crate::specs::ReadMatchers::spelled_into, crate::specs::Readings::next))]
+fn add_text(
+    alloc: Global,
+    place: &Place,
+    index: usize,
+    value: &Value,
+    matchers: &mut Vec<Matcher>,
+) -> Result<(), ConfigError>
+    ensures { ReadsInto (λ ms. ms.items) result matchers.new
+        (spelled_into (place_path place.now) index (view value.now) matchers.old.items) }
+{
+    let here = Place::Item(place, index);
+    let text = text(alloc, &here, value)?;
+    let more = spelled(alloc, &here, text)?;
+    add_all(matchers, more.as_slice())?;
+    Ok(())
+}
+
+/// Appends copies of matchers.
+fn add_all(matchers: &mut Vec<Matcher>, more: &[Matcher]) -> Result<(), AllocError>
+    ensures { OnOk result (matchers.new.items ≡ matchers.old.items ++ more.now) }
+{
+    for matcher in more {
+        matchers.push(matcher.clone()?)?;
+    }
+    Ok(())
+}
+
+/// Parses the text of matchers at a path.
+fn spelled(alloc: Global, place: &Place, text: &str) -> Result<Matchers, ConfigError>
+    ensures { Reads (λ ms. ms) result (spelled_at (place_path place.now) (matchers_of text.now)) }
+{
+    match Matchers::parse(alloc, text) {
+        Ok(matchers) => Ok(matchers),
+        Err(ParseError::Memory) => Err(ConfigError::Memory),
+        Err(ParseError::BadMatcher { at: _ }) => Err(place.faulty(alloc)),
+        Err(ParseError::BadPattern) => Err(place.faulty(alloc)),
+    }
+}
+
+/// Appends the matchers of the object of labels under a key, if there is one.
+#[tactic(auto, unfolding(crate::specs::ReadMatchers::object_into))]
+fn add_object(
+    alloc: Global,
+    operator: Operator,
+    place: &Place,
+    value: &Value,
+    key: &str,
+    matchers: &mut Vec<Matcher>,
+) -> Result<(), ConfigError>
+    ensures { ReadsInto (λ ms. ms.items) result matchers.new
+        (object_into operator (place_path place.now) key.now (view value.now) matchers.old.items) }
+{
+    match member(value, key) {
+        Some(found) => add_members(alloc, operator, &Place::Member(place, key), found, matchers),
+        None => Ok(()),
+    }
+}
+
+/// Appends the matchers of an object of labels, by name.
+#[tactic(auto, unfolding(crate::specs::ReadMatchers::members_into, crate::specs::Readings::next))]
+fn add_members(
+    alloc: Global,
+    operator: Operator,
+    place: &Place,
+    value: &Value,
+    matchers: &mut Vec<Matcher>,
+) -> Result<(), ConfigError>
+    ensures { ReadsInto (λ ms. ms.items) result matchers.new
+        (members_into operator (place_path place.now) (view value.now) matchers.old.items) }
+{
+    let Some(members) = value.as_object() else {
+        return Err(place.faulty(alloc));
+    };
+    for (key, value) in members {
+        add_member(alloc, operator, place, key.as_str(), value, matchers)?;
+    }
     Ok(())
 }
 
@@ -87,147 +188,46 @@ fn add_member(
     )
 }
 
-/// Appends the matchers of an object of labels, by name.
-#[tactic(auto, unfolding(crate::specs::ReadMatchers::members_into, crate::specs::Readings::next))]
-fn add_members(
+/// Appends the matcher of a label whose value isn't `null`.
+#[tactic(auto, unfolding(crate::specs::ReadMatchers::stated_into, crate::specs::Readings::next))]
+fn add_stated(
     alloc: Global,
     operator: Operator,
     place: &Place,
+    name: &str,
     value: &Value,
     matchers: &mut Vec<Matcher>,
 ) -> Result<(), ConfigError>
     ensures { ReadsInto (λ ms. ms.items) result matchers.new
-        (members_into operator (place_path place.now) (view value.now) matchers.old.items) }
+        (stated_into operator (place_path place.now) name.now (view value.now) matchers.old.items) }
 {
-    let Some(members) = value.as_object() else {
+    let value = text(alloc, place, value)?;
+    let made = matcher(alloc, operator, place, name, value)?;
+    matchers.push(made)?;
+    Ok(())
+}
+
+/// Builds the matcher of a label's name and value. Fails for an empty name, or a pattern that isn't
+/// valid.
+#[tactic(auto, unfolding(crate::specs::ReadMatchers::matcher_at))]
+fn matcher(
+    alloc: Global,
+    operator: Operator,
+    place: &Place,
+    name: &str,
+    value: &str,
+) -> Result<Matcher, ConfigError>
+    ensures { Reads (λ m. m
+        ∷ []) result (matcher_at operator (place_path place.now) name.now value.now) }
+{
+    if name.is_empty() {
         return Err(place.faulty(alloc));
-    };
-    for (key, value) in members {
-        add_member(alloc, operator, place, key.as_str(), value, matchers)?;
     }
-    Ok(())
-}
-
-/// Appends the matchers of the object of labels under a key, if there is one.
-#[tactic(auto, unfolding(crate::specs::ReadMatchers::object_into))]
-fn add_object(
-    alloc: Global,
-    operator: Operator,
-    place: &Place,
-    value: &Value,
-    key: &str,
-    matchers: &mut Vec<Matcher>,
-) -> Result<(), ConfigError>
-    ensures { ReadsInto (λ ms. ms.items) result matchers.new
-        (object_into operator (place_path place.now) key.now (view value.now) matchers.old.items) }
-{
-    match member(value, key) {
-        Some(found) => add_members(alloc, operator, &Place::Member(place, key), found, matchers),
-        None => Ok(()),
+    let name = Text::from_str(alloc, name)?;
+    let value = Text::from_str(alloc, value)?;
+    match Matcher::new(alloc, name, operator, value) {
+        Ok(matcher) => Ok(matcher),
+        Err(MatcherError::Memory) => Err(ConfigError::Memory),
+        Err(MatcherError::BadPattern) => Err(place.faulty(alloc)),
     }
-}
-
-/// Parses the text of matchers at a path.
-fn spelled(alloc: Global, place: &Place, text: &str) -> Result<Matchers, ConfigError>
-    ensures { Reads (λ ms. ms) result (spelled_at (place_path place.now) (matchers_of text.now)) }
-{
-    match Matchers::parse(alloc, text) {
-        Ok(matchers) => Ok(matchers),
-        Err(ParseError::Memory) => Err(ConfigError::Memory),
-        Err(ParseError::BadMatcher { at: _ }) => Err(place.faulty(alloc)),
-        Err(ParseError::BadPattern) => Err(place.faulty(alloc)),
-    }
-}
-
-/// Appends copies of matchers.
-fn add_all(matchers: &mut Vec<Matcher>, more: &[Matcher]) -> Result<(), AllocError>
-    ensures { OnOk result (matchers.new.items ≡ matchers.old.items ++ more.now) }
-{
-    for matcher in more {
-        matchers.push(matcher.clone()?)?;
-    }
-    Ok(())
-}
-
-/// Appends the matchers of the matcher text at an index of a list.
-#[tactic(auto, unfolding(crate::specs::ReadMatchers::spelled_into, crate::specs::Readings::next))]
-fn add_text(
-    alloc: Global,
-    place: &Place,
-    index: usize,
-    value: &Value,
-    matchers: &mut Vec<Matcher>,
-) -> Result<(), ConfigError>
-    ensures { ReadsInto (λ ms. ms.items) result matchers.new
-        (spelled_into (place_path place.now) index (view value.now) matchers.old.items) }
-{
-    let here = Place::Item(place, index);
-    let text = text(alloc, &here, value)?;
-    let more = spelled(alloc, &here, text)?;
-    add_all(matchers, more.as_slice())?;
-    Ok(())
-}
-
-/// Appends the matchers of a list of matcher texts.
-#[tactic(auto, unfolding(crate::specs::ReadMatchers::texts_into, crate::specs::Readings::next))]
-fn add_texts(
-    alloc: Global,
-    place: &Place,
-    value: &Value,
-    matchers: &mut Vec<Matcher>,
-) -> Result<(), ConfigError>
-    ensures { ReadsInto (λ ms. ms.items) result matchers.new
-        (texts_into (place_path place.now) (view value.now) matchers.old.items) }
-{
-    let items = items(alloc, place, value)?;
-    for (index, item) in items.iter().enumerate() {
-        add_text(alloc, place, index, item, matchers)?;
-    }
-    Ok(())
-}
-
-/// Appends the matchers of the list of matcher texts under a key, if there is one.
-#[tactic(auto, unfolding(crate::specs::ReadMatchers::list_into))]
-fn add_list(
-    alloc: Global,
-    place: &Place,
-    value: &Value,
-    key: &str,
-    matchers: &mut Vec<Matcher>,
-) -> Result<(), ConfigError>
-    ensures { ReadsInto (λ ms. ms.items) result matchers.new
-        (list_into (place_path place.now) key.now (view value.now) matchers.old.items) }
-{
-    match member(value, key) {
-        Some(found) => add_texts(alloc, &Place::Member(place, key), found, matchers),
-        None => Ok(()),
-    }
-}
-
-/// Reads the matchers under three keys, in this order: an object of values, an object of patterns,
-/// and a list of matcher texts.
-#[tactic(auto, unfolding(crate::specs::ReadMatchers::matchers_at, crate::specs::Readings::next))]
-pub(crate) fn read_matchers(
-    alloc: Global,
-    place: &Place,
-    equal: &str,
-    patterns: &str,
-    texts: &str,
-    value: &Value,
-) -> Result<Matchers, ConfigError>
-    ensures { Reads (λ ms. ms) result
-        (matchers_at (place_path place.now) equal.now patterns.now texts.now (view value.now)) }
-{
-    let mut matchers = Vec::new(alloc);
-    add_object(alloc, Operator::Equal, place, value, equal, &mut matchers)?;
-    add_object(
-        alloc,
-        Operator::Matches,
-        place,
-        value,
-        patterns,
-        &mut matchers,
-    )?;
-    add_list(alloc, place, value, texts, &mut matchers)?;
-    Ok(Matchers::from_vec(alloc, matchers)?)
 }

@@ -5,7 +5,7 @@ ghost use Rattle.std.specs.Prelude.{◌≡◌, ◌≤◌, length, option_map, On
 ghost use Rattle.serde_json.specs.View.{view};
 ghost use Rattle.amr_loading.specs.Paths.{place_path};
 ghost use Rattle.amr_loading.specs.Answers.{Gives, Changes};
-ghost use Rattle.amr_loading.specs.ReadReceivers.{is_sender as sender_of, is_keeper as keeper_of, default_of, entry_into, entries_at, stands as stands_of, kind_key as key_of, stated_entries as stated_of, with_entries, place_after, kind_into, kinds_at, name_at, receiver_at, receiver_into, receivers_list, receivers_at};
+ghost use Rattle.amr_loading.specs.ReadReceivers.{is_sender as sender_of, is_keeper as keeper_of, default_of, entry_into, entries_at, is_on_side as is_on_side_of, kind_key as key_of, stated_entries as stated_of, with_entries, place_after, kind_into, kinds_at, name_at, receiver_at, receiver_into, receivers_list, receivers_at};
 
 use crate::error::ConfigError;
 use crate::members::{flag_member, items, member, same, text};
@@ -16,40 +16,213 @@ use serde_json::Value;
 use std::alloc::{AllocError, Global};
 use std::cmp::Ordering;
 
-/// Returns whether integrations of this name send resolved alerts by default, as in the defaults of
-/// `send_resolved` in Alertmanager's configuration reference.
-#[tactic(auto, unfolding(crate::specs::ReadReceivers::is_sender))]
-fn is_sender(kind: &str) -> bool
-    ensures { result ≡ sender_of kind.now }
+/// Reads the receivers of a whole configuration; none if the member is absent.
+#[tactic(auto, unfolding(crate::specs::ReadReceivers::receivers_at, crate::specs::Readings::next))]
+pub(crate) fn read_receivers(alloc: Global, value: &Value) -> Result<Listing<Receiver>, ConfigError>
+    ensures { Gives (λ rs. rs) result (receivers_at (view value.now)) }
 {
-    same(kind, "webhook")
-        || same(kind, "pagerduty")
-        || same(kind, "opsgenie")
-        || same(kind, "victorops")
-        || same(kind, "pushover")
+    match member(value, "receivers") {
+        Some(found) => receivers(alloc, &Place::Member(&Place::Top, "receivers"), found),
+        None => Ok(Listing::new(alloc)),
+    }
 }
 
-/// Returns whether integrations of this name omit resolved alerts by default.
-#[tactic(auto, unfolding(crate::specs::ReadReceivers::is_keeper))]
-fn is_keeper(kind: &str) -> bool
-    ensures { result ≡ keeper_of kind.now }
+/// Reads a list of receivers.
+#[tactic(auto, unfolding(crate::specs::ReadReceivers::receivers_list, crate::specs::Readings::next))]
+fn receivers(alloc: Global, place: &Place, value: &Value) -> Result<Listing<Receiver>, ConfigError>
+    ensures { Gives (λ rs. rs) result (receivers_list (place_path place.now) (view value.now)) }
 {
-    same(kind, "email") || same(kind, "slack")
+    let items = items(alloc, place, value)?;
+    let mut receivers = Listing::new(alloc);
+    for (index, item) in items.iter().enumerate() {
+        add_receiver(alloc, place, index, item, &mut receivers)?;
+    }
+    Ok(receivers)
 }
 
-/// Returns the default of `send_resolved` for an integration's name, or `None` for an unknown name,
-/// whose entries have to state it.
-#[tactic(auto, unfolding(crate::specs::ReadReceivers::default_of))]
-fn default(kind: &str) -> Option<bool>
-    ensures { result ≡ default_of kind.now }
+/// Appends the receiver at an index of a list.
+#[tactic(auto, unfolding(crate::specs::ReadReceivers::receiver_into, crate::specs::Readings::next))]
+fn add_receiver(
+    alloc: Global,
+    place: &Place,
+    index: usize,
+    value: &Value,
+    receivers: &mut Listing<Receiver>,
+) -> Result<(), ConfigError>
+    ensures { Changes (λ rs. rs) result receivers.new
+        (receiver_into (place_path place.now) index (view value.now) receivers.old) }
 {
-    if is_sender(kind) {
-        return Some(true);
+    let receiver = read_receiver(alloc, &Place::Item(place, index), value)?;
+    receivers.push(receiver)?;
+    Ok(())
+}
+
+/// Reads a receiver, by its keys in byte order.
+#[tactic(auto, unfolding(crate::specs::ReadReceivers::receiver_at, crate::specs::Readings::next))]
+fn read_receiver(alloc: Global, place: &Place, value: &Value) -> Result<Receiver, ConfigError>
+    ensures { Gives (λ r. r) result (receiver_at (place_path place.now) (view value.now)) }
+{
+    let mut integrations = Vec::new(alloc);
+    add_kinds(alloc, true, place, value, &mut integrations)?;
+    let here = Place::Member(place, "name");
+    let Some(found) = member(value, "name") else {
+        return Err(here.faulty(alloc));
+    };
+    let name = Text::from_str(alloc, name(alloc, &here, found)?)?;
+    add_kinds(alloc, false, place, value, &mut integrations)?;
+    Ok(Receiver {
+        name,
+        integrations: Listing::from_vec(integrations),
+    })
+}
+
+/// Returns the name of a receiver. Fails if it is empty.
+#[tactic(auto, unfolding(crate::specs::ReadReceivers::name_at, crate::specs::Readings::next))]
+fn name<'v>(alloc: Global, place: &Place, value: &'v Value) -> Result<&'v str, ConfigError>
+    ensures { Gives (λ s. s.now) result (name_at (place_path place.now) (view value.now)) }
+{
+    let text = text(alloc, place, value)?;
+    if text.is_empty() {
+        return Err(place.faulty(alloc));
     }
-    if is_keeper(kind) {
-        return Some(false);
+    Ok(text)
+}
+
+/// Adds the integrations whose keys sort before the key `name`, or after it if `before` is false.
+/// The two sides are read apart, so that the first fault by key order is the one reported.
+#[tactic(auto, unfolding(crate::specs::ReadReceivers::kinds_at, crate::specs::Readings::next))]
+fn add_kinds(
+    alloc: Global,
+    before: bool,
+    place: &Place,
+    value: &Value,
+    integrations: &mut Vec<Integration>,
+) -> Result<(), ConfigError>
+    ensures { Changes (λ is. is.items) result integrations.new
+        (kinds_at before (place_path place.now) (view value.now) integrations.old.items) }
+{
+    let Some(members) = value.as_object() else {
+        return Err(place.faulty(alloc));
+    };
+    for (key, value) in members {
+        add_kind(alloc, before, place, key.as_str(), value, integrations)?;
     }
-    None
+    Ok(())
+}
+
+/// Adds the integrations of a member, if its key names an integration on that side of `name`.
+#[tactic(auto, unfolding(crate::specs::ReadReceivers::kind_into, crate::specs::Readings::next))]
+fn add_kind(
+    alloc: Global,
+    before: bool,
+    place: &Place,
+    key: &str,
+    value: &Value,
+    integrations: &mut Vec<Integration>,
+) -> Result<(), ConfigError>
+    ensures { Changes (λ is. is.items) result integrations.new
+        (kind_into before (place_path place.now) key.now (view value.now)
+        integrations.old.items) }
+{
+    if !is_on_side(before, key) {
+        return Ok(());
+    }
+    match kind_key(key) {
+        Some(kind) => {
+            let kind = Text::from_str(alloc, kind)?;
+            let entries = stated_entries(alloc, &kind, &Place::Member(place, key), value)?;
+            insert_entries(integrations, &kind, entries)?;
+            Ok(())
+        }
+        None => Ok(()),
+    }
+}
+
+/// Inserts the integrations of one name before those of greater names.
+fn insert_entries(
+    integrations: &mut Vec<Integration>,
+    kind: &Text,
+    entries: Vec<Integration>,
+) -> Result<(), AllocError>
+    ensures { OnOk result
+        (integrations.new.items ≡ with_entries integrations.old.items kind.now entries.items) }
+{
+    let mut entries = entries;
+    let place = place_of(integrations.as_slice(), kind);
+    let mut later = integrations.split_off(place)?;
+    integrations.append(&mut entries)?;
+    integrations.append(&mut later)?;
+    Ok(())
+}
+
+/// Returns the index of the first integration with a greater name.
+fn place_of(integrations: &[Integration], kind: &Text) -> usize
+    ensures value { result ≡ place_after integrations.now kind.now }
+    ensures bound { result ≤ length integrations.now }
+{
+    for (place, integration) in integrations.iter().enumerate() {
+        if integration.kind.cmp(kind) == Ordering::Greater {
+            return place;
+        }
+    }
+    integrations.len()
+}
+
+/// Reads such a list, or `null` as an empty one.
+#[tactic(auto, unfolding(crate::specs::ReadReceivers::stated_entries, crate::specs::Readings::next))]
+fn stated_entries(
+    alloc: Global,
+    kind: &Text,
+    place: &Place,
+    value: &Value,
+) -> Result<Vec<Integration>, ConfigError>
+    ensures { Gives (λ es. es.items) result
+        (stated_of kind.now (place_path place.now) (view value.now)) }
+{
+    match value {
+        Value::Null => Ok(Vec::new(alloc)),
+        _ => entries(alloc, kind, place, value),
+    }
+}
+
+/// Returns the integration's name in a key, such as `webhook` in `webhook_configs`, or `None` for
+/// another key.
+#[tactic(auto, unfolding(crate::specs::ReadReceivers::kind_key))]
+fn kind_key(key: &str) -> Option<&str>
+    ensures { option_map (λ s. s.now) result ≡ key_of key.now }
+{
+    key.strip_suffix("_configs")
+}
+
+/// Returns whether a key sorts before the key `name`, or after it if `before` is false.
+#[tactic(auto, unfolding(crate::specs::ReadReceivers::is_on_side))]
+fn is_on_side(before: bool, key: &str) -> bool
+    ensures { result ≡ is_on_side_of before key.now }
+{
+    match key.cmp("name") {
+        Ordering::Less => before,
+        Ordering::Equal => false,
+        Ordering::Greater => !before,
+    }
+}
+
+/// Reads a list such as `webhook_configs`.
+#[tactic(auto, unfolding(crate::specs::ReadReceivers::entries_at, crate::specs::Readings::next))]
+fn entries(
+    alloc: Global,
+    kind: &Text,
+    place: &Place,
+    value: &Value,
+) -> Result<Vec<Integration>, ConfigError>
+    ensures { Gives (λ es. es.items) result
+        (entries_at kind.now (place_path place.now) (view value.now)) }
+{
+    let items = items(alloc, place, value)?;
+    let mut entries = Vec::new(alloc);
+    for (index, item) in items.iter().enumerate() {
+        add_entry(alloc, kind, place, index, item, &mut entries)?;
+    }
+    Ok(entries)
 }
 
 /// Appends the integration at an index of a list such as `webhook_configs`.
@@ -81,211 +254,38 @@ fn add_entry(
     Ok(())
 }
 
-/// Reads a list such as `webhook_configs`.
-#[tactic(auto, unfolding(crate::specs::ReadReceivers::entries_at, crate::specs::Readings::next))]
-fn entries(
-    alloc: Global,
-    kind: &Text,
-    place: &Place,
-    value: &Value,
-) -> Result<Vec<Integration>, ConfigError>
-    ensures { Gives (λ es. es.items) result
-        (entries_at kind.now (place_path place.now) (view value.now)) }
+/// Returns the default of `send_resolved` for an integration's name, or `None` for an unknown name,
+/// whose entries have to state it.
+#[tactic(auto, unfolding(crate::specs::ReadReceivers::default_of))]
+fn default(kind: &str) -> Option<bool>
+    ensures { result ≡ default_of kind.now }
 {
-    let items = items(alloc, place, value)?;
-    let mut entries = Vec::new(alloc);
-    for (index, item) in items.iter().enumerate() {
-        add_entry(alloc, kind, place, index, item, &mut entries)?;
+    if is_sender(kind) {
+        return Some(true);
     }
-    Ok(entries)
-}
-
-/// Returns whether a key sorts before the key `name`, or after it if `before` is false.
-#[tactic(auto, unfolding(crate::specs::ReadReceivers::stands))]
-fn stands(before: bool, key: &str) -> bool
-    ensures { result ≡ stands_of before key.now }
-{
-    match key.cmp("name") {
-        Ordering::Less => before,
-        Ordering::Equal => false,
-        Ordering::Greater => !before,
+    if is_keeper(kind) {
+        return Some(false);
     }
+    None
 }
 
-/// Returns the integration's name in a key, such as `webhook` in `webhook_configs`, or `None` for
-/// another key.
-#[tactic(auto, unfolding(crate::specs::ReadReceivers::kind_key))]
-fn kind_key(key: &str) -> Option<&str>
-    ensures { option_map (λ s. s.now) result ≡ key_of key.now }
+/// Returns whether integrations of this name omit resolved alerts by default.
+#[tactic(auto, unfolding(crate::specs::ReadReceivers::is_keeper))]
+fn is_keeper(kind: &str) -> bool
+    ensures { result ≡ keeper_of kind.now }
 {
-    key.strip_suffix("_configs")
+    same(kind, "email") || same(kind, "slack")
 }
 
-/// Reads such a list, or `null` as an empty one.
-#[tactic(auto, unfolding(crate::specs::ReadReceivers::stated_entries, crate::specs::Readings::next))]
-fn stated_entries(
-    alloc: Global,
-    kind: &Text,
-    place: &Place,
-    value: &Value,
-) -> Result<Vec<Integration>, ConfigError>
-    ensures { Gives (λ es. es.items) result
-        (stated_of kind.now (place_path place.now) (view value.now)) }
+/// Returns whether integrations of this name send resolved alerts by default, as in the defaults of
+/// `send_resolved` in Alertmanager's configuration reference.
+#[tactic(auto, unfolding(crate::specs::ReadReceivers::is_sender))]
+fn is_sender(kind: &str) -> bool
+    ensures { result ≡ sender_of kind.now }
 {
-    match value {
-        Value::Null => Ok(Vec::new(alloc)),
-        _ => entries(alloc, kind, place, value),
-    }
-}
-
-/// Returns the index of the first integration with a greater name.
-fn place_of(integrations: &[Integration], kind: &Text) -> usize
-    ensures value { result ≡ place_after integrations.now kind.now }
-    ensures bound { result ≤ length integrations.now }
-{
-    for (place, integration) in integrations.iter().enumerate() {
-        if integration.kind.cmp(kind) == Ordering::Greater {
-            return place;
-        }
-    }
-    integrations.len()
-}
-
-/// Inserts the integrations of one name before those of greater names.
-fn insert_entries(
-    integrations: &mut Vec<Integration>,
-    kind: &Text,
-    entries: Vec<Integration>,
-) -> Result<(), AllocError>
-    ensures { OnOk result
-        (integrations.new.items ≡ with_entries integrations.old.items kind.now entries.items) }
-{
-    let mut entries = entries;
-    let place = place_of(integrations.as_slice(), kind);
-    let mut later = integrations.split_off(place)?;
-    integrations.append(&mut entries)?;
-    integrations.append(&mut later)?;
-    Ok(())
-}
-
-/// Adds the integrations of a member, if its key names an integration on that side of `name`.
-#[tactic(auto, unfolding(crate::specs::ReadReceivers::kind_into, crate::specs::Readings::next))]
-fn add_kind(
-    alloc: Global,
-    before: bool,
-    place: &Place,
-    key: &str,
-    value: &Value,
-    integrations: &mut Vec<Integration>,
-) -> Result<(), ConfigError>
-    ensures { Changes (λ is. is.items) result integrations.new
-        (kind_into before (place_path place.now) key.now (view value.now)
-        integrations.old.items) }
-{
-    if !stands(before, key) {
-        return Ok(());
-    }
-    match kind_key(key) {
-        Some(kind) => {
-            let kind = Text::from_str(alloc, kind)?;
-            let entries = stated_entries(alloc, &kind, &Place::Member(place, key), value)?;
-            insert_entries(integrations, &kind, entries)?;
-            Ok(())
-        }
-        None => Ok(()),
-    }
-}
-
-/// Adds the integrations whose keys sort before the key `name`, or after it if `before` is false.
-/// The two sides are read apart, so that the first fault by key order is the one reported.
-#[tactic(auto, unfolding(crate::specs::ReadReceivers::kinds_at, crate::specs::Readings::next))]
-fn add_kinds(
-    alloc: Global,
-    before: bool,
-    place: &Place,
-    value: &Value,
-    integrations: &mut Vec<Integration>,
-) -> Result<(), ConfigError>
-    ensures { Changes (λ is. is.items) result integrations.new
-        (kinds_at before (place_path place.now) (view value.now) integrations.old.items) }
-{
-    let Some(members) = value.as_object() else {
-        return Err(place.faulty(alloc));
-    };
-    for (key, value) in members {
-        add_kind(alloc, before, place, key.as_str(), value, integrations)?;
-    }
-    Ok(())
-}
-
-/// Returns the name of a receiver. Fails if it is empty.
-#[tactic(auto, unfolding(crate::specs::ReadReceivers::name_at, crate::specs::Readings::next))]
-fn name<'v>(alloc: Global, place: &Place, value: &'v Value) -> Result<&'v str, ConfigError>
-    ensures { Gives (λ s. s.now) result (name_at (place_path place.now) (view value.now)) }
-{
-    let text = text(alloc, place, value)?;
-    if text.is_empty() {
-        return Err(place.faulty(alloc));
-    }
-    Ok(text)
-}
-
-/// Reads a receiver, by its keys in byte order.
-#[tactic(auto, unfolding(crate::specs::ReadReceivers::receiver_at, crate::specs::Readings::next))]
-fn read_receiver(alloc: Global, place: &Place, value: &Value) -> Result<Receiver, ConfigError>
-    ensures { Gives (λ r. r) result (receiver_at (place_path place.now) (view value.now)) }
-{
-    let mut integrations = Vec::new(alloc);
-    add_kinds(alloc, true, place, value, &mut integrations)?;
-    let here = Place::Member(place, "name");
-    let Some(found) = member(value, "name") else {
-        return Err(here.faulty(alloc));
-    };
-    let name = Text::from_str(alloc, name(alloc, &here, found)?)?;
-    add_kinds(alloc, false, place, value, &mut integrations)?;
-    Ok(Receiver {
-        name,
-        integrations: Listing::from_vec(integrations),
-    })
-}
-
-/// Appends the receiver at an index of a list.
-#[tactic(auto, unfolding(crate::specs::ReadReceivers::receiver_into, crate::specs::Readings::next))]
-fn add_receiver(
-    alloc: Global,
-    place: &Place,
-    index: usize,
-    value: &Value,
-    receivers: &mut Listing<Receiver>,
-) -> Result<(), ConfigError>
-    ensures { Changes (λ rs. rs) result receivers.new
-        (receiver_into (place_path place.now) index (view value.now) receivers.old) }
-{
-    let receiver = read_receiver(alloc, &Place::Item(place, index), value)?;
-    receivers.push(receiver)?;
-    Ok(())
-}
-
-/// Reads a list of receivers.
-#[tactic(auto, unfolding(crate::specs::ReadReceivers::receivers_list, crate::specs::Readings::next))]
-fn receivers(alloc: Global, place: &Place, value: &Value) -> Result<Listing<Receiver>, ConfigError>
-    ensures { Gives (λ rs. rs) result (receivers_list (place_path place.now) (view value.now)) }
-{
-    let items = items(alloc, place, value)?;
-    let mut receivers = Listing::new(alloc);
-    for (index, item) in items.iter().enumerate() {
-        add_receiver(alloc, place, index, item, &mut receivers)?;
-    }
-    Ok(receivers)
-}
-
-/// Reads the receivers of a whole configuration; none if the member is absent.
-#[tactic(auto, unfolding(crate::specs::ReadReceivers::receivers_at, crate::specs::Readings::next))]
-pub(crate) fn read_receivers(alloc: Global, value: &Value) -> Result<Listing<Receiver>, ConfigError>
-    ensures { Gives (λ rs. rs) result (receivers_at (view value.now)) }
-{
-    match member(value, "receivers") {
-        Some(found) => receivers(alloc, &Place::Member(&Place::Top, "receivers"), found),
-        None => Ok(Listing::new(alloc)),
-    }
+    same(kind, "webhook")
+        || same(kind, "pagerduty")
+        || same(kind, "opsgenie")
+        || same(kind, "victorops")
+        || same(kind, "pushover")
 }

@@ -20,38 +20,117 @@ use amr_time::Span;
 use serde_json::Value;
 use std::alloc::{AllocError, Global};
 
-/// Returns whether the names are `...` alone, which means all labels in Alertmanager.
-#[tactic(auto, using(crate::proofs::OnlyDots::not_alone, crate::proofs::OnlyDots::alone))]
-fn is_all(names: &[Text]) -> bool
-    ensures { result ≡ all_of names.now }
+/// Reads the routing tree of a whole configuration, in preorder.
+#[tactic(auto, unfolding(crate::specs::ReadRoutes::routes_at, crate::specs::Readings::next))]
+pub(crate) fn read_routes(alloc: Global, value: &Value) -> Result<Listing<Route>, ConfigError>
+    ensures { Reads (λ rs. rs) result (routes_at (view value.now)) }
 {
-    if names.len() != 1 {
+    let top = Place::Top;
+    let here = Place::Member(&top, "route");
+    let Some(route) = member(value, "route") else {
+        return Err(here.faulty(alloc));
+    };
+    let mut routes = Listing::new(alloc);
+    let whole = Whole::new(alloc, value)?;
+    add_route(alloc, &whole, 32, &here, None, route, &mut routes)?;
+    Ok(routes)
+}
+
+/// Returns whether the routing tree has more than 32 levels.
+#[tactic(auto, unfolding(crate::specs::RouteParts::is_too_deep))]
+pub(crate) fn is_too_deep(value: &Value) -> bool
+    ensures { result ≡ too_deep_of (view value.now) }
+{
+    match member(value, "route") {
+        Some(route) => is_deeper(32, route),
+        None => false,
+    }
+}
+
+/// Returns whether a route has more than `left` levels, itself included.
+#[tactic(auto, unfolding(crate::specs::RouteParts::is_deeper))]
+fn is_deeper(left: u32, value: &Value) -> bool
+    ensures { result ≡ deeper_of left (view value.now) }
+{
+    if left == 0 {
+        return true;
+    }
+    let found = member(value, "routes").and_then(Value::as_array);
+    let Some(items) = found else {
         return false;
+    };
+    for item in items {
+        if is_deeper(left - 1, item) {
+            return true;
+        }
     }
-    same(names[0].as_str(), "...")
+    false
 }
 
-/// Returns the grouping by these names.
-fn grouping(alloc: Global, names: Listing<Text>) -> Result<Grouping, AllocError>
-    ensures { IfOk result (λ grouping. grouping ≡ grouping_of names) }
-{
-    if is_all(names.as_slice()) {
-        return Ok(Grouping::AllLabels);
-    }
-    Ok(Grouping::Named(Shared::new(alloc, names)?))
-}
-
-/// Returns the grouping by these names, if `group_by` is present.
-fn stated_grouping(
+/// Appends a route and those below it in preorder, down to `left` levels.
+fn add_route(
     alloc: Global,
-    names: Option<Listing<Text>>,
-) -> Result<Option<Grouping>, AllocError>
-    ensures { IfOk result (λ grouping. grouping ≡ grouping_stated names) }
+    whole: &Whole,
+    left: u32,
+    place: &Place,
+    parent: Option<usize>,
+    value: &Value,
+    routes: &mut Listing<Route>,
+) -> Result<(), ConfigError>
+    ensures { ReadsInto (λ rs. rs) result routes.new
+        (add_route (view whole.now.value.now) left (place_path place.now) parent (view value.now)
+        routes.old) }
 {
-    match names {
-        Some(names) => Ok(Some(grouping(alloc, names)?)),
-        None => Ok(None),
+    if left == 0 {
+        return Err(ConfigError::Refused(Refusal::TooDeep));
     }
+    let index = routes.len();
+    add_own(alloc, whole, place, parent, value, routes)?;
+    let children = children(alloc, place, value)?;
+    let below = Place::Member(&*place, "routes");
+    for (i, child) in children.iter().enumerate() {
+        add_route(
+            alloc,
+            whole,
+            left - 1,
+            &Place::Item(&below, i),
+            Some(index),
+            child,
+            routes,
+        )?;
+    }
+    Ok(())
+}
+
+/// Returns the items of a route's `routes`; none if the member is absent.
+#[tactic(auto, unfolding(crate::specs::RouteParts::children_at, crate::specs::Readings::next))]
+fn children<'v>(alloc: Global, place: &Place, value: &'v Value) -> Result<&'v [Value], ConfigError>
+    ensures { Gives (λ s. items_view s.now) result
+        (children_at (place_path place.now) (view value.now)) }
+{
+    match member(value, "routes") {
+        Some(found) => items(alloc, &Place::Member(place, "routes"), found),
+        None => Ok(&[]),
+    }
+}
+
+/// Appends a route with what it states itself.
+#[tactic(auto, unfolding(crate::specs::ReadRoutes::own_into, crate::specs::Readings::next))]
+fn add_own(
+    alloc: Global,
+    whole: &Whole,
+    place: &Place,
+    parent: Option<usize>,
+    value: &Value,
+    routes: &mut Listing<Route>,
+) -> Result<(), ConfigError>
+    ensures { ReadsInto (λ rs. rs) result routes.new
+        (own_into (view whole.now.value.now) (place_path place.now) parent (view value.now)
+        routes.old) }
+{
+    let route = read_route(alloc, whole, place, parent, value)?;
+    routes.push(route)?;
+    Ok(())
 }
 
 /// Reads what a route states itself, key by key in byte order.
@@ -93,115 +172,36 @@ fn read_route(
     })
 }
 
-/// Appends a route with what it states itself.
-#[tactic(auto, unfolding(crate::specs::ReadRoutes::own_into, crate::specs::Readings::next))]
-fn add_own(
+/// Returns the grouping by these names, if `group_by` is present.
+fn stated_grouping(
     alloc: Global,
-    whole: &Whole,
-    place: &Place,
-    parent: Option<usize>,
-    value: &Value,
-    routes: &mut Listing<Route>,
-) -> Result<(), ConfigError>
-    ensures { ReadsInto (λ rs. rs) result routes.new
-        (own_into (view whole.now.value.now) (place_path place.now) parent (view value.now)
-        routes.old) }
+    names: Option<Listing<Text>>,
+) -> Result<Option<Grouping>, AllocError>
+    ensures { IfOk result (λ grouping. grouping ≡ grouping_stated names) }
 {
-    let route = read_route(alloc, whole, place, parent, value)?;
-    routes.push(route)?;
-    Ok(())
-}
-
-/// Returns the items of a route's `routes`; none if the member is absent.
-#[tactic(auto, unfolding(crate::specs::RouteParts::children_at, crate::specs::Readings::next))]
-fn children<'v>(alloc: Global, place: &Place, value: &'v Value) -> Result<&'v [Value], ConfigError>
-    ensures { Gives (λ s. items_view s.now) result
-        (children_at (place_path place.now) (view value.now)) }
-{
-    match member(value, "routes") {
-        Some(found) => items(alloc, &Place::Member(place, "routes"), found),
-        None => Ok(&[]),
+    match names {
+        Some(names) => Ok(Some(grouping(alloc, names)?)),
+        None => Ok(None),
     }
 }
 
-/// Appends a route and those below it in preorder, down to `left` levels.
-fn add_route(
-    alloc: Global,
-    whole: &Whole,
-    left: u32,
-    place: &Place,
-    parent: Option<usize>,
-    value: &Value,
-    routes: &mut Listing<Route>,
-) -> Result<(), ConfigError>
-    ensures { ReadsInto (λ rs. rs) result routes.new
-        (add_route (view whole.now.value.now) left (place_path place.now) parent (view value.now)
-        routes.old) }
+/// Returns the grouping by these names.
+fn grouping(alloc: Global, names: Listing<Text>) -> Result<Grouping, AllocError>
+    ensures { IfOk result (λ grouping. grouping ≡ grouping_of names) }
 {
-    if left == 0 {
-        return Err(ConfigError::Refused(Refusal::TooDeep));
+    if is_all(names.as_slice()) {
+        return Ok(Grouping::AllLabels);
     }
-    let index = routes.len();
-    add_own(alloc, whole, place, parent, value, routes)?;
-    let children = children(alloc, place, value)?;
-    let below = Place::Member(&*place, "routes");
-    for (i, child) in children.iter().enumerate() {
-        add_route(
-            alloc,
-            whole,
-            left - 1,
-            &Place::Item(&below, i),
-            Some(index),
-            child,
-            routes,
-        )?;
-    }
-    Ok(())
+    Ok(Grouping::Named(Shared::new(alloc, names)?))
 }
 
-/// Returns whether a route has more than `left` levels, itself included.
-#[tactic(auto, unfolding(crate::specs::RouteParts::is_deeper))]
-fn is_deeper(left: u32, value: &Value) -> bool
-    ensures { result ≡ deeper_of left (view value.now) }
+/// Returns whether the names are `...` alone, which means all labels in Alertmanager.
+#[tactic(auto, using(crate::proofs::OnlyDots::not_alone, crate::proofs::OnlyDots::alone))]
+fn is_all(names: &[Text]) -> bool
+    ensures { result ≡ all_of names.now }
 {
-    if left == 0 {
-        return true;
-    }
-    let found = member(value, "routes").and_then(Value::as_array);
-    let Some(items) = found else {
+    if names.len() != 1 {
         return false;
-    };
-    for item in items {
-        if is_deeper(left - 1, item) {
-            return true;
-        }
     }
-    false
-}
-
-/// Returns whether the routing tree has more than 32 levels.
-#[tactic(auto, unfolding(crate::specs::RouteParts::is_too_deep))]
-pub(crate) fn is_too_deep(value: &Value) -> bool
-    ensures { result ≡ too_deep_of (view value.now) }
-{
-    match member(value, "route") {
-        Some(route) => is_deeper(32, route),
-        None => false,
-    }
-}
-
-/// Reads the routing tree of a whole configuration, in preorder.
-#[tactic(auto, unfolding(crate::specs::ReadRoutes::routes_at, crate::specs::Readings::next))]
-pub(crate) fn read_routes(alloc: Global, value: &Value) -> Result<Listing<Route>, ConfigError>
-    ensures { Reads (λ rs. rs) result (routes_at (view value.now)) }
-{
-    let top = Place::Top;
-    let here = Place::Member(&top, "route");
-    let Some(route) = member(value, "route") else {
-        return Err(here.faulty(alloc));
-    };
-    let mut routes = Listing::new(alloc);
-    let whole = Whole::new(alloc, value)?;
-    add_route(alloc, &whole, 32, &here, None, route, &mut routes)?;
-    Ok(routes)
+    same(names[0].as_str(), "...")
 }

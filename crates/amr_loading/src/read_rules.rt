@@ -15,6 +15,47 @@ use amr_stated::InhibitRule;
 use serde_json::Value;
 use std::alloc::Global;
 
+/// Reads the inhibition rules of a whole configuration; none if the member is absent.
+#[tactic(auto, unfolding(crate::specs::ReadRules::rules_at))]
+pub(crate) fn read_rules(alloc: Global, value: &Value) -> Result<Listing<InhibitRule>, ConfigError>
+    ensures { Reads (λ rules. rules) result (rules_at (view value.now)) }
+{
+    match member(value, "inhibit_rules") {
+        Some(found) => rules(alloc, &Place::Member(&Place::Top, "inhibit_rules"), found),
+        None => Ok(Listing::new(alloc)),
+    }
+}
+
+/// Reads a list of inhibition rules.
+#[tactic(auto, unfolding(crate::specs::ReadRules::rules_list, crate::specs::Readings::next))]
+fn rules(alloc: Global, place: &Place, value: &Value) -> Result<Listing<InhibitRule>, ConfigError>
+    ensures { Reads (λ rules. rules) result (rules_list (place_path place.now) (view value.now)) }
+{
+    let items = items(alloc, place, value)?;
+    let mut rules = Listing::new(alloc);
+    for (index, item) in items.iter().enumerate() {
+        add_rule(alloc, place, index, item, &mut rules)?;
+    }
+    Ok(rules)
+}
+
+/// Appends the rule at an index of a list.
+#[tactic(auto, unfolding(crate::specs::ReadRules::rule_into, crate::specs::Readings::next))]
+fn add_rule(
+    alloc: Global,
+    place: &Place,
+    index: usize,
+    value: &Value,
+    rules: &mut Listing<InhibitRule>,
+) -> Result<(), ConfigError>
+    ensures { ReadsInto (λ rules. rules) result rules.new
+        (rule_into (place_path place.now) index (view value.now) rules.old) }
+{
+    let rule = read_rule(alloc, &Place::Item(place, index), value)?;
+    rules.push(rule)?;
+    Ok(())
+}
+
 /// Reads an inhibition rule, by its keys in byte order.
 #[tactic(auto, unfolding(crate::specs::ReadRules::rule_at, crate::specs::Readings::next))]
 fn read_rule(alloc: Global, place: &Place, value: &Value) -> Result<InhibitRule, ConfigError>
@@ -45,45 +86,4 @@ fn read_rule(alloc: Global, place: &Place, value: &Value) -> Result<InhibitRule,
         target,
         equal: equal.unwrap_or(Listing::new(alloc)),
     })
-}
-
-/// Appends the rule at an index of a list.
-#[tactic(auto, unfolding(crate::specs::ReadRules::rule_into, crate::specs::Readings::next))]
-fn add_rule(
-    alloc: Global,
-    place: &Place,
-    index: usize,
-    value: &Value,
-    rules: &mut Listing<InhibitRule>,
-) -> Result<(), ConfigError>
-    ensures { ReadsInto (λ rules. rules) result rules.new
-        (rule_into (place_path place.now) index (view value.now) rules.old) }
-{
-    let rule = read_rule(alloc, &Place::Item(place, index), value)?;
-    rules.push(rule)?;
-    Ok(())
-}
-
-/// Reads a list of inhibition rules.
-#[tactic(auto, unfolding(crate::specs::ReadRules::rules_list, crate::specs::Readings::next))]
-fn rules(alloc: Global, place: &Place, value: &Value) -> Result<Listing<InhibitRule>, ConfigError>
-    ensures { Reads (λ rules. rules) result (rules_list (place_path place.now) (view value.now)) }
-{
-    let items = items(alloc, place, value)?;
-    let mut rules = Listing::new(alloc);
-    for (index, item) in items.iter().enumerate() {
-        add_rule(alloc, place, index, item, &mut rules)?;
-    }
-    Ok(rules)
-}
-
-/// Reads the inhibition rules of a whole configuration; none if the member is absent.
-#[tactic(auto, unfolding(crate::specs::ReadRules::rules_at))]
-pub(crate) fn read_rules(alloc: Global, value: &Value) -> Result<Listing<InhibitRule>, ConfigError>
-    ensures { Reads (λ rules. rules) result (rules_at (view value.now)) }
-{
-    match member(value, "inhibit_rules") {
-        Some(found) => rules(alloc, &Place::Member(&Place::Top, "inhibit_rules"), found),
-        None => Ok(Listing::new(alloc)),
-    }
 }

@@ -14,155 +14,6 @@ use amr_time::Span;
 use std::alloc::{AllocError, Global};
 use std::collections::BTreeSet;
 
-/// Returns the names of the receivers, in their order.
-fn names_of(alloc: Global, receivers: &[Receiver]) -> Result<Vec<Text>, AllocError>
-    ensures { IfOk result (λ names. names.items ≡ receiver_names receivers.now) }
-{
-    let mut names = Vec::new(alloc);
-    for receiver in receivers {
-        names.push(receiver.name.clone()?)?;
-    }
-    Ok(names)
-}
-
-/// Returns whether the route names a receiver whose name isn't in the set.
-fn is_missing(set: &BTreeSet<Text>, route: &Route) -> bool
-    ensures { result ≡ missing_of set.now route.now }
-{
-    match &route.receiver {
-        Some(name) => !set.contains(name),
-        None => false,
-    }
-}
-
-/// Returns whether some route names a receiver whose name isn't in the set.
-fn any_missing(set: &BTreeSet<Text>, routes: &[Route]) -> bool
-    ensures { result ≡ list_any (missing_of set.now) routes.now }
-{
-    routes.iter().any(|route| is_missing(set, route))
-}
-
-/// Returns whether some route names a receiver that doesn't exist.
-fn any_lost(alloc: Global, receivers: &[Receiver], routes: &[Route]) -> Result<bool, AllocError>
-    ensures { IfOk result (λ lost. lost ≡ list_any (lost_of receivers.now) routes.now) }
-{
-    let names = names_of(alloc, receivers)?;
-    let set = set_of(alloc, names.as_slice())?;
-    Ok(any_missing(&set, routes))
-}
-
-/// Returns whether an interval is set to zero.
-fn is_zero(span: Option<Span>) -> bool
-    ensures { result ≡ zero_of span }
-{
-    match span {
-        Some(span) => span.nanoseconds() == 0,
-        None => false,
-    }
-}
-
-/// Returns whether the route sets `group_interval` or `repeat_interval` to zero. `group_wait` may
-/// be zero.
-#[tactic(auto, unfolding(crate::specs::Judging::has_zero))]
-fn has_zero(route: &Route) -> bool
-    ensures { result ≡ zeros_of route.now }
-{
-    is_zero(route.group_interval) || is_zero(route.repeat_interval)
-}
-
-/// Returns whether some route sets such an interval to zero.
-fn any_zero(routes: &[Route]) -> bool
-    ensures { result ≡ list_any zeros_of routes.now }
-{
-    routes.iter().any(|route| has_zero(route))
-}
-
-/// Returns whether a name in `group_by` is empty, or is `...`, which must be alone in its list.
-fn is_bad_name(name: &Text) -> bool
-    ensures { result ≡ bad_of name.now }
-{
-    name.is_empty() || same(name.as_str(), "...")
-}
-
-/// Returns whether some name is bad.
-fn any_bad_name(names: &[Text]) -> bool
-    ensures { result ≡ list_any bad_of names.now }
-{
-    names.iter().any(|name| is_bad_name(name))
-}
-
-/// Returns whether some name is bad or repeated.
-#[tactic(auto, unfolding(crate::specs::Judging::has_bad_names))]
-fn has_bad_names(alloc: Global, names: &[Text]) -> Result<bool, AllocError>
-    ensures { IfOk result (λ bad. bad ≡ bad_names_of names.now) }
-{
-    if any_bad_name(names) {
-        return Ok(true);
-    }
-    Ok(!are_apart(alloc, names)?)
-}
-
-/// Returns whether the route's `group_by` has a bad or repeated name.
-#[tactic(auto, unfolding(crate::specs::Judging::is_badly_grouped))]
-fn is_badly_grouped(alloc: Global, route: &Route) -> Result<bool, AllocError>
-    ensures { IfOk result (λ bad. bad ≡ badly_of route.now) }
-{
-    match &route.group_by {
-        Some(Grouping::Named(names)) => has_bad_names(alloc, names.get().as_slice()),
-        Some(Grouping::AllLabels) => Ok(false),
-        None => Ok(false),
-    }
-}
-
-/// Returns whether the `group_by` of some route has a bad or repeated name.
-fn any_badly_grouped(alloc: Global, routes: &[Route]) -> Result<bool, AllocError>
-    ensures { IfOk result (λ bad. bad ≡ list_any badly_of routes.now) }
-{
-    for route in routes {
-        if is_badly_grouped(alloc, route)? {
-            return Ok(true);
-        }
-    }
-    Ok(false)
-}
-
-/// Returns whether the root has matchers, `continue` or time intervals, or no receiver.
-#[tactic(auto, unfolding(crate::specs::Judging::is_bad_root))]
-fn is_bad_root(route: &Route) -> bool
-    ensures { result ≡ bad_root_of route.now }
-{
-    !route.matchers.is_empty()
-        || route.continues
-        || route.receiver.is_none()
-        || has_intervals(route)
-}
-
-/// Returns whether the route has time intervals.
-fn has_intervals(route: &Route) -> bool
-    ensures { result ≡ intervals_of route.now }
-{
-    !route.active_time_intervals.is_empty() || !route.mute_time_intervals.is_empty()
-}
-
-/// Returns whether the root is faulty: it has matchers, `continue` or time intervals, or it has no
-/// receiver.
-fn is_root_bad(routes: &[Route]) -> bool
-    ensures { result ≡ root_is_bad routes.now }
-{
-    match routes {
-        [] => true,
-        [root, ..] => is_bad_root(root),
-    }
-}
-
-/// Returns whether all receivers have different names.
-fn are_named_apart(alloc: Global, receivers: &[Receiver]) -> Result<bool, AllocError>
-    ensures { IfOk result (λ apart. apart ≡ apart_of receivers.now) }
-{
-    let names = names_of(alloc, receivers)?;
-    are_apart(alloc, names.as_slice())
-}
-
 /// Returns the first reason against a configuration, in the order of their numbers.
 #[tactic(auto, unfolding(crate::specs::Judging::refusal_of))]
 pub(crate) fn refusal(alloc: Global, stated: &Stated) -> Result<Option<Refusal>, AllocError>
@@ -186,4 +37,153 @@ pub(crate) fn refusal(alloc: Global, stated: &Stated) -> Result<Option<Refusal>,
         return Ok(Some(Refusal::BadGroupBy));
     }
     Ok(None)
+}
+
+/// Returns whether all receivers have different names.
+fn are_named_apart(alloc: Global, receivers: &[Receiver]) -> Result<bool, AllocError>
+    ensures { IfOk result (λ apart. apart ≡ apart_of receivers.now) }
+{
+    let names = names_of(alloc, receivers)?;
+    are_apart(alloc, names.as_slice())
+}
+
+/// Returns whether the root is faulty: it has matchers, `continue` or time intervals, or it has no
+/// receiver.
+fn is_root_bad(routes: &[Route]) -> bool
+    ensures { result ≡ root_is_bad routes.now }
+{
+    match routes {
+        [] => true,
+        [root, ..] => is_bad_root(root),
+    }
+}
+
+/// Returns whether the route has time intervals.
+fn has_intervals(route: &Route) -> bool
+    ensures { result ≡ intervals_of route.now }
+{
+    !route.active_time_intervals.is_empty() || !route.mute_time_intervals.is_empty()
+}
+
+/// Returns whether the root has matchers, `continue` or time intervals, or no receiver.
+#[tactic(auto, unfolding(crate::specs::Judging::is_bad_root))]
+fn is_bad_root(route: &Route) -> bool
+    ensures { result ≡ bad_root_of route.now }
+{
+    !route.matchers.is_empty()
+        || route.continues
+        || route.receiver.is_none()
+        || has_intervals(route)
+}
+
+/// Returns whether the `group_by` of some route has a bad or repeated name.
+fn any_badly_grouped(alloc: Global, routes: &[Route]) -> Result<bool, AllocError>
+    ensures { IfOk result (λ bad. bad ≡ list_any badly_of routes.now) }
+{
+    for route in routes {
+        if is_badly_grouped(alloc, route)? {
+            return Ok(true);
+        }
+    }
+    Ok(false)
+}
+
+/// Returns whether the route's `group_by` has a bad or repeated name.
+#[tactic(auto, unfolding(crate::specs::Judging::is_badly_grouped))]
+fn is_badly_grouped(alloc: Global, route: &Route) -> Result<bool, AllocError>
+    ensures { IfOk result (λ bad. bad ≡ badly_of route.now) }
+{
+    match &route.group_by {
+        Some(Grouping::Named(names)) => has_bad_names(alloc, names.get().as_slice()),
+        Some(Grouping::AllLabels) => Ok(false),
+        None => Ok(false),
+    }
+}
+
+/// Returns whether some name is bad or repeated.
+#[tactic(auto, unfolding(crate::specs::Judging::has_bad_names))]
+fn has_bad_names(alloc: Global, names: &[Text]) -> Result<bool, AllocError>
+    ensures { IfOk result (λ bad. bad ≡ bad_names_of names.now) }
+{
+    if any_bad_name(names) {
+        return Ok(true);
+    }
+    Ok(!are_apart(alloc, names)?)
+}
+
+/// Returns whether some name is bad.
+fn any_bad_name(names: &[Text]) -> bool
+    ensures { result ≡ list_any bad_of names.now }
+{
+    names.iter().any(|name| is_bad_name(name))
+}
+
+/// Returns whether a name in `group_by` is empty, or is `...`, which must be alone in its list.
+fn is_bad_name(name: &Text) -> bool
+    ensures { result ≡ bad_of name.now }
+{
+    name.is_empty() || same(name.as_str(), "...")
+}
+
+/// Returns whether some route sets such an interval to zero.
+fn any_zero(routes: &[Route]) -> bool
+    ensures { result ≡ list_any zeros_of routes.now }
+{
+    routes.iter().any(|route| has_zero(route))
+}
+
+/// Returns whether the route sets `group_interval` or `repeat_interval` to zero. `group_wait` may
+/// be zero.
+#[tactic(auto, unfolding(crate::specs::Judging::has_zero))]
+fn has_zero(route: &Route) -> bool
+    ensures { result ≡ zeros_of route.now }
+{
+    is_zero(route.group_interval) || is_zero(route.repeat_interval)
+}
+
+/// Returns whether an interval is set to zero.
+fn is_zero(span: Option<Span>) -> bool
+    ensures { result ≡ zero_of span }
+{
+    match span {
+        Some(span) => span.nanoseconds() == 0,
+        None => false,
+    }
+}
+
+/// Returns whether some route names a receiver that doesn't exist.
+fn any_lost(alloc: Global, receivers: &[Receiver], routes: &[Route]) -> Result<bool, AllocError>
+    ensures { IfOk result (λ lost. lost ≡ list_any (lost_of receivers.now) routes.now) }
+{
+    let names = names_of(alloc, receivers)?;
+    let set = set_of(alloc, names.as_slice())?;
+    Ok(any_missing(&set, routes))
+}
+
+/// Returns whether some route names a receiver whose name isn't in the set.
+fn any_missing(set: &BTreeSet<Text>, routes: &[Route]) -> bool
+    ensures { result ≡ list_any (missing_of set.now) routes.now }
+{
+    routes.iter().any(|route| is_missing(set, route))
+}
+
+/// Returns whether the route names a receiver whose name isn't in the set.
+fn is_missing(set: &BTreeSet<Text>, route: &Route) -> bool
+    ensures { result ≡ missing_of set.now route.now }
+{
+    match &route.receiver {
+        Some(name) => !set.contains(name),
+        None => false,
+    }
+}
+
+/// Returns the names of the receivers, in their order.
+fn names_of(alloc: Global, receivers: &[Receiver]) -> Result<Vec<Text>, AllocError>
+    ensures { IfOk result (λ names. names.items ≡ receiver_names receivers.now) }
+{
+    let mut names = Vec::new(alloc);
+    for receiver in receivers {
+        names.push(receiver.name.clone()?)?;
+    }
+    Ok(names)
 }

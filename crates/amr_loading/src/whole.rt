@@ -1,5 +1,5 @@
-//! A whole configuration with the names of the time intervals that it defines. They are collected in
-//! an ordered set before the routes are read, so the time grows little faster than the number of
+//! A whole configuration with the names of the time intervals that it defines. They are collected
+//! in an ordered set before the routes are read, so the time grows little faster than the number of
 //! uses.
 #![tactic(auto, unfolding(crate::specs::Readings::next))]
 

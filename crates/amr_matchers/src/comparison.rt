@@ -97,7 +97,8 @@ impl Comparison {
         }
     }
 
-    /// Returns whether a label's value passes the comparison. Only patterns' answers are remembered.
+    /// Returns whether a label's value passes the comparison. Only patterns' answers are
+    /// remembered.
     pub(crate) fn compares(&self, answers: &mut Answers, value: &str) -> Result<bool, AllocError>
         ensures answer { IfOk result (λ found. found
             ≡ compares (operator_of self.now) (own_value self.now) value.now) }

@@ -11,6 +11,8 @@ use crate::matcher_reader::{Draft, Reader};
 use crate::matchers::Matchers;
 use crate::pattern::MatcherError;
 use std::alloc::{AllocError, AllocFailed, Global};
+use std::error::Error;
+use std::fmt;
 
 /// Why a text isn't a list of matchers.
 #[derive(Debug, Drop)]
@@ -23,6 +25,21 @@ pub enum ParseError {
     /// `regex` refuses the value of a `=~` or `!~` as a pattern.
     BadPattern,
 }
+
+impl fmt::Display for ParseError {
+    fn fmt<W: fmt::Write>(&self, f: &mut fmt::Formatter<W>) -> fmt::Result {
+        match self {
+            ParseError::Memory => f.write_str("out of memory"),
+            ParseError::BadMatcher { at } => write!(
+                f,
+                "no list of matchers continues at byte {at} as the text does"
+            ),
+            ParseError::BadPattern => f.write_str("a pattern is refused"),
+        }
+    }
+}
+
+impl Error for ParseError {}
 
 impl From<AllocError> for ParseError {
     ghost use Rattle.std.specs.Prelude.{◌≡◌};

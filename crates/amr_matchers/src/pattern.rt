@@ -12,6 +12,7 @@ use amr_labels::{Text, spread_of};
 use regex::{Error, Matcher as Search, Regex};
 use std::alloc::{AllocError, AllocFailed, Global};
 use std::marker::Model;
+use std::{error, fmt};
 
 /// Why a matcher wasn't made.
 #[derive(Debug, Drop)]
@@ -21,6 +22,17 @@ pub enum MatcherError {
     /// `regex` refuses the value as a pattern.
     BadPattern,
 }
+
+impl fmt::Display for MatcherError {
+    fn fmt<W: fmt::Write>(&self, f: &mut fmt::Formatter<W>) -> fmt::Result {
+        f.write_str(match self {
+            MatcherError::Memory => "out of memory",
+            MatcherError::BadPattern => "the pattern is refused",
+        })
+    }
+}
+
+impl error::Error for MatcherError {}
 
 impl From<AllocError> for MatcherError {
     ghost use Rattle.std.specs.Prelude.{◌≡◌};

@@ -1,5 +1,6 @@
-//! The labels of a posted alert, with the label set that they make. An incident posts the same labels
-//! again and again, so `SeenTexts` shares them between posts, and a post makes no label set anew.
+//! The labels of a posted alert, with the label set that they make. An incident posts the same
+//! labels again and again, so `SeenTexts` shares them between posts, and a post makes no label set
+//! anew.
 ghost use Rattle.std.specs.Prelude.{◌≡◌, IfOk};
 ghost use Rattle.std.specs.Option.{option_copied};
 ghost use Rattle.amr_labels.specs.Labels.{labels_of_pairs};

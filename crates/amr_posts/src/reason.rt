@@ -3,6 +3,9 @@
 ghost use Rattle.std.specs.Prelude.{◌≡◌};
 ghost use Rattle.amr_posts.specs.Reasons.{reason_number};
 
+use std::error::Error;
+use std::fmt;
+
 /// Why an event is refused. A refused event changes nothing.
 #[derive(Clone, Copy, Debug, PartialEq, Eq)]
 pub enum Reason {
@@ -33,6 +36,30 @@ pub enum Reason {
     /// More moves are due than one event may make.
     TooManyMoves,
 }
+
+impl fmt::Display for Reason {
+    fn fmt<W: fmt::Write>(&self, f: &mut fmt::Formatter<W>) -> fmt::Result {
+        f.write_str(match self {
+            Reason::BadConfig => "the configuration has a faulty place",
+            Reason::UnknownReceiver => "a route names a receiver that doesn't exist",
+            Reason::DuplicateReceiver => "two receivers have the same name",
+            Reason::RootRoute =>
+                "the root route has matchers, `continue` or time intervals, or no receiver",
+            Reason::ZeroInterval => "`group_interval` or `repeat_interval` is zero",
+            Reason::BadGroupBy =>
+                "`group_by` has an empty or a repeated name, or has `...` beside other names",
+            Reason::TooDeep => "the routing tree has more than 32 levels",
+            Reason::BadAlert => "no alert of the post is valid",
+            Reason::BadSilence => "the silence isn't valid now",
+            Reason::UnknownSilence => "no silence has the id",
+            Reason::SilenceIdTaken => "a silence with the new id is stored already",
+            Reason::Backwards => "the event is before the clock",
+            Reason::TooManyMoves => "more moves are due than one event may make",
+        })
+    }
+}
+
+impl Error for Reason {}
 
 impl Reason {
     /// Returns the number that is printed.

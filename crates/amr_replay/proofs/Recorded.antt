@@ -4,7 +4,7 @@ use Rattle.std.specs.List.{slice_get}
 use Rattle.std.proofs.Common.{refl, sym, ap, subst, ◌∙◌, arith, length-take}
 use Rattle.amr_stated.specs.Config.{Config}
 use Rattle.amr_posts.specs.Reasons.{Reason}
-use Rattle.amr_events.specs.Events.{Event}
+use Rattle.amr_actions.specs.Events.{Event}
 use Rattle.amr_state.specs.declared.displaced.Displaced.{Displaced}
 use Rattle.amr_state.specs.State.{State, start}
 use Rattle.amr_state.specs.Records.{put_back}

@@ -7,7 +7,7 @@ use Rattle.std.specs.Ordering.{is_gt, ordering_reverse}
 use Rattle.std.proofs.lemmas.Bool.{le-leb, lt-leb, leb-true}
 use Rattle.amr_time.specs.Time.{Moment}
 use Rattle.amr_posts.specs.Reasons.{Reason}
-use Rattle.amr_events.specs.Events.{Event}
+use Rattle.amr_actions.specs.Events.{Event}
 use Rattle.amr_state.specs.declared.due.Due.{Due}
 use Rattle.amr_state.specs.State.{State}
 use Rattle.amr_state.specs.Dues.{due_cmp, due_cmp_total, due_cmp-IsAntisymmetric, due_by, least_due, dues, next_due}

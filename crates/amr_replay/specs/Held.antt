@@ -21,4 +21,4 @@ pub record IsAtCursor (session : Inside) : Type 0 where
   pub view : view_of session ≡ at_cursor session.config session.script session.cursor
   pub within : session.cursor ≤ length session.script
   pub records : AreRecords (start session.config) (take session.cursor session.script) session.engine.records
-  pub quiet : AreNoted session.config session.script session.quiet
+  pub quiet : AreNoted session.config session.script session.quiet_events

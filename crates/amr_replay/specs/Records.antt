@@ -1,7 +1,7 @@
 -- The records of the events that a session has passed.
 use Rattle.std.specs.Prelude.{◌≡◌, ◌≤◌, ◌*◌, ℕ, List, [], ◌∷◌, length}
 use Rattle.amr_posts.specs.Reasons.{Reason}
-use Rattle.amr_events.specs.Events.{Event}
+use Rattle.amr_actions.specs.Events.{Event}
 use Rattle.amr_state.specs.declared.displaced.Displaced.{Displaced}
 use Rattle.amr_state.specs.State.{State}
 use Rattle.amr_state.specs.Records.{put_back}

@@ -2,7 +2,7 @@
 //! forth, and trials at one place, make the same moves again, and this saves working them out.
 ghost use Rattle.std.specs.Prelude.{◌≡◌, [], List};
 ghost use Rattle.amr_stated.specs.Config.{Config};
-ghost use Rattle.amr_events.specs.Events.{Event};
+ghost use Rattle.amr_actions.specs.Events.{Event};
 ghost use Rattle.amr_engine.specs.QuietMoves.{AreQuietMoves};
 ghost use Rattle.amr_replay.specs.Session.{state_at};
 ghost use Rattle.amr_replay.specs.QuietEvents.{AreNoted};

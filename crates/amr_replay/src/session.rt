@@ -9,13 +9,16 @@ ghost use Rattle.amr_replay.specs.Session.{at_cursor, state_at, outcomes_passed,
 ghost use Rattle.amr_replay.specs.Records.{HasEntries};
 
 use crate::quiet_events::QuietEvents;
+use amr_actions::Event;
 use amr_config::Config;
 use amr_engine::{Engine, Outcome, Verdict};
-use amr_events::{Event, Script};
+use amr_events::Script;
 use amr_labels::Labels;
 use amr_state::Store;
 use amr_time::Moment;
 use std::alloc::{AllocError, Global};
+use std::error::Error;
+use std::fmt;
 use std::marker::Model;
 
 /// Why a call changed nothing.
@@ -29,9 +32,29 @@ pub enum SessionError {
     OutOfRange,
 }
 
+impl fmt::Display for SessionError {
+    fn fmt<W: fmt::Write>(&self, f: &mut fmt::Formatter<W>) -> fmt::Result {
+        f.write_str(match self {
+            SessionError::Memory => "out of memory",
+            SessionError::AtEnd => "the cursor is at the end of the script",
+            SessionError::OutOfRange => "the script has fewer events",
+        })
+    }
+}
+
+impl Error for SessionError {}
+
 /// The cursor is at the start of the script, so there is no event to undo.
 #[derive(Clone, Copy, Debug, PartialEq, Eq)]
 pub struct AtStart;
+
+impl fmt::Display for AtStart {
+    fn fmt<W: fmt::Write>(&self, f: &mut fmt::Formatter<W>) -> fmt::Result {
+        f.write_str("the cursor is at the start of the script")
+    }
+}
+
+impl Error for AtStart {}
 
 impl From<AllocError> for SessionError {
     ghost use Rattle.std.specs.Prelude.{◌≡◌};
@@ -48,11 +71,12 @@ impl From<AllocError> for SessionError {
 #[derive(Drop)]
 pub struct Session {
     alloc: Global,
+    /// The configuration at the start. `state` has the one in force, which a reload changes.
     config: Config,
     script: Script,
     cursor: usize,
     engine: Engine,
-    quiet: QuietEvents,
+    quiet_events: QuietEvents,
 }
 
 impl Model for Session {
@@ -84,7 +108,7 @@ impl Session {
             script,
             cursor: 0,
             engine,
-            quiet: QuietEvents::new(alloc),
+            quiet_events: QuietEvents::new(alloc),
         })
     }
 
@@ -142,10 +166,10 @@ impl Session {
         if self.cursor == self.script.len() {
             return Err(SessionError::AtEnd);
         }
-        let mut quiet = self.quiet.take(self.cursor);
+        let mut quiet = self.quiet_events.take(self.cursor);
         let event = self.script.event(self.cursor);
         let applied = self.engine.apply_noting(&mut quiet, event);
-        self.quiet.put(self.cursor, quiet);
+        self.quiet_events.put(self.cursor, quiet);
         let outcome = applied?;
         self.cursor += 1;
         Ok(outcome)
@@ -269,9 +293,9 @@ impl Session {
             ≡ outcome_of self.old.state event.now) }
         ensures same { self.new ≡ self.old }
     {
-        let mut quiet = self.quiet.take(self.cursor);
+        let mut quiet = self.quiet_events.take(self.cursor);
         let tried = self.engine.apply_noting(&mut quiet, event);
-        self.quiet.put(self.cursor, quiet);
+        self.quiet_events.put(self.cursor, quiet);
         let outcome = tried?;
         self.engine.undo_last();
         Ok(outcome)

@@ -1,5 +1,6 @@
-//! Muting: inhibition rules and silences. The stages of a flush and `explain` call `inhibited_by`
-//! and `silenced_by`; both return what mutes, so that an explanation can name it.
+//! Muting: inhibition rules and silences. Each function returns what mutes, so that an explanation
+//! can name it. The stages of a flush call `inhibited_by_matched`, and the state's `SilenceTable`
+//! calls `silenced_by` for label sets that it hasn't been told of.
 ghost use Rattle.std.specs.Prelude.{◌≡◌, true, map, not, IfOk, IfSome, is_some};
 ghost use Rattle.std.specs.Option.{option_copied};
 ghost use Rattle.std.specs.Ordering.{nat_cmp};
@@ -21,14 +22,207 @@ use amr_tables::Keyed;
 use amr_time::Moment;
 use std::alloc::{AllocError, Global};
 
-/// Returns whether each of these labels (`equal` of an inhibition rule) has the same value in both
-/// sets.
-fn agree_on(names: &[Text], a: &Labels, b: &Labels) -> bool
-    ensures { result ≡ agree_on names.now a.now b.now }
+/// Returns the least id of a silence that mutes labels at a moment, or `None` if no silence does.
+pub fn silenced_by(
+    alloc: Global,
+    silences: &Keyed<SilenceId, Silence>,
+    now: Moment,
+    labels: &Labels,
+) -> Result<Option<SilenceId>, AllocError>
+    ensures named { IfOk result (λ found. found
+        ≡ silencer_of now labels.now (shown nat_cmp silences.now)) }
+    ensures exactly { IfOk result (λ found. is_silenced (shown nat_cmp silences.now) now labels.now
+        ≡ is_some found) }
 {
-    names
-        .iter()
-        .all(|name| has_value(a, name, b.value_of(name.as_str())))
+    for (id, silence) in silences.iter() {
+        if silences_labels(alloc, now, silence, labels)? {
+            return Ok(Some(*id));
+        }
+    }
+    Ok(None)
+}
+
+/// Returns whether a silence is active and matches the labels.
+fn silences_labels(
+    alloc: Global,
+    now: Moment,
+    silence: &Silence,
+    labels: &Labels,
+) -> Result<bool, AllocError>
+    ensures { IfOk result (λ mutes. mutes ≡ silences_labels now silence.now labels.now) }
+{
+    if !silence.is_active_at(now) {
+        return Ok(false);
+    }
+    silence.matchers.matches_all(alloc, labels)
+}
+
+/// Returns what `inhibited_by` returns, given which sides of each rule the labels are on
+/// (`rule_matches` of `amr_stated`). It asks no matcher for them.
+pub fn inhibited_by_matched<A: AlertStore>(
+    alloc: Global,
+    rules: &[InhibitRule],
+    matched: &[RuleMatch],
+    alerts: &A,
+    now: Moment,
+    target: &Labels,
+) -> Result<Option<(usize, Labels)>, AllocError>
+    requires { matched.now ≡ rule_matches target.now rules.now }
+    ensures named { IfOk result (λ found. found
+        ≡ inhibition_from 0 now target.now (A.alerts alerts.now) rules.now) }
+    ensures exactly { IfOk result (λ found.
+        (config : Config) → config.rules ≡ rules.now
+        → is_inhibited config (A.alerts alerts.now) now target.now ≡ is_some found) }
+{
+    for (place, rule) in rules.iter().enumerate() {
+        if let Some(source) = inhibitor_by(alloc, now, target, alerts, rule, matched[place])? {
+            return Ok(Some((place, source.clone()?)));
+        }
+    }
+    Ok(None)
+}
+
+/// Returns what inhibits labels at a moment: the index of the first rule that does, from 0, and the
+/// least label set of a stored alert by which it does. Returns `None` if nothing inhibits them
+/// (`inhibit_rules` of Alertmanager's configuration).
+pub fn inhibited_by<A: AlertStore>(
+    alloc: Global,
+    rules: &[InhibitRule],
+    alerts: &A,
+    now: Moment,
+    target: &Labels,
+) -> Result<Option<(usize, Labels)>, AllocError>
+    ensures named { IfOk result (λ found. found
+        ≡ inhibition_from 0 now target.now (A.alerts alerts.now) rules.now) }
+    ensures exactly { IfOk result (λ found.
+        (config : Config) → config.rules ≡ rules.now
+        → is_inhibited config (A.alerts alerts.now) now target.now ≡ is_some found) }
+{
+    let matched = rule_matches(alloc, rules, target)?;
+    inhibited_by_matched(alloc, rules, matched.as_slice(), alerts, now, target)
+}
+
+/// Returns the labels of the first of these alerts that mutes a target that the rule's target
+/// matchers match.
+fn first_source<'a>(
+    alloc: Global,
+    now: Moment,
+    target: &Labels,
+    is_source: bool,
+    stored: &[(&'a Labels, &'a Alert)],
+    rule: &InhibitRule,
+) -> Result<Option<&'a Labels>, AllocError>
+    requires target { all_hold rule.now.target target.now ≡ true }
+    requires source { is_source ≡ all_hold rule.now.source target.now }
+    ensures { IfOk result (λ found. option_copied found
+        ≡ first_source now rule.now target.now (map deref_pair stored.now)) }
+{
+    for &(source, alert) in stored {
+        if inhibits(alloc, now, rule, source, alert, target, is_source)? {
+            return Ok(Some(source));
+        }
+    }
+    Ok(None)
+}
+
+/// Returns the value of a label, unless it is empty.
+fn filled_value<'a>(labels: &'a Labels, name: &Text) -> Option<&'a Text>
+    ensures value { IfSome result (λ value. value.now ≡ value_of labels.now name.now) }
+    ensures filled { is_some result ≡ not (is_empty (value_of labels.now name.now)) }
+{
+    match labels.get(name.as_str()) {
+        Some(value) if !value.is_empty() => Some(value),
+        _ => None,
+    }
+}
+
+/// Of the labels with these names and a value in `target`, returns the one that the fewest label
+/// sets ever stored have. The count is not part of the contract.
+fn rarest_label<'a, A: AlertStore>(
+    names: &'a [Text],
+    labels: &'a Labels,
+    alerts: &A,
+) -> Option<(&'a Text, &'a Text)>
+    ensures shared { IfSome result (λ label. SharesLabel names.now labels.now (deref_pair label)) }
+    ensures some { is_some result ≡ has_some_label names.now labels.now }
+{
+    let mut rarest = None;
+    let mut fewest = usize::MAX;
+    for name in names {
+        let Some(value) = filled_value(labels, name) else {
+            continue;
+        };
+        let count = alerts.count_with_pair(name, value);
+        if rarest.is_none() || count < fewest {
+            rarest = Some((name, value));
+            fewest = count;
+        }
+    }
+    rarest
+}
+
+/// Lists the stored alerts that may mute a target by a rule: the rule's sources that agree with the
+/// target, if the store keeps track of them. If it doesn't, those that share with the target the
+/// rarest of the labels in `equal` are listed, since a source has to agree on all of them.
+fn possible_sources<'a, A: AlertStore>(
+    alloc: Global,
+    target: &Labels,
+    alerts: &'a A,
+    rule: &InhibitRule,
+) -> Result<Vec<(&'a Labels, &'a Alert)>, AllocError>
+    ensures { IfOk result (λ found. ListsSources rule.now target.now (A.alerts alerts.now)
+        (map deref_pair found.items)) }
+{
+    if let Some(found) = alerts.sources(alloc, rule, target)? {
+        return Ok(found);
+    }
+    match rarest_label(rule.equal.as_slice(), target, alerts) {
+        Some((name, value)) => alerts.with_pair(alloc, name, value),
+        None => alerts.all(alloc),
+    }
+}
+
+/// Returns the least label set of a stored alert that mutes a target by a rule. `side` says which
+/// sides of the rule the target is on, so no matcher is asked for the target.
+fn inhibitor_by<'a, A: AlertStore>(
+    alloc: Global,
+    now: Moment,
+    target: &Labels,
+    alerts: &'a A,
+    rule: &InhibitRule,
+    side: RuleMatch,
+) -> Result<Option<&'a Labels>, AllocError>
+    requires { side ≡ rule_match target.now rule.now }
+    ensures { IfOk result (λ found. option_copied found
+        ≡ inhibitor_by now target.now (A.alerts alerts.now) rule.now) }
+{
+    if !side.is_target {
+        return Ok(None);
+    }
+    let stored = possible_sources(alloc, target, alerts, rule)?;
+    first_source(alloc, now, target, side.is_source, &stored, rule)
+}
+
+/// Returns whether a stored alert inhibits `target` by a rule, which a resolved one never does. The
+/// rule's target matchers match `target`.
+fn inhibits(
+    alloc: Global,
+    now: Moment,
+    rule: &InhibitRule,
+    source: &Labels,
+    alert: &Alert,
+    target: &Labels,
+    is_source: bool,
+) -> Result<bool, AllocError>
+    requires target { all_hold rule.now.target target.now ≡ true }
+    requires source { is_source ≡ all_hold rule.now.source target.now }
+    ensures { IfOk result (λ mutes. mutes
+        ≡ inhibits now rule.now (source.now, alert.now) target.now) }
+{
+    if alert.is_resolved_at(now) {
+        return Ok(false);
+    }
+    mutes_target(alloc, rule, source, target, is_source)
 }
 
 /// Returns whether a rule lets a source mute a target that its target matchers match. An alert that
@@ -57,205 +251,12 @@ fn mutes_target(
     Ok(!is_target)
 }
 
-/// Returns whether a stored alert, unless it is resolved, mutes by a rule a target that the rule's
-/// target matchers match.
-fn inhibits(
-    alloc: Global,
-    now: Moment,
-    rule: &InhibitRule,
-    source: &Labels,
-    alert: &Alert,
-    target: &Labels,
-    is_source: bool,
-) -> Result<bool, AllocError>
-    requires target { all_hold rule.now.target target.now ≡ true }
-    requires source { is_source ≡ all_hold rule.now.source target.now }
-    ensures { IfOk result (λ mutes. mutes
-        ≡ inhibits now rule.now (source.now, alert.now) target.now) }
+/// Returns whether each of these labels (`equal` of an inhibition rule) has the same value in both
+/// sets.
+fn agree_on(names: &[Text], a: &Labels, b: &Labels) -> bool
+    ensures { result ≡ agree_on names.now a.now b.now }
 {
-    if alert.is_resolved_at(now) {
-        return Ok(false);
-    }
-    mutes_target(alloc, rule, source, target, is_source)
-}
-
-/// Returns the least label set of a stored alert that mutes a target by a rule. `side` says which
-/// sides of the rule the target is on, so no matcher is asked for the target.
-fn inhibitor_by<'a, A: AlertStore>(
-    alloc: Global,
-    now: Moment,
-    target: &Labels,
-    alerts: &'a A,
-    rule: &InhibitRule,
-    side: RuleMatch,
-) -> Result<Option<&'a Labels>, AllocError>
-    requires { side ≡ rule_match target.now rule.now }
-    ensures { IfOk result (λ found. option_copied found
-        ≡ inhibitor_by now target.now (A.alerts alerts.now) rule.now) }
-{
-    if !side.is_target {
-        return Ok(None);
-    }
-    let stored = possible_sources(alloc, target, alerts, rule)?;
-    first_source(alloc, now, target, side.is_source, &stored, rule)
-}
-
-/// Lists the stored alerts that may mute a target by a rule: the rule's sources that agree with the
-/// target, if the store keeps track of them. If it doesn't, those that share with the target the
-/// rarest of the labels in `equal` are listed, since a source has to agree on all of them.
-fn possible_sources<'a, A: AlertStore>(
-    alloc: Global,
-    target: &Labels,
-    alerts: &'a A,
-    rule: &InhibitRule,
-) -> Result<Vec<(&'a Labels, &'a Alert)>, AllocError>
-    ensures { IfOk result (λ found. ListsSources rule.now target.now (A.alerts alerts.now)
-        (map deref_pair found.items)) }
-{
-    if let Some(found) = alerts.sources(alloc, rule, target)? {
-        return Ok(found);
-    }
-    match rarest_label(rule.equal.as_slice(), target, alerts) {
-        Some((name, value)) => alerts.with_pair(alloc, name, value),
-        None => alerts.all(alloc),
-    }
-}
-
-/// Returns the label that the fewest label sets have that were ever stored, among those of these
-/// names that have a value in a label set. The count is not part of the contract.
-fn rarest_label<'a, A: AlertStore>(
-    names: &'a [Text],
-    labels: &'a Labels,
-    alerts: &A,
-) -> Option<(&'a Text, &'a Text)>
-    ensures shared { IfSome result (λ label. SharesLabel names.now labels.now (deref_pair label)) }
-    ensures some { is_some result ≡ has_some_label names.now labels.now }
-{
-    let mut rarest = None;
-    let mut fewest = usize::MAX;
-    for name in names {
-        let Some(value) = filled_value(labels, name) else {
-            continue;
-        };
-        let count = alerts.count_with_pair(name, value);
-        if rarest.is_none() || count < fewest {
-            rarest = Some((name, value));
-            fewest = count;
-        }
-    }
-    rarest
-}
-
-/// Returns the value of a label, unless it is empty.
-fn filled_value<'a>(labels: &'a Labels, name: &Text) -> Option<&'a Text>
-    ensures value { IfSome result (λ value. value.now ≡ value_of labels.now name.now) }
-    ensures filled { is_some result ≡ not (is_empty (value_of labels.now name.now)) }
-{
-    match labels.get(name.as_str()) {
-        Some(value) if !value.is_empty() => Some(value),
-        _ => None,
-    }
-}
-
-/// Returns the labels of the first of these alerts that mutes a target that the rule's target
-/// matchers match.
-fn first_source<'a>(
-    alloc: Global,
-    now: Moment,
-    target: &Labels,
-    is_source: bool,
-    stored: &[(&'a Labels, &'a Alert)],
-    rule: &InhibitRule,
-) -> Result<Option<&'a Labels>, AllocError>
-    requires target { all_hold rule.now.target target.now ≡ true }
-    requires source { is_source ≡ all_hold rule.now.source target.now }
-    ensures { IfOk result (λ found. option_copied found
-        ≡ first_source now rule.now target.now (map deref_pair stored.now)) }
-{
-    for &(source, alert) in stored {
-        if inhibits(alloc, now, rule, source, alert, target, is_source)? {
-            return Ok(Some(source));
-        }
-    }
-    Ok(None)
-}
-
-/// Returns what inhibits labels at a moment: the index of the first rule that does, from 0, and the
-/// least label set of a stored alert by which it does. Returns `None` if nothing inhibits them
-/// (`inhibit_rules` of Alertmanager's configuration).
-pub fn inhibited_by<A: AlertStore>(
-    alloc: Global,
-    rules: &[InhibitRule],
-    alerts: &A,
-    now: Moment,
-    target: &Labels,
-) -> Result<Option<(usize, Labels)>, AllocError>
-    ensures named { IfOk result (λ found. found
-        ≡ inhibition_from 0 now target.now (A.alerts alerts.now) rules.now) }
-    ensures exactly { IfOk result (λ found.
-        (config : Config) → config.rules ≡ rules.now
-        → is_inhibited config (A.alerts alerts.now) now target.now ≡ is_some found) }
-{
-    let matched = rule_matches(alloc, rules, target)?;
-    inhibited_by_matched(alloc, rules, matched.as_slice(), alerts, now, target)
-}
-
-/// Returns what `inhibited_by` returns, given which sides of each rule the labels are on
-/// (`rule_matches` of `amr_stated`). It asks no matcher for them.
-pub fn inhibited_by_matched<A: AlertStore>(
-    alloc: Global,
-    rules: &[InhibitRule],
-    matched: &[RuleMatch],
-    alerts: &A,
-    now: Moment,
-    target: &Labels,
-) -> Result<Option<(usize, Labels)>, AllocError>
-    requires { matched.now ≡ rule_matches target.now rules.now }
-    ensures named { IfOk result (λ found. found
-        ≡ inhibition_from 0 now target.now (A.alerts alerts.now) rules.now) }
-    ensures exactly { IfOk result (λ found.
-        (config : Config) → config.rules ≡ rules.now
-        → is_inhibited config (A.alerts alerts.now) now target.now ≡ is_some found) }
-{
-    for (place, rule) in rules.iter().enumerate() {
-        if let Some(source) = inhibitor_by(alloc, now, target, alerts, rule, matched[place])? {
-            return Ok(Some((place, source.clone()?)));
-        }
-    }
-    Ok(None)
-}
-
-/// Returns whether a silence is active and matches the labels.
-fn silences_labels(
-    alloc: Global,
-    now: Moment,
-    silence: &Silence,
-    labels: &Labels,
-) -> Result<bool, AllocError>
-    ensures { IfOk result (λ mutes. mutes ≡ silences_labels now silence.now labels.now) }
-{
-    if !silence.is_active_at(now) {
-        return Ok(false);
-    }
-    silence.matchers.matches_all(alloc, labels)
-}
-
-/// Returns the least id of a silence that mutes labels at a moment, or `None` if no silence does.
-pub fn silenced_by(
-    alloc: Global,
-    silences: &Keyed<SilenceId, Silence>,
-    now: Moment,
-    labels: &Labels,
-) -> Result<Option<SilenceId>, AllocError>
-    ensures named { IfOk result (λ found. found
-        ≡ silencer_of now labels.now (shown nat_cmp silences.now)) }
-    ensures exactly { IfOk result (λ found. is_silenced (shown nat_cmp silences.now) now labels.now
-        ≡ is_some found) }
-{
-    for (id, silence) in silences.iter() {
-        if silences_labels(alloc, now, silence, labels)? {
-            return Ok(Some(*id));
-        }
-    }
-    Ok(None)
+    names
+        .iter()
+        .all(|name| has_value(a, name, b.value_of(name.as_str())))
 }

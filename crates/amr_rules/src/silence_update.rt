@@ -22,79 +22,38 @@ pub enum SilenceUpdate {
     New(Silence, Option<Silence>),
 }
 
+ghost use Rattle.amr_posts.specs.Reasons.{reason_number};
+ghost use Rattle.amr_posts.specs.declared.reason.Reason.TheVariants.{BadSilence};
 ghost use Rattle.amr_rules.specs.Silences.{is_negative, narrows, posted_silence, changes_in_place, from_now, update_over, decided_post};
 
-/// Returns whether the operator is `!=` or `!~`.
-fn is_negative(operator: Operator) -> bool
-    ensures { result ≡ is_negative operator }
+/// Decides what a post of a silence stores, given the stored silence that it names (postable
+/// silences of Alertmanager's API v2). Returns `None` if the silence isn't valid now.
+#[tactic(auto, unfolding(crate::specs::Silences::decided_post))]
+pub(crate) fn decided_post(
+    alloc: Global,
+    now: Moment,
+    posted: &PostedSilence,
+    old: Option<&Silence>,
+) -> Result<Option<SilenceUpdate>, AllocError>
+    ensures { IfOk result (λ silence_update. ok_or silence_update
+        (reason_number BadSilence)
+        ≡ decided_post now posted.now (option_copied old.entry)) }
 {
-    match operator {
-        Operator::Equal | Operator::Matches => false,
-        Operator::NotEqual | Operator::NotMatches => true,
-    }
-}
-
-/// Returns whether a matcher is negative or doesn't match the empty value. Alertmanager refuses a
-/// silence without such a matcher, since it could mute every alert. `none` is the label set without
-/// labels.
-fn narrows(alloc: Global, matcher: &Matcher, none: &Labels) -> Result<bool, AllocError>
-    requires { none.now ≡ map.empty }
-    ensures { IfOk result (λ found. found ≡ narrows matcher.now) }
-{
-    if is_negative(matcher.operator()) {
-        return Ok(true);
-    }
-    let holds = matcher.matches(alloc, none)?;
-    Ok(!holds)
-}
-
-/// Returns whether some matcher narrows what the silence mutes.
-fn some_narrows(alloc: Global, matchers: &[Matcher]) -> Result<bool, AllocError>
-    ensures { IfOk result (λ found. found ≡ list_any narrows matchers.now) }
-{
-    let none = Labels::empty(alloc)?;
-    for matcher in matchers {
-        if narrows(alloc, matcher, &none)? {
-            return Ok(true);
+    match &posted.matchers {
+        None => Ok(None),
+        Some(matchers) => {
+            let silence = Silence {
+                matchers: matchers.clone()?,
+                starts_at: posted.starts_at,
+                ends_at: posted.ends_at,
+            };
+            if may_be_posted(alloc, now, &silence)? {
+                Ok(Some(update_over(now, old, silence)?))
+            } else {
+                Ok(None)
+            }
         }
     }
-    Ok(false)
-}
-
-/// Returns whether a silence may be posted now: some matcher narrows it, it starts before it ends,
-/// and it doesn't end in the past.
-fn may_be_posted(alloc: Global, now: Moment, silence: &Silence) -> Result<bool, AllocError>
-    ensures { IfOk result (λ may. may ≡ (list_any narrows silence.now.matchers
-        && nat_lt silence.now.starts_at silence.now.ends_at && nat_le now silence.now.ends_at)) }
-{
-    if !some_narrows(alloc, silence.matchers.as_slice())? {
-        return Ok(false);
-    }
-    Ok(silence.starts_at < silence.ends_at && now <= silence.ends_at)
-}
-
-/// Returns whether a stored silence may be updated in place: its matchers don't change, and, if it
-/// is active, the second of its start doesn't either; a pending one may start at any moment from
-/// now on.
-fn changes_in_place(now: Moment, old: &Silence, new: &Silence) -> bool
-    ensures { result ≡ changes_in_place now old.now new.now }
-{
-    old.matchers == new.matchers
-        && (old.is_active_at(now)
-            && old.starts_at.in_same_second(new.starts_at)
-            && now <= new.ends_at
-            || old.is_pending_at(now) && now <= new.starts_at)
-}
-
-/// Returns the silence with its start moved to now if it is in the past.
-fn from_now(now: Moment, silence: Silence) -> Silence
-    ensures { result ≡ from_now now silence }
-{
-    let mut silence = silence;
-    if silence.starts_at < now {
-        silence.starts_at = now;
-    }
-    silence
 }
 
 /// Returns what a valid post stores: an update of the stored silence it names if that is possible,
@@ -120,31 +79,75 @@ fn update_over(
     }
 }
 
-/// Decides what a post of a silence stores, given the stored silence that it names (postable
-/// silences of Alertmanager's API v2). Returns `None` if the silence isn't valid now.
-#[tactic(auto, unfolding(crate::specs::Silences::decided_post))]
-pub(crate) fn decided_post(
-    alloc: Global,
-    now: Moment,
-    posted: &PostedSilence,
-    old: Option<&Silence>,
-) -> Result<Option<SilenceUpdate>, AllocError>
-    ensures { IfOk result (λ silence_update. ok_or silence_update 17
-        ≡ decided_post now posted.now (option_copied old.entry)) }
+/// Returns the silence with its start moved to now if it is in the past.
+fn from_now(now: Moment, silence: Silence) -> Silence
+    ensures { result ≡ from_now now silence }
 {
-    match &posted.matchers {
-        None => Ok(None),
-        Some(matchers) => {
-            let silence = Silence {
-                matchers: matchers.clone()?,
-                starts_at: posted.starts_at,
-                ends_at: posted.ends_at,
-            };
-            if may_be_posted(alloc, now, &silence)? {
-                Ok(Some(update_over(now, old, silence)?))
-            } else {
-                Ok(None)
-            }
+    let mut silence = silence;
+    if silence.starts_at < now {
+        silence.starts_at = now;
+    }
+    silence
+}
+
+/// Returns whether a stored silence may be updated in place: its matchers don't change, and, if it
+/// is active, the second of its start doesn't either; a pending one may start at any moment from
+/// now on.
+fn changes_in_place(now: Moment, old: &Silence, new: &Silence) -> bool
+    ensures { result ≡ changes_in_place now old.now new.now }
+{
+    old.matchers == new.matchers
+        && (old.is_active_at(now)
+            && old.starts_at.in_same_second(new.starts_at)
+            && now <= new.ends_at
+            || old.is_pending_at(now) && now <= new.starts_at)
+}
+
+/// Returns whether a silence may be posted now: some matcher narrows it, it starts before it ends,
+/// and it doesn't end in the past.
+fn may_be_posted(alloc: Global, now: Moment, silence: &Silence) -> Result<bool, AllocError>
+    ensures { IfOk result (λ may. may ≡ (list_any narrows silence.now.matchers
+        && nat_lt silence.now.starts_at silence.now.ends_at && nat_le now silence.now.ends_at)) }
+{
+    if !some_narrows(alloc, silence.matchers.as_slice())? {
+        return Ok(false);
+    }
+    Ok(silence.starts_at < silence.ends_at && now <= silence.ends_at)
+}
+
+/// Returns whether some matcher narrows what the silence mutes.
+fn some_narrows(alloc: Global, matchers: &[Matcher]) -> Result<bool, AllocError>
+    ensures { IfOk result (λ found. found ≡ list_any narrows matchers.now) }
+{
+    let none = Labels::empty(alloc)?;
+    for matcher in matchers {
+        if narrows(alloc, matcher, &none)? {
+            return Ok(true);
         }
+    }
+    Ok(false)
+}
+
+/// Returns whether a matcher is negative or doesn't match the empty value. Alertmanager refuses a
+/// silence without such a matcher, since it could mute every alert. `none` is the label set without
+/// labels.
+fn narrows(alloc: Global, matcher: &Matcher, none: &Labels) -> Result<bool, AllocError>
+    requires { none.now ≡ map.empty }
+    ensures { IfOk result (λ found. found ≡ narrows matcher.now) }
+{
+    if is_negative(matcher.operator()) {
+        return Ok(true);
+    }
+    let holds = matcher.matches(alloc, none)?;
+    Ok(!holds)
+}
+
+/// Returns whether the operator is `!=` or `!~`.
+fn is_negative(operator: Operator) -> bool
+    ensures { result ≡ is_negative operator }
+{
+    match operator {
+        Operator::Equal | Operator::Matches => false,
+        Operator::NotEqual | Operator::NotMatches => true,
     }
 }

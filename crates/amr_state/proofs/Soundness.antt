@@ -12,7 +12,7 @@ use Rattle.amr_state.specs.declared.notification.Notification.{Notification}
 use Rattle.amr_stated.specs.Config.{Config}
 use Rattle.amr_rules.specs.declared.alert.Alert.{Alert}
 use Rattle.amr_rules.specs.declared.silence.Silence.{Silence}
-use Rattle.amr_rules.specs.declared.update.LogEntry.{LogEntry}
+use Rattle.amr_rules.specs.declared.dedup.LogEntry.{LogEntry}
 use Rattle.amr_state.specs.declared.displaced.Displaced.{Displaced}
 use Rattle.amr_state.specs.declared.displaced.Displaced.TheVariants.{WasMoment, WasConfig, WasAlert, WasSilence, WasPlacement, WasTimer, WasLogged, WasNotes}
 use Rattle.amr_state.specs.declared.tables.Tables.{Tables}

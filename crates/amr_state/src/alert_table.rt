@@ -1,7 +1,7 @@
-//! The stored alerts by label set, with an index of the label sets by label, and the label sets that
-//! can be sources of inhibition rules. `timetable.rt` changes the table; inhibition asks it for a
-//! rule's sources, or for the alerts that have a given label. It neither merges alerts nor decides
-//! when one is removed.
+//! The stored alerts by label set, with an index of the label sets by label, and the label sets
+//! that can be sources of inhibition rules. `timetable.rt` changes the table; inhibition asks it
+//! for a rule's sources, or for the alerts that have a given label. It neither merges alerts nor
+//! decides when one is removed.
 ghost use Rattle.std.specs.Prelude.{◌≡◌, ◌≤◌, ◌<◌, [], IsTrue, is_some, length, OnOk, OnErr, IfOk};
 ghost use Rattle.std.specs.Option.{option_copied};
 ghost use Rattle.amr_labels.specs.Labels.{label_set_cmp};

@@ -34,9 +34,9 @@ impl Exact for GroupTimer {
 pub struct LogKey {
     /// The name of the receiver.
     pub receiver: Text,
-    /// The integration's name, such as `webhook`.
+    /// The integration's kind, such as `webhook`.
     pub kind: Text,
-    /// The integration's index among those of its name at the receiver, from 0.
+    /// The integration's index among those of its kind at the receiver, from 0.
     pub place: usize,
     /// The group labels.
     pub group: Labels,

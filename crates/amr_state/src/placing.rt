@@ -18,44 +18,53 @@ use amr_rules::Alert;
 use amr_time::{Moment, Span};
 use std::alloc::{AllocError, Global};
 
-/// Returns whether `group_wait`, counted from the alert's start, is over before now.
-fn has_waited(starts_at: Moment, wait: Span, now: Moment) -> bool
-    ensures { result ≡ nat_lt (starts_at + wait) now }
+/// Inserts an alert into its group on each route that takes it.
+pub fn place(store: &mut Store, labels: &Labels, alert: &Alert) -> Result<(), AllocError>
+    ensures ok { OnOk result (store.new.state ≡ place store.old.state (labels.now, alert.now)) }
+    ensures kept { undone store.new ≡ undone store.old }
+    ensures grown { GrownBy (2 * length (chosen store.old.state.config labels.now))
+        store.old store.new }
 {
-    starts_at.nanoseconds() + (wait.nanoseconds() as u128) < now.nanoseconds()
+    let groups = store.groups_of(labels)?;
+    for group in groups.get().as_slice() {
+        place_on(store, group, labels, alert)?;
+    }
+    Ok(())
 }
 
-/// Returns the group timer after an alert is inserted. A new group is flushed first after
-/// `group_wait`. If the alert's own wait is over, a group that was never flushed is flushed now, as
-/// in Alertmanager's dispatcher.
-fn timer_with(now: Moment, wait: Span, alert: &Alert, timer: Option<GroupTimer>) -> GroupTimer
-    requires { now ≤ latest_read }
-    ensures { result ≡ timer_with now wait alert.now timer }
+/// Returns whether a group timer stays as it was. `before` is `None` if there was none.
+fn stays(before: &Option<GroupTimer>, after: &GroupTimer) -> bool
+    ensures { result ≡ true → before.now ≡ Some after.now }
 {
-    let is_over = has_waited(alert.starts_at, wait, now);
-    let (flush, flushed) = match timer {
-        None => (now.plus(wait), false),
-        Some(timer) => (timer.next_flush, timer.flushed),
-    };
-    let next_flush = if !flushed && is_over { now } else { flush };
-    GroupTimer {
-        next_flush,
-        flushed,
-        empty_since: None,
+    match before {
+        None => false,
+        Some(before) => {
+            before.next_flush.nanoseconds() == after.next_flush.nanoseconds()
+                && before.flushed == after.flushed
+                && before.empty_since == after.empty_since
+        }
     }
 }
 
-/// Returns the group of an alert on a route.
-pub fn group_key(
-    alloc: Global,
-    config: &Config,
-    route: usize,
-    labels: &Labels,
-) -> Result<RouteLabels, AllocError>
-    ensures { IfOk result (λ group. group ≡ group_key config.now (on_route route labels.now)) }
+/// Sets a group timer that is `before` now. Does nothing if both are equal, as when an alert is
+/// posted again whose group has it already.
+fn change_timer(
+    store: &mut Store,
+    group: &RouteLabels,
+    before: Option<GroupTimer>,
+    after: GroupTimer,
+) -> Result<(), AllocError>
+    requires { before ≡ map.get store.old.state.timers group.now }
+    ensures ok { OnOk result (store.new.state
+        ≡ record store.old.state
+        { timers = map.insert store.old.state.timers group.now after }) }
+    ensures kept { undone store.new ≡ undone store.old }
+    ensures grown { GrownBy 1 store.old store.new }
 {
-    let labels = config.group_of(alloc, route, labels)?;
-    Ok(RouteLabels { route, labels })
+    if stays(&before, &after) {
+        return Ok(());
+    }
+    store.set_timer(group, after)
 }
 
 /// Inserts an alert into a group, and sets the group timer.
@@ -87,51 +96,42 @@ fn place_on(
     change_timer(store, &group, before, after)
 }
 
-/// Sets a group timer that is `before` now. Does nothing if it stays, as at most posts of an alert
-/// that the group has.
-fn change_timer(
-    store: &mut Store,
-    group: &RouteLabels,
-    before: Option<GroupTimer>,
-    after: GroupTimer,
-) -> Result<(), AllocError>
-    requires { before ≡ map.get store.old.state.timers group.now }
-    ensures ok { OnOk result (store.new.state
-        ≡ record store.old.state
-        { timers = map.insert store.old.state.timers group.now after }) }
-    ensures kept { undone store.new ≡ undone store.old }
-    ensures grown { GrownBy 1 store.old store.new }
+/// Returns the group of an alert on a route.
+pub fn group_key(
+    alloc: Global,
+    config: &Config,
+    route: usize,
+    labels: &Labels,
+) -> Result<RouteLabels, AllocError>
+    ensures { IfOk result (λ group. group ≡ group_key config.now (on_route route labels.now)) }
 {
-    if stays(&before, &after) {
-        return Ok(());
-    }
-    store.set_timer(group, after)
+    let labels = config.group_of(alloc, route, labels)?;
+    Ok(RouteLabels { route, labels })
 }
 
-/// Returns whether a group timer stays as it was. `before` is `None` if there was none.
-fn stays(before: &Option<GroupTimer>, after: &GroupTimer) -> bool
-    ensures { result ≡ true → before.now ≡ Some after.now }
+/// Returns the group timer after an alert is inserted. A new group is flushed first after
+/// `group_wait`. If the alert's own wait is over, a group that was never flushed is flushed now, as
+/// in Alertmanager's dispatcher.
+fn timer_with(now: Moment, wait: Span, alert: &Alert, timer: Option<GroupTimer>) -> GroupTimer
+    requires { now ≤ latest_read }
+    ensures { result ≡ timer_with now wait alert.now timer }
 {
-    match before {
-        None => false,
-        Some(before) => {
-            before.next_flush.nanoseconds() == after.next_flush.nanoseconds()
-                && before.flushed == after.flushed
-                && before.empty_since == after.empty_since
-        }
+    let is_over = has_waited(alert.starts_at, wait, now);
+    let (flush, flushed) = match timer {
+        None => (now.plus(wait), false),
+        Some(timer) => (timer.next_flush, timer.flushed),
+    };
+    let next_flush = if !flushed && is_over { now } else { flush };
+    GroupTimer {
+        next_flush,
+        flushed,
+        empty_since: None,
     }
 }
 
-/// Inserts an alert into its group on each route that takes it.
-pub fn place(store: &mut Store, labels: &Labels, alert: &Alert) -> Result<(), AllocError>
-    ensures ok { OnOk result (store.new.state ≡ place store.old.state (labels.now, alert.now)) }
-    ensures kept { undone store.new ≡ undone store.old }
-    ensures grown { GrownBy (2 * length (chosen store.old.state.config labels.now))
-        store.old store.new }
+/// Returns whether `group_wait`, counted from the alert's start, is over before now.
+fn has_waited(starts_at: Moment, wait: Span, now: Moment) -> bool
+    ensures { result ≡ nat_lt (starts_at + wait) now }
 {
-    let groups = store.groups_of(labels)?;
-    for group in groups.get().as_slice() {
-        place_on(store, group, labels, alert)?;
-    }
-    Ok(())
+    starts_at.nanoseconds() + (wait.nanoseconds() as u128) < now.nanoseconds()
 }

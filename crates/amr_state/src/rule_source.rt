@@ -1,6 +1,6 @@
 //! The label sets that can be the sources of inhibition rules. `alert_table.rt` keeps them, so that
-//! inhibition looks only at the alerts that match a rule's source matchers and agree with the target
-//! on the labels in `equal`. Which of them mutes the target is decided in `amr_rules`.
+//! inhibition looks only at the alerts that match a rule's source matchers and agree with the
+//! target on the labels in `equal`. Which of them mutes the target is decided in `amr_rules`.
 ghost use Rattle.std.specs.Prelude.{◌≡◌, ◌<◌, ◌+◌, ◌++◌, ◌∷◌, [], length, IfOk, IfSome, OnOk, OnErr};
 ghost use Rattle.std.specs.List.Sorted.{IsStrictlySortedBy};
 ghost use Rattle.amr_labels.specs.Labels.{value_of};

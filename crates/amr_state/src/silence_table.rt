@@ -346,8 +346,8 @@ impl SilenceTable {
         Ok(())
     }
 
-    /// Returns what is known of labels, if it reaches back to a moment and no silence changed since:
-    /// when the silences that match them are active.
+    /// Returns what is known of labels, if it reaches back to a moment and no silence changed
+    /// since: when the silences that match them are active.
     fn periods(&self, at: Moment, labels: &Labels) -> Option<&[SilencePeriod]>
         ensures { IfSome result (λ periods. silenced_in at periods.now
             ≡ silencer_of at labels.now (shown nat_cmp self.now)) }

@@ -7,7 +7,6 @@ ghost use Rattle.amr_labels.specs.Labels.{LabelSet, label_set_cmp};
 ghost use Rattle.amr_labels.specs.Map as map;
 ghost use Rattle.amr_tables.specs.Numbered.{shown, has_place, entry_of, Enters, KeepsPlaces, SamePlaces, SameEntered, NoneEntered, IsUnchanged, HasPlaces};
 ghost use Rattle.amr_tables.specs.Queued.{in_order, count_of};
-ghost use Rattle.amr_state.specs.declared.route_labels.RouteLabels as placed_keys;
 ghost use Rattle.amr_state.specs.State.{route_labels_cmp};
 ghost use Rattle.amr_state.specs.Dues.{due_cmp, dues_of};
 ghost use Rattle.amr_state.specs.Timed.{put_at, moved, CanMove, CanMoveGroup, group_moved, removal_of_alert, alert_moment, group_moments};
@@ -219,8 +218,8 @@ struct GroupMoments {
     removal: Option<u128>,
 }
 
-/// Works out which label sets can be sources of those rules that have a label set as a target, given
-/// which sides of each rule it is on.
+/// Works out which label sets can be sources of those rules that have a label set as a target,
+/// given which sides of each rule it is on.
 fn learn_sides(
     alerts: &mut AlertTable,
     rules: &[InhibitRule],
@@ -311,8 +310,8 @@ fn alert_due(labels: Labels) -> Due
 }
 
 /// Moves a timer in the queue from one moment to another; `None` means that it isn't in the queue.
-/// It does nothing if the moment stays, as at most posts of an alert that its group has. It takes
-/// no memory.
+/// Does nothing if both are equal, as when an alert is posted again whose group has it already. It
+/// takes no memory.
 fn move_due(queue: &mut Queue<Due>, mut due: Due, old: Option<u128>, new: Option<u128>)
     requires { CanMove queue.old.dues queue.old.room due old new }
     ensures dues { queue.new.dues ≡ moved queue.old.dues due old new }

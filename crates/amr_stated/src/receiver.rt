@@ -8,9 +8,9 @@ use std::alloc::AllocError;
 /// An integration of a receiver: one entry of a list such as `webhook_configs`.
 #[derive(Drop)]
 pub struct Integration {
-    /// The integration's name: the key without `_configs`, such as `webhook`.
+    /// The integration's kind: the key without `_configs`, such as `webhook`.
     pub kind: Text,
-    /// The integration's index among those of its name at the receiver, from 0.
+    /// The integration's index among those of its kind at the receiver, from 0.
     pub place: usize,
     /// Whether notifications list resolved alerts.
     pub send_resolved: bool,
@@ -32,7 +32,7 @@ impl Exact for Integration {
     ghost exact = { λ x y same. same };
 }
 
-/// A receiver, with its integrations by name and then by index.
+/// A receiver, with its integrations by kind and then by index.
 #[derive(Drop)]
 pub struct Receiver {
     pub name: Text,

@@ -11,7 +11,8 @@ use std::alloc::AllocError;
 pub enum Grouping {
     /// By all labels; stated as `["..."]`.
     AllLabels,
-    /// By the labels with these names. Clones share the list, since a route below takes its parent's.
+    /// By the labels with these names. Clones share the list, since a route below takes its
+    /// parent's.
     Named(Shared<Listing<Text>>),
 }
 

@@ -1,5 +1,6 @@
-//! The sides of the inhibition rules that a label set is on. A pattern costs far more than a look-up,
-//! so `Router` remembers these answers, and `amr_rules` takes them in place of the matchers.
+//! The sides of the inhibition rules that a label set is on. A pattern costs far more than a
+//! look-up, so `Router` remembers these answers, and `amr_rules` takes them in place of the
+//! matchers.
 ghost use Rattle.std.specs.Prelude.{◌≡◌, IfOk};
 ghost use Rattle.amr_stated.specs.RuleMatches.{rule_match, rule_matches};
 

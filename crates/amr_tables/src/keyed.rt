@@ -170,30 +170,6 @@ impl<K: Key + Drop, V: Drop> Keyed<K, V> {
         }
     }
 
-    /// Returns whether a key's place is marked as entered in the open record.
-    pub fn is_entered(&self, key: &K) -> bool
-        ensures { result ≡ is_entered K.cmp self.now key.now }
-    {
-        match self.numbers.get(key) {
-            Some(number) => self.entered.is_marked(number),
-            None => false,
-        }
-    }
-
-    /// Marks a key's place as entered in the open record.
-    pub fn enter(&mut self, key: &K)
-        requires { IsTrue (has_place K.cmp self.old key.now) }
-        ensures entered { Enters K.cmp self.old self.new key.now }
-        ensures shown { shown K.cmp self.new ≡ shown K.cmp self.old }
-        ensures places { SamePlaces K.cmp self.old self.new }
-        ensures keys { self.new.numbers ≡ self.old.numbers }
-    {
-        match self.numbers.get(key) {
-            Some(number) => self.entered.mark(number),
-            None => unreachable!(),
-        }
-    }
-
     /// Sets or removes the value of a key that has a place, and marks the place as entered. Returns
     /// the former value, and whether the place was marked before. It takes no memory.
     fn exchange(&mut self, key: &K, value: Option<V>) -> (Option<V>, bool)
@@ -212,9 +188,9 @@ impl<K: Key + Drop, V: Drop> Keyed<K, V> {
         }
     }
 
-    /// Sets or removes the value of a key, and marks its place as entered. Returns the former value,
-    /// and whether the place was marked before. It takes no memory. Fails with the new value, and
-    /// changes nothing, if the key has no place.
+    /// Sets or removes the value of a key, and marks its place as entered. Returns the former
+    /// value, and whether the place was marked before. It takes no memory. Fails with the new
+    /// value, and changes nothing, if the key has no place.
     fn try_exchange(&mut self, key: &K, value: Option<V>) -> Result<(Option<V>, bool), Option<V>>
         ensures answer { IfOk result (λ was. was.0 ≡ map.get (shown K.cmp self.old) key.now) }
         ensures was_entered { IfOk result (λ was. was.1 ≡ is_entered K.cmp self.old key.now) }

@@ -266,8 +266,8 @@ pub(crate) fn list_part<'a, D: InParts>(
     }
 }
 
-/// Restores the balance and the stored height of a tree after one of its sides has changed. It moves
-/// no item unless the heights of the sides differ by two.
+/// Restores the balance and the stored height of a tree after one of its sides has changed. It
+/// moves no item unless the heights of the sides differ by two.
 fn rebalance<D: Drop>(root: &mut Option<Box<Node<D>>>)
     requires { IsNearlyBalanced root.old }
     ensures list { (root_view root.new).0 ≡ (root_view root.old).0 }

@@ -1,5 +1,5 @@
 -- The texts of the fields of time intervals.
-use Rattle.std.specs.Prelude.{ℕ, ◌+◌, ◌&&◌, ◌==◌, Bool, true, false, List, [], ◌∷◌, length, drop, not, nat_le, nat_lt, if◌then◌else◌, Option, Some, None, option_map, codes, pos, ℤ, negsuc}
+use Rattle.std.specs.Prelude.{ℕ, ◌+◌, ◌*◌, ◌&&◌, ◌==◌, Bool, true, false, List, [], ◌∷◌, length, drop, not, nat_le, nat_lt, if◌then◌else◌, Option, Some, None, option_map, codes, pos, ℤ, negsuc}
 use Rattle.std.specs.List.{list_all, position, take_while}
 use Rattle.std.specs.Option.{option_or}
 use Rattle.std.specs.Str.{bytes_eq, str_eq_ignore_ascii_case}
@@ -18,7 +18,7 @@ time_at text = minutes_at text >>= λ read. if length read.1 == 0 then Some read
 
 -- the same, or `24:00`
 unfoldable pub end_time_at : List ℕ → Option ℕ
-end_time_at text = if bytes_eq text (codes "24:00") then Some 1440 else time_at text
+end_time_at text = if bytes_eq text (codes "24:00") then Some (24 * 60) else time_at text
 
 -- ---- names and numbers
 

@@ -20,7 +20,7 @@ day_number moment = moment / (24 * hour)
 
 -- minutes since midnight
 abbrev pub minute_of_day : Moment → ℕ
-minute_of_day moment = moment / minute % 1440
+minute_of_day moment = moment / minute % (24 * 60)
 
 -- from Sunday, which is 0, to Saturday, which is 6; the day 0 was a Thursday
 abbrev pub weekday : Moment → ℕ

@@ -2,7 +2,7 @@
 use Rattle.std.specs.Prelude.{ℕ, ◌+◌, ◌-◌, ◌*◌, ◌&&◌, ◌||◌, ◌==◌, ℤ, pos, negsuc, ◌+ℤ◌, ◌-ℤ◌, ◌*ℤ◌, List, [], ◌∷◌, length, drop, Bool, nat_le, nat_lt, if◌then◌else◌, Option, Some, None}
 use Rattle.std.specs.List.{take_while}
 use Rattle.jiff_core.specs.Calendar.{days_in_month, days_from_civil}
-use Rattle.amr_time.specs.Time.{Moment, second, latest_read}
+use Rattle.amr_time.specs.Time.{Moment, second, minute, full_day, latest_read}
 use Rattle.amr_time.specs.MomentText.{fraction_nanoseconds}
 
 infixl 10 ◌>>=◌
@@ -94,9 +94,9 @@ in_range (negsuc n) = None
 
 unfoldable pub moment_at : List ℕ → Option Moment
 moment_at bytes = do
-  day ← day_at bytes
-  mark ← time_mark_at day.1
+  date ← day_at bytes
+  mark ← time_mark_at date.1
   seconds ← seconds_at mark
   fraction ← fraction_at seconds.1
   offset ← offset_at fraction.1
-  if nat_lt 0 (length offset.1) then None else in_range (day.0 *ℤ pos 86_400_000_000_000 +ℤ pos (seconds.0 * second + fraction.0) -ℤ offset.0 *ℤ pos 60_000_000_000)
+  if nat_lt 0 (length offset.1) then None else in_range (date.0 *ℤ pos full_day +ℤ pos (seconds.0 * second + fraction.0) -ℤ offset.0 *ℤ pos minute)

@@ -3,7 +3,7 @@
 use Rattle.std.specs.Prelude.{◌≡◌, ◌⊎◌, ℕ, ◌+◌, ◌-◌, ◌*◌, ◌/◌, ◌%◌, ◌^◌, ◌<◌, ◌≤◌, ◌==◌, if◌then◌else◌, ℤ, pos, ◌+ℤ◌, ◌-ℤ◌, ◌*ℤ◌, List, [], ◌∷◌, ◌++◌, length, fold}
 use Rattle.std.specs.List.{AllByRecursion}
 use Rattle.jiff_core.specs.Calendar.{days_in_month, days_from_civil}
-use Rattle.amr_time.specs.Time.{Moment, second, minute, hour, latest_read}
+use Rattle.amr_time.specs.Time.{Moment, second, minute, hour, full_day, latest_read}
 use Rattle.amr_time.specs.Calendar.{Date, date_of}
 
 -- ---- numbers of a fixed number of digits
@@ -95,7 +95,7 @@ fraction_nanoseconds digits = decimal digits * 10 ^ (9 - length digits)
 
 -- the day's number times a day, and the time of day, less the offset
 abbrev pub nanoseconds_of : Parts → ℤ
-nanoseconds_of p = days_from_civil (pos p.year) p.month p.day *ℤ pos 86_400_000_000_000 +ℤ pos (((p.hours * 60 + p.minutes) * 60 + p.seconds) * second + fraction_nanoseconds p.fraction) -ℤ offset_minutes p.zone *ℤ pos 60_000_000_000
+nanoseconds_of p = days_from_civil (pos p.year) p.month p.day *ℤ pos full_day +ℤ pos (((p.hours * 60 + p.minutes) * 60 + p.seconds) * second + fraction_nanoseconds p.fraction) -ℤ offset_minutes p.zone *ℤ pos minute
 
 -- the text spells the moment
 abbrev pub IsMomentText : List ℕ → Moment → Type 0

@@ -1,9 +1,9 @@
 -- Durations as texts: whole numbers with their units, from the largest unit to the smallest, each
 -- at most once.
-use Rattle.std.specs.Prelude.{◌≡◌, ℕ, ◌+◌, min, ◌*◌, ◌&&◌, ◌==◌, List, [], ◌∷◌, length, drop, Bool, not, nat_le, if◌then◌else◌, Option, Some, None, option_map}
+use Rattle.std.specs.Prelude.{◌≡◌, ℕ, ◌+◌, min, ◌*◌, ◌&&◌, ◌==◌, List, [], ◌∷◌, length, drop, Bool, not, nat_le, if◌then◌else◌, Option, Some, None, option_map, codes}
 use Rattle.std.specs.List.{take_while}
 use Rattle.std.specs.Str.{bytes_eq}
-use Rattle.amr_time.specs.Time.{Span, second, minute, hour, longest_span}
+use Rattle.amr_time.specs.Time.{Span, millisecond, second, minute, hour, full_day, longest_span}
 use Rattle.amr_time.specs.MomentText.{decimal}
 use Rattle.amr_time.specs.MomentRead.{is_digit, digits_of}
 
@@ -11,9 +11,10 @@ use Rattle.amr_time.specs.MomentRead.{is_digit, digits_of}
 abbrev pub UnitOfTime : Type 0
 UnitOfTime = List ℕ × Span
 
--- y, w, d, h, m, s and ms
 abbrev pub units : List UnitOfTime
-units = (121 ∷ [], 365 * 24 * hour) ∷ (119 ∷ [], 7 * 24 * hour) ∷ (100 ∷ [], 24 * hour) ∷ (104 ∷ [], hour) ∷ (109 ∷ [], minute) ∷ (115 ∷ [], second) ∷ (109 ∷ 115 ∷ [], 1_000_000) ∷ []
+units =
+    (codes "y", 365 * full_day) ∷ (codes "w", 7 * full_day) ∷ (codes "d", full_day) ∷ (codes "h", hour)
+    ∷ (codes "m", minute) ∷ (codes "s", second) ∷ (codes "ms", millisecond) ∷ []
 
 -- the letters before the next digit
 abbrev pub word_of : List ℕ → List ℕ
@@ -42,8 +43,8 @@ limited (Some n) = if nat_le n longest_span then Some n else None
 
 -- `0`, or a text of units that isn't empty, up to ten years
 unfoldable pub span_of : List ℕ → Option Span
-span_of text = if bytes_eq text (48 ∷ []) then Some 0 else (if length text == 0 then None else limited (parts_at units text))
+span_of text = if bytes_eq text (codes "0") then Some 0 else (if length text == 0 then None else limited (parts_at units text))
 
 -- the same number, or both longer than the longest duration
 abbrev pub SameOrTooLong : Option ℕ → Option ℕ → Type 0
-SameOrTooLong a b = option_map (min 315_360_000_000_000_001) a ≡ option_map (min 315_360_000_000_000_001) b
+SameOrTooLong a b = option_map (min (longest_span + 1)) a ≡ option_map (min (longest_span + 1)) b

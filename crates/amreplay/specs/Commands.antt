@@ -1,3 +1,4 @@
+pub mod Refusals
 pub mod Lines
 pub mod Replies
 pub mod Talk

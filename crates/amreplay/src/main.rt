@@ -11,7 +11,7 @@ mod program;
 
 use crate::lines::{Inlet, Outlet};
 use crate::program::{
-    Command, Fault, InputError, LONGEST_CONFIG, check_config, command_of, read_whole, run_script,
+    Fault, Form, InputError, LONGEST_CONFIG, check_config, command_of, read_whole, run_script,
     run_session, status_of, write_fault,
 };
 use std::alloc::AllocError;
@@ -35,9 +35,9 @@ fn main(rt: HostRuntime) -> ExitCode {
 fn start(rt: &HostRuntime) -> Result<(), Fault> {
     let words = words_of(rt)?;
     match command_of(words.as_slice()) {
-        Some(Command::Check { config }) => check_file(rt, config),
-        Some(Command::Run { config, script }) => run_files(rt, config, script),
-        Some(Command::Session { config, script }) => session_over(rt, config, script),
+        Some(Form::Check { config }) => check_file(rt, config),
+        Some(Form::Run { config, script }) => run_files(rt, config, script),
+        Some(Form::Session { config, script }) => session_over(rt, config, script),
         None => Err(Fault::Usage),
     }
 }
@@ -66,7 +66,7 @@ fn run_files(rt: &HostRuntime, config: &str, script: &str) -> Result<(), Fault> 
     let config = config_bytes(rt, config)?;
     let script = script_bytes(rt, script)?;
     let Ok(out) = BufWriter::new(rt.alloc(), rt.stdout()) else {
-        return Err(Fault::OutOfMemory);
+        return Err(Fault::Memory);
     };
     run_script(rt.alloc(), config.as_slice(), script, &mut Outlet::new(out))
 }
@@ -76,7 +76,7 @@ fn session_over(rt: &HostRuntime, config: &str, script: &str) -> Result<(), Faul
     let config = config_bytes(rt, config)?;
     let script = script_bytes(rt, script)?;
     let Ok(out) = BufWriter::new(rt.alloc(), rt.stdout()) else {
-        return Err(Fault::OutOfMemory);
+        return Err(Fault::Memory);
     };
     run_session(
         rt.alloc(),
@@ -93,8 +93,8 @@ fn words_of(rt: &(impl Env + AllocGlobal)) -> Result<Vec<String>, Fault> {
         Ok(args) => args
             .skip(1)
             .collect(rt.alloc())
-            .map_err(|_error: AllocError| Fault::OutOfMemory),
-        Err(e) if e.kind() == ErrorKind::OutOfMemory => Err(Fault::OutOfMemory),
+            .map_err(|_error: AllocError| Fault::Memory),
+        Err(e) if e.kind() == ErrorKind::OutOfMemory => Err(Fault::Memory),
         Err(_) => Err(Fault::Usage),
     }
 }
@@ -112,19 +112,19 @@ fn read_file(
 /// Returns why a file that couldn't be opened isn't read.
 fn unopened(error: &Error) -> InputError {
     if error.kind() == ErrorKind::OutOfMemory {
-        InputError::OutOfMemory
+        InputError::Memory
     } else {
         InputError::CannotRead
     }
 }
 
-/// Returns the fault for a file that isn't read: `OutOfMemory`, or else the given fault.
+/// Returns the fault for a file that isn't read: `Memory`, or else the given fault.
 fn fault_of(unread: InputError, otherwise: Fault) -> Fault
-    ensures memory { unread ≡ InputError.OutOfMemory → result ≡ Fault.OutOfMemory }
+    ensures memory { unread ≡ InputError.Memory → result ≡ Fault.Memory }
     ensures reading { unread ≡ InputError.CannotRead → result ≡ otherwise }
 {
     match unread {
-        InputError::OutOfMemory => Fault::OutOfMemory,
+        InputError::Memory => Fault::Memory,
         InputError::CannotRead => otherwise,
     }
 }

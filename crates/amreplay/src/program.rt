@@ -15,4 +15,4 @@ pub use input::{InputError, read_whole};
 pub use load::{LONGEST_CONFIG, open_session, read_config};
 pub use run::run_script;
 pub use session::run_session;
-pub use words::{Command, command_of};
+pub use words::{Form, command_of};

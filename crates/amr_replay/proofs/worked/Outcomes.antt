@@ -9,7 +9,7 @@ use Rattle.amr_stated.specs.Config.{Config}
 use Rattle.amr_loading.specs.Shape.{IsConfig, stated_receiver, is_receiver}
 use Rattle.amr_config.specs.Routing.{parent_of}
 use Rattle.amr_posts.specs.declared.posted_alert.PostedAlert.{PostedAlert}
-use Rattle.amr_events.specs.Events.{Event}
+use Rattle.amr_actions.specs.Events.{Event}
 use Rattle.amr_state.specs.State.{start}
 use Rattle.amr_engine.specs.Events.{Outcome, outcome_of, run_of, replaying}
 use Rattle.amr_replay.specs.Session.{outcomes_passed}

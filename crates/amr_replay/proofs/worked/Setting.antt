@@ -7,7 +7,7 @@ use Rattle.amr_stated.specs.declared.route.Route.{Route}
 use Rattle.amr_stated.specs.declared.route.Grouping.TheVariants.{Named}
 use Rattle.amr_stated.specs.Config.{Config}
 use Rattle.amr_posts.specs.declared.posted_alert.PostedAlert.{PostedAlert}
-use Rattle.amr_events.specs.Events.{Event, Act}
+use Rattle.amr_actions.specs.Events.{Event, Act}
 use Rattle.amr_state.specs.declared.notification.Notification.{Notification}
 
 abbrev pub ten : Moment

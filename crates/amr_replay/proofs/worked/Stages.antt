@@ -10,9 +10,9 @@ use Rattle.amr_time.specs.Time.{Moment, second, minute, hour}
 use Rattle.amr_stated.specs.declared.route.Route.{Route}
 use Rattle.amr_stated.specs.Config.{Config}
 use Rattle.amr_config.specs.Routing.{chosen, routing}
-use Rattle.amr_events.specs.Events.{Event, Act}
+use Rattle.amr_actions.specs.Events.{Event, Act}
 use Rattle.amr_rules.specs.declared.silence.Silence.{Silence}
-use Rattle.amr_rules.specs.declared.update.LogEntry.{LogEntry}
+use Rattle.amr_rules.specs.declared.dedup.LogEntry.{LogEntry}
 use Rattle.amr_state.specs.declared.notification.LogKey.{LogKey}
 use Rattle.amr_engine.specs.Events.{run_of, replaying}
 use Rattle.amr_replay.proofs.worked.Setting.{ten, root, config_ops, alert, posts, ticks, notified}

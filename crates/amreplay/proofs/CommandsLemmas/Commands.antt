@@ -3,7 +3,7 @@ use Rattle.std.proofs.Common.{◌≡◌, ℕ, ◌+◌, ◌-◌, ◌<◌, ◌≤�
 use Rattle.std.specs.Global.{Vec}
 use Rattle.std.specs.declared.alloc.Global.{Global}
 use Rattle.amr_time.specs.Time.{Moment}
-use Rattle.amr_events.specs.Events.{Event}
+use Rattle.amr_actions.specs.Events.{Event}
 use Rattle.amr_state.specs.State.{State}
 use Rattle.amr_engine.specs.Events.{outcome_of}
 use Rattle.amr_replay.specs.Session.{View, at_cursor, events_until}

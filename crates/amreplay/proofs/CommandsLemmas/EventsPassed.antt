@@ -6,7 +6,7 @@ use Rattle.std.proofs.lemmas.Option.{slice_get_cases}
 use Rattle.amreplay.specs.Lines.Printed.{event_lines}
 use Rattle.amreplay.specs.declared.lines.word.Word.{Word}
 use Rattle.amr_stated.specs.Config.{Config}
-use Rattle.amr_events.specs.Events.{Event}
+use Rattle.amr_actions.specs.Events.{Event}
 use Rattle.amr_state.specs.State.{State}
 use Rattle.amr_engine.specs.Events.{Outcome, outcome_of, after_event}
 use Rattle.amr_engine.specs.declared.outcome.Outcome as code

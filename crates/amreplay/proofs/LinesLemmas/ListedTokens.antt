@@ -10,7 +10,7 @@ use Rattle.amr_matchers.specs.Matchers.{Matcher}
 use Rattle.amr_posts.specs.Ids.{id_text}
 use Rattle.amr_rules.specs.declared.alert.Alert.{Alert}
 use Rattle.amr_rules.specs.declared.silence.Silence.{Silence}
-use Rattle.amr_rules.specs.declared.update.LogEntry.{LogEntry}
+use Rattle.amr_rules.specs.declared.dedup.LogEntry.{LogEntry}
 use Rattle.amr_state.specs.declared.notification.LogKey.{LogKey}
 use Rattle.amr_state.specs.declared.views.Group.{Group}
 use Rattle.amreplay.specs.Lines.Printed.{texts_data, labels_data, label_sets_data, moment_data, since_data, number_data, is_equal, is_regex, matcher_data, matchers_data, alert_data, silence_data, group_data, log_data}

@@ -7,7 +7,7 @@ use Rattle.amr_time.specs.Time.{Moment, second, minute, hour}
 use Rattle.amr_time.specs.Calendar.{date_of}
 use Rattle.amr_stated.specs.Config.{Config}
 use Rattle.amr_stated.specs.declared.route.Grouping.TheVariants.{Named}
-use Rattle.amr_events.specs.Events.{Event, Act}
+use Rattle.amr_actions.specs.Events.{Event, Act}
 use Rattle.amr_engine.specs.Events.{replaying}
 use Rattle.amreplay.specs.Lines.Printed.{printing}
 use Rattle.amreplay.specs.Program.Runs.{run_lines}

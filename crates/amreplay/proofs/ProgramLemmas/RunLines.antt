@@ -8,14 +8,14 @@ use Rattle.std.specs.Io.KnownBytes.{Appends, Keeps}
 use Rattle.std.proofs.KnownBytes.{Appends-nil, Appends-trans, Appends-kept}
 use Rattle.amr_labels.specs.Labels.{Text}
 use Rattle.amr_stated.specs.Config.{Config}
-use Rattle.amr_events.specs.Events.{Event}
+use Rattle.amr_actions.specs.Events.{Event}
 use Rattle.amr_state.specs.State.{State, start}
 use Rattle.amr_engine.specs.Events.{Outcome, outcome_of, after_event, after_events, run_of}
 use Rattle.amreplay.specs.Lines.Printed.{event_lines}
 use Rattle.amreplay.specs.Program.Runs.{lines_from, run_lines, LeavesAt, RunLeavesAt, RunLeaves}
 use Rattle.amreplay.specs.Lines.Outlet.{AppendsBeginning}
 use Rattle.amreplay.specs.declared.program.run.RunError.{RunError}
-use Rattle.amreplay.specs.declared.program.run.RunError.TheVariants.{OutOfMemory, CannotWrite}
+use Rattle.amreplay.specs.declared.program.run.RunError.TheVariants.{Memory, CannotWrite}
 use Rattle.amreplay.proofs.LinesLemmas.Parts.{AppendsBeginning-after}
 
 lines_from-append : (n : ℕ) (s : State) (events more : List Event)
@@ -82,7 +82,7 @@ module _ (a b c : Option Text) (config : Config) (events : List Event) (k : ℕ)
 
   -- the run stops at an event
   pub RunLeavesAt-event : (error : RunError) → LeavesAt b c (event_lines (k + 1) outcome) error → RunLeavesAt a c config events error
-  RunLeavesAt-event OutOfMemory left = (k, subst (Appends a c) (append-nil (run_lines config (take k events))) (Appends-trans a b c _ _ before left))
+  RunLeavesAt-event Memory left = (k, subst (Appends a c) (append-nil (run_lines config (take k events))) (Appends-trans a b c _ _ before left))
   RunLeavesAt-event CannotWrite left = AppendsBeginning-after a b c _ _ rest_lines.0 _ before left rest_lines.1
 
 -- the lines of the first events are a prefix of all
@@ -98,7 +98,7 @@ pub RunLeaves-unflushed : (a b c : Option Text) (config : Config) (events : List
     → RunLeaves a b config events ended → Keeps b c → AppendsBeginning a c (run_lines config events)
 RunLeaves-unflushed a b c config events (Ok u) left kept =
     record { written = run_lines config events; unwritten = []; parts = sym (append-nil (run_lines config events)); appended = Appends-kept a b c _ left kept }
-RunLeaves-unflushed a b c config events (Err OutOfMemory) left kept =
+RunLeaves-unflushed a b c config events (Err Memory) left kept =
     let split = run_lines-split config events left.0 in
     record { written = run_lines config (take left.0 events); unwritten = split.0; parts = split.1; appended = Appends-kept a b c _ left.1 kept }
 RunLeaves-unflushed a b c config events (Err CannotWrite) left kept =
@@ -108,6 +108,6 @@ RunLeaves-unflushed a b c config events (Err CannotWrite) left kept =
 pub RunLeaves-flushed : (a b c : Option Text) (config : Config) (events : List Event) (ended : Result (Unit {0}) RunError)
     → RunLeaves a b config events ended → Keeps b c → RunLeaves a c config events ended
 RunLeaves-flushed a b c config events (Ok u) left kept = Appends-kept a b c _ left kept
-RunLeaves-flushed a b c config events (Err OutOfMemory) left kept = (left.0, Appends-kept a b c _ left.1 kept)
+RunLeaves-flushed a b c config events (Err Memory) left kept = (left.0, Appends-kept a b c _ left.1 kept)
 RunLeaves-flushed a b c config events (Err CannotWrite) left kept =
     record { written = left.written; unwritten = left.unwritten; parts = left.parts; appended = Appends-kept a b c _ left.appended kept }

@@ -2,13 +2,13 @@
 use Rattle.std.proofs.Common.{◌≡◌, ℕ, Bool, List, Option, Err, inr, refl, subst}
 use Rattle.amr_labels.specs.Labels.{Text}
 use Rattle.amr_stated.specs.Config.{Config}
-use Rattle.amr_events.specs.Events.{Event}
+use Rattle.amr_actions.specs.Events.{Event}
 use Rattle.amr_state.specs.State.{State, start}
 use Rattle.amreplay.specs.declared.commands.conversation.ConversationError.{ConversationError}
 use Rattle.amreplay.specs.declared.commands.conversation.ConversationError.TheVariants.{Reading, Writing}
 use Rattle.amreplay.specs.Commands.Converse.{Converses, BreaksBy}
 use Rattle.amreplay.specs.declared.program.run.RunError.{RunError}
-use Rattle.amreplay.specs.declared.program.run.RunError.TheVariants.{OutOfMemory, CannotWrite}
+use Rattle.amreplay.specs.declared.program.run.RunError.TheVariants.{Memory, CannotWrite}
 use Rattle.amreplay.specs.Program.Runs.{RunLeavesAt}
 use Rattle.amreplay.specs.Program.Files.{Hold, StopLeaves, FilesLeave}
 use Rattle.amreplay.specs.Program.Ends.{StoppedAt, FaultBy, FaultOfReading}
@@ -16,7 +16,7 @@ use Rattle.amreplay.specs.Program.Faults.{stop_fault, broken_fault}
 use Rattle.amreplay.specs.Program.Sessions.{incident_with, SessionLeaves}
 
 StopLeaves-error : (a b : Option Text) (config : Config) (events : List Event) (error : RunError) → RunLeavesAt a b config events error → StopLeaves a b config events (stop_fault error)
-StopLeaves-error a b config events OutOfMemory left = left
+StopLeaves-error a b config events Memory left = left
 StopLeaves-error a b config events CannotWrite left = left
 
 -- a run over two files stops
@@ -26,7 +26,7 @@ FilesLeave-error a b bytes script config events s error hold is left =
     inr (config, events, hold, StopLeaves-error a b config events error (subst (λ (t : State). RunLeavesAt a b t.config events error) is left))
 
 pub FaultBy-run_error : (failed failed' : Bool) (error : RunError) → StoppedAt failed failed' error → FaultBy failed failed' (stop_fault error)
-FaultBy-run_error failed failed' OutOfMemory h = h
+FaultBy-run_error failed failed' Memory h = h
 FaultBy-run_error failed failed' CannotWrite h = h
 
 -- an end of a session over two files fails

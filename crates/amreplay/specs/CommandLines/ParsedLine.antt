@@ -2,7 +2,7 @@
 use Rattle.std.specs.Prelude.{◌≡◌, ◌⊎◌, ⊤, true, Result, MatchResult}
 use Rattle.std.specs.Str.{is_utf8}
 use Rattle.amr_labels.specs.Labels.{Text}
-use Rattle.amr_events.specs.Events.{Event}
+use Rattle.amr_actions.specs.Events.{Event}
 use Rattle.amr_events.specs.Refused.{LineIs}
 use Rattle.amreplay.specs.declared.lines.word.Word.{Word}
 use Rattle.amreplay.specs.declared.lines.word.Word.TheVariants as word

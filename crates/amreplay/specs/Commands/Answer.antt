@@ -10,18 +10,10 @@ use Rattle.amr_replay.specs.Session.{View}
 use Rattle.amreplay.specs.Commands.Replies.{Incident, incident_of, Reply, reply_of, moved, MayFindNoMemory}
 use Rattle.amreplay.specs.Commands.Talk.{LineOutcome, reply, MayBe}
 use Rattle.amreplay.specs.declared.commands.answer.Refusal.{Refusal}
-use Rattle.amreplay.specs.declared.commands.answer.Refusal.TheVariants.{Memory, BadTime, BadLine, LineTooLong, AtEnd, AtStart, OutOfRange}
+use Rattle.amreplay.specs.declared.commands.answer.Refusal.TheVariants.{Memory}
+use Rattle.amreplay.specs.Commands.Refusals.{refusal_number}
 use Rattle.amreplay.specs.declared.commands.answer.Answer.{Answer}
 use Rattle.amreplay.specs.declared.commands.answer.Answer.TheVariants.{Nothing, Built, Listed, WentBack, SoughtBack, Refused}
-
-abbrev pub refusal_number : Refusal → ℕ
-refusal_number Memory = 0
-refusal_number BadTime = 3
-refusal_number BadLine = 13
-refusal_number LineTooLong = 14
-refusal_number AtEnd = 22
-refusal_number AtStart = 23
-refusal_number OutOfRange = 24
 
 -- what is written, with the cursor there
 abbrev pub answer_text : ℕ → Answer → Text

@@ -4,7 +4,7 @@ use Rattle.std.specs.List.{flat_map, sum_by}
 use Rattle.amr_labels.specs.Map.{entries}
 use Rattle.amr_labels.specs.Labels.{Text}
 use Rattle.amr_stated.specs.Config.{Config}
-use Rattle.amr_events.specs.Events.{Event}
+use Rattle.amr_actions.specs.Events.{Event}
 use Rattle.amr_state.specs.State.{State}
 use Rattle.amr_engine.specs.Events.{Outcome, Accepted, Refused, outcome_of}
 use Rattle.amr_state.specs.Seen.{groups_of}
@@ -12,7 +12,7 @@ use Rattle.amr_engine.specs.Explain.{verdicts}
 use Rattle.amr_replay.specs.Session.{View, state_at, outcomes_passed, events_until}
 use Rattle.amreplay.specs.declared.lines.word.Word.{Word}
 use Rattle.amreplay.specs.declared.lines.word.Word.TheVariants as word
-use Rattle.amreplay.specs.Lines.Printed.{event_lines, notification_line, alert_line, silence_line, group_seen_line, log_line}
+use Rattle.amreplay.specs.Lines.Printed.{event_lines, notification_line, alert_line, silence_line, group_line, log_line}
 use Rattle.amreplay.specs.Lines.Verdicts.{verdict_line}
 use Rattle.amreplay.specs.Lines.LastLines.{moves_line, cursor_line, place_line, refused_line}
 use Rattle.amreplay.specs.CommandLines.Command.{word_of_query}
@@ -23,6 +23,8 @@ use Rattle.amreplay.specs.declared.command_lines.command.Command.{Command}
 use Rattle.amreplay.specs.declared.command_lines.command.Command.TheVariants as command
 use Rattle.amreplay.specs.declared.command_lines.command.ParsedLine.{ParsedLine}
 use Rattle.amreplay.specs.declared.command_lines.command.ParsedLine.TheVariants.{Nothing, Asks, Malformed, BadMoment, BadArgument}
+use Rattle.amreplay.specs.declared.commands.answer.Refusal.TheVariants as refusal
+use Rattle.amreplay.specs.Commands.Refusals.{refusal_number}
 
 -- a configuration, and the events of a script
 pub record Incident : Type 0 where
@@ -67,7 +69,7 @@ abbrev pub lines_of : Query → State → Text
 lines_of (Explain labels) s = flat_map verdict_line (verdicts s labels)
 lines_of Alerts s = flat_map alert_line (entries s.alerts)
 lines_of Silences s = flat_map silence_line (entries s.silences)
-lines_of Groups s = flat_map group_seen_line (groups_of s)
+lines_of Groups s = flat_map group_line (groups_of s)
 lines_of Log s = flat_map log_line (entries s.log)
 lines_of Transcript s = flat_map notification_line s.notes
 
@@ -81,9 +83,9 @@ tried_lines cursor outcome = event_lines 0 outcome ++ moves_line word.Trial curs
 
 -- what a command leaves if memory doesn't run out
 unfoldable pub reply_to : Incident → ℕ → Command → Reply
-reply_to incident n (command.Move Step) = if nat_lt n (length incident.events) then moved incident n word.Step (n + 1) else refused n word.Step 22
-reply_to incident n (command.Move Back) = if nat_lt 0 n then record { cursor = n - 1; text = cursor_line word.Back (n - 1) } else refused n word.Back 23
-reply_to incident n (command.Move (Seek to)) = if nat_le to (length incident.events) then moved incident n word.Seek to else refused n word.Seek 24
+reply_to incident n (command.Move Step) = if nat_lt n (length incident.events) then moved incident n word.Step (n + 1) else refused n word.Step (refusal_number refusal.AtEnd)
+reply_to incident n (command.Move Back) = if nat_lt 0 n then record { cursor = n - 1; text = cursor_line word.Back (n - 1) } else refused n word.Back (refusal_number refusal.AtStart)
+reply_to incident n (command.Move (Seek to)) = if nat_le to (length incident.events) then moved incident n word.Seek to else refused n word.Seek (refusal_number refusal.OutOfRange)
 reply_to incident n (command.Move (SeekTime at)) = moved incident n word.SeekTime (events_until at incident.events)
 reply_to incident n (command.Trial event) = record { cursor = n; text = tried_lines n (outcome_of (state_in incident n) event) }
 reply_to incident n (command.Query query) = record { cursor = n; text = listed n query (state_in incident n) }
@@ -103,9 +105,9 @@ TakesMemory incident n command.Cursor = ⊤
 abbrev pub reply_of : Incident → ℕ → ParsedLine → Reply
 reply_of incident n Nothing = record { cursor = n; text = [] }
 reply_of incident n (Asks command) = reply_to incident n command
-reply_of incident n (Malformed word) = refused n word 13
-reply_of incident n BadMoment = refused n word.SeekTime 3
-reply_of incident n (BadArgument word) = refused n word 13
+reply_of incident n (Malformed word) = refused n word (refusal_number refusal.BadLine)
+reply_of incident n BadMoment = refused n word.SeekTime (refusal_number refusal.BadTime)
+reply_of incident n (BadArgument word) = refused n word (refusal_number refusal.BadLine)
 
 -- parsing it takes memory, or executing it
 abbrev pub MayFindNoMemory : Incident → ℕ → ParsedLine → Type 0

@@ -10,6 +10,8 @@ use Rattle.amreplay.specs.CommandLines.Line.{longest, Holds}
 use Rattle.amreplay.specs.CommandLines.ParsedLine.{LineSays, word_of}
 use Rattle.amreplay.specs.Commands.Lines.{Cuts, ended, IsOneLine}
 use Rattle.amreplay.specs.Commands.Replies.{Incident, Reply, refused, reply_of, MayFindNoMemory}
+use Rattle.amreplay.specs.declared.commands.answer.Refusal.TheVariants as refusal
+use Rattle.amreplay.specs.Commands.Refusals.{refusal_number}
 
 -- how a line ends: it is too long; memory ran out to hold it, or to parse or execute it; it is done
 pub data LineOutcome : Type 0 where
@@ -25,9 +27,9 @@ pub record AnsweredLine : Type 0 where
 
 -- what a line leaves
 abbrev pub reply : Incident → ℕ → LineOutcome → Reply
-reply incident cursor TooLong = refused cursor word.Unknown 14
-reply incident cursor NoMemory = refused cursor word.Unknown 0
-reply incident cursor (Undone parsed) = refused cursor (word_of parsed) 0
+reply incident cursor TooLong = refused cursor word.Unknown (refusal_number refusal.LineTooLong)
+reply incident cursor NoMemory = refused cursor word.Unknown (refusal_number refusal.Memory)
+reply incident cursor (Undone parsed) = refused cursor (word_of parsed) (refusal_number refusal.Memory)
 reply incident cursor (Done parsed) = reply_of incident cursor parsed
 
 -- A line may end like this. It is undone only if it takes memory, and memory to hold it can run out

@@ -14,16 +14,12 @@ use Rattle.amr_matchers.specs.Matchers.{Matcher}
 use Rattle.amr_time.specs.Time.{Moment}
 use Rattle.amr_rules.specs.declared.alert.Alert.{Alert}
 use Rattle.amr_rules.specs.declared.silence.Silence.{Silence}
-use Rattle.amr_rules.specs.declared.update.LogEntry.{LogEntry}
-use Rattle.amr_state.specs.declared.notification.GroupTimer.{GroupTimer}
+use Rattle.amr_rules.specs.declared.dedup.LogEntry.{LogEntry}
 use Rattle.amr_state.specs.declared.notification.LogKey.{LogKey}
 use Rattle.amr_state.specs.declared.notification.FiringAlert.{FiringAlert}
 use Rattle.amr_state.specs.declared.notification.ResolvedAlert.{ResolvedAlert}
 use Rattle.amr_state.specs.declared.notification.Notification.{Notification}
-use Rattle.amr_state.specs.declared.route_labels.RouteLabels.{RouteLabels}
 use Rattle.amr_state.specs.declared.views.Group.{Group}
-use Rattle.amr_state.specs.State.{State}
-use Rattle.amr_state.specs.Seen.{group_seen}
 use Rattle.amr_engine.specs.Events.{Outcome, Accepted, Refused}
 use Rattle.amr_time.specs.MomentText.{moment_text}
 
@@ -38,7 +34,7 @@ object_of ms = with_members ms no_members
 
 -- a line is compact JSON and a line feed
 abbrev pub data_line : Data → Text
-data_line value = compact_text value ++ 10 ∷ []
+data_line value = compact_text value ++ codes "\n"
 
 abbrev pub number_data : ℕ → Data
 number_data n = number (unsigned n)
@@ -194,12 +190,8 @@ unfoldable pub group_data : Group → Data
 group_data group = object (object_of (group_members group))
 
 -- a group as the views show it
-abbrev pub group_seen_line : Group → Text
-group_seen_line group = data_line (group_data group)
-
--- a group of the state, with its timer
-abbrev pub group_line : State → RouteLabels × GroupTimer → Text
-group_line s group = group_seen_line (group_seen s group)
+abbrev pub group_line : Group → Text
+group_line group = data_line (group_data group)
 
 abbrev pub log_members : LogKey × LogEntry → List (Text × Data)
 log_members entry =

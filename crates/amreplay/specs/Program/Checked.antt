@@ -5,7 +5,7 @@ use Rattle.serde_json.specs.Data.{Data, object}
 use Rattle.amr_labels.specs.Labels.{Text}
 use Rattle.amr_stated.specs.Config as config
 use Rattle.amreplay.specs.declared.program.fault.Fault.{Fault}
-use Rattle.amreplay.specs.declared.program.fault.Fault.TheVariants.{Config, Script, CannotReadConfig, CannotReadScript, CannotReadCommands, CannotWrite, OutOfMemory, Usage}
+use Rattle.amreplay.specs.declared.program.fault.Fault.TheVariants.{Config, Script, CannotReadConfig, CannotReadScript, CannotReadCommands, CannotWrite, Memory, Usage}
 use Rattle.amreplay.specs.Program.Files.{ConfigFileIs}
 use Rattle.amreplay.specs.Lines.Outlet.{AppendsBeginning}
 use Rattle.amreplay.specs.Lines.Printed.{object_of, number_data, data_line}
@@ -28,7 +28,7 @@ IsRefused bytes CannotReadConfig = ⊥
 IsRefused bytes CannotReadScript = ⊥
 IsRefused bytes CannotReadCommands = ⊥
 IsRefused bytes CannotWrite = ⊥
-IsRefused bytes OutOfMemory = Unit {0}
+IsRefused bytes Memory = Unit {0}
 IsRefused bytes Usage = ⊥
 
 -- A check of a configuration. If it is refused or memory runs out, nothing is written. Otherwise

@@ -4,11 +4,11 @@ use Rattle.amreplay.specs.Lines.Inlet.{HasEnded}
 use Rattle.amreplay.specs.declared.program.run.RunError.{RunError}
 use Rattle.amreplay.specs.declared.program.run.RunError.TheVariants as run_error
 use Rattle.amreplay.specs.declared.program.fault.Fault.{Fault}
-use Rattle.amreplay.specs.declared.program.fault.Fault.TheVariants.{Config, Script, CannotReadConfig, CannotReadScript, CannotReadCommands, CannotWrite, OutOfMemory, Usage}
+use Rattle.amreplay.specs.declared.program.fault.Fault.TheVariants.{Config, Script, CannotReadConfig, CannotReadScript, CannotReadCommands, CannotWrite, Memory, Usage}
 
 -- the writer failed, or it didn't and memory ran out
 abbrev pub StoppedAt : Bool → Bool → RunError → Type 0
-StoppedAt failed failed' run_error.OutOfMemory = failed' ≡ failed
+StoppedAt failed failed' run_error.Memory = failed' ≡ failed
 StoppedAt failed failed' run_error.CannotWrite = failed' ≡ true
 
 abbrev pub StoppedBy : {T : Type 0} → Result T RunError → Bool → Bool → Type 0
@@ -22,7 +22,7 @@ FaultBy failed failed' CannotReadConfig = failed' ≡ failed
 FaultBy failed failed' CannotReadScript = failed' ≡ failed
 FaultBy failed failed' CannotReadCommands = failed' ≡ failed
 FaultBy failed failed' CannotWrite = failed' ≡ true
-FaultBy failed failed' OutOfMemory = failed' ≡ failed
+FaultBy failed failed' Memory = failed' ≡ failed
 FaultBy failed failed' Usage = failed' ≡ failed
 
 abbrev pub EndsBy : {T : Type 0} → Result T Fault → Bool → Bool → Type 0
@@ -36,7 +36,7 @@ FaultOfReading failed failed' calls CannotReadConfig = failed' ≡ failed
 FaultOfReading failed failed' calls CannotReadScript = failed' ≡ failed
 FaultOfReading failed failed' calls CannotReadCommands = HasEnded failed' calls
 FaultOfReading failed failed' calls CannotWrite = failed' ≡ failed
-FaultOfReading failed failed' calls OutOfMemory = failed' ≡ failed
+FaultOfReading failed failed' calls Memory = failed' ≡ failed
 FaultOfReading failed failed' calls Usage = failed' ≡ failed
 
 abbrev pub ReadsBy : {T : Type 0} → Result T Fault → Bool → Bool → ℕ → Type 0

@@ -3,60 +3,59 @@ use Rattle.std.specs.Prelude.{ℕ, List, [], ◌∷◌, ◌++◌, codes, decimal
 use Rattle.amr_loading.specs.declared.error.Refusal.{Refusal}
 use Rattle.amr_loading.specs.declared.error.Refusal.TheVariants.{BadConfig, UnknownReceiver, DuplicateReceiver, RootRoute, ZeroInterval, BadGroupBy, TooDeep}
 use Rattle.amr_loading.specs.declared.error.ConfigError.{ConfigError}
+use Rattle.amr_loading.specs.Refusals.{name_of_refusal}
 use Rattle.amr_loading.specs.declared.error.ConfigError.TheVariants as config_error
 use Rattle.amr_events.specs.declared.error.Fault.{Fault as ScriptFault}
 use Rattle.amr_events.specs.declared.error.Fault.TheVariants.{BadLine, LineTooLong, TooManyEvents}
 use Rattle.amr_events.specs.declared.error.ScriptError.{ScriptError}
+use Rattle.amr_events.specs.Faults.{name_of_fault}
 use Rattle.amr_events.specs.declared.error.ScriptError.TheVariants as script_error
 use Rattle.amreplay.specs.declared.commands.conversation.ConversationError.{ConversationError}
 use Rattle.amreplay.specs.declared.commands.conversation.ConversationError.TheVariants as conversation_error
 use Rattle.amreplay.specs.declared.program.run.RunError.{RunError}
 use Rattle.amreplay.specs.declared.program.run.RunError.TheVariants as run_error
 use Rattle.amreplay.specs.declared.program.fault.Fault.{Fault}
-use Rattle.amreplay.specs.declared.program.fault.Fault.TheVariants.{Config, Script, CannotReadConfig, CannotReadScript, CannotReadCommands, CannotWrite, OutOfMemory, Usage}
+use Rattle.amreplay.specs.declared.program.fault.Fault.TheVariants.{Config, Script, CannotReadConfig, CannotReadScript, CannotReadCommands, CannotWrite, Memory, Usage}
 use Rattle.amreplay.specs.declared.program.fault.Place.{Place}
 use Rattle.amreplay.specs.declared.program.fault.Place.TheVariants as place
 
 -- the fault of an error
 abbrev pub config_fault : ConfigError → Fault
-config_fault config_error.Memory = OutOfMemory
+config_fault config_error.Memory = Memory
 config_fault (config_error.Refused refusal) = Config refusal
 
 abbrev pub script_fault : ScriptError → Fault
-script_fault script_error.Memory = OutOfMemory
+script_fault script_error.Memory = Memory
 script_fault (script_error.Refused fault) = Script fault
 
 abbrev pub stop_fault : RunError → Fault
-stop_fault run_error.OutOfMemory = OutOfMemory
+stop_fault run_error.Memory = Memory
 stop_fault run_error.CannotWrite = CannotWrite
 
 abbrev pub broken_fault : ConversationError → Fault
 broken_fault conversation_error.Reading = CannotReadCommands
 broken_fault conversation_error.Writing = CannotWrite
 
-abbrev pub config_name : Refusal → List ℕ
-config_name (BadConfig path) = codes "amreplay: config: 5 BadConfig"
-config_name UnknownReceiver = codes "amreplay: config: 6 UnknownReceiver"
-config_name DuplicateReceiver = codes "amreplay: config: 7 DuplicateReceiver"
-config_name RootRoute = codes "amreplay: config: 8 RootRoute"
-config_name ZeroInterval = codes "amreplay: config: 9 ZeroInterval"
-config_name BadGroupBy = codes "amreplay: config: 10 BadGroupBy"
-config_name TooDeep = codes "amreplay: config: 11 TooDeep"
-
-abbrev pub script_name : ScriptFault → List ℕ
-script_name (BadLine line) = codes "amreplay: script: 13 BadLine"
-script_name (LineTooLong line) = codes "amreplay: script: 14 LineTooLong"
-script_name TooManyEvents = codes "amreplay: script: 15 TooManyEvents"
+-- what the line of a fault begins with
+abbrev pub fault_prefix : Fault → List ℕ
+fault_prefix (Config refusal) = codes "amreplay: config: "
+fault_prefix (Script fault) = codes "amreplay: script: "
+fault_prefix CannotReadConfig = codes "amreplay: "
+fault_prefix CannotReadScript = codes "amreplay: "
+fault_prefix CannotReadCommands = codes "amreplay: "
+fault_prefix CannotWrite = codes "amreplay: "
+fault_prefix Memory = codes "amreplay: "
+fault_prefix Usage = codes "amreplay: "
 
 abbrev pub fault_name : Fault → List ℕ
-fault_name (Config refusal) = config_name refusal
-fault_name (Script fault) = script_name fault
-fault_name CannotReadConfig = codes "amreplay: cannot read config"
-fault_name CannotReadScript = codes "amreplay: cannot read script"
-fault_name CannotReadCommands = codes "amreplay: cannot read commands"
-fault_name CannotWrite = codes "amreplay: cannot write"
-fault_name OutOfMemory = codes "amreplay: out of memory"
-fault_name Usage = codes "amreplay: usage"
+fault_name (Config refusal) = name_of_refusal refusal
+fault_name (Script fault) = name_of_fault fault
+fault_name CannotReadConfig = codes "cannot read config"
+fault_name CannotReadScript = codes "cannot read script"
+fault_name CannotReadCommands = codes "cannot read commands"
+fault_name CannotWrite = codes "cannot write"
+fault_name Memory = codes "out of memory"
+fault_name Usage = codes "usage"
 
 -- the place of a fault: none that is printed, a path in the configuration, or a line of the script
 pub data FaultPlace : Type 0 where
@@ -94,16 +93,16 @@ fault_place CannotReadConfig = Nowhere
 fault_place CannotReadScript = Nowhere
 fault_place CannotReadCommands = Nowhere
 fault_place CannotWrite = Nowhere
-fault_place OutOfMemory = Nowhere
+fault_place Memory = Nowhere
 fault_place Usage = Nowhere
 
-abbrev pub line_with_place : List ℕ → FaultPlace → List ℕ
-line_with_place name Nowhere = name ++ codes "\n"
-line_with_place name (AtPath path) = name ++ (codes " at " ++ (path ++ codes "\n"))
-line_with_place name (AtLine line) = name ++ (codes " at line " ++ (decimal line ++ codes "\n"))
+abbrev pub line_with_place : List ℕ → List ℕ → FaultPlace → List ℕ
+line_with_place prefix name Nowhere = prefix ++ (name ++ codes "\n")
+line_with_place prefix name (AtPath path) = prefix ++ (name ++ (codes " at " ++ (path ++ codes "\n")))
+line_with_place prefix name (AtLine line) = prefix ++ (name ++ (codes " at line " ++ (decimal line ++ codes "\n")))
 
 abbrev pub fault_line : Fault → List ℕ
-fault_line fault = line_with_place (fault_name fault) (fault_place fault)
+fault_line fault = line_with_place (fault_prefix fault) (fault_name fault) (fault_place fault)
 
 abbrev pub status_of : Fault → ℕ
 status_of (Config refusal) = 1
@@ -112,5 +111,5 @@ status_of CannotReadConfig = 1
 status_of CannotReadScript = 1
 status_of CannotReadCommands = 1
 status_of CannotWrite = 1
-status_of OutOfMemory = 1
+status_of Memory = 1
 status_of Usage = 2

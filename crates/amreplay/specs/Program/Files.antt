@@ -6,16 +6,16 @@ use Rattle.serde_json.specs.Data.{Data}
 use Rattle.serde_json.specs.Read.{read}
 use Rattle.amr_labels.specs.Labels.{Text}
 use Rattle.amr_stated.specs.Config as config
-use Rattle.amr_events.specs.Events.{Event}
+use Rattle.amr_actions.specs.Events.{Event}
 use Rattle.amr_loading.specs.declared.error.Refusal.{Refusal}
 use Rattle.amr_loading.specs.declared.error.Refusal.TheVariants.{BadConfig}
 use Rattle.amr_loading.specs.declared.error.ConfigError.{ConfigError}
-use Rattle.amr_loading.specs.declared.error.ConfigError.TheVariants.{Memory, Refused}
+use Rattle.amr_loading.specs.declared.error.ConfigError.TheVariants as config_error
 use Rattle.amr_loading.specs.Reading.{ConfigIs}
 use Rattle.amr_events.specs.Scripts.{ScriptIs}
 use Rattle.amr_replay.specs.Session.{View, at_cursor}
 use Rattle.amreplay.specs.declared.program.fault.Fault.{Fault}
-use Rattle.amreplay.specs.declared.program.fault.Fault.TheVariants.{Config, Script, CannotReadConfig, CannotReadScript, CannotReadCommands, CannotWrite, OutOfMemory, Usage}
+use Rattle.amreplay.specs.declared.program.fault.Fault.TheVariants.{Config, Script, CannotReadConfig, CannotReadScript, CannotReadCommands, CannotWrite, Memory, Usage}
 use Rattle.amreplay.specs.Lines.Outlet.{AppendsBeginning}
 use Rattle.amreplay.specs.Program.Runs.{run_lines}
 
@@ -42,8 +42,8 @@ ConfigFileIs bytes judged = ConfigIsUnless (nat_lt longest_config (length bytes)
 -- what is returned for the bytes of a configuration; running out of memory says nothing about them
 abbrev pub ReadsAs : List ℕ → Result config.Config ConfigError → Type 0
 ReadsAs bytes (Ok config) = ConfigFileIs bytes (Ok config)
-ReadsAs bytes (Err Memory) = Unit {0}
-ReadsAs bytes (Err (Refused refusal)) = ConfigFileIs bytes (Err refusal)
+ReadsAs bytes (Err config_error.Memory) = Unit {0}
+ReadsAs bytes (Err (config_error.Refused refusal)) = ConfigFileIs bytes (Err refusal)
 
 -- the files hold the configuration and the events
 pub record Hold (config_bytes script_bytes : List ℕ) (held : config.Config) (events : List Event) : Type 0 where
@@ -59,7 +59,7 @@ AreRefused bytes script CannotReadConfig = ⊥
 AreRefused bytes script CannotReadScript = ⊥
 AreRefused bytes script CannotReadCommands = ⊥
 AreRefused bytes script CannotWrite = ⊥
-AreRefused bytes script OutOfMemory = Unit {0}
+AreRefused bytes script Memory = Unit {0}
 AreRefused bytes script Usage = ⊥
 
 -- what the two files hold, or the fault that refuses one of them
@@ -81,7 +81,7 @@ StopLeaves old new config events CannotReadConfig = ⊥
 StopLeaves old new config events CannotReadScript = ⊥
 StopLeaves old new config events CannotReadCommands = ⊥
 StopLeaves old new config events CannotWrite = AppendsBeginning old new (run_lines config events)
-StopLeaves old new config events OutOfMemory = (k : ℕ) × Appends old new (run_lines config (take k events))
+StopLeaves old new config events Memory = (k : ℕ) × Appends old new (run_lines config (take k events))
 StopLeaves old new config events Usage = ⊥
 
 -- A run over two files. If one is refused, its fault is returned and nothing is written; otherwise

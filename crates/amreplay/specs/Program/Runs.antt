@@ -3,11 +3,11 @@ use Rattle.std.specs.Prelude.{ℕ, ◌+◌, List, [], ◌∷◌, ◌++◌, take,
 use Rattle.std.specs.Io.KnownBytes.{Appends}
 use Rattle.amr_labels.specs.Labels.{Text}
 use Rattle.amr_stated.specs.Config.{Config}
-use Rattle.amr_events.specs.Events.{Event}
+use Rattle.amr_actions.specs.Events.{Event}
 use Rattle.amr_state.specs.State.{State, start}
 use Rattle.amr_engine.specs.Events.{outcome_of, after_event}
 use Rattle.amreplay.specs.declared.program.run.RunError.{RunError}
-use Rattle.amreplay.specs.declared.program.run.RunError.TheVariants.{OutOfMemory, CannotWrite}
+use Rattle.amreplay.specs.declared.program.run.RunError.TheVariants.{Memory, CannotWrite}
 use Rattle.amreplay.specs.Lines.Outlet.{AppendsBeginning}
 use Rattle.amreplay.specs.Lines.Printed.{event_lines}
 
@@ -23,7 +23,7 @@ run_lines config events = lines_from 1 (start config) events
 -- What is left of a text in a writer: the text; nothing of it if memory runs out; a prefix of it if
 -- the writer fails.
 abbrev pub LeavesAt : Option Text → Option Text → Text → RunError → Type 0
-LeavesAt old new text OutOfMemory = Appends old new []
+LeavesAt old new text Memory = Appends old new []
 LeavesAt old new text CannotWrite = AppendsBeginning old new text
 
 abbrev pub Leaves : Option Text → Option Text → Text → Result (Unit {0}) RunError → Type 0
@@ -33,7 +33,7 @@ Leaves old new text (Err error) = LeavesAt old new text error
 -- What a run leaves in a writer: its lines; the lines of the first events if memory runs out; a
 -- prefix of the lines if the writer fails.
 abbrev pub RunLeavesAt : Option Text → Option Text → Config → List Event → RunError → Type 0
-RunLeavesAt old new config events OutOfMemory = (k : ℕ) × Appends old new (run_lines config (take k events))
+RunLeavesAt old new config events Memory = (k : ℕ) × Appends old new (run_lines config (take k events))
 RunLeavesAt old new config events CannotWrite = AppendsBeginning old new (run_lines config events)
 
 abbrev pub RunLeaves : Option Text → Option Text → Config → List Event → Result (Unit {0}) RunError → Type 0

@@ -1,7 +1,7 @@
 -- What the arguments after the program's name ask for.
 use Rattle.std.specs.Prelude.{ℕ, List, [], ◌∷◌, Option, Some, None, codes, bytes_eq, if◌then◌else◌}
-use Rattle.amreplay.specs.declared.program.words.Command.{Command}
-use Rattle.amreplay.specs.declared.program.words.Command.TheVariants.{Check, Run, Session}
+use Rattle.amreplay.specs.declared.program.words.Form.{Form}
+use Rattle.amreplay.specs.declared.program.words.Form.TheVariants.{Check, Run, Session}
 
 -- a task and its paths
 pub data Task : Type 0 where
@@ -9,7 +9,7 @@ pub data Task : Type 0 where
   RunOf : List ℕ → List ℕ → Task
   SessionOf : List ℕ → List ℕ → Task
 
-abbrev pub task_of : Command → Task
+abbrev pub task_of : Form → Task
 task_of (Check config) = CheckOf config.now
 task_of (Run config script) = RunOf config.now script.now
 task_of (Session config script) = SessionOf config.now script.now

@@ -8,10 +8,13 @@ ghost use Rattle.amreplay.specs.CommandLines.ParsedLine.{FailsToRead, LineSays, 
 use crate::command_lines::digits::{all_digits, number};
 use crate::command_lines::parts::{argument, trimmed, word};
 use crate::lines::{Word, word_text};
-use amr_events::{Event, LineError, ScriptError, read_labels};
+use amr_actions::Event;
+use amr_events::{LineError, ScriptError, read_event, read_labels};
 use amr_labels::Labels;
 use amr_time::{Moment, read_moment};
 use std::alloc::Global;
+use std::error::Error;
+use std::fmt;
 use std::str::from_utf8;
 
 /// A command that moves the cursor.
@@ -109,6 +112,14 @@ pub struct Unread {
     pub word: Word,
 }
 
+impl fmt::Display for Unread {
+    fn fmt<W: fmt::Write>(&self, f: &mut fmt::Formatter<W>) -> fmt::Result {
+        f.write_str("memory ran out for the word's argument")
+    }
+}
+
+impl Error for Unread {}
+
 /// The words that are commands.
 const KNOWN_WORDS: [Word; 12] = [
     Word::Step,
@@ -125,93 +136,24 @@ const KNOWN_WORDS: [Word; 12] = [
     Word::Cursor,
 ];
 
-/// Returns the word that a text is, or `Unknown`.
-#[tactic(auto, unfolding(crate::specs::CommandLines::Command::word_named))]
-fn word_of(text: &[u8]) -> Word
-    ensures { result ≡ word_named text.now }
+/// Parses a text without white space at its ends.
+#[tactic(auto, unfolding(crate::specs::CommandLines::Command::said_in))]
+fn read_text(alloc: Global, text: &[u8]) -> Result<ParsedLine, Unread>
+    ensures { ReadsSuch (TextSays text.now) (said_in text.now) result }
 {
-    for word in &KNOWN_WORDS {
-        if text == word_text(*word).as_bytes() {
-            return *word;
-        }
+    if text.is_empty() {
+        return Ok(ParsedLine::Nothing);
     }
-    Word::Unknown
+    read_argument(alloc, word_of(word(text)), argument(text))
 }
 
-/// Parses a command that takes no argument.
-fn alone(command: Command, argument: &[u8]) -> ParsedLine
-    ensures { result ≡ said_alone command argument.now }
+/// Returns whether the bytes are UTF-8.
+fn is_text(line: &[u8]) -> bool
+    ensures { result ≡ is_utf8 line.now }
 {
-    if argument.is_empty() {
-        ParsedLine::Asks(command)
-    } else {
-        ParsedLine::Malformed(command.word())
-    }
-}
-
-/// Parses the argument of `seek`, a decimal number of events.
-fn seek(argument: &[u8]) -> ParsedLine
-    ensures { result ≡ with_argument Word.Seek seek_said argument.now }
-{
-    if argument.is_empty() || !all_digits(argument) {
-        return ParsedLine::Malformed(Word::Seek);
-    }
-    ParsedLine::Asks(Command::Move(Move::Seek(number(argument))))
-}
-
-/// Reads a moment, in RFC 3339.
-#[tactic(auto, unfolding(crate::specs::CommandLines::Command::moment_in))]
-fn moment(text: &[u8]) -> Option<Moment>
-    ensures { result ≡ moment_in text.now }
-{
-    match from_utf8(text) {
-        Ok(text) => read_moment(text).ok(),
-        Err(_) => None,
-    }
-}
-
-/// Parses the argument of `seek-time`.
-fn seek_time(argument: &[u8]) -> ParsedLine
-    ensures { result ≡ with_argument Word.SeekTime seek_time_said argument.now }
-{
-    if argument.is_empty() {
-        return ParsedLine::Malformed(Word::SeekTime);
-    }
-    match moment(argument) {
-        Some(moment) => ParsedLine::Asks(Command::Move(Move::SeekTime(moment))),
-        None => ParsedLine::BadMoment,
-    }
-}
-
-/// Parses the argument of `trial`, which is an event as on a line of a script.
-#[tactic(auto, unfolding(crate::specs::CommandLines::Command::said_by))]
-fn trial(alloc: Global, argument: &[u8]) -> Result<ParsedLine, Unread>
-    ensures { ReadsSuch (WordSays Word.Trial argument.now) (said_by Word.Trial argument.now)
-        result }
-{
-    if argument.is_empty() {
-        return Ok(ParsedLine::Malformed(Word::Trial));
-    }
-    match Event::read(alloc, argument) {
-        Ok(event) => Ok(ParsedLine::Asks(Command::Trial(event))),
-        Err(ScriptError::Refused(_)) => Ok(ParsedLine::BadArgument(Word::Trial)),
-        Err(ScriptError::Memory) => Err(Unread { word: Word::Trial }),
-    }
-}
-
-/// Parses the argument of `explain`, which is a label set as a JSON object.
-fn explain(alloc: Global, argument: &[u8]) -> Result<ParsedLine, Unread>
-    ensures { Reads (with_argument Word.Explain explain_said argument.now) result }
-{
-    if argument.is_empty() {
-        return Ok(ParsedLine::Malformed(Word::Explain));
-    }
-    match read_labels(alloc, argument) {
-        Ok(labels) => Ok(ParsedLine::Asks(Command::Query(Query::Explain(labels)))),
-        Err(LineError::Faulty) => Ok(ParsedLine::BadArgument(Word::Explain)),
-        Err(LineError::Memory) => Err(Unread {
-            word: Word::Explain,
-        }),
+    match from_utf8(line) {
+        Ok(_) => true,
+        Err(_) => false,
     }
 }
 
@@ -237,25 +179,94 @@ fn read_argument(alloc: Global, word: Word, argument: &[u8]) -> Result<ParsedLin
     }
 }
 
-/// Returns whether the bytes are UTF-8.
-fn is_text(line: &[u8]) -> bool
-    ensures { result ≡ is_utf8 line.now }
+/// Parses the argument of `explain`, which is a label set as a JSON object.
+fn explain(alloc: Global, argument: &[u8]) -> Result<ParsedLine, Unread>
+    ensures { Reads (with_argument Word.Explain explain_said argument.now) result }
 {
-    match from_utf8(line) {
-        Ok(_) => true,
-        Err(_) => false,
+    if argument.is_empty() {
+        return Ok(ParsedLine::Malformed(Word::Explain));
+    }
+    match read_labels(alloc, argument) {
+        Ok(labels) => Ok(ParsedLine::Asks(Command::Query(Query::Explain(labels)))),
+        Err(LineError::Faulty) => Ok(ParsedLine::BadArgument(Word::Explain)),
+        Err(LineError::Memory) => Err(Unread {
+            word: Word::Explain,
+        }),
     }
 }
 
-/// Parses a text without white space at its ends.
-#[tactic(auto, unfolding(crate::specs::CommandLines::Command::said_in))]
-fn read_text(alloc: Global, text: &[u8]) -> Result<ParsedLine, Unread>
-    ensures { ReadsSuch (TextSays text.now) (said_in text.now) result }
+/// Parses the argument of `trial`, which is an event as on a line of a script.
+#[tactic(auto, unfolding(crate::specs::CommandLines::Command::said_by))]
+fn trial(alloc: Global, argument: &[u8]) -> Result<ParsedLine, Unread>
+    ensures { ReadsSuch (WordSays Word.Trial argument.now) (said_by Word.Trial argument.now)
+        result }
 {
-    if text.is_empty() {
-        return Ok(ParsedLine::Nothing);
+    if argument.is_empty() {
+        return Ok(ParsedLine::Malformed(Word::Trial));
     }
-    read_argument(alloc, word_of(word(text)), argument(text))
+    match read_event(alloc, argument) {
+        Ok(event) => Ok(ParsedLine::Asks(Command::Trial(event))),
+        Err(ScriptError::Refused(_)) => Ok(ParsedLine::BadArgument(Word::Trial)),
+        Err(ScriptError::Memory) => Err(Unread { word: Word::Trial }),
+    }
+}
+
+/// Parses the argument of `seek-time`.
+fn seek_time(argument: &[u8]) -> ParsedLine
+    ensures { result ≡ with_argument Word.SeekTime seek_time_said argument.now }
+{
+    if argument.is_empty() {
+        return ParsedLine::Malformed(Word::SeekTime);
+    }
+    match moment(argument) {
+        Some(moment) => ParsedLine::Asks(Command::Move(Move::SeekTime(moment))),
+        None => ParsedLine::BadMoment,
+    }
+}
+
+/// Reads a moment, in RFC 3339.
+#[tactic(auto, unfolding(crate::specs::CommandLines::Command::moment_in))]
+fn moment(text: &[u8]) -> Option<Moment>
+    ensures { result ≡ moment_in text.now }
+{
+    match from_utf8(text) {
+        Ok(text) => read_moment(text).ok(),
+        Err(_) => None,
+    }
+}
+
+/// Parses the argument of `seek`, a decimal number of events.
+fn seek(argument: &[u8]) -> ParsedLine
+    ensures { result ≡ with_argument Word.Seek seek_said argument.now }
+{
+    if argument.is_empty() || !all_digits(argument) {
+        return ParsedLine::Malformed(Word::Seek);
+    }
+    ParsedLine::Asks(Command::Move(Move::Seek(number(argument))))
+}
+
+/// Parses a command that takes no argument.
+fn alone(command: Command, argument: &[u8]) -> ParsedLine
+    ensures { result ≡ said_alone command argument.now }
+{
+    if argument.is_empty() {
+        ParsedLine::Asks(command)
+    } else {
+        ParsedLine::Malformed(command.word())
+    }
+}
+
+/// Returns the word that a text is, or `Unknown`.
+#[tactic(auto, unfolding(crate::specs::CommandLines::Command::word_named))]
+fn word_of(text: &[u8]) -> Word
+    ensures { result ≡ word_named text.now }
+{
+    for word in &KNOWN_WORDS {
+        if text == word_text(*word).as_bytes() {
+            return *word;
+        }
+    }
+    Word::Unknown
 }
 
 impl ParsedLine {

@@ -2,7 +2,8 @@
 //! and a step back are written without memory.
 ghost use Rattle.std.specs.Prelude.{◌≡◌};
 ghost use Rattle.amreplay.specs.Lines.Outlet.{WritesText, FailsAt};
-ghost use Rattle.amreplay.specs.Commands.Answer.{refusal_number, answer_text};
+ghost use Rattle.amreplay.specs.Commands.Answer.{answer_text};
+ghost use Rattle.amreplay.specs.Commands.Refusals.{refusal_number};
 
 use crate::lines::{
     Outlet, Word, WriteFailed, write_back, write_backward_seek, write_refused, write_whole,
@@ -45,8 +46,8 @@ impl Refusal {
     }
 }
 
-/// What is written for a command. Only `Built` and `Listed` have taken memory; the others are written
-/// without any.
+/// What is written for a command. Only `Built` and `Listed` have taken memory; the others are
+/// written without any.
 #[derive(Drop)]
 pub(crate) enum Answer {
     Nothing,

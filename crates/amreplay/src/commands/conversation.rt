@@ -14,6 +14,8 @@ use crate::commands::input::take_bytes;
 use crate::lines::{Inlet, Outlet, WriteFailed};
 use amr_replay::Session;
 use std::alloc::Global;
+use std::error::Error;
+use std::fmt;
 use std::io::{Read, Write};
 
 /// How many bytes are asked for at once.
@@ -26,6 +28,17 @@ pub enum ConversationError {
     Writing,
 }
 
+impl fmt::Display for ConversationError {
+    fn fmt<W: fmt::Write>(&self, f: &mut fmt::Formatter<W>) -> fmt::Result {
+        f.write_str(match self {
+            ConversationError::Reading => "cannot read commands",
+            ConversationError::Writing => "cannot write",
+        })
+    }
+}
+
+impl Error for ConversationError {}
+
 /// Whether there may be more to read.
 #[derive(Clone, Copy, Debug, PartialEq, Eq)]
 enum Turn {
@@ -33,42 +46,32 @@ enum Turn {
     Ended,
 }
 
-/// Reads once.
-fn read_once<R: Read>(commands: &mut Inlet<R>, chunk: &mut [u8]) -> Result<usize, ConversationError>
-    requires { 0 < length chunk.old }
-    ensures read { MatchResult result
-        (λ n. (n ≤ length chunk.new)
-        × Consumes (R.remaining commands.old.reader) (R.remaining commands.new.reader)
-        (take n chunk.new)
-        × (n ≡ 0 → IsAtEnd (R.remaining commands.new.reader)))
-        (λ error. (error ≡ ConversationError.Reading)
-        × Keeps (R.remaining commands.old.reader) (R.remaining commands.new.reader)) }
-    ensures counted { CountsCall result commands.old.failed commands.new.failed commands.old.calls
-        commands.new.calls }
-{
-    match commands.read(chunk) {
-        Ok(n) => Ok(n),
-        Err(_) => Err(ConversationError::Reading),
-    }
-}
-
-/// Answers the last line, which has no line feed.
-fn finish<W: Write>(
+/// Reads commands until they end, and writes the answer to each line.
+///
+/// It flushes the writer after each line. Reading also ends at an error of the reader, and at the
+/// read numbered 1,099,511,627,776. A line that is cut short by either isn't executed.
+pub fn converse<R: Read, W: Write>(
     alloc: Global,
     session: &mut Session,
-    line: &Line,
+    commands: &mut Inlet<R>,
     out: &mut Outlet<W>,
-) -> Result<(), WriteFailed>
-    ensures kept { incident_of session.new ≡ incident_of session.old }
-    ensures printed { (start : Option (List ℕ)) (bytes : List ℕ)
-        → Stands (incident_of session.old) start (W.contents out.old.writer) bytes
-        session.old.cursor line.now
-        → MatchResult result
-        (λ _. Printed (incident_of session.old) start (W.contents out.new.writer) bytes)
-        (λ _. StopsShort (incident_of session.old) start (W.contents out.new.writer) bytes []) }
-    ensures failed { FailsAt result out.old.failed out.new.failed }
+) -> Result<(), ConversationError>
+    requires { session.old.cursor ≡ 0 }
+    ensures conversed { Converses (incident_of session.old) (R.remaining commands.old.reader)
+        (R.remaining commands.new.reader)
+        (W.contents out.old.writer) (W.contents out.new.writer) result }
+    ensures ended { EndsBy result commands.old.failed commands.new.failed commands.new.calls
+        out.old.failed out.new.failed }
 {
-    answer_line(alloc, session, line, out)
+    let mut line = Line::new(alloc);
+    let mut chunk = [0u8; CHUNK];
+    loop {
+        match take_turn(alloc, session, &mut line, &mut chunk, commands, out) {
+            Ok(Turn::More) => {}
+            Ok(Turn::Ended) => return Ok(()),
+            Err(error) => return Err(error),
+        }
+    }
 }
 
 /// Reads once, and answers the lines that end in what was read.
@@ -104,30 +107,40 @@ fn take_turn<R: Read, W: Write>(
     }
 }
 
-/// Reads commands until they end, and writes the answer to each line.
-///
-/// It flushes the writer after each line. Reading also ends at an error of the reader, and at the
-/// read numbered 1,099,511,627,776. A line that is cut short by either isn't executed.
-pub fn converse<R: Read, W: Write>(
+/// Answers the last line, which has no line feed.
+fn finish<W: Write>(
     alloc: Global,
     session: &mut Session,
-    commands: &mut Inlet<R>,
+    line: &Line,
     out: &mut Outlet<W>,
-) -> Result<(), ConversationError>
-    requires { session.old.cursor ≡ 0 }
-    ensures conversed { Converses (incident_of session.old) (R.remaining commands.old.reader)
-        (R.remaining commands.new.reader)
-        (W.contents out.old.writer) (W.contents out.new.writer) result }
-    ensures ended { EndsBy result commands.old.failed commands.new.failed commands.new.calls
-        out.old.failed out.new.failed }
+) -> Result<(), WriteFailed>
+    ensures kept { incident_of session.new ≡ incident_of session.old }
+    ensures printed { (start : Option (List ℕ)) (bytes : List ℕ)
+        → Stands (incident_of session.old) start (W.contents out.old.writer) bytes
+        session.old.cursor line.now
+        → MatchResult result
+        (λ _. Printed (incident_of session.old) start (W.contents out.new.writer) bytes)
+        (λ _. StopsShort (incident_of session.old) start (W.contents out.new.writer) bytes []) }
+    ensures failed { FailsAt result out.old.failed out.new.failed }
 {
-    let mut line = Line::new(alloc);
-    let mut chunk = [0u8; CHUNK];
-    loop {
-        match take_turn(alloc, session, &mut line, &mut chunk, commands, out) {
-            Ok(Turn::More) => {}
-            Ok(Turn::Ended) => return Ok(()),
-            Err(error) => return Err(error),
-        }
+    answer_line(alloc, session, line, out)
+}
+
+/// Reads once.
+fn read_once<R: Read>(commands: &mut Inlet<R>, chunk: &mut [u8]) -> Result<usize, ConversationError>
+    requires { 0 < length chunk.old }
+    ensures read { MatchResult result
+        (λ n. (n ≤ length chunk.new)
+        × Consumes (R.remaining commands.old.reader) (R.remaining commands.new.reader)
+        (take n chunk.new)
+        × (n ≡ 0 → IsAtEnd (R.remaining commands.new.reader)))
+        (λ error. (error ≡ ConversationError.Reading)
+        × Keeps (R.remaining commands.old.reader) (R.remaining commands.new.reader)) }
+    ensures counted { CountsCall result commands.old.failed commands.new.failed commands.old.calls
+        commands.new.calls }
+{
+    match commands.read(chunk) {
+        Ok(n) => Ok(n),
+        Err(_) => Err(ConversationError::Reading),
     }
 }

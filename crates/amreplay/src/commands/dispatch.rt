@@ -17,58 +17,21 @@ use amr_replay::Session;
 use std::alloc::Global;
 use std::io::Write;
 
-/// Executes a command. If memory runs out, the command is undone and refused.
-fn answer_command(alloc: Global, session: &mut Session, command: Command) -> Answer
+/// Answers a line, writes the answer, and flushes the writer.
+pub(crate) fn answer_line<W: Write>(
+    alloc: Global,
+    session: &mut Session,
+    line: &Line,
+    out: &mut Outlet<W>,
+) -> Result<(), WriteFailed>
     ensures kept { incident_of session.new ≡ incident_of session.old }
-    ensures answered { AnsweredBy session.old session.new (Asks command) result }
+    ensures answered { (bytes : List ℕ) → Holds line.now bytes
+        → Answers (incident_of session.old) session.old.cursor session.new.cursor bytes
+        (W.contents out.old.writer) (W.contents out.new.writer) result }
+    ensures failed { FailsAt result out.old.failed out.new.failed }
 {
-    match command {
-        Command::Move(movement) => move_cursor(alloc, session, movement),
-        Command::Trial(event) => trial(alloc, session, &event),
-        Command::Query(query) => list(alloc, session, &query),
-        Command::Cursor => place(alloc, session),
-    }
-}
-
-/// Executes what a line was parsed as.
-fn answer_parsed(alloc: Global, session: &mut Session, parsed: ParsedLine) -> Answer
-    ensures kept { incident_of session.new ≡ incident_of session.old }
-    ensures answered { AnsweredBy session.old session.new parsed result }
-{
-    match parsed {
-        ParsedLine::Nothing => Answer::Nothing,
-        ParsedLine::Asks(command) => answer_command(alloc, session, command),
-        ParsedLine::Malformed(word) => Answer::Refused(word, Refusal::BadLine),
-        ParsedLine::BadMoment => Answer::Refused(Word::SeekTime, Refusal::BadTime),
-        ParsedLine::BadArgument(word) => Answer::Refused(word, Refusal::BadLine),
-    }
-}
-
-/// Parses the bytes of a line, and executes the command.
-fn answer_bytes(alloc: Global, session: &mut Session, bytes: &[u8]) -> Answer
-    ensures kept { incident_of session.new ≡ incident_of session.old }
-    ensures has_line_outcome { length bytes.now ≤ longest
-        → HasLineOutcome (incident_of session.old) session.old.cursor session.new.cursor
-        bytes.now result }
-{
-    match ParsedLine::read(alloc, bytes) {
-        Ok(parsed) => answer_parsed(alloc, session, parsed),
-        Err(unread) => Answer::Refused(unread.word, Refusal::Memory),
-    }
-}
-
-/// Answers a line, even one that is too long or isn't held.
-fn answer(alloc: Global, session: &mut Session, line: &Line) -> Answer
-    ensures kept { incident_of session.new ≡ incident_of session.old }
-    ensures has_line_outcome { (bytes : List ℕ) → Holds line.now bytes
-        → HasLineOutcome (incident_of session.old) session.old.cursor session.new.cursor
-        bytes result }
-{
-    match line.content() {
-        Content::TooLong => Answer::Refused(Word::Unknown, Refusal::LineTooLong),
-        Content::NoMemory => Answer::Refused(Word::Unknown, Refusal::Memory),
-        Content::Held(bytes) => answer_bytes(alloc, session, bytes),
-    }
+    write_line(alloc, session, line, out)?;
+    flush(out)
 }
 
 /// Answers a line, and writes the answer.
@@ -88,19 +51,56 @@ fn write_line<W: Write>(
     write_answer(out, session.cursor(), &answer)
 }
 
-/// Answers a line, writes the answer, and flushes the writer.
-pub(crate) fn answer_line<W: Write>(
-    alloc: Global,
-    session: &mut Session,
-    line: &Line,
-    out: &mut Outlet<W>,
-) -> Result<(), WriteFailed>
+/// Answers a line, even one that is too long or isn't held.
+fn answer(alloc: Global, session: &mut Session, line: &Line) -> Answer
     ensures kept { incident_of session.new ≡ incident_of session.old }
-    ensures answered { (bytes : List ℕ) → Holds line.now bytes
-        → Answers (incident_of session.old) session.old.cursor session.new.cursor bytes
-        (W.contents out.old.writer) (W.contents out.new.writer) result }
-    ensures failed { FailsAt result out.old.failed out.new.failed }
+    ensures has_line_outcome { (bytes : List ℕ) → Holds line.now bytes
+        → HasLineOutcome (incident_of session.old) session.old.cursor session.new.cursor
+        bytes result }
 {
-    write_line(alloc, session, line, out)?;
-    flush(out)
+    match line.content() {
+        Content::TooLong => Answer::Refused(Word::Unknown, Refusal::LineTooLong),
+        Content::NoMemory => Answer::Refused(Word::Unknown, Refusal::Memory),
+        Content::Held(bytes) => answer_bytes(alloc, session, bytes),
+    }
+}
+
+/// Parses the bytes of a line, and executes the command.
+fn answer_bytes(alloc: Global, session: &mut Session, bytes: &[u8]) -> Answer
+    ensures kept { incident_of session.new ≡ incident_of session.old }
+    ensures has_line_outcome { length bytes.now ≤ longest
+        → HasLineOutcome (incident_of session.old) session.old.cursor session.new.cursor
+        bytes.now result }
+{
+    match ParsedLine::read(alloc, bytes) {
+        Ok(parsed) => answer_parsed(alloc, session, parsed),
+        Err(unread) => Answer::Refused(unread.word, Refusal::Memory),
+    }
+}
+
+/// Executes what a line was parsed as.
+fn answer_parsed(alloc: Global, session: &mut Session, parsed: ParsedLine) -> Answer
+    ensures kept { incident_of session.new ≡ incident_of session.old }
+    ensures answered { AnsweredBy session.old session.new parsed result }
+{
+    match parsed {
+        ParsedLine::Nothing => Answer::Nothing,
+        ParsedLine::Asks(command) => answer_command(alloc, session, command),
+        ParsedLine::Malformed(word) => Answer::Refused(word, Refusal::BadLine),
+        ParsedLine::BadMoment => Answer::Refused(Word::SeekTime, Refusal::BadTime),
+        ParsedLine::BadArgument(word) => Answer::Refused(word, Refusal::BadLine),
+    }
+}
+
+/// Executes a command. If memory runs out, the command is undone and refused.
+fn answer_command(alloc: Global, session: &mut Session, command: Command) -> Answer
+    ensures kept { incident_of session.new ≡ incident_of session.old }
+    ensures answered { AnsweredBy session.old session.new (Asks command) result }
+{
+    match command {
+        Command::Move(movement) => move_cursor(alloc, session, movement),
+        Command::Trial(event) => trial(alloc, session, &event),
+        Command::Query(query) => list(alloc, session, &query),
+        Command::Cursor => place(alloc, session),
+    }
 }

@@ -12,6 +12,26 @@ use amr_replay::Session;
 use std::alloc::Global;
 use std::io::Write;
 
+/// Takes in bytes, and answers each line that ends among them.
+pub(crate) fn take_bytes<W: Write>(
+    alloc: Global,
+    session: &mut Session,
+    line: &mut Line,
+    bytes: &[u8],
+    out: &mut Outlet<W>,
+) -> Result<(), WriteFailed>
+    ensures kept { incident_of session.new ≡ incident_of session.old }
+    ensures heard { Takes (incident_of session.old) (W.contents out.old.writer)
+        session.old.cursor line.old
+        (W.contents out.new.writer) session.new.cursor line.new result bytes.now }
+    ensures failed { FailsAt result out.old.failed out.new.failed }
+{
+    for b in bytes {
+        take_byte(alloc, session, line, *b, out)?;
+    }
+    Ok(())
+}
+
 /// Takes in one byte. If it is a line feed, answers the line.
 fn take_byte<W: Write>(
     alloc: Global,
@@ -32,25 +52,5 @@ fn take_byte<W: Write>(
     }
     answer_line(alloc, session, line, out)?;
     line.clear();
-    Ok(())
-}
-
-/// Takes in bytes, and answers each line that ends among them.
-pub(crate) fn take_bytes<W: Write>(
-    alloc: Global,
-    session: &mut Session,
-    line: &mut Line,
-    bytes: &[u8],
-    out: &mut Outlet<W>,
-) -> Result<(), WriteFailed>
-    ensures kept { incident_of session.new ≡ incident_of session.old }
-    ensures heard { Takes (incident_of session.old) (W.contents out.old.writer)
-        session.old.cursor line.old
-        (W.contents out.new.writer) session.new.cursor line.new result bytes.now }
-    ensures failed { FailsAt result out.old.failed out.new.failed }
-{
-    for b in bytes {
-        take_byte(alloc, session, line, *b, out)?;
-    }
     Ok(())
 }

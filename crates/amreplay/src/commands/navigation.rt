@@ -15,68 +15,107 @@ ghost use Rattle.amreplay.specs.declared.command_lines.command.Command.TheVarian
 use crate::command_lines::Move;
 use crate::commands::answer::{Answer, Refusal};
 use crate::lines::{Word, event_text, moves_text};
+use amr_actions::Event;
 use amr_engine::Outcome;
-use amr_events::Event;
 use amr_replay::Session;
 use amr_time::Moment;
 use std::alloc::{AllocError, Global};
 
-/// Returns how many moves an event made. A refused event made none.
-fn moves_of(outcome: &Outcome) -> usize
-    ensures { result ≡ moves_in (outcome_view outcome.now) }
+/// Executes `trial`, which tries an event and changes nothing.
+pub(crate) fn trial(alloc: Global, session: &mut Session, event: &Event) -> Answer
+    ensures kept { incident_of session.new ≡ incident_of session.old }
+    ensures answered { AnsweredBy session.old session.new (Asks (command.Trial event.now)) result }
 {
-    match outcome {
-        Outcome::Accepted {
-            moves,
-            notes: _,
-            skipped: _,
-        } => *moves,
-        Outcome::Refused(_) => 0,
+    match tried_text(alloc, session, event) {
+        Ok(text) => Answer::Built(text),
+        Err(_) => Answer::Refused(Word::Trial, Refusal::Memory),
     }
 }
 
-/// Returns the sum of the moves. A sum that doesn't fit a `usize` counts as out of memory.
-fn sum_of_moves(outcomes: &[Outcome]) -> Result<usize, AllocError>
-    ensures { IfOk result (λ sum. sum ≡ sum_by moves_in (map outcome_view outcomes.now)) }
+/// Returns the output of a trial of an event.
+fn tried_text(alloc: Global, session: &mut Session, event: &Event) -> Result<String, AllocError>
+    ensures same { session.new ≡ session.old }
+    ensures text { IfOk result (λ text. string_bytes text
+        ≡ tried_lines session.old.cursor
+        (outcome_of (state_in (incident_of session.old) session.old.cursor) event.now)) }
 {
-    let mut sum = 0usize;
-    for outcome in outcomes {
-        sum = sum.checked_add(moves_of(outcome)).ok_or(AllocError)?;
-    }
-    Ok(sum)
-}
-
-/// Returns the lines of events; `passed` is how many events come before them.
-fn numbered_text(alloc: Global, passed: usize, outcomes: &[Outcome]) -> Result<String, AllocError>
-    requires { passed + length outcomes.now < 2 ^ 64 }
-    ensures { IfOk result (λ text. string_bytes text
-        ≡ numbered_lines (passed + 1) (map outcome_view outcomes.now)) }
-{
-    let mut text = String::new(alloc);
-    let mut event = passed as u64;
-    for outcome in outcomes {
-        event += 1;
-        text.push_str(event_text(alloc, event, outcome)?.as_str())?;
-    }
+    let cursor = session.cursor();
+    let outcome = session.trial(event)?;
+    let mut text = event_text(alloc, 0, &outcome)?;
+    let moves = moves_of(&outcome);
+    text.push_str(moves_text(alloc, Word::Trial, cursor, moves)?.as_str())?;
     Ok(text)
 }
 
-/// Returns the output of a command that passes events.
-fn passed_text(
-    alloc: Global,
-    word: Word,
-    from: usize,
-    to: usize,
-    outcomes: &[Outcome],
-) -> Result<String, AllocError>
-    requires { from + length outcomes.now < 2 ^ 64 }
-    ensures { IfOk result (λ text. string_bytes text
-        ≡ passing_text from word to (map outcome_view outcomes.now)) }
+/// Executes a command that moves the cursor.
+pub(crate) fn move_cursor(alloc: Global, session: &mut Session, movement: Move) -> Answer
+    ensures kept { incident_of session.new ≡ incident_of session.old }
+    ensures answered { AnsweredBy session.old session.new (Asks (command.Move movement)) result }
 {
-    let mut text = numbered_text(alloc, from, outcomes)?;
-    let moves = sum_of_moves(outcomes)?;
-    text.push_str(moves_text(alloc, word, to, moves)?.as_str())?;
-    Ok(text)
+    match movement {
+        Move::Step => step(alloc, session),
+        Move::Back => back(session),
+        Move::Seek(to) => seek(alloc, session, to),
+        Move::SeekTime(at) => seek_time(alloc, session, at),
+    }
+}
+
+/// Executes `seek-time`, which moves the cursor after the first events that are all at or before a
+/// moment.
+fn seek_time(alloc: Global, session: &mut Session, at: Moment) -> Answer
+    ensures kept { incident_of session.new ≡ incident_of session.old }
+    ensures answered { AnsweredBy session.old session.new (Asks (command.Move (SeekTime at)))
+        result }
+{
+    let from = session.cursor();
+    match session.seek_time(at) {
+        Ok(outcomes) => moved(alloc, session, Word::SeekTime, from, outcomes.as_slice()),
+        Err(_) => Answer::Refused(Word::SeekTime, Refusal::Memory),
+    }
+}
+
+/// Executes `seek`, which moves the cursor to `to` events from the start.
+fn seek(alloc: Global, session: &mut Session, to: usize) -> Answer
+    ensures kept { incident_of session.new ≡ incident_of session.old }
+    ensures answered { AnsweredBy session.old session.new (Asks (command.Move (Seek to))) result }
+{
+    let from = session.cursor();
+    if session.events() < to {
+        return Answer::Refused(Word::Seek, Refusal::OutOfRange);
+    }
+    match session.seek(to) {
+        Ok(outcomes) => moved(alloc, session, Word::Seek, from, outcomes.as_slice()),
+        Err(_) => Answer::Refused(Word::Seek, Refusal::Memory),
+    }
+}
+
+/// Executes `back`, which undoes the last event. It takes no memory.
+fn back(session: &mut Session) -> Answer
+    ensures kept { incident_of session.new ≡ incident_of session.old }
+    ensures answered { AnsweredBy session.old session.new (Asks (command.Move Back)) result }
+{
+    if session.cursor() == 0 {
+        return Answer::Refused(Word::Back, Refusal::AtStart);
+    }
+    match session.back() {
+        Ok(()) => Answer::WentBack,
+        Err(_) => Answer::Refused(Word::Back, Refusal::AtStart),
+    }
+}
+
+/// Executes `step`, which passes the next event.
+fn step(alloc: Global, session: &mut Session) -> Answer
+    ensures kept { incident_of session.new ≡ incident_of session.old }
+    ensures answered { AnsweredBy session.old session.new (Asks (command.Move Step)) result }
+{
+    let from = session.cursor();
+    if from == session.events() {
+        return Answer::Refused(Word::Step, Refusal::AtEnd);
+    }
+    match session.step() {
+        Ok(outcome) => moved(alloc, session, Word::Step, from, &[outcome]),
+        Err(_) => Answer::Refused(Word::Step, Refusal::Memory),
+    }
 }
 
 /// Returns the answer to a command that moved the cursor from `from`. If memory runs out for its
@@ -107,98 +146,60 @@ fn moved(
     }
 }
 
-/// Executes `step`, which passes the next event.
-fn step(alloc: Global, session: &mut Session) -> Answer
-    ensures kept { incident_of session.new ≡ incident_of session.old }
-    ensures answered { AnsweredBy session.old session.new (Asks (command.Move Step)) result }
+/// Returns the output of a command that passes events.
+fn passed_text(
+    alloc: Global,
+    word: Word,
+    from: usize,
+    to: usize,
+    outcomes: &[Outcome],
+) -> Result<String, AllocError>
+    requires { from + length outcomes.now < 2 ^ 64 }
+    ensures { IfOk result (λ text. string_bytes text
+        ≡ passing_text from word to (map outcome_view outcomes.now)) }
 {
-    let from = session.cursor();
-    if from == session.events() {
-        return Answer::Refused(Word::Step, Refusal::AtEnd);
-    }
-    match session.step() {
-        Ok(outcome) => moved(alloc, session, Word::Step, from, &[outcome]),
-        Err(_) => Answer::Refused(Word::Step, Refusal::Memory),
-    }
-}
-
-/// Executes `back`, which undoes the last event. It takes no memory.
-fn back(session: &mut Session) -> Answer
-    ensures kept { incident_of session.new ≡ incident_of session.old }
-    ensures answered { AnsweredBy session.old session.new (Asks (command.Move Back)) result }
-{
-    if session.cursor() == 0 {
-        return Answer::Refused(Word::Back, Refusal::AtStart);
-    }
-    match session.back() {
-        Ok(()) => Answer::WentBack,
-        Err(_) => Answer::Refused(Word::Back, Refusal::AtStart),
-    }
-}
-
-/// Executes `seek`, which moves the cursor to `to` events from the start.
-fn seek(alloc: Global, session: &mut Session, to: usize) -> Answer
-    ensures kept { incident_of session.new ≡ incident_of session.old }
-    ensures answered { AnsweredBy session.old session.new (Asks (command.Move (Seek to))) result }
-{
-    let from = session.cursor();
-    if session.events() < to {
-        return Answer::Refused(Word::Seek, Refusal::OutOfRange);
-    }
-    match session.seek(to) {
-        Ok(outcomes) => moved(alloc, session, Word::Seek, from, outcomes.as_slice()),
-        Err(_) => Answer::Refused(Word::Seek, Refusal::Memory),
-    }
-}
-
-/// Executes `seek-time`, which moves the cursor after the first events that are all at or before a
-/// moment.
-fn seek_time(alloc: Global, session: &mut Session, at: Moment) -> Answer
-    ensures kept { incident_of session.new ≡ incident_of session.old }
-    ensures answered { AnsweredBy session.old session.new (Asks (command.Move (SeekTime at))) result }
-{
-    let from = session.cursor();
-    match session.seek_time(at) {
-        Ok(outcomes) => moved(alloc, session, Word::SeekTime, from, outcomes.as_slice()),
-        Err(_) => Answer::Refused(Word::SeekTime, Refusal::Memory),
-    }
-}
-
-/// Executes a command that moves the cursor.
-pub(crate) fn move_cursor(alloc: Global, session: &mut Session, movement: Move) -> Answer
-    ensures kept { incident_of session.new ≡ incident_of session.old }
-    ensures answered { AnsweredBy session.old session.new (Asks (command.Move movement)) result }
-{
-    match movement {
-        Move::Step => step(alloc, session),
-        Move::Back => back(session),
-        Move::Seek(to) => seek(alloc, session, to),
-        Move::SeekTime(at) => seek_time(alloc, session, at),
-    }
-}
-
-/// Returns the output of a trial of an event.
-fn tried_text(alloc: Global, session: &mut Session, event: &Event) -> Result<String, AllocError>
-    ensures same { session.new ≡ session.old }
-    ensures text { IfOk result (λ text. string_bytes text
-        ≡ tried_lines session.old.cursor
-        (outcome_of (state_in (incident_of session.old) session.old.cursor) event.now)) }
-{
-    let cursor = session.cursor();
-    let outcome = session.trial(event)?;
-    let mut text = event_text(alloc, 0, &outcome)?;
-    let moves = moves_of(&outcome);
-    text.push_str(moves_text(alloc, Word::Trial, cursor, moves)?.as_str())?;
+    let mut text = numbered_text(alloc, from, outcomes)?;
+    let moves = sum_of_moves(outcomes)?;
+    text.push_str(moves_text(alloc, word, to, moves)?.as_str())?;
     Ok(text)
 }
 
-/// Executes `trial`, which tries an event and changes nothing.
-pub(crate) fn trial(alloc: Global, session: &mut Session, event: &Event) -> Answer
-    ensures kept { incident_of session.new ≡ incident_of session.old }
-    ensures answered { AnsweredBy session.old session.new (Asks (command.Trial event.now)) result }
+/// Returns the lines of events; `passed` is how many events come before them.
+fn numbered_text(alloc: Global, passed: usize, outcomes: &[Outcome]) -> Result<String, AllocError>
+    requires { passed + length outcomes.now < 2 ^ 64 }
+    ensures { IfOk result (λ text. string_bytes text
+        ≡ numbered_lines (passed + 1) (map outcome_view outcomes.now)) }
 {
-    match tried_text(alloc, session, event) {
-        Ok(text) => Answer::Built(text),
-        Err(_) => Answer::Refused(Word::Trial, Refusal::Memory),
+    let mut text = String::new(alloc);
+    let mut event = passed as u64;
+    for outcome in outcomes {
+        event += 1;
+        text.push_str(event_text(alloc, event, outcome)?.as_str())?;
+    }
+    Ok(text)
+}
+
+/// Returns the sum of the moves. A sum that doesn't fit a `usize` counts as out of memory.
+fn sum_of_moves(outcomes: &[Outcome]) -> Result<usize, AllocError>
+    ensures { IfOk result (λ sum. sum ≡ sum_by moves_in (map outcome_view outcomes.now)) }
+{
+    let mut sum = 0usize;
+    for outcome in outcomes {
+        sum = sum.checked_add(moves_of(outcome)).ok_or(AllocError)?;
+    }
+    Ok(sum)
+}
+
+/// Returns how many moves an event made. A refused event made none.
+fn moves_of(outcome: &Outcome) -> usize
+    ensures { result ≡ moves_in (outcome_view outcome.now) }
+{
+    match outcome {
+        Outcome::Accepted {
+            moves,
+            notes: _,
+            skipped: _,
+        } => *moves,
+        Outcome::Refused(_) => 0,
     }
 }

@@ -1,6 +1,6 @@
 //! JSON written straight into a writer's buffer: texts under their names, label sets, moments,
-//! numbers. The writer sets commas, colons and escapes; a caller keeps members in the order of their
-//! names.
+//! numbers. The writer sets commas, colons and escapes; a caller keeps members in the order of
+//! their names.
 ghost use Rattle.std.specs.Prelude.{◌≡◌, ◌∷◌, [], ◌++◌, T, codes, IfOk, OnOk, IsUtf8, string_bytes};
 ghost use Rattle.std.specs.FinMap.{is_sorted};
 ghost use Rattle.json.specs.Print.{print};
@@ -164,7 +164,7 @@ pub(crate) fn line_writer(alloc: Global) -> Result<Writer, AllocError>
 pub(crate) fn end_line(mut lines: Vec<u8>, out: Writer) -> Result<Vec<u8>, AllocError>
     requires { out.before ≡ [] }
     ensures line { IfOk result (λ more. more.items
-        ≡ (lines.items ++ print out.tokens) ++ 10 ∷ []) }
+        ≡ (lines.items ++ print out.tokens) ++ codes "\n") }
     ensures utf8 { IsUtf8 (print out.tokens) }
 {
     let line = out.into_inner();

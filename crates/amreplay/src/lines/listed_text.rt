@@ -1,6 +1,6 @@
-//! What listings print, as JSON: alerts, silences, groups, and entries of the notification log, each
-//! written straight into the buffer of its line. Keys have the names of Alertmanager's API v2, if
-//! it has them.
+//! What listings print, as JSON: alerts, silences, groups, and entries of the notification log,
+//! each written straight into the buffer of its line. Keys have the names of Alertmanager's API v2,
+//! if it has them.
 ghost use Rattle.std.specs.Prelude.{◌≡◌, codes, map, OnOk};
 ghost use Rattle.serde_json.specs.Data.{array};
 ghost use Rattle.serde_json.specs.View.{items_of};

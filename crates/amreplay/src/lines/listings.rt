@@ -3,7 +3,7 @@
 ghost use Rattle.std.specs.Prelude.{◌≡◌, ◌++◌, IfOk};
 ghost use Rattle.std.specs.List.{flat_map};
 ghost use Rattle.amr_labels.specs.Map.{entries};
-ghost use Rattle.amreplay.specs.Lines.Printed.{alert_line, silence_line, group_seen_line, log_line};
+ghost use Rattle.amreplay.specs.Lines.Printed.{alert_line, silence_line, group_line, log_line};
 
 use crate::lines::json_text::{end_line, line_writer};
 use crate::lines::listed_text::{write_alert, write_entry, write_group, write_silence};
@@ -67,7 +67,7 @@ pub fn silence_lines(alloc: Global, store: &Store) -> Result<Vec<u8>, AllocError
 
 /// Returns the lines with the line of a group after them.
 fn append_group(lines: Vec<u8>, alloc: Global, group: &Group) -> Result<Vec<u8>, AllocError>
-    ensures { IfOk result (λ more. more.items ≡ lines.items ++ group_seen_line group.now) }
+    ensures { IfOk result (λ more. more.items ≡ lines.items ++ group_line group.now) }
 {
     let mut out = line_writer(alloc)?;
     write_group(&mut out, alloc, group)?;
@@ -76,7 +76,7 @@ fn append_group(lines: Vec<u8>, alloc: Global, group: &Group) -> Result<Vec<u8>,
 
 /// Returns the lines of groups.
 pub fn group_lines(alloc: Global, groups: &[Group]) -> Result<Vec<u8>, AllocError>
-    ensures { IfOk result (λ lines. lines.items ≡ flat_map group_seen_line groups.now) }
+    ensures { IfOk result (λ lines. lines.items ≡ flat_map group_line groups.now) }
 {
     let mut lines = Vec::new(alloc);
     for group in groups {

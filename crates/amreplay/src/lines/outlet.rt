@@ -1,16 +1,26 @@
 //! A writer that knows whether it failed. A failed write is then never taken for memory that ran
-//! out, and what was written is always a prefix of the text. Everything that is printed goes through
-//! it.
+//! out, and what was written is always a prefix of the text. Everything that is printed goes
+//! through it.
 ghost use Rattle.std.specs.Prelude.{◌≡◌, ◌≢◌, IfOk, flat_map, false};
 ghost use Rattle.std.specs.Io.KnownBytes.{WriteAppends, Keeps};
 ghost use Rattle.std.specs.Io.{WritesAtMost};
 ghost use Rattle.amreplay.specs.Lines.Outlet.{WritesText, FailsAt};
 
+use std::error::Error;
+use std::fmt;
 use std::io::Write;
 
 /// The writer failed after a prefix of the text.
 #[derive(Clone, Copy, Debug, PartialEq, Eq)]
 pub struct WriteFailed;
+
+impl fmt::Display for WriteFailed {
+    fn fmt<W: fmt::Write>(&self, f: &mut fmt::Formatter<W>) -> fmt::Result {
+        f.write_str("writing failed")
+    }
+}
+
+impl Error for WriteFailed {}
 
 /// A writer, and whether it failed.
 #[derive(Drop)]

@@ -14,19 +14,77 @@ use amr_labels::Text;
 use serde_json::{Map, Value, json, put};
 use std::alloc::{AllocError, Global};
 
-/// Returns the printed name of a finding.
-fn finding_name(finding: &Finding) -> &'static str
-    ensures { result.now ≡ name_of_finding finding.now }
+/// Returns the lines of verdicts.
+pub fn verdicts_text(alloc: Global, verdicts: &[Verdict]) -> Result<String, AllocError>
+    ensures { IfOk result (λ text. string_bytes text ≡ flat_map verdict_line verdicts.now) }
 {
-    match finding {
-        Finding::Waiting { due: _ } => "Waiting",
-        Finding::Inhibited { rule: _, source: _ } => "Inhibited",
-        Finding::OutsideActive => "OutsideActive",
-        Finding::TimeMuted => "TimeMuted",
-        Finding::Silenced { id: _ } => "Silenced",
-        Finding::Nowhere => "Nowhere",
-        Finding::Told { at: _ } => "Told",
-        Finding::Due { at: _ } => "Due",
+    let mut text = String::new(alloc);
+    for verdict in verdicts {
+        text.push_str(verdict_text(alloc, verdict)?.as_str())?;
+    }
+    Ok(text)
+}
+
+/// Returns the line of a verdict.
+fn verdict_text(alloc: Global, verdict: &Verdict) -> Result<String, AllocError>
+    ensures { IfOk result (λ text. string_bytes text ≡ verdict_line verdict.now) }
+{
+    let value = verdict_value(alloc, verdict)?;
+    line_text(alloc, &value)
+}
+
+/// Returns a verdict as JSON.
+#[tactic(auto, unfolding(crate::specs::Lines::Verdicts::verdict_data))]
+fn verdict_value(alloc: Global, verdict: &Verdict) -> Result<Value, AllocError>
+    ensures { IfOk result (λ v. view v ≡ verdict_data verdict.now) }
+{
+    match verdict {
+        Verdict::Unknown => json!(in alloc; {"verdict": "Unknown"}),
+        Verdict::Ended => json!(in alloc; {"verdict": "Ended"}),
+        Verdict::AtRoute {
+            route,
+            receiver,
+            integration,
+            finding,
+        } => at_route_value(alloc, *route, receiver.as_str(), integration, finding),
+    }
+}
+
+/// Returns a finding at a route as JSON.
+fn at_route_value(
+    alloc: Global,
+    route: usize,
+    receiver: &str,
+    integration: &Option<(Text, usize)>,
+    finding: &Finding,
+) -> Result<Value, AllocError>
+    ensures { IfOk result (λ v. view v
+        ≡ verdict_data (AtRoute route receiver.now integration.now finding.now)) }
+{
+    let mut members = Map::new(alloc);
+    put_text(&mut members, alloc, "verdict", finding_name(finding))?;
+    put(&mut members, alloc, "route", Value::from(route))?;
+    put_text(&mut members, alloc, "receiver", receiver)?;
+    put_integration(alloc, &mut members, integration)?;
+    put_finding(alloc, &mut members, finding)?;
+    Ok(Value::Object(members))
+}
+
+/// Puts an integration, if there is one, into an object, by its kind and its index.
+fn put_integration(
+    alloc: Global,
+    members: &mut Map<String, Value>,
+    integration: &Option<(Text, usize)>,
+) -> Result<(), AllocError>
+    ensures { OnOk result (members_view members.new.entries
+        ≡ with_members (integration_members integration.now) (members_view members.old.entries)) }
+{
+    match integration {
+        None => Ok(()),
+        Some(integration) => {
+            put(members, alloc, "place", Value::from(integration.1))?;
+            put_text(members, alloc, "integration", integration.0.as_str())
+        }
     }
 }
 
@@ -54,76 +112,18 @@ fn put_finding(
     }
 }
 
-/// Puts an integration, if there is one, into an object, by its kind and its index.
-fn put_integration(
-    alloc: Global,
-    members: &mut Map<String, Value>,
-    integration: &Option<(Text, usize)>,
-) -> Result<(), AllocError>
-    ensures { OnOk result (members_view members.new.entries
-        ≡ with_members (integration_members integration.now) (members_view members.old.entries)) }
+/// Returns the printed name of a finding.
+fn finding_name(finding: &Finding) -> &'static str
+    ensures { result.now ≡ name_of_finding finding.now }
 {
-    match integration {
-        None => Ok(()),
-        Some(integration) => {
-            put(members, alloc, "place", Value::from(integration.1))?;
-            put_text(members, alloc, "integration", integration.0.as_str())
-        }
+    match finding {
+        Finding::Waiting { due: _ } => "Waiting",
+        Finding::Inhibited { rule: _, source: _ } => "Inhibited",
+        Finding::OutsideActive => "OutsideActive",
+        Finding::TimeMuted => "TimeMuted",
+        Finding::Silenced { id: _ } => "Silenced",
+        Finding::Nowhere => "Nowhere",
+        Finding::Told { at: _ } => "Told",
+        Finding::Due { at: _ } => "Due",
     }
-}
-
-/// Returns a finding at a route as JSON.
-fn at_route_value(
-    alloc: Global,
-    route: usize,
-    receiver: &str,
-    integration: &Option<(Text, usize)>,
-    finding: &Finding,
-) -> Result<Value, AllocError>
-    ensures { IfOk result (λ v. view v
-        ≡ verdict_data (AtRoute route receiver.now integration.now finding.now)) }
-{
-    let mut members = Map::new(alloc);
-    put_text(&mut members, alloc, "verdict", finding_name(finding))?;
-    put(&mut members, alloc, "route", Value::from(route))?;
-    put_text(&mut members, alloc, "receiver", receiver)?;
-    put_integration(alloc, &mut members, integration)?;
-    put_finding(alloc, &mut members, finding)?;
-    Ok(Value::Object(members))
-}
-
-/// Returns a verdict as JSON.
-#[tactic(auto, unfolding(crate::specs::Lines::Verdicts::verdict_data))]
-fn verdict_value(alloc: Global, verdict: &Verdict) -> Result<Value, AllocError>
-    ensures { IfOk result (λ v. view v ≡ verdict_data verdict.now) }
-{
-    match verdict {
-        Verdict::Unknown => json!(in alloc; {"verdict": "Unknown"}),
-        Verdict::Ended => json!(in alloc; {"verdict": "Ended"}),
-        Verdict::AtRoute {
-            route,
-            receiver,
-            integration,
-            finding,
-        } => at_route_value(alloc, *route, receiver.as_str(), integration, finding),
-    }
-}
-
-/// Returns the line of a verdict.
-fn verdict_text(alloc: Global, verdict: &Verdict) -> Result<String, AllocError>
-    ensures { IfOk result (λ text. string_bytes text ≡ verdict_line verdict.now) }
-{
-    let value = verdict_value(alloc, verdict)?;
-    line_text(alloc, &value)
-}
-
-/// Returns the lines of verdicts.
-pub fn verdicts_text(alloc: Global, verdicts: &[Verdict]) -> Result<String, AllocError>
-    ensures { IfOk result (λ text. string_bytes text ≡ flat_map verdict_line verdicts.now) }
-{
-    let mut text = String::new(alloc);
-    for verdict in verdicts {
-        text.push_str(verdict_text(alloc, verdict)?.as_str())?;
-    }
-    Ok(text)
 }

@@ -13,24 +13,6 @@ use serde_json::{Value, json};
 use std::alloc::{AllocError, Global};
 use std::io::Write;
 
-/// Returns as JSON how many receivers, routes (with the root) and inhibition rules there are.
-fn counts_value(alloc: Global, config: &Config) -> Result<Value, AllocError>
-    ensures { IfOk result (λ v. view v ≡ counts_data config.now) }
-{
-    let receivers = config.receiver_count();
-    let routes = config.route_count();
-    let rules = config.rules().len();
-    json!(in alloc; {"receivers": receivers, "routes": routes, "rules": rules})
-}
-
-/// Returns the same as a line.
-fn counts_text(alloc: Global, config: &Config) -> Result<String, AllocError>
-    ensures { IfOk result (λ text. string_bytes text ≡ counts_line config.now) }
-{
-    let value = counts_value(alloc, config)?;
-    line_text(alloc, &value)
-}
-
 /// Validates a configuration, and writes a line with the numbers of its receivers, routes and
 /// inhibition rules. Writes nothing if the configuration is refused.
 pub fn check_config<W: Write>(
@@ -47,4 +29,22 @@ pub fn check_config<W: Write>(
     write_whole(out, text.as_bytes())?;
     flush(out)?;
     Ok(())
+}
+
+/// Returns the same as a line.
+fn counts_text(alloc: Global, config: &Config) -> Result<String, AllocError>
+    ensures { IfOk result (λ text. string_bytes text ≡ counts_line config.now) }
+{
+    let value = counts_value(alloc, config)?;
+    line_text(alloc, &value)
+}
+
+/// Returns as JSON how many receivers, routes (with the root) and inhibition rules there are.
+fn counts_value(alloc: Global, config: &Config) -> Result<Value, AllocError>
+    ensures { IfOk result (λ v. view v ≡ counts_data config.now) }
+{
+    let receivers = config.receiver_count();
+    let routes = config.route_count();
+    let rules = config.rules().len();
+    json!(in alloc; {"receivers": receivers, "routes": routes, "rules": rules})
 }

@@ -10,6 +10,8 @@ use amr_events::{Fault as ScriptFault, ScriptError};
 use amr_loading::{ConfigError, Refusal};
 use itoa::Buffer;
 use std::alloc::AllocError;
+use std::error::Error;
+use std::fmt;
 use std::io::Write;
 
 /// A reason to stop the program.
@@ -23,19 +25,36 @@ pub enum Fault {
     CannotReadScript,
     CannotReadCommands,
     CannotWrite,
-    OutOfMemory,
+    Memory,
     /// The arguments aren't a command line of the program.
     Usage,
 }
 
+impl fmt::Display for Fault {
+    fn fmt<W: fmt::Write>(&self, f: &mut fmt::Formatter<W>) -> fmt::Result {
+        match self {
+            Fault::Config(refusal) => write!(f, "config: {refusal}"),
+            Fault::Script(fault) => write!(f, "script: {fault}"),
+            Fault::CannotReadConfig => f.write_str("cannot read config"),
+            Fault::CannotReadScript => f.write_str("cannot read script"),
+            Fault::CannotReadCommands => f.write_str("cannot read commands"),
+            Fault::CannotWrite => f.write_str("cannot write"),
+            Fault::Memory => f.write_str("out of memory"),
+            Fault::Usage => f.write_str("usage"),
+        }
+    }
+}
+
+impl Error for Fault {}
+
 impl From<AllocError> for Fault {
     ghost use Rattle.std.specs.Prelude.{◌≡◌};
-    ghost use Rattle.amreplay.specs.declared.program.fault.Fault.TheVariants.{OutOfMemory};
+    ghost use Rattle.amreplay.specs.declared.program.fault.Fault.TheVariants.{Memory};
 
-    ghost from_gives = { λ _ fault. fault ≡ OutOfMemory };
+    ghost from_gives = { λ _ fault. fault ≡ Memory };
 
     fn from(_error: AllocError) -> Fault {
-        Fault::OutOfMemory
+        Fault::Memory
     }
 }
 
@@ -47,7 +66,7 @@ impl From<ConfigError> for Fault {
 
     fn from(error: ConfigError) -> Fault {
         match error {
-            ConfigError::Memory => Fault::OutOfMemory,
+            ConfigError::Memory => Fault::Memory,
             ConfigError::Refused(refusal) => Fault::Config(refusal),
         }
     }
@@ -61,7 +80,7 @@ impl From<ScriptError> for Fault {
 
     fn from(error: ScriptError) -> Fault {
         match error {
-            ScriptError::Memory => Fault::OutOfMemory,
+            ScriptError::Memory => Fault::Memory,
             ScriptError::Refused(fault) => Fault::Script(fault),
         }
     }
@@ -75,7 +94,7 @@ impl From<RunError> for Fault {
 
     fn from(error: RunError) -> Fault {
         match error {
-            RunError::OutOfMemory => Fault::OutOfMemory,
+            RunError::Memory => Fault::Memory,
             RunError::CannotWrite => Fault::CannotWrite,
         }
     }
@@ -114,7 +133,7 @@ enum Place<'a> {
     AtLine(u64),
 }
 
-ghost use Rattle.amreplay.specs.Program.Faults.{fault_line, fault_name, config_name as config_name_of, script_name as script_name_of, fault_place, config_place as config_place_of, script_place as script_place_of, path_place as place_of_path, line_with_place, place_of as place_seen, status_of as fault_status};
+ghost use Rattle.amreplay.specs.Program.Faults.{fault_line, fault_prefix, fault_name, fault_place, config_place as config_place_of, script_place as script_place_of, path_place as place_of_path, line_with_place, place_of as place_seen, status_of as fault_status};
 
 /// Writes the line of a fault. It takes no memory.
 pub fn write_fault<W: Write>(fault: &Fault, out: &mut Outlet<W>) -> Result<(), WriteFailed>
@@ -122,70 +141,73 @@ pub fn write_fault<W: Write>(fault: &Fault, out: &mut Outlet<W>) -> Result<(), W
         result (fault_line fault.now) }
     ensures failed { FailsAt result out.old.failed out.new.failed }
 {
-    write_line(name_of(fault), &place_of(fault), out)
+    write_line(prefix_of(fault), name_of(fault), &place_of(fault), out)
 }
 
-/// Writes the line of a fault from its name and its place.
-fn write_line<W: Write>(name: &str, place: &Place, out: &mut Outlet<W>) -> Result<(), WriteFailed>
+/// Writes the line of a fault from its prefix, its name and its place.
+fn write_line<W: Write>(
+    prefix: &str,
+    name: &str,
+    place: &Place,
+    out: &mut Outlet<W>,
+) -> Result<(), WriteFailed>
     ensures written { WritesText (W.contents out.old.writer) (W.contents out.new.writer)
-        result (line_with_place name.now (place_seen place.now)) }
+        result (line_with_place prefix.now name.now (place_seen place.now)) }
     ensures failed { FailsAt result out.old.failed out.new.failed }
 {
     match place {
-        Place::Nowhere => write_parts(out, &[name.as_bytes(), b"\n"]),
-        Place::AtPath(path) => {
-            write_parts(out, &[name.as_bytes(), b" at ", path.as_bytes(), b"\n"])
-        }
+        Place::Nowhere => write_parts(out, &[prefix.as_bytes(), name.as_bytes(), b"\n"]),
+        Place::AtPath(path) => write_parts(
+            out,
+            &[
+                prefix.as_bytes(),
+                name.as_bytes(),
+                b" at ",
+                path.as_bytes(),
+                b"\n",
+            ],
+        ),
         Place::AtLine(line) => {
             let mut digits = Buffer::new();
             let digits = digits.format(*line);
             write_parts(
                 out,
-                &[name.as_bytes(), b" at line ", digits.as_bytes(), b"\n"],
+                &[
+                    prefix.as_bytes(),
+                    name.as_bytes(),
+                    b" at line ",
+                    digits.as_bytes(),
+                    b"\n",
+                ],
             )
         }
     }
 }
 
 /// Returns what the line of a fault begins with.
+fn prefix_of(fault: &Fault) -> &'static str
+    ensures { result.now ≡ fault_prefix fault.now }
+{
+    match fault {
+        Fault::Config(_) => "amreplay: config: ",
+        Fault::Script(_) => "amreplay: script: ",
+        _ => "amreplay: ",
+    }
+}
+
+/// Returns the name of a fault, with its number if it has one.
 fn name_of(fault: &Fault) -> &'static str
     ensures { result.now ≡ fault_name fault.now }
 {
     match fault {
-        Fault::Config(refusal) => config_name(refusal),
-        Fault::Script(fault) => script_name(*fault),
-        Fault::CannotReadConfig => "amreplay: cannot read config",
-        Fault::CannotReadScript => "amreplay: cannot read script",
-        Fault::CannotReadCommands => "amreplay: cannot read commands",
-        Fault::CannotWrite => "amreplay: cannot write",
-        Fault::OutOfMemory => "amreplay: out of memory",
-        Fault::Usage => "amreplay: usage",
-    }
-}
-
-/// Returns the number and the name of a refusal, with what comes before them.
-fn config_name(refusal: &Refusal) -> &'static str
-    ensures { result.now ≡ config_name_of refusal.now }
-{
-    match refusal {
-        Refusal::BadConfig { path: _ } => "amreplay: config: 5 BadConfig",
-        Refusal::UnknownReceiver => "amreplay: config: 6 UnknownReceiver",
-        Refusal::DuplicateReceiver => "amreplay: config: 7 DuplicateReceiver",
-        Refusal::RootRoute => "amreplay: config: 8 RootRoute",
-        Refusal::ZeroInterval => "amreplay: config: 9 ZeroInterval",
-        Refusal::BadGroupBy => "amreplay: config: 10 BadGroupBy",
-        Refusal::TooDeep => "amreplay: config: 11 TooDeep",
-    }
-}
-
-/// Returns the number and the name of a script's fault, with what comes before them.
-fn script_name(fault: ScriptFault) -> &'static str
-    ensures { result.now ≡ script_name_of fault }
-{
-    match fault {
-        ScriptFault::BadLine { line: _ } => "amreplay: script: 13 BadLine",
-        ScriptFault::LineTooLong { line: _ } => "amreplay: script: 14 LineTooLong",
-        ScriptFault::TooManyEvents => "amreplay: script: 15 TooManyEvents",
+        Fault::Config(refusal) => refusal.printed_name(),
+        Fault::Script(fault) => fault.printed_name(),
+        Fault::CannotReadConfig => "cannot read config",
+        Fault::CannotReadScript => "cannot read script",
+        Fault::CannotReadCommands => "cannot read commands",
+        Fault::CannotWrite => "cannot write",
+        Fault::Memory => "out of memory",
+        Fault::Usage => "usage",
     }
 }
 

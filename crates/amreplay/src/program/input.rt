@@ -6,6 +6,8 @@ ghost use Rattle.amreplay.specs.Program.Input.{UnreadBy};
 
 use crate::lines::{Inlet, ReadFailed};
 use std::alloc::{AllocError, Global};
+use std::error::Error;
+use std::fmt;
 use std::io::Read;
 
 /// How many bytes are asked for at once.
@@ -14,18 +16,29 @@ const CHUNK: usize = 8192;
 /// Why a file couldn't be read.
 #[derive(Clone, Copy, Debug, PartialEq, Eq)]
 pub enum InputError {
-    OutOfMemory,
+    Memory,
     CannotRead,
 }
 
+impl fmt::Display for InputError {
+    fn fmt<W: fmt::Write>(&self, f: &mut fmt::Formatter<W>) -> fmt::Result {
+        f.write_str(match self {
+            InputError::Memory => "out of memory",
+            InputError::CannotRead => "cannot read",
+        })
+    }
+}
+
+impl Error for InputError {}
+
 impl From<AllocError> for InputError {
     ghost use Rattle.std.specs.Prelude.{◌≡◌};
-    ghost use Rattle.amreplay.specs.declared.program.input.InputError.TheVariants.{OutOfMemory};
+    ghost use Rattle.amreplay.specs.declared.program.input.InputError.TheVariants.{Memory};
 
-    ghost from_gives = { λ _ unread. unread ≡ OutOfMemory };
+    ghost from_gives = { λ _ unread. unread ≡ Memory };
 
     fn from(_error: AllocError) -> InputError {
-        InputError::OutOfMemory
+        InputError::Memory
     }
 }
 

@@ -17,43 +17,15 @@ use std::alloc::{AllocError, Global};
 /// The most bytes of a configuration, 1 MiB.
 pub const LONGEST_CONFIG: usize = 1_048_576;
 
-/// Returns the JSON value that the bytes spell, or `None` if they aren't JSON in UTF-8.
-#[tactic(auto, unfolding(crate::specs::Program::Files::json_of))]
-fn json(alloc: Global, bytes: &[u8]) -> Result<Option<Value>, AllocError>
-    ensures { IfOk result (λ found. option_map view found ≡ json_of bytes.now) }
+/// Opens a session of a script under a configuration, with the cursor at the start. If both files
+/// are faulty, the fault is that of the configuration.
+pub fn open_session(alloc: Global, config: &[u8], script: Vec<u8>) -> Result<Session, Fault>
+    ensures { Opens config.now script.items result }
 {
-    match Value::from_slice(alloc, bytes) {
-        Ok(value) => Ok(Some(value)),
-        Err(error) => {
-            if error.is_memory() {
-                Err(AllocError)
-            } else {
-                Ok(None)
-            }
-        }
-    }
-}
-
-/// Returns the refusal of a whole file, whose path is empty.
-fn whole_file(alloc: Global) -> Result<Refusal, AllocError>
-    ensures { IfOk result (λ refusal. refusal ≡ BadConfig []) }
-{
-    Ok(Refusal::BadConfig {
-        path: Text::from_str(alloc, "")?,
-    })
-}
-
-/// Reads a configuration from the bytes of its file, which must be JSON of at most 1 MiB.
-#[tactic(auto, unfolding(crate::specs::Program::Files::ConfigFileIs))]
-pub fn read_config(alloc: Global, bytes: &[u8]) -> Result<Config, ConfigError>
-    ensures { ReadsAs bytes.now result }
-{
-    if bytes.len() > LONGEST_CONFIG {
-        return Err(ConfigError::Refused(whole_file(alloc)?));
-    }
-    match json(alloc, bytes)? {
-        Some(value) => load_config(alloc, &value),
-        None => Err(ConfigError::Refused(whole_file(alloc)?)),
+    let (config, script) = read_files(alloc, config, script)?;
+    match Session::new(alloc, config, script) {
+        Ok(session) => Ok(session),
+        Err(_) => Err(Fault::Memory),
     }
 }
 
@@ -71,14 +43,42 @@ pub(crate) fn read_files(
     Ok((config, events))
 }
 
-/// Opens a session of a script under a configuration, with the cursor at the start. If both files
-/// are faulty, the fault is that of the configuration.
-pub fn open_session(alloc: Global, config: &[u8], script: Vec<u8>) -> Result<Session, Fault>
-    ensures { Opens config.now script.items result }
+/// Reads a configuration from the bytes of its file, which must be JSON of at most 1 MiB.
+#[tactic(auto, unfolding(crate::specs::Program::Files::ConfigFileIs))]
+pub fn read_config(alloc: Global, bytes: &[u8]) -> Result<Config, ConfigError>
+    ensures { ReadsAs bytes.now result }
 {
-    let (config, script) = read_files(alloc, config, script)?;
-    match Session::new(alloc, config, script) {
-        Ok(session) => Ok(session),
-        Err(_) => Err(Fault::OutOfMemory),
+    if bytes.len() > LONGEST_CONFIG {
+        return Err(ConfigError::Refused(whole_file(alloc)?));
+    }
+    match json(alloc, bytes)? {
+        Some(value) => load_config(alloc, &value),
+        None => Err(ConfigError::Refused(whole_file(alloc)?)),
+    }
+}
+
+/// Returns the refusal of a whole file, whose path is empty.
+fn whole_file(alloc: Global) -> Result<Refusal, AllocError>
+    ensures { IfOk result (λ refusal. refusal ≡ BadConfig []) }
+{
+    Ok(Refusal::BadConfig {
+        path: Text::from_str(alloc, "")?,
+    })
+}
+
+/// Returns the JSON value that the bytes spell, or `None` if they aren't JSON in UTF-8.
+#[tactic(auto, unfolding(crate::specs::Program::Files::json_of))]
+fn json(alloc: Global, bytes: &[u8]) -> Result<Option<Value>, AllocError>
+    ensures { IfOk result (λ found. option_map view found ≡ json_of bytes.now) }
+{
+    match Value::from_slice(alloc, bytes) {
+        Ok(value) => Ok(Some(value)),
+        Err(error) => {
+            if error.is_memory() {
+                Err(AllocError)
+            } else {
+                Ok(None)
+            }
+        }
     }
 }

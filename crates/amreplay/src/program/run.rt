@@ -12,27 +12,41 @@ ghost use Rattle.amr_state.specs.State.{start};
 use crate::lines::{Outlet, WriteFailed, event_text, flush, write_whole};
 use crate::program::fault::Fault;
 use crate::program::load::read_files;
+use amr_actions::Event;
 use amr_engine::{Engine, Outcome};
-use amr_events::{Event, Script};
+use amr_events::Script;
 use std::alloc::{AllocError, Global};
+use std::error::Error;
+use std::fmt;
 use std::io::Write;
 use std::mem::forget;
 
 /// Why a run ended before its last line.
 #[derive(Debug, Drop)]
 pub enum RunError {
-    OutOfMemory,
+    Memory,
     CannotWrite,
 }
 
+impl fmt::Display for RunError {
+    fn fmt<W: fmt::Write>(&self, f: &mut fmt::Formatter<W>) -> fmt::Result {
+        f.write_str(match self {
+            RunError::Memory => "out of memory",
+            RunError::CannotWrite => "cannot write",
+        })
+    }
+}
+
+impl Error for RunError {}
+
 impl From<AllocError> for RunError {
     ghost use Rattle.std.specs.Prelude.{◌≡◌};
-    ghost use Rattle.amreplay.specs.declared.program.run.RunError.TheVariants.{OutOfMemory};
+    ghost use Rattle.amreplay.specs.declared.program.run.RunError.TheVariants.{Memory};
 
-    ghost from_gives = { λ _ e. e ≡ OutOfMemory };
+    ghost from_gives = { λ _ e. e ≡ Memory };
 
     fn from(_error: AllocError) -> RunError {
-        RunError::OutOfMemory
+        RunError::Memory
     }
 }
 
@@ -45,77 +59,6 @@ impl From<WriteFailed> for RunError {
     fn from(_error: WriteFailed) -> RunError {
         RunError::CannotWrite
     }
-}
-
-/// Writes the lines of an event's outcome. Their text is built first, so that running out of memory
-/// never leaves half a line.
-fn write_event<W: Write>(
-    alloc: Global,
-    event: u64,
-    outcome: &Outcome,
-    out: &mut Outlet<W>,
-) -> Result<(), RunError>
-    ensures left { Leaves (W.contents out.old.writer) (W.contents out.new.writer)
-        (event_lines event (outcome_view outcome.now)) result }
-    ensures error { StoppedBy result out.old.failed out.new.failed }
-{
-    let text = event_text(alloc, event, outcome)?;
-    write_whole(out, text.as_bytes())?;
-    Ok(())
-}
-
-/// Applies an event, writes its lines, and drops its record, which a run doesn't need.
-fn pass_event<W: Write>(
-    alloc: Global,
-    engine: &mut Engine,
-    number: u64,
-    event: &Event,
-    out: &mut Outlet<W>,
-) -> Result<(), RunError>
-    ensures left { Leaves (W.contents out.old.writer) (W.contents out.new.writer)
-        (event_lines number (outcome_of engine.old.state event.now)) result }
-    ensures passed { OnOk result (engine.new.state ≡ after_event engine.old.state event.now) }
-    ensures forgotten { OnOk result (engine.new.records ≡ []) }
-    ensures error { StoppedBy result out.old.failed out.new.failed }
-{
-    let outcome = engine.apply(event)?;
-    engine.forget();
-    write_event(alloc, number, &outcome, out)
-}
-
-/// Applies all events of a script, and writes the lines of each.
-fn write_events<W: Write>(
-    alloc: Global,
-    engine: &mut Engine,
-    script: &Script,
-    out: &mut Outlet<W>,
-) -> Result<(), RunError>
-    requires { engine.old.state ≡ start engine.old.state.config }
-    ensures left { RunLeaves (W.contents out.old.writer) (W.contents out.new.writer)
-        engine.old.state.config script.now result }
-    ensures error { StoppedBy result out.old.failed out.new.failed }
-{
-    for number in 0..script.len() {
-        pass_event(alloc, engine, number as u64 + 1, script.event(number), out)?;
-    }
-    Ok(())
-}
-
-/// Applies all events, writes their lines, and flushes the writer, even if memory ran out.
-fn write_run<W: Write>(
-    alloc: Global,
-    engine: &mut Engine,
-    script: &Script,
-    out: &mut Outlet<W>,
-) -> Result<(), RunError>
-    requires { engine.old.state ≡ start engine.old.state.config }
-    ensures left { RunLeaves (W.contents out.old.writer) (W.contents out.new.writer)
-        engine.old.state.config script.now result }
-    ensures error { StoppedBy result out.old.failed out.new.failed }
-{
-    let ended = write_events(alloc, engine, script, out);
-    flush(out)?;
-    ended
 }
 
 /// Runs a script under a configuration, and writes the lines of its events.
@@ -141,5 +84,76 @@ pub fn run_script<W: Write>(
     forget(engine);
     forget(script);
     ended?;
+    Ok(())
+}
+
+/// Applies all events, writes their lines, and flushes the writer, even if memory ran out.
+fn write_run<W: Write>(
+    alloc: Global,
+    engine: &mut Engine,
+    script: &Script,
+    out: &mut Outlet<W>,
+) -> Result<(), RunError>
+    requires { engine.old.state ≡ start engine.old.state.config }
+    ensures left { RunLeaves (W.contents out.old.writer) (W.contents out.new.writer)
+        engine.old.state.config script.now result }
+    ensures error { StoppedBy result out.old.failed out.new.failed }
+{
+    let ended = write_events(alloc, engine, script, out);
+    flush(out)?;
+    ended
+}
+
+/// Applies all events of a script, and writes the lines of each.
+fn write_events<W: Write>(
+    alloc: Global,
+    engine: &mut Engine,
+    script: &Script,
+    out: &mut Outlet<W>,
+) -> Result<(), RunError>
+    requires { engine.old.state ≡ start engine.old.state.config }
+    ensures left { RunLeaves (W.contents out.old.writer) (W.contents out.new.writer)
+        engine.old.state.config script.now result }
+    ensures error { StoppedBy result out.old.failed out.new.failed }
+{
+    for number in 0..script.len() {
+        pass_event(alloc, engine, number as u64 + 1, script.event(number), out)?;
+    }
+    Ok(())
+}
+
+/// Applies an event, writes its lines, and drops its record, which a run doesn't need.
+fn pass_event<W: Write>(
+    alloc: Global,
+    engine: &mut Engine,
+    number: u64,
+    event: &Event,
+    out: &mut Outlet<W>,
+) -> Result<(), RunError>
+    ensures left { Leaves (W.contents out.old.writer) (W.contents out.new.writer)
+        (event_lines number (outcome_of engine.old.state event.now)) result }
+    ensures passed { OnOk result (engine.new.state ≡ after_event engine.old.state event.now) }
+    ensures forgotten { OnOk result (engine.new.records ≡ []) }
+    ensures error { StoppedBy result out.old.failed out.new.failed }
+{
+    let outcome = engine.apply(event)?;
+    engine.forget();
+    write_event(alloc, number, &outcome, out)
+}
+
+/// Writes the lines of an event's outcome. Their text is built first, so that running out of memory
+/// never leaves half a line.
+fn write_event<W: Write>(
+    alloc: Global,
+    event: u64,
+    outcome: &Outcome,
+    out: &mut Outlet<W>,
+) -> Result<(), RunError>
+    ensures left { Leaves (W.contents out.old.writer) (W.contents out.new.writer)
+        (event_lines event (outcome_view outcome.now)) result }
+    ensures error { StoppedBy result out.old.failed out.new.failed }
+{
+    let text = event_text(alloc, event, outcome)?;
+    write_whole(out, text.as_bytes())?;
     Ok(())
 }

@@ -1,4 +1,4 @@
-use Rattle.amr_engine.proofs.Parted.{through_after}
+use Rattle.amr_engine.proofs.Partitions.{through_after}
 use Rattle.amr_engine.proofs.flush.flush.Goals as goal
 
 pub run_pipeline-requires : goal.run_pipeline-requires

@@ -23,7 +23,7 @@ loop-made-init c = record {
 
 pub make-requires-clause-quiet : goal.make-requires-clause-quiet
 make-requires-clause-quiet c =
-    λ is. known_move c.loop-made.quiet c.loop-made.made c.args.store.now.state c.loop-made.store.state c.args.at c.in-Some.due c.loop-made.invariant.here c.loop-made.invariant.quiet
+    λ is. known_move c.loop-made.quiet_moves c.loop-made.made c.args.store.now.state c.loop-made.store.state c.args.at c.in-Some.due c.loop-made.invariant.here c.loop-made.invariant.quiet
     (rw c.in-Some.is at c.in_ok-next_due.ensures.due) (sym c.is_quiet.ensures ∙ is)
 
 pub loop-made-preserved : goal.loop-made-preserved
@@ -39,7 +39,7 @@ loop-made-preserved c =
           (length c.args.store.now.current + 2 * first_weight move_limit c.args.at c.args.store.now.state) c.loop-made.invariant.grown less next made.ok made.grown;
       memory = made.memory;
       here = one_more c.loop-made.made c.args.store.now.state c.loop-made.store.state c.make.new.store.state c.args.at c.in-Some.due c.loop-made.invariant.here next made.ok;
-      quiet = note_move c.loop-made.quiet c.note.new.self c.loop-made.made c.in_ok-is_quiet-in-Some.is_quiet c.args.store.now.state c.loop-made.store.state c.args.at c.in-Some.due
+      quiet = note_move c.loop-made.quiet_moves c.note.new.self c.loop-made.made c.in_ok-is_quiet-in-Some.is_quiet c.args.store.now.state c.loop-made.store.state c.args.at c.in-Some.due
           c.loop-made.invariant.here c.loop-made.invariant.quiet next made.quiet c.in_ok-note-in-Some.ensures.ok;
     }
 

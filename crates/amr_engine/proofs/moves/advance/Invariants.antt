@@ -14,7 +14,7 @@ invariant-loop-made l = record {
   ok : counted_run (advance move_limit l.at l.fn.store.state) ≡ plus_moves (counted_run (advance (move_limit - l.made) l.at l.store.state)) l.made;
   kept : undone l.store ≡ undone l.fn.store;
   grown : length l.store.current + 2 * first_weight (move_limit - l.made) l.at l.store.state ≤ length l.fn.store.current + 2 * first_weight move_limit l.at l.fn.store.state;
-  memory : IsTrueOf l.memory l.store.state;
+  memory : IsTrueOf l.quiet_groups l.store.state;
   here : l.store.state ≡ moved_times l.made l.fn.store.state;
-  quiet : AreQuietMoves l.quiet l.fn.store.state;
+  quiet : AreQuietMoves l.quiet_moves l.fn.store.state;
 }

@@ -14,8 +14,8 @@ returns-in_ok-remove_timer-in-GroupRemoval-clause-ok c = search rules
 
 pub returns-in_ok-remove_timer-in-GroupRemoval-clause-memory : goal.returns-in_ok-remove_timer-in-GroupRemoval-clause-memory
 returns-in_ok-remove_timer-in-GroupRemoval-clause-memory c =
-    subst (IsTrueOf c.args.memory.now) (sym c.in_ok-remove_timer-in-GroupRemoval.ensures.ok)
-    (stays_true c.args.store.now.state c.args.store.now.state.moment _ c.args.store.now.state.notes c.args.memory.now c.requires.memory)
+    subst (IsTrueOf c.args.quiet_groups.now) (sym c.in_ok-remove_timer-in-GroupRemoval.ensures.ok)
+    (stays_true c.args.store.now.state c.args.store.now.state.moment _ c.args.store.now.state.notes c.args.quiet_groups.now c.requires.memory)
 
 pub returns-in-GroupFlush-clause-ok : goal.returns-in-GroupFlush-clause-ok
 unfolding move

@@ -5,5 +5,5 @@ use Rattle.amr_engine.proofs.moves.make.Goals as goal
 
 pub returns-clause-memory : goal.returns-clause-memory
 returns-clause-memory c =
-    subst (IsTrueOf c.args.memory.now) (sym c.in_ok-reset_timer.ensures.ok)
-    (reset_true c.args.store.now.state _ _ c.args.memory.now c.requires.memory)
+    subst (IsTrueOf c.args.quiet_groups.now) (sym c.in_ok-reset_timer.ensures.ok)
+    (reset_true c.args.store.now.state _ _ c.args.quiet_groups.now c.requires.memory)

@@ -1,9 +1,9 @@
 use Rattle.std.proofs.Common.{sym, subst}
-use Rattle.amr_events.specs.Acts.{act_of}
-use Rattle.amr_engine.specs.Prepared.{Does}
+use Rattle.amr_actions.specs.Acts.{act_of}
+use Rattle.amr_engine.specs.Prepared.{DoesAsPrepared}
 use Rattle.amr_engine.specs.declared.prepare.Prepared.TheVariants as prepared
 use Rattle.amr_engine.proofs.Preparing.{some_tick}
 use Rattle.amr_engine.proofs.prepare.prepare.Goals as goal
 
 pub returns-in-Tick : goal.returns-in-Tick
-returns-in-Tick c = subst (λ act. Does c.args.store.now.state c.args.at (act_of act) prepared.Tick) (sym c.in-Tick.is) (some_tick c.args.store.now.state c.args.at)
+returns-in-Tick c = subst (λ act. DoesAsPrepared c.args.store.now.state c.args.at (act_of act) prepared.Tick) (sym c.in-Tick.is) (some_tick c.args.store.now.state c.args.at)

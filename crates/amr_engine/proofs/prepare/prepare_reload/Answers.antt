@@ -1,10 +1,10 @@
 use Rattle.std.proofs.Common.{Err, Result, sym, subst}
 use Rattle.amr_stated.specs.Config.{Config}
-use Rattle.amr_events.specs.Events.{Act}
-use Rattle.amr_events.specs.Acts.{by_number}
+use Rattle.amr_actions.specs.Events.{Act}
+use Rattle.amr_actions.specs.Acts.{by_number}
 use Rattle.amr_posts.specs.Reasons.{reason_number}
 use Rattle.amr_posts.specs.declared.reason.Reason.{Reason}
-use Rattle.amr_engine.specs.Prepared.{IsPrepared, Does}
+use Rattle.amr_engine.specs.Prepared.{IsPrepared, DoesAsPrepared}
 use Rattle.amr_engine.specs.declared.prepare.Prepared.TheVariants as prepared
 use Rattle.amr_engine.proofs.Preparing.{some_reload, no_reload}
 use Rattle.amr_engine.proofs.prepare.prepare_reload.Goals as goal
@@ -15,5 +15,5 @@ returns-in-Err c = λ s at.
 
 pub returns-in_ok-clone-in-Ok : goal.returns-in_ok-clone-in-Ok
 returns-in_ok-clone-in-Ok c = λ s at.
-    subst (λ (read : Result Config Reason). Does s at (Act.Reload (by_number read)) (prepared.Reload c.in_ok-clone-in-Ok.field-0)) (sym c.in-Ok.is)
+    subst (λ (read : Result Config Reason). DoesAsPrepared s at (Act.Reload (by_number read)) (prepared.Reload c.in_ok-clone-in-Ok.field-0)) (sym c.in-Ok.is)
     (some_reload s at _ _ c.in_ok-clone-in-Ok.ensures.cases)

@@ -38,8 +38,8 @@ invariant_of-self-in-Ok c =
     let state : State = c.close.new.self.state in (
       c.close.ensures.current,
       elim c.if-is_refused.branch [
-        | then-is_refused w ↦ subst (λ memory. IsTrueOf memory state) (sym (ap (λ x. x.memory) w.self-inside-is)) (w.clear.ensures state)
-        | else-is_refused w ↦ subst (λ (x : Inside). IsTrueOf x.memory state) (sym w.self-inside-is) (subst (IsTrueOf c.attempt.new.memory) (sym (c.close.ensures.state ∙ ap (λ (x : Inside). x.store.state) w.self-inside-is)) c.in-Ok.ensures.memory)
+        | then-is_refused w ↦ subst (λ memory. IsTrueOf memory state) (sym (ap (λ x. x.quiet_groups) w.self-inside-is)) (w.clear.ensures state)
+        | else-is_refused w ↦ subst (λ (x : Inside). IsTrueOf x.quiet_groups state) (sym w.self-inside-is) (subst (IsTrueOf c.attempt.new.quiet_groups) (sym (c.close.ensures.state ∙ ap (λ (x : Inside). x.store.state) w.self-inside-is)) c.in-Ok.ensures.memory)
       ],
     )
 

@@ -13,7 +13,7 @@ invariant_of-self-2 c =
       within = omega arith;
       records = records_next a.config a.script a.cursor a.engine _ c.event-event.result.now c.in_ok-outcome.outcome c.in_ok-outcome.ensures.record_kept.0 c.self.invariant.records (ap (λ (v : View). v.state) c.self.invariant.view) c.event-event.ensures c.in_ok-outcome.ensures.outcome c.in_ok-outcome.ensures.state c.in_ok-outcome.ensures.record_kept.1;
       quiet = c.put.ensures a.config a.script (c.take-quiet.ensures.left a.config a.script c.self.invariant.quiet)
-          (subst (AreQuietMoves c.apply_noting-applied.new.quiet) (ap (λ (v : View). v.state) c.self.invariant.view) c.apply_noting-applied.ensures.quiet);
+          (subst (AreQuietMoves c.apply_noting-applied.new.quiet_moves) (ap (λ (v : View). v.state) c.self.invariant.view) c.apply_noting-applied.ensures.quiet);
     }
 
 pub returns-clause-ok : goal.returns-clause-ok

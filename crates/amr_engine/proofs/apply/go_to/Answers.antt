@@ -1,9 +1,0 @@
-use Rattle.std.proofs.Common.{sym, subst}
-use Rattle.amr_engine.specs.Remembered.{IsTrueOf}
-use Rattle.amr_engine.proofs.Remembering.{stays_true}
-use Rattle.amr_engine.proofs.apply.go_to.Goals as goal
-
-pub returns-clause-memory : goal.returns-clause-memory
-returns-clause-memory c =
-    subst (IsTrueOf c.advance.new.memory) (sym c.in_ok-set_moment.ensures.ok)
-    (stays_true c.advance.new.store.state c.args.at c.advance.new.store.state.timers c.advance.new.store.state.notes c.advance.new.memory c.in_ok-made.ensures.memory)

@@ -1,5 +1,0 @@
-use Rattle.std.proofs.Common.{refl}
-use Rattle.amr_events.proofs.event.Event.read.Goals as goal
-
-pub returns-in-Err-Faulty : goal.returns-in-Err-Faulty
-returns-in-Err-Faulty c = (refl, rw c.in-Err-Faulty.field-0-is at c.in-Err-Faulty.ensures)

@@ -1,0 +1,115 @@
+//! The notification log's dedup check, after `needsUpdate` in Alertmanager's notify package:
+//! whether an integration is notified of a group. A flush calls `needs_update` for each
+//! integration.
+ghost use Rattle.std.specs.Prelude.{◌≡◌, ◌+◌, nat_lt, IfOk, map};
+ghost use Rattle.std.specs.Option.{option_map};
+ghost use Rattle.amr_labels.specs.Set as set;
+
+use crate::alert::Alert;
+use amr_labels::{Exact, LabelMap, Labels};
+use amr_time::{Moment, Span};
+use std::alloc::{AllocError, Global};
+
+/// An entry of the notification log: the alerts of a group for which an integration was last due.
+/// It is also written, and nobody notified, if only resolved alerts are left and the integration
+/// doesn't send them.
+#[derive(Drop)]
+pub struct LogEntry {
+    pub time: Moment,
+    /// The label sets of the alerts that fired.
+    pub firing: LabelMap<()>,
+    /// The label sets of the alerts that were resolved.
+    pub resolved: LabelMap<()>,
+}
+
+impl Clone for LogEntry {
+    ghost is_clone = { λ a b. b ≡ a };
+
+    fn clone(&self) -> Result<LogEntry, AllocError> {
+        Ok(LogEntry {
+            time: self.time,
+            firing: self.firing.clone()?,
+            resolved: self.resolved.clone()?,
+        })
+    }
+}
+
+impl Exact for LogEntry {
+    ghost exact = { λ x y same. same };
+}
+
+ghost use Rattle.amr_rules.specs.Dedup.{differs, needs_update};
+
+/// Returns whether the log is due for a new entry, which comes with a notification unless there is
+/// nothing to send. Without an entry, something has to fire. With one, something new has to fire,
+/// or nothing fires any more, or something new is resolved and the integration sends resolved
+/// alerts (`send_resolved`), or the entry is older than `repeat_interval`. If nothing fires any
+/// more the answer doesn't depend on `send_resolved`, so that the entry is cleared.
+#[tactic(auto, unfolding(crate::specs::Dedup::needs_update))]
+pub fn needs_update(
+    entry: Option<&LogEntry>,
+    firing: &LabelMap<()>,
+    resolved: &LabelMap<()>,
+    send_resolved: bool,
+    now: Moment,
+    repeat_interval: Span,
+) -> bool
+    ensures { result ≡ needs_update (option_map (λ entry. entry.now) entry.entry)
+        firing.now resolved.now send_resolved now repeat_interval }
+{
+    match entry {
+        None => !firing.is_empty(),
+        Some(entry) => differs(entry, firing, resolved, send_resolved, now, repeat_interval),
+    }
+}
+
+/// Returns whether a new entry is due, given the last one.
+fn differs(
+    entry: &LogEntry,
+    firing: &LabelMap<()>,
+    resolved: &LabelMap<()>,
+    send_resolved: bool,
+    now: Moment,
+    repeat_interval: Span,
+) -> bool
+    ensures { result ≡ differs entry.now firing.now resolved.now send_resolved now repeat_interval }
+{
+    if !is_subset(firing, &entry.firing) {
+        return true;
+    }
+    if firing.is_empty() {
+        return !entry.firing.is_empty();
+    }
+    send_resolved && !is_subset(resolved, &entry.resolved)
+        || is_before(entry.time, repeat_interval, now)
+}
+
+/// Returns whether a moment plus a span is strictly before now.
+fn is_before(moment: Moment, span: Span, now: Moment) -> bool
+    ensures { result ≡ nat_lt (moment + span) now }
+{
+    moment.nanoseconds() + u128::from(span.nanoseconds()) < now.nanoseconds()
+}
+
+/// Returns whether each label set of `a` is in `b`.
+pub fn is_subset(a: &LabelMap<()>, b: &LabelMap<()>) -> bool
+    ensures { result ≡ set.is_subset a.now b.now }
+{
+    for (labels, _) in a.iter() {
+        if b.get(labels).is_none() {
+            return false;
+        }
+    }
+    true
+}
+
+/// Returns the label sets of alerts as a set.
+pub fn labels_of(alloc: Global, alerts: &[(Labels, Alert)]) -> Result<LabelMap<()>, AllocError>
+    ensures { IfOk result (λ made. made ≡ set.from_list (map (λ alert. alert.0) alerts.now)) }
+{
+    let mut made = LabelMap::new(alloc);
+    for (labels, _) in alerts {
+        made.insert(labels.clone()?, ())?;
+    }
+    Ok(made)
+}
