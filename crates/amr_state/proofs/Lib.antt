@@ -6,7 +6,3 @@ pub mod Undoing
 pub mod Fitting
 pub mod Soundness
 pub mod Emptied
-pub mod Pairing
-pub mod Arriving
-pub mod Sources
-pub mod SilencesKnown

@@ -8,6 +8,3 @@ pub mod Seen
 pub mod Records
 pub mod Fitting
 pub mod Kept
-pub mod LabelPairs
-pub mod RuleSources
-pub mod SilencesKnown

@@ -3,25 +3,19 @@
 //! it through `Store` and lists it through `views`. No rule about what an event does is here.
 #![tactic(auto)]
 
-mod alert_table;
 mod displaced;
 mod due;
-mod label_counts;
-mod label_pair;
 mod members;
 mod membership;
 mod notification;
 mod placing;
 mod roster;
 mod route_labels;
-mod rule_source;
-mod silence_table;
 mod store;
 mod tables;
 mod timetable;
 pub mod views;
 
-pub use alert_table::AlertTable;
 pub use displaced::Displaced;
 pub use due::{Due, Kind, next_due};
 pub use members::{Member, members_of};

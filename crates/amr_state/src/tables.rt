@@ -4,8 +4,8 @@ ghost use Rattle.amr_state.specs.Stored.{SameValues, MorePlaces, IsUnmarked};
 
 use crate::notification::LogKey;
 use crate::roster::Roster;
-use crate::silence_table::SilenceTable;
 use crate::timetable::Timetable;
+use amr_indexes::SilenceTable;
 use amr_rules::LogEntry;
 use amr_tables::Keyed;
 

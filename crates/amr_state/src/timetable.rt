@@ -11,10 +11,10 @@ ghost use Rattle.amr_state.specs.State.{route_labels_cmp};
 ghost use Rattle.amr_state.specs.Dues.{due_cmp, dues_of};
 ghost use Rattle.amr_state.specs.Timed.{put_at, moved, CanMove, CanMoveGroup, group_moved, removal_of_alert, alert_moment, group_moments};
 
-use crate::alert_table::AlertTable;
 use crate::due::{Due, Kind, alert_removal, group_removal};
 use crate::notification::GroupTimer;
 use crate::route_labels::{RouteLabels, TimedGroup};
+use amr_indexes::AlertTable;
 use amr_labels::Labels;
 use amr_rules::Alert;
 use amr_stated::{InhibitRule, RuleMatch};

@@ -1,0 +1,4 @@
+pub mod Pairing
+pub mod Arriving
+pub mod Sources
+pub mod SilencesKnown

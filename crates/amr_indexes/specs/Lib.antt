@@ -1,0 +1,3 @@
+pub mod LabelPairs
+pub mod RuleSources
+pub mod SilencesKnown

@@ -1,0 +1,354 @@
+//! The label sets that can be the sources of inhibition rules. `alert_table.rt` keeps them, so that
+//! inhibition looks only at the alerts that match a rule's source matchers and agree with the
+//! target on the labels in `equal`. Which of them mutes the target is decided in `amr_rules`.
+ghost use Rattle.std.specs.Prelude.{◌≡◌, ◌<◌, ◌+◌, ◌++◌, ◌∷◌, [], length, IfOk, IfSome, OnOk, OnErr};
+ghost use Rattle.std.specs.List.Sorted.{IsStrictlySortedBy};
+ghost use Rattle.amr_labels.specs.Labels.{value_of};
+ghost use Rattle.amr_tables.specs.Queued.{values_of};
+ghost use Rattle.amr_indexes.specs.RuleSources.{source_cmp, label_values, ListsSide, ListsAgreeing, IsSideOf, IsPut};
+
+use amr_labels::{Labels, Text};
+use amr_matchers::{Answers, Matchers};
+use amr_stated::InhibitRule;
+use amr_tables::{InParts, Queue};
+use std::alloc::{AllocError, Global};
+use std::cmp::Ordering;
+use std::collections::BTreeMap;
+use std::marker::Model;
+
+/// How many sides are known at most. When one more comes, all the others are forgotten.
+const MOST_SIDES: usize = 1_000;
+
+/// The source side of an inhibition rule: its source matchers, and the names in `equal`.
+#[derive(PartialEq, Eq, PartialOrd, Ord, Drop)]
+pub(crate) struct SourceSide {
+    pub source: Matchers,
+    pub equal: Vec<Text>,
+}
+
+/// A label set that matches a side, with its values of the labels in `equal`.
+#[derive(PartialEq, Eq, PartialOrd, Ord, Drop)]
+pub(crate) struct RuleSource {
+    pub values: Vec<Text>,
+    pub labels: Labels,
+}
+
+/// What is known of a side: of the first `seen` label sets, those that match it.
+#[derive(Drop)]
+pub(crate) struct KnownSide {
+    pub side: SourceSide,
+    pub seen: usize,
+    pub sources: Queue<RuleSource>,
+}
+
+/// The label sets that share their values of the labels in `equal` are a part of a side.
+impl InParts for RuleSource {
+    ghost use Rattle.amr_indexes.specs.RuleSources.{values_cmp, source_in_parts};
+
+    type Part = Vec<Text>;
+
+    ghost part_cmp = { λ source values. values_cmp source.values.items values.items };
+
+    ghost in_parts = { source_in_parts };
+
+    fn part_cmp(&self, values: &Vec<Text>) -> Ordering {
+        self.values.cmp(values)
+    }
+}
+
+/// Label sets in the order in which they came, with the source sides that are known of them. A side
+/// is learned when it is first asked for, and takes in the label sets that came since when it is
+/// learned again. Contracts see the label sets.
+#[derive(Drop)]
+pub(crate) struct RuleSources {
+    alloc: Global,
+    answers: Answers,
+    arrived: Vec<Labels>,
+    numbers: BTreeMap<SourceSide, usize>,
+    sides: Vec<KnownSide>,
+    /// How many label sets had come when each rule's side was learned in this event, by the rule's
+    /// place in the configuration; 0 if it wasn't. It saves look-ups, and no answer depends on it.
+    learned: Vec<usize>,
+}
+
+impl Model for RuleSources {
+    ghost use Rattle.std.specs.Prelude.{List};
+    ghost use Rattle.std.specs.List.{All};
+    ghost use Rattle.std.specs.Coded.{codes};
+    ghost use Rattle.amr_labels.specs.Map as map;
+    ghost use Rattle.amr_labels.specs.Labels.{LabelSet};
+    ghost use Rattle.amr_indexes.specs.RuleSources.{ListsSide};
+
+    ghost Value = { List LabelSet };
+
+    ghost coded = { Prim.hlevel (codes, map.code) };
+
+    ghost view = { λ s. s.arrived.items };
+
+    ghost invariant = { λ s. All (ListsSide s.arrived.items) s.sides.items };
+}
+
+impl RuleSources {
+    /// Starts without label sets and without sides.
+    pub(crate) fn new(alloc: Global) -> RuleSources
+        ensures { result ≡ [] }
+    {
+        RuleSources {
+            alloc,
+            answers: Answers::new(alloc),
+            arrived: Vec::new(alloc),
+            numbers: BTreeMap::new(alloc),
+            sides: Vec::new(alloc),
+            learned: Vec::new(alloc),
+        }
+    }
+
+    /// Adds a label set. No side has it before it is learned again.
+    pub(crate) fn add(&mut self, labels: Labels) -> Result<(), AllocError>
+        ensures ok { OnOk result (self.new ≡ self.old ++ labels ∷ []) }
+        ensures err { OnErr result (self.new ≡ self.old) }
+    {
+        self.arrived.push(labels)?;
+        Ok(())
+    }
+
+    /// Returns the label sets in the order in which they came.
+    pub(crate) fn arrived(&self) -> &[Labels]
+        ensures { result.now ≡ self.now }
+    {
+        self.arrived.as_slice()
+    }
+
+    /// Lists the label sets that match a rule's source matchers and agree with a target on the
+    /// labels in `equal`, in their order. Returns `None` if the rule's side isn't known, or not of
+    /// all label sets.
+    pub(crate) fn agreeing(
+        &self,
+        rule: &InhibitRule,
+        target: &Labels,
+    ) -> Result<Option<Vec<&RuleSource>>, AllocError>
+        ensures { IfOk result (λ known. IfSome known (λ found.
+            ListsAgreeing rule.now target.now self.now (values_of found.items))) }
+    {
+        let side = side_of(self.alloc, rule)?;
+        let Some(known) = self.known(&side) else {
+            return Ok(None);
+        };
+        if known.seen < self.arrived.len() {
+            return Ok(None);
+        }
+        let values = label_values(self.alloc, rule.equal.as_slice(), target)?;
+        Ok(Some(known.sources.part(&values)?))
+    }
+
+    /// Takes in all label sets at the source side of the rule at a place of the configuration, so
+    /// that `agreeing` answers for it.
+    pub(crate) fn learn(&mut self, place: usize, rule: &InhibitRule) -> Result<(), AllocError>
+        ensures { self.new ≡ self.old }
+    {
+        if self.has_learned(place) {
+            return Ok(());
+        }
+        self.learn_afresh(rule)?;
+        self.note_learned(place)
+    }
+
+    /// Forgets which rules were learned, since other rules may be at their places from now on.
+    pub(crate) fn forget_places(&mut self)
+        ensures { self.new ≡ self.old }
+    {
+        self.learned.clear();
+    }
+
+    /// Returns whether the rule at a place was learned, and no label set came since.
+    fn has_learned(&self, place: usize) -> bool {
+        match self.learned.get(place) {
+            None => false,
+            Some(seen) => *seen == self.arrived.len() && *seen > 0,
+        }
+    }
+
+    /// Notes that the rule at a place is learned.
+    fn note_learned(&mut self, place: usize) -> Result<(), AllocError>
+        ensures { self.new ≡ self.old }
+    {
+        if self.learned.len() <= place {
+            self.learned.resize(place.saturating_add(1), 0)?;
+        }
+        if let Some(learned) = self.learned.get_mut(place) {
+            *learned = self.arrived.len();
+        }
+        Ok(())
+    }
+
+    /// Takes in all label sets at a rule's source side.
+    fn learn_afresh(&mut self, rule: &InhibitRule) -> Result<(), AllocError>
+        ensures { self.new ≡ self.old }
+    {
+        let number = self.number_of(rule)?;
+        if number < self.sides.len() {
+            see_all(
+                self.alloc,
+                &mut self.answers,
+                &mut self.sides[number],
+                self.arrived.as_slice(),
+            )?;
+        }
+        Ok(())
+    }
+
+    /// Returns what is known of a side.
+    fn known(&self, side: &SourceSide) -> Option<&KnownSide>
+        ensures side { IfSome result (λ known. IsSideOf known.now side.now) }
+        ensures lists { IfSome result (λ known. ListsSide self.now known.now) }
+    {
+        let number = *self.numbers.get(side)?;
+        if number >= self.sides.len() {
+            return None;
+        }
+        let known = &self.sides[number];
+        if known.side == *side {
+            Some(known)
+        } else {
+            None
+        }
+    }
+
+    /// Returns the number of a rule's side. It is added if it isn't known.
+    fn number_of(&mut self, rule: &InhibitRule) -> Result<usize, AllocError>
+        ensures { self.new ≡ self.old }
+    {
+        let side = side_of(self.alloc, rule)?;
+        match self.numbers.get(&side) {
+            Some(number) => Ok(*number),
+            None => {
+                self.forget_many();
+                self.add_side(side, rule)
+            }
+        }
+    }
+
+    /// Forgets all sides if there are as many as may be known.
+    fn forget_many(&mut self)
+        ensures { self.new ≡ self.old }
+    {
+        if self.sides.len() >= MOST_SIDES {
+            self.numbers.clear();
+            self.sides.clear();
+            self.learned.clear();
+        }
+    }
+
+    /// Adds a rule's side, of which nothing is known yet, and returns its number.
+    fn add_side(&mut self, side: SourceSide, rule: &InhibitRule) -> Result<usize, AllocError>
+        ensures { self.new ≡ self.old }
+    {
+        let number = self.sides.len();
+        let known = KnownSide {
+            side: side_of(self.alloc, rule)?,
+            seen: 0,
+            sources: Queue::new(self.alloc),
+        };
+        self.sides.push(known)?;
+        self.numbers.insert(side, number)?;
+        Ok(number)
+    }
+}
+
+/// Returns the source side of a rule.
+fn side_of(alloc: Global, rule: &InhibitRule) -> Result<SourceSide, AllocError>
+    ensures source { IfOk result (λ side. side.source ≡ rule.now.source) }
+    ensures equal { IfOk result (λ side. side.equal.items ≡ rule.now.equal) }
+{
+    let mut equal = Vec::new(alloc);
+    for name in rule.equal.as_slice() {
+        equal.push(name.clone()?)?;
+    }
+    Ok(SourceSide {
+        source: rule.source.clone()?,
+        equal,
+    })
+}
+
+/// Returns the values of these labels in a label set, an absent label being empty.
+fn label_values(alloc: Global, names: &[Text], labels: &Labels) -> Result<Vec<Text>, AllocError>
+    ensures { IfOk result (λ values. values.items ≡ label_values names.now labels.now) }
+{
+    let mut values = Vec::new(alloc);
+    for name in names {
+        values.push(label_value(alloc, name, labels)?)?;
+    }
+    Ok(values)
+}
+
+/// Returns the value of a label in a label set, an absent label being empty.
+fn label_value(alloc: Global, name: &Text, labels: &Labels) -> Result<Text, AllocError>
+    ensures { IfOk result (λ value. value ≡ value_of labels.now name.now) }
+{
+    match labels.get(name.as_str()) {
+        Some(value) => value.clone(),
+        None => Text::from_str(alloc, ""),
+    }
+}
+
+/// Takes in at a side those of the label sets that it hasn't seen. If memory runs out, it has seen
+/// some of them.
+fn see_all(
+    alloc: Global,
+    answers: &mut Answers,
+    known: &mut KnownSide,
+    arrived: &[Labels],
+) -> Result<(), AllocError>
+    requires { ListsSide arrived.now known.old }
+    ensures { ListsSide arrived.now known.new }
+{
+    while known.seen < arrived.len() {
+        see_next(alloc, answers, known, arrived)?;
+    }
+    Ok(())
+}
+
+/// Takes in at a side the first of the label sets that it hasn't seen.
+fn see_next(
+    alloc: Global,
+    answers: &mut Answers,
+    known: &mut KnownSide,
+    arrived: &[Labels],
+) -> Result<(), AllocError>
+    requires lists { ListsSide arrived.now known.old }
+    requires left { known.old.seen < length arrived.now }
+    ensures lists { ListsSide arrived.now known.new }
+    ensures seen { OnOk result (known.new.seen ≡ known.old.seen + 1) }
+{
+    let number = known.seen;
+    see(alloc, answers, known, &arrived[number])?;
+    known.seen += 1;
+    Ok(())
+}
+
+/// Lists a label set at a side if it matches the side.
+fn see(
+    alloc: Global,
+    answers: &mut Answers,
+    known: &mut KnownSide,
+    labels: &Labels,
+) -> Result<(), AllocError>
+    requires { IsStrictlySortedBy source_cmp known.old.sources.dues }
+    ensures side { known.new.side ≡ known.old.side }
+    ensures seen { known.new.seen ≡ known.old.seen }
+    ensures listed { OnOk result (IsPut labels.now known.old known.new) }
+    ensures sorted { IsStrictlySortedBy source_cmp known.new.sources.dues }
+    ensures err { OnErr result (known.new.sources.dues ≡ known.old.sources.dues) }
+{
+    if !known.side.source.matches_all_remembered(answers, labels)? {
+        return Ok(());
+    }
+    let source = RuleSource {
+        values: label_values(alloc, known.side.equal.as_slice(), labels)?,
+        labels: labels.clone()?,
+    };
+    known.sources.reserve(1)?;
+    known.sources.take(&source);
+    known.sources.put(source);
+    Ok(())
+}

@@ -1,0 +1,497 @@
+//! The silences by id, with what is known of the label sets that flushes asked about: the periods
+//! of the silences that match them. `store.rt` changes the table and asks it which silence mutes.
+ghost use Rattle.std.specs.Prelude.{◌≡◌, ◌<◌, ◌≤◌, ℕ, false, IsTrue, [], length, get_or, is_some, OnOk, OnErr, IfOk, IfSome};
+ghost use Rattle.std.specs.Ordering.{nat_cmp};
+ghost use Rattle.amr_labels.specs.Map as map;
+ghost use Rattle.amr_rules.specs.Muting.{is_silenced, silencer_of};
+ghost use Rattle.amr_rules.specs.SilencePeriods.{silence_periods, silence_rows, silenced_in, unexpired};
+ghost use Rattle.amr_rules.specs.Silences.{Silences};
+ghost use Rattle.amr_tables.specs.Numbered.{shown, has_place, entry_of, Enters, GrowsBy, KeepsPlaces, SamePlaces, SameEntered, NoneEntered, IsUnchanged, HasPlaces, places_for};
+
+use amr_labels::{Labels, Listing};
+use amr_matchers::Answers;
+use amr_posts::SilenceId;
+use amr_rules::{
+    Silence, SilencePeriod, SilenceRow, periods_at, silence_periods, silence_rows, silenced_by,
+    silenced_in, unexpired,
+};
+use amr_tables::{Journal, Keyed, change};
+use amr_time::Moment;
+use std::alloc::{AllocError, Global};
+use std::marker::Model;
+
+/// How many label sets the silences are asked for at once at most. It bounds the memory that the
+/// answers take.
+const MOST_AT_ONCE: usize = 256;
+
+/// How many label sets the silences are asked for at once at least. For fewer, remembered answers
+/// are faster than preparing the search of each pattern.
+const FEWEST_AT_ONCE: usize = 4;
+
+/// A flush that meets this many unknown label sets also asks the silences for others ahead. They
+/// were most likely posted just now, and the next flushes meet the others.
+const MANY_UNKNOWN: usize = 4;
+
+/// How many changes of silences are kept at most. When one more comes, all that is known of label
+/// sets is forgotten.
+const MOST_CHANGES: usize = 1000;
+
+/// The silences by id. It remembers of label sets when silences that match them are active, and
+/// keeps which silences changed since.
+#[derive(Drop)]
+pub struct SilenceTable {
+    alloc: Global,
+    silences: Keyed<SilenceId, Silence>,
+    /// What the patterns of the silences' matchers answered.
+    answers: Answers,
+    known: Keyed<Labels, KnownPeriods>,
+    /// The ids of the silences that changed since the table began to remember, the latest last.
+    changes: Vec<SilenceId>,
+    /// The number of label sets, in the order of arrival, that the silences were asked ahead for.
+    asked_ahead: usize,
+    /// The silences that are left to ask, if they were listed since the last change.
+    unexpired: Option<Unexpired>,
+}
+
+/// The silences that aren't expired at a moment. Those that are expired then don't mute later, and
+/// mostly they are many more.
+#[derive(Drop)]
+pub(crate) struct Unexpired {
+    pub(crate) from: Moment,
+    pub(crate) listed: Vec<(SilenceId, Silence)>,
+}
+
+/// When silences that match a label set are active, from a moment on.
+#[derive(Drop)]
+pub(crate) struct KnownPeriods {
+    /// The moment from which on the periods are complete. Silences that were expired by then are
+    /// left out.
+    pub(crate) from: Moment,
+    /// How many changes of silences there had been when the periods were learned.
+    pub(crate) seen: usize,
+    pub(crate) periods: Listing<SilencePeriod>,
+}
+
+ghost use Rattle.amr_indexes.specs.SilencesKnown.{lists, IsApart, AreKnown, AreUnexpired, SameOthers};
+
+impl Model for SilenceTable {
+    ghost use Rattle.std.specs.Prelude.{ℕ};
+    ghost use Rattle.std.specs.Coded.{codes};
+    ghost use Rattle.amr_labels.specs.Map as map;
+    ghost use Rattle.amr_rules.specs.declared.silence.Silence.{Silence};
+    ghost use Rattle.std.specs.Ordering.{nat_cmp};
+    ghost use Rattle.amr_tables.specs.Numbered.{Numbered, shown};
+    ghost use Rattle.amr_indexes.specs.SilencesKnown.{AreKnown, AreUnexpired};
+
+    ghost Value = { Numbered ℕ Silence };
+
+    ghost coded = { Prim.hlevel (codes, map.code) };
+
+    ghost view = { λ t. t.silences };
+
+    ghost invariant = { λ t. AreKnown (shown nat_cmp t.silences) t.changes.items t.known
+        × AreUnexpired (shown nat_cmp t.silences) t.unexpired };
+}
+
+impl SilenceTable {
+    /// Builds a table without silences.
+    pub fn new(alloc: Global) -> SilenceTable
+        ensures shown { shown nat_cmp result ≡ map.empty }
+        ensures entered { NoneEntered nat_cmp result }
+        ensures keys { result.numbers ≡ [] }
+        ensures enough { HasPlaces nat_cmp result }
+    {
+        SilenceTable {
+            alloc,
+            silences: Keyed::new(alloc),
+            answers: Answers::new(alloc),
+            known: Keyed::new(alloc),
+            changes: Vec::new(alloc),
+            asked_ahead: 0,
+            unexpired: None,
+        }
+    }
+
+    /// Returns the silences by id.
+    pub fn silences(&self) -> &Keyed<SilenceId, Silence>
+        ensures { result.now ≡ self.now }
+    {
+        &self.silences
+    }
+
+    /// Returns the least id of a silence that mutes labels at a moment, or `None` if no silence
+    /// does. It asks the silences' matchers only for labels of which it knows nothing.
+    pub fn silenced_by(&self, at: Moment, labels: &Labels) -> Result<Option<SilenceId>, AllocError>
+        ensures named { IfOk result (λ found. found
+            ≡ silencer_of at labels.now (shown nat_cmp self.now)) }
+        ensures exactly { IfOk result (λ found. is_silenced (shown nat_cmp self.now) at labels.now
+            ≡ is_some found) }
+    {
+        match self.periods(at, labels) {
+            Some(periods) => Ok(silenced_in(at, periods)),
+            None => silenced_by(self.alloc, &self.silences, at, labels),
+        }
+    }
+
+    /// Works out when silences that match these label sets are active from a moment on, and
+    /// remembers it. Skips label sets that are known, and does nothing if no silence is stored. If
+    /// many are unknown, it also asks for the next ones that arrived: the search of each pattern is
+    /// then prepared once for all.
+    pub fn learn(
+        &mut self,
+        at: Moment,
+        label_sets: &[Labels],
+        arrived: &[Labels],
+    ) -> Result<(), AllocError>
+        ensures { self.new ≡ self.old }
+    {
+        if self.silences.iter().next().is_none() {
+            return Ok(());
+        }
+        let unknown = self.unknown(at, label_sets)?;
+        if unknown.len() < MANY_UNKNOWN {
+            return self.learn_all(at, unknown.as_slice());
+        }
+        self.ask_ahead(at, arrived)?;
+        let unknown = self.unknown(at, unknown.as_slice())?;
+        self.learn_all(at, unknown.as_slice())
+    }
+
+    /// Works out the same for the next label sets that arrived.
+    fn ask_ahead(&mut self, at: Moment, arrived: &[Labels]) -> Result<(), AllocError>
+        ensures { self.new ≡ self.old }
+    {
+        let start = self.asked_ahead;
+        let end = arrived.len().min(start.saturating_add(MOST_AT_ONCE));
+        if end <= start {
+            return Ok(());
+        }
+        self.asked_ahead = end;
+        let unknown = self.unknown(at, &arrived[start..end])?;
+        self.learn_all(at, unknown.as_slice())
+    }
+
+    /// Works out when silences that match these label sets are active, and remembers it.
+    fn learn_all(&mut self, at: Moment, label_sets: &[Labels]) -> Result<(), AllocError>
+        ensures { self.new ≡ self.old }
+    {
+        for some in label_sets.chunks(MOST_AT_ONCE) {
+            self.learn_some(at, some)?;
+        }
+        Ok(())
+    }
+
+    /// Returns those of the label sets of which nothing is known at a moment.
+    fn unknown(&mut self, at: Moment, label_sets: &[Labels]) -> Result<Vec<Labels>, AllocError>
+        ensures { self.new ≡ self.old }
+    {
+        let mut unknown = Vec::new(self.alloc);
+        for labels in label_sets {
+            if !self.is_known(at, labels)? {
+                unknown.push(labels.clone()?)?;
+            }
+        }
+        Ok(unknown)
+    }
+
+    /// Returns whether it is known of labels, from a moment on, when silences that match them are
+    /// active. It asks the silences that changed since that was learned.
+    fn is_known(&mut self, at: Moment, labels: &Labels) -> Result<bool, AllocError>
+        ensures { self.new ≡ self.old }
+    {
+        if self.periods(at, labels).is_some() {
+            return Ok(true);
+        }
+        match self.unchanged(at, labels)? {
+            None => Ok(false),
+            Some((from, periods)) => {
+                self.remember(from, labels, periods)?;
+                Ok(true)
+            }
+        }
+    }
+
+    /// Returns the periods that were learned of labels, with the moment from which on they are
+    /// complete, if they reach back to a moment and no silence that changed since is among them or
+    /// matches the labels.
+    fn unchanged(
+        &mut self,
+        at: Moment,
+        labels: &Labels,
+    ) -> Result<Option<(Moment, Listing<SilencePeriod>)>, AllocError>
+        ensures same { self.new ≡ self.old }
+        ensures known { IfOk result (λ found. IfSome found (λ known. known.1
+            ≡ silence_periods known.0 labels.now (shown nat_cmp self.old))) }
+    {
+        let Some(known) = self.known.get(labels) else {
+            return Ok(None);
+        };
+        if at < known.from {
+            return Ok(None);
+        }
+        let changes = self.changes.as_slice();
+        if some_touches(&mut self.answers, &self.silences, changes, known, labels)? {
+            return Ok(None);
+        }
+        let periods = copy_of(self.alloc, known.periods.as_slice())?;
+        Ok(Some((known.from, periods)))
+    }
+
+    /// Works out when silences that match these label sets are active, and remembers it. It asks
+    /// only silences that aren't expired, and keeps the list of them until a silence changes.
+    fn learn_some(&mut self, at: Moment, label_sets: &[Labels]) -> Result<(), AllocError>
+        ensures { self.new ≡ self.old }
+    {
+        let kept = self.unexpired_at(at)?;
+        let learned = self.learn_from(at, label_sets, kept.listed.as_slice(), kept.from);
+        self.unexpired = Some(kept);
+        learned
+    }
+
+    /// Takes the list of the silences that aren't expired at a moment or weren't before. It makes a
+    /// new list if there is none.
+    fn unexpired_at(&mut self, at: Moment) -> Result<Unexpired, AllocError>
+        ensures same { self.new ≡ self.old }
+        ensures before { IfOk result (λ kept. kept.from ≤ at) }
+        ensures listed { IfOk result (λ kept. kept.listed.items
+            ≡ unexpired kept.from (shown nat_cmp self.old)) }
+    {
+        match self.unexpired.take() {
+            Some(kept) if kept.from <= at => Ok(kept),
+            _ => Ok(Unexpired {
+                from: at,
+                listed: unexpired(self.alloc, &self.silences, at)?,
+            }),
+        }
+    }
+
+    /// Works out when those of these silences that match the label sets are active, and remembers
+    /// it. No other silence is unexpired.
+    fn learn_from(
+        &mut self,
+        at: Moment,
+        label_sets: &[Labels],
+        listed: &[(SilenceId, Silence)],
+        from: Moment,
+    ) -> Result<(), AllocError>
+        requires before { from ≤ at }
+        requires listed { listed.now ≡ unexpired from (shown nat_cmp self.old) }
+        ensures { self.new ≡ self.old }
+    {
+        if label_sets.len() < FEWEST_AT_ONCE {
+            return self.learn_one_by_one(at, label_sets, listed, from);
+        }
+        let rows = silence_rows(self.alloc, listed, at, label_sets)?;
+        self.learn_rows(at, label_sets, rows.as_slice())
+    }
+
+    /// Remembers the silences that rows list for each of these label sets.
+    fn learn_rows(
+        &mut self,
+        at: Moment,
+        label_sets: &[Labels],
+        rows: &[SilenceRow],
+    ) -> Result<(), AllocError>
+        requires { rows.now ≡ silence_rows at label_sets.now (shown nat_cmp self.old) }
+        ensures { self.new ≡ self.old }
+    {
+        for (place, labels) in label_sets.iter().enumerate() {
+            let periods = periods_at(self.alloc, rows, place)?;
+            self.remember(at, labels, periods)?;
+        }
+        Ok(())
+    }
+
+    /// Asks these silences for each of these label sets, and remembers the answers of patterns. No
+    /// other silence is unexpired.
+    fn learn_one_by_one(
+        &mut self,
+        at: Moment,
+        label_sets: &[Labels],
+        listed: &[(SilenceId, Silence)],
+        from: Moment,
+    ) -> Result<(), AllocError>
+        requires before { from ≤ at }
+        requires listed { listed.now ≡ unexpired from (shown nat_cmp self.old) }
+        ensures { self.new ≡ self.old }
+    {
+        for labels in label_sets {
+            let periods = silence_periods(self.alloc, &mut self.answers, listed, at, labels)?;
+            self.remember(at, labels, periods)?;
+        }
+        Ok(())
+    }
+
+    /// Remembers when the silences that match labels are active from a moment on.
+    fn remember(
+        &mut self,
+        at: Moment,
+        labels: &Labels,
+        periods: Listing<SilencePeriod>,
+    ) -> Result<(), AllocError>
+        requires { periods ≡ silence_periods at labels.now (shown nat_cmp self.old) }
+        ensures { self.new ≡ self.old }
+    {
+        self.known.make_place(labels.clone()?)?;
+        let known = KnownPeriods {
+            from: at,
+            seen: self.changes.as_slice().len(),
+            periods,
+        };
+        drop(self.known.displace(labels, Some(known)));
+        Ok(())
+    }
+
+    /// Returns what is known of labels, if it reaches back to a moment and no silence changed
+    /// since: when the silences that match them are active.
+    fn periods(&self, at: Moment, labels: &Labels) -> Option<&[SilencePeriod]>
+        ensures { IfSome result (λ periods. silenced_in at periods.now
+            ≡ silencer_of at labels.now (shown nat_cmp self.now)) }
+    {
+        let known = self.known.get(labels)?;
+        if at < known.from || known.seen != self.changes.len() {
+            return None;
+        }
+        Some(known.periods.as_slice())
+    }
+
+    /// Clears the marks of all places, so that the open record takes their next change again. It
+    /// takes no memory.
+    pub fn clear_entered(&mut self)
+        ensures entered { NoneEntered nat_cmp self.new }
+        ensures shown { shown nat_cmp self.new ≡ shown nat_cmp self.old }
+        ensures places { SamePlaces nat_cmp self.old self.new }
+        ensures keys { self.new.numbers ≡ self.old.numbers }
+    {
+        self.silences.clear_entered();
+    }
+
+    /// Sets or removes the silence with this id. It makes a place for it and marks the place as
+    /// entered, if need be. Returns the entry that the open record needs, and leaves room for it
+    /// there. If memory runs out, no silence changes.
+    pub fn change<E>(
+        &mut self,
+        journal: &mut Journal<E>,
+        id: &SilenceId,
+        silence: Option<Silence>,
+    ) -> Result<Option<(SilenceId, Option<Silence>)>, AllocError>
+        ensures entry { IfOk result (λ entry. entry ≡ entry_of nat_cmp self.old id.now) }
+        ensures shown { OnOk result (shown nat_cmp self.new
+            ≡ map.set (shown nat_cmp self.old) id.now silence) }
+        ensures entered { OnOk result (Enters nat_cmp self.old self.new id.now) }
+        ensures made { OnOk result (IsTrue (has_place nat_cmp self.new id.now)) }
+        ensures err { OnErr result (IsUnchanged nat_cmp self.old self.new) }
+        ensures keys { GrowsBy nat_cmp
+            (places_for nat_cmp self.old id.now) self.old self.new }
+        ensures enough { OnOk result (HasPlaces nat_cmp self.new) }
+        ensures places { KeepsPlaces nat_cmp self.old self.new }
+        ensures room { IfOk result (λ entry. IsTrue (is_some entry) → 0 < journal.new.entry_room) }
+        ensures closed { journal.new.closed ≡ journal.old.closed }
+        ensures current { journal.new.current ≡ journal.old.current }
+        ensures record_room { journal.new.record_room ≡ journal.old.record_room }
+    {
+        self.unexpired = None;
+        // Room for this change and for its undoing. Without room everything known is forgotten.
+        drop(self.changes.reserve(2));
+        let asked = &mut self.asked_ahead;
+        note_change(self.alloc, &mut self.known, &mut self.changes, asked, id);
+        change(&mut self.silences, journal, id, silence)
+    }
+
+    /// Restores the silence with this id, or its absence, and drops the present one. It takes no
+    /// memory.
+    pub fn put_back(&mut self, id: &SilenceId, silence: Option<Silence>)
+        requires { IsTrue (has_place nat_cmp self.old id.now) }
+        ensures shown { shown nat_cmp self.new ≡ map.set (shown nat_cmp self.old) id.now silence }
+        ensures places { SamePlaces nat_cmp self.old self.new }
+        ensures entered { SameEntered nat_cmp self.old self.new }
+        ensures keys { self.new.numbers ≡ self.old.numbers }
+        ensures enough { HasPlaces nat_cmp self.new }
+    {
+        self.unexpired = None;
+        let asked = &mut self.asked_ahead;
+        note_change(self.alloc, &mut self.known, &mut self.changes, asked, id);
+        drop(self.silences.displace(id, silence));
+    }
+}
+
+/// Notes that a silence is about to change. Forgets all that is known of label sets if there have
+/// been many changes, or if there is no room for one more. It takes no memory.
+fn note_change(
+    alloc: Global,
+    known: &mut Keyed<Labels, KnownPeriods>,
+    changes: &mut Vec<SilenceId>,
+    asked_ahead: &mut usize,
+    id: &SilenceId,
+)
+    ensures { (before after : Silences) → AreKnown before changes.old.items known.old
+        → SameOthers id.now before after → AreKnown after changes.new.items known.new }
+{
+    let count = changes.len();
+    if count < MOST_CHANGES && count < changes.capacity() {
+        changes.push_reserved(*id);
+    } else {
+        *known = Keyed::new(alloc);
+        changes.clear();
+        *asked_ahead = 0;
+    }
+}
+
+/// Returns whether one of the silences that changed since periods were learned is among them, or
+/// matches the labels.
+fn some_touches(
+    answers: &mut Answers,
+    silences: &Keyed<SilenceId, Silence>,
+    changes: &[SilenceId],
+    known: &KnownPeriods,
+    labels: &Labels,
+) -> Result<bool, AllocError>
+    ensures { IfOk result (λ touches. touches ≡ false → (i : ℕ) → known.now.seen ≤ i
+        → i < length changes.now → IsApart (shown nat_cmp silences.now) labels.now known.now
+        (get_or changes.now i 0)) }
+{
+    for place in known.seen..changes.len() {
+        if touches(answers, silences, &changes[place], known, labels)? {
+            return Ok(true);
+        }
+    }
+    Ok(false)
+}
+
+/// Returns whether a silence is among periods, or matches the labels of which they were learned.
+fn touches(
+    answers: &mut Answers,
+    silences: &Keyed<SilenceId, Silence>,
+    id: &SilenceId,
+    known: &KnownPeriods,
+    labels: &Labels,
+) -> Result<bool, AllocError>
+    ensures { IfOk result (λ touches. touches ≡ false
+        → IsApart (shown nat_cmp silences.now) labels.now known.now id.now) }
+{
+    if lists(known.periods.as_slice(), id) {
+        return Ok(true);
+    }
+    match silences.get(id) {
+        None => Ok(false),
+        Some(silence) => silence.matchers.matches_all_remembered(answers, labels),
+    }
+}
+
+/// Returns whether a silence has one of these periods.
+fn lists(periods: &[SilencePeriod], id: &SilenceId) -> bool
+    ensures { result ≡ lists periods.now id.now }
+{
+    periods.iter().any(|period| *id == period.id)
+}
+
+/// Copies periods.
+fn copy_of(alloc: Global, periods: &[SilencePeriod]) -> Result<Listing<SilencePeriod>, AllocError>
+    ensures { IfOk result (λ copy. copy ≡ periods.now) }
+{
+    let mut copy = Listing::new(alloc);
+    for period in periods {
+        copy.push(*period)?;
+    }
+    Ok(copy)
+}
