@@ -1,4 +1,2 @@
-pub mod LinesLemmas
-pub mod CommandLinesLemmas
 pub mod CommandsLemmas
 pub mod ProgramLemmas

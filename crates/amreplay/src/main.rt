@@ -4,16 +4,14 @@
 
 ghost use Rattle.std.specs.Prelude.{◌≡◌};
 
-mod command_lines;
 mod commands;
-mod lines;
 mod program;
 
-use crate::lines::{Inlet, Outlet};
 use crate::program::{
     Fault, Form, InputError, LONGEST_CONFIG, check_config, command_of, read_whole, run_script,
     run_session, status_of, write_fault,
 };
+use amr_lines::lines::{Inlet, Outlet};
 use std::alloc::AllocError;
 use std::io::{BufWriter, Error, ErrorKind, Read};
 use std::process::ExitCode;

@@ -3,8 +3,8 @@ use Rattle.std.proofs.Common.{◌≡◌, ℕ, ◌+◌, ◌<◌, ◌≤◌, List,
 use Rattle.std.specs.declared.alloc.Global.{Global}
 use Rattle.std.proofs.lemmas.List.{take_more, length-map, length-take, map-append, drop_all}
 use Rattle.std.proofs.lemmas.Option.{slice_get_cases}
-use Rattle.amreplay.specs.Lines.Printed.{event_lines}
-use Rattle.amreplay.specs.declared.lines.word.Word.{Word}
+use Rattle.amr_lines.specs.Lines.Printed.{event_lines}
+use Rattle.amr_lines.specs.declared.lines.word.Word.{Word}
 use Rattle.amr_stated.specs.Config.{Config}
 use Rattle.amr_actions.specs.Events.{Event}
 use Rattle.amr_state.specs.State.{State}

@@ -9,7 +9,7 @@ use Rattle.amr_stated.specs.Config.{Config}
 use Rattle.amr_stated.specs.declared.route.Grouping.TheVariants.{Named}
 use Rattle.amr_actions.specs.Events.{Event, Act}
 use Rattle.amr_engine.specs.Events.{replaying}
-use Rattle.amreplay.specs.Lines.Printed.{printing}
+use Rattle.amr_lines.specs.Lines.Printed.{printing}
 use Rattle.amreplay.specs.Program.Runs.{run_lines}
 use Rattle.std.specs.Fmt.{digits}
 use Rattle.serde_json.proofs.OnLiterals.{serde_json_on_literals}

@@ -7,8 +7,8 @@ use Rattle.amr_stated.specs.Config as config
 use Rattle.amreplay.specs.declared.program.fault.Fault.{Fault}
 use Rattle.amreplay.specs.declared.program.fault.Fault.TheVariants.{Config, Script, CannotReadConfig, CannotReadScript, CannotReadCommands, CannotWrite, Memory, Usage}
 use Rattle.amreplay.specs.Program.Files.{ConfigFileIs}
-use Rattle.amreplay.specs.Lines.Outlet.{AppendsBeginning}
-use Rattle.amreplay.specs.Lines.Printed.{object_of, number_data, data_line}
+use Rattle.amr_lines.specs.Lines.Outlet.{AppendsBeginning}
+use Rattle.amr_lines.specs.Lines.Printed.{object_of, number_data, data_line}
 
 -- the numbers of receivers, of routes with the root, and of inhibition rules
 abbrev pub counts_data : config.Config → Data

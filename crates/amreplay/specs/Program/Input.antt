@@ -1,6 +1,6 @@
 -- Why a file couldn't be read.
 use Rattle.std.specs.Prelude.{◌≡◌, ℕ, Bool}
-use Rattle.amreplay.specs.Lines.Inlet.{HasEnded}
+use Rattle.amr_lines.specs.Lines.Inlet.{HasEnded}
 use Rattle.amreplay.specs.declared.program.input.InputError.{InputError}
 use Rattle.amreplay.specs.declared.program.input.InputError.TheVariants.{Memory, CannotRead}
 

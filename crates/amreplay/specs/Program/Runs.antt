@@ -8,8 +8,8 @@ use Rattle.amr_state.specs.State.{State, start}
 use Rattle.amr_engine.specs.Events.{outcome_of, after_event}
 use Rattle.amreplay.specs.declared.program.run.RunError.{RunError}
 use Rattle.amreplay.specs.declared.program.run.RunError.TheVariants.{Memory, CannotWrite}
-use Rattle.amreplay.specs.Lines.Outlet.{AppendsBeginning}
-use Rattle.amreplay.specs.Lines.Printed.{event_lines}
+use Rattle.amr_lines.specs.Lines.Outlet.{AppendsBeginning}
+use Rattle.amr_lines.specs.Lines.Printed.{event_lines}
 
 -- the lines of events, one after another from a state; the first has the number n
 abbrev pub lines_from : ℕ → State → List Event → Text

@@ -5,10 +5,10 @@ ghost use Rattle.serde_json.specs.View.{view};
 ghost use Rattle.amreplay.specs.Program.Ends.{EndsBy};
 ghost use Rattle.amreplay.specs.Program.Checked.{counts_data, counts_line, CheckLeaves};
 
-use crate::lines::{Outlet, flush, line_text, write_whole};
 use crate::program::fault::Fault;
 use crate::program::load::read_config;
 use amr_config::Config;
+use amr_lines::lines::{Outlet, flush, line_text, write_whole};
 use serde_json::{Value, json};
 use std::alloc::{AllocError, Global};
 use std::io::Write;

@@ -4,7 +4,7 @@ ghost use Rattle.std.specs.Prelude.{◌≡◌, IfOk, MatchResult};
 ghost use Rattle.std.specs.Io.KnownBytes.{Consumes, IsAtEnd};
 ghost use Rattle.amreplay.specs.Program.Input.{UnreadBy};
 
-use crate::lines::{Inlet, ReadFailed};
+use amr_lines::lines::{Inlet, ReadFailed};
 use std::alloc::{AllocError, Global};
 use std::error::Error;
 use std::fmt;

@@ -1,6 +1,6 @@
 use Rattle.std.proofs.Common.{◌≡◌, ◌+◌, ap, sym, ◌∙◌, ◌++◌, arith, string_bytes}
 use Rattle.amr_engine.specs.Outcomes.{outcome_view}
-use Rattle.amreplay.specs.Lines.Printed.{event_lines}
+use Rattle.amr_lines.specs.Lines.Printed.{event_lines}
 use Rattle.amreplay.proofs.CommandsLemmas.EventsPassed.{numbered_more}
 use Rattle.amreplay.proofs.commands.navigation.numbered_text.Goals as goal
 

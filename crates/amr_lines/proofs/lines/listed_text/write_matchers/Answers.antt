@@ -1,0 +1,11 @@
+use Rattle.std.proofs.lemmas.List.{take_all}
+use Rattle.amr_lines.specs.Lines.Printed.{matcher_data}
+use Rattle.amr_lines.proofs.LinesLemmas.Tokens.{array_tokens, adds_token, adds_last, after}
+use Rattle.amr_lines.proofs.lines.listed_text.write_matchers.Goals as goal
+
+pub returns : goal.returns
+returns c =
+    rw (array_tokens matcher_data c.args.matchers.now)
+    (after _ _ _ _ _ _ (adds_token _ _ _ _ c.in_ok-begin_array.ensures)
+    (after _ _ _ _ _ _ (rw (take_all _ _ c.loop-matcher-test.false) at c.loop-matcher.invariant)
+    (adds_last _ _ _ _ c.end_array.ensures)))

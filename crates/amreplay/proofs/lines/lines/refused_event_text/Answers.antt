@@ -1,5 +1,0 @@
-use Rattle.std.proofs.Common.{refl}
-use Rattle.amreplay.proofs.lines.lines.refused_event_text.Goals as goal
-
-pub line_text-requires : goal.line_text-requires
-line_text-requires c = rw c.in_ok-value.ensures refl
