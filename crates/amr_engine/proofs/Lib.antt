@@ -14,3 +14,4 @@ pub mod QuietStays
 pub mod MovesNoted
 pub mod Remembering
 pub mod Forgetting
+pub mod Unnotified

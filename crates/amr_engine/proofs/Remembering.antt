@@ -1,12 +1,11 @@
 -- The memory of quiet groups, and what keeps it true of the state.
-use Rattle.std.specs.Prelude.{◌≡◌, ℕ, Bool, true, false, not, ◌&&◌, ◌||◌, List, [], ◌∷◌, ◌++◌, Option, Some, None, Result, Ok, Err, unwrap_or, option_map, cond, ◌≤◌, ◌<◌, ◌+◌, ◌*◌, nat_le, nat_lt, ◌==◌, length}
-use Rattle.std.specs.Option.{option_or, option_map_or, is_none}
+use Rattle.std.specs.Prelude.{◌≡◌, ℕ, Bool, true, false, not, ◌&&◌, ◌||◌, List, [], ◌∷◌, ◌++◌, Option, Some, None, Result, Ok, Err, unwrap_or, option_map, cond, ◌≤◌, ◌<◌, ◌+◌, nat_le, nat_lt, ◌==◌, length}
+use Rattle.std.specs.Option.{option_or, is_none}
 use Rattle.std.specs.Result.{OnOk}
 use Rattle.std.specs.List.{list_any, list_all, filter}
 use Rattle.std.specs.Ordering.{eq_by_cmp, is_eq}
 use Rattle.std.proofs.Common.{refl, sym, ap, ◌∙◌, subst, arith, get_or, drop}
 use Rattle.std.proofs.lemmas.List.{at_drop_more}
-use Rattle.std.proofs.lemmas.Option.{slice_get_past}
 use Rattle.std.proofs.lemmas.Bool.Decides.{nat_tests}
 use Rattle.std.proofs.lemmas.Cmp.{tied_itself}
 use Rattle.amr_labels.specs.Map.{Map, entries, get, remove, empty, get-empty, get-insert, get-remove}
@@ -17,7 +16,6 @@ use Rattle.amr_stated.specs.Config.{Config}
 use Rattle.amr_config.specs.Routing.{repeat_interval_of}
 use Rattle.amr_config.specs.Settled.{settings_of}
 use Rattle.amr_config.specs.declared.settings.Settings.{Settings}
-use Rattle.amr_stated.specs.declared.route.Route.{Route}
 use Rattle.amr_rules.specs.declared.dedup.LogEntry.{LogEntry}
 use Rattle.amr_rules.specs.Dedup.{LabelSets, needs_update}
 use Rattle.amr_stated.specs.declared.rule.InhibitRule.{InhibitRule}
@@ -28,11 +26,8 @@ use Rattle.amr_state.specs.declared.route_labels.RouteLabels.{RouteLabels}
 use Rattle.amr_state.specs.declared.notification.GroupTimer.{GroupTimer}
 use Rattle.amr_state.specs.declared.notification.Notification.{Notification}
 use Rattle.amr_state.specs.State.{State, on_route, route_labels_cmp, members}
-use Rattle.amr_state.specs.Kept.{Kept, GrownBy}
 use Rattle.amr_engine.specs.declared.explain.Finding.TheVariants.{Inhibited}
 use Rattle.amr_engine.specs.Stages.{by_active_time, by_mute_time, by_silence, taken_away}
-use Rattle.amr_engine.specs.Weight.{flush_weight}
-use Rattle.amr_engine.proofs.Partitions.{on_ok}
 use Rattle.amr_engine.specs.declared.quiet.Stretch.{Stretch}
 use Rattle.amr_engine.specs.declared.quiet.QuietTime.{QuietTime}
 use Rattle.amr_engine.specs.declared.quiet.QuietGroups.{QuietGroups}
@@ -269,6 +264,26 @@ fire_sooner until end sooner (m ∷ ms) fire =
     let parts = both (nat_le until m.1.ends_at) (all_fire_until until ms) fire in
     let here : nat_le end m.1.ends_at ≡ true = grind (arith, nat_tests) in
     (λ i. here i && fire_sooner until end sooner ms parts.1 i)
+
+sooner_repeat : (until end : Moment) → end ≤ until → (interval : Span) (entry : Option LogEntry) → no_repeat_before until interval entry ≡ true → no_repeat_before end interval entry ≡ true
+sooner_repeat until end sooner interval None h = refl
+sooner_repeat until end sooner interval (Some entry) h = grind (arith, nat_tests)
+
+module _ (s : State) (group : RouteLabels) (from : Moment) (firing : LabelSets) where
+  pub notified_sooner : (until end : Moment) → end ≤ until → (integration : Integration) → is_notified s group from until firing integration ≡ true → is_notified s group from end firing integration ≡ true
+  notified_sooner until end sooner integration notified =
+      let interval : Span = repeat_interval_of s.config group.route in
+      let entry : Option LogEntry = get s.log (log_key_of s.config group integration) in
+      let parts = both (not (needs_update entry firing (labels_of []) integration.send_resolved from interval)) (no_repeat_before until interval entry) notified in
+      (λ i. parts.0 i && sooner_repeat until end sooner interval entry parts.1 i)
+
+  -- one integration more
+  pub all_notified : (end : Moment) (integrations : List Integration) (n : ℕ) (integration : Integration) → n < length integrations → integration ≡ get_or integrations n integration
+      → is_notified s group from end firing integration ≡ true → list_all (is_notified s group from end firing) (drop (n + 1) integrations) ≡ true
+      → list_all (is_notified s group from end firing) (drop n integrations) ≡ true
+  all_notified end integrations n integration within is here rest =
+      at_drop_more (list_all (is_notified s group from end firing)) integrations n integration within
+      ∙ (λ i. (ap (is_notified s group from end firing) (sym is) ∙ here) i && rest i)
 
 pub is_settled : (s : State) (group : RouteLabels) (from until : Moment) (ms : Members) → all_fire_until until ms ≡ true → IsStill s from until → is_untimed s.config group.route ≡ true
     → are_notified s group from until (let_through s from group.route ms) ≡ true → IsQuietWith s group from until ms

@@ -4,7 +4,7 @@ ghost use Rattle.std.specs.Prelude.{◌≡◌, ◌<◌, List, [], ◌∷◌, ◌
 ghost use Rattle.amr_state.specs.State.{start};
 ghost use Rattle.amr_state.specs.Records.{put_back};
 ghost use Rattle.amr_state.specs.declared.displaced.Displaced.{Displaced};
-ghost use Rattle.amr_engine.specs.Events.{after_event, outcome_of};
+ghost use Rattle.amr_engine.specs.Events.{after_event, outcome_of, without_notifications};
 ghost use Rattle.amr_engine.specs.Outcomes.{outcome_view};
 ghost use Rattle.amr_engine.specs.Kept.{Records, RecordOf};
 ghost use Rattle.amr_engine.specs.QuietMoves.{AreQuietMoves};
@@ -147,6 +147,17 @@ impl Engine {
         ensures records { self.new.records ≡ [] }
     {
         self.store.forget();
+    }
+
+    /// Drops the notifications so far, once no event can be undone any more. A run, which has their
+    /// texts, does this after each event, so that its memory doesn't grow with them.
+    pub fn drop_notifications(&mut self)
+        requires { self.old.records ≡ [] }
+        ensures state { self.new.state ≡ without_notifications self.old.state }
+        ensures past { self.new.past ≡ [] }
+        ensures records { self.new.records ≡ [] }
+    {
+        self.store.drop_notifications();
     }
 
     /// Returns the state. `Store` has a getter for each part, and `amr_state::views` lists the

@@ -125,7 +125,7 @@ pub(crate) fn let_through(
         ≡ let_through store.old.state at route members.now) }
     ensures same { store.new ≡ store.old }
 {
-    let mut through = Vec::new(store.alloc());
+    let mut through = Vec::with_capacity(store.alloc(), members.len())?;
     let label_sets = label_sets_of(store.alloc(), members)?;
     store.learn_silences(at, label_sets.as_slice())?;
     for (labels, alert) in members {
@@ -141,7 +141,7 @@ pub(crate) fn let_through(
 fn label_sets_of(alloc: Global, members: &[Member]) -> Result<Vec<Labels>, AllocError>
     ensures { IfOk result (λ found. found.items ≡ map (λ member. member.0) members.now) }
 {
-    let mut label_sets = Vec::new(alloc);
+    let mut label_sets = Vec::with_capacity(alloc, members.len())?;
     for (labels, _) in members {
         label_sets.push(labels.clone()?)?;
     }

@@ -10,7 +10,7 @@ ghost use Rattle.amr_time.specs.Time.{latest_read};
 ghost use Rattle.amr_state.specs.State.{State};
 ghost use Rattle.amr_state.specs.State as state;
 ghost use Rattle.amr_state.specs.Kept.{GrownBy, undone};
-ghost use Rattle.amr_engine.specs.Flush.{let_through, flush};
+ghost use Rattle.amr_engine.specs.Flush.{let_through, labels_of, flush};
 ghost use Rattle.amr_engine.specs.Quiet.{is_outside, no_alert_ends, no_silence_turns, all_fire_until, is_untimed, is_notified, are_notified, with_timer_reset, IsStill, IsQuiet};
 ghost use Rattle.amr_engine.specs.Weight.{flush_weight};
 
@@ -24,7 +24,7 @@ use amr_tables::Keyed;
 use amr_time::Moment;
 use std::alloc::{AllocError, Global};
 
-/// How many stored alerts and silences may be looked at for each flush in full. Looking at this
+/// How many places of alerts and silences may be looked at for each flush in full. Looking at this
 /// many takes less time than such a flush, which copies members and asks rules and silences, so the
 /// looks never cost more than the flushes. If thousands of groups are flushed at one tick, all
 /// after the first use that look.
@@ -240,8 +240,9 @@ impl QuietGroups {
         self.flushes = 0;
         self.patience = next_patience(self.patience, self.has_saved);
         self.has_saved = false;
-        let stored = alert_count(store).saturating_add(silence_count(store));
-        self.price = (stored / LOOKED_AT_PER_FLUSH).saturating_mul(self.patience);
+        let places = store.alerts().arrived().len();
+        let looked_at = places.saturating_add(store.silences().next_number());
+        self.price = (looked_at / LOOKED_AT_PER_FLUSH).saturating_mul(self.patience);
         self.still = Some(Stretch { from, until });
         until
     }
@@ -449,26 +450,25 @@ fn notified_until(
     if through.is_empty() {
         return Ok(Some(until));
     }
-    let firing = labels_of(store.alloc(), through)?;
-    each_notified_until(store, at, group, &firing, until)
+    each_notified_until(store, at, group, through, until)
 }
 
-/// Returns until when no integration of the group's receiver is to be notified that these alerts
+/// Returns until when no integration of the group's receiver is to be notified that these members
 /// fire, at the latest until `until`. Returns `None` if one may have to be notified at the moment.
 fn each_notified_until(
     store: &Store,
     at: Moment,
     group: &RouteLabels,
-    firing: &LabelMap<()>,
+    through: &[Member],
     until: u128,
 ) -> Result<Option<u128>, AllocError>
     ensures { IfOk result (λ found. IfSome found (λ end. (end ≤ until)
-        × (list_all (is_notified store.now.state group.now at end firing.now)
+        × (list_all (is_notified store.now.state group.now at end (labels_of through.now))
         (integrations_of store.now.state.config group.now.route) ≡ true))) }
 {
     let mut until = until;
     for integration in store.config().integrations(group.route) {
-        match repeat_of(store, at, group, firing, integration)? {
+        match repeat_of(store, at, group, through, integration)? {
             None => return Ok(None),
             Some(repeat) => until = until.min(repeat),
         }
@@ -476,49 +476,35 @@ fn each_notified_until(
     Ok(Some(until))
 }
 
-/// Returns the first moment at which an integration that was notified of these firing alerts is
-/// notified of them again. Returns `None` if it is to be notified now, or never was.
+/// Returns the first moment at which an integration that was notified that these members fire is
+/// notified of them again. Returns `None` if it may have to be notified now, or never was. It makes
+/// no set of the members' labels if the entry has fewer, as after the post of a new alert.
 fn repeat_of(
     store: &Store,
     at: Moment,
     group: &RouteLabels,
-    firing: &LabelMap<()>,
+    through: &[Member],
     integration: &Integration,
 ) -> Result<Option<u128>, AllocError>
-    ensures { IfOk result (λ found. IfSome found
-        (λ end. is_notified store.now.state group.now at end firing.now integration.now ≡ true)) }
+    ensures { IfOk result (λ found. IfSome found (λ end.
+        is_notified store.now.state group.now at end (labels_of through.now) integration.now
+        ≡ true)) }
 {
     let key = log_key(store.alloc(), store.config(), group, integration)?;
+    let Some(entry) = store.log().get(&key) else {
+        return Ok(None);
+    };
+    if entry.firing.len() < through.len() {
+        return Ok(None);
+    }
     let interval = store.config().repeat_interval(group.route);
-    match store.log().get(&key) {
-        None => Ok(None),
-        Some(entry) => {
-            let none = LabelMap::new(store.alloc());
-            let send_resolved = integration.send_resolved;
-            if needs_update(Some(entry), firing, &none, send_resolved, at, interval) {
-                return Ok(None);
-            }
-            Ok(Some(entry.time.nanoseconds() + u128::from(interval.nanoseconds()) + 1))
-        }
+    let firing = labels_of(store.alloc(), through)?;
+    let none = LabelMap::new(store.alloc());
+    let send_resolved = integration.send_resolved;
+    if needs_update(Some(entry), &firing, &none, send_resolved, at, interval) {
+        return Ok(None);
     }
-}
-
-/// Returns how many alerts are stored.
-fn alert_count(store: &Store) -> usize {
-    let mut count: usize = 0;
-    for _alert in store.alerts().iter() {
-        count = count.saturating_add(1);
-    }
-    count
-}
-
-/// Returns how many silences are stored.
-fn silence_count(store: &Store) -> usize {
-    let mut count: usize = 0;
-    for _silence in store.silences().iter() {
-        count = count.saturating_add(1);
-    }
-    count
+    Ok(Some(entry.time.nanoseconds() + u128::from(interval.nanoseconds()) + 1))
 }
 
 /// Returns a moment until which nothing that may mute an alert changes.

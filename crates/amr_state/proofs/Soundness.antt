@@ -235,6 +235,18 @@ kept_forgotten a b kept tables moment closed current notes alike = record {
       fits-rest (joined a.journal.closed) a.journal.current (state_of b) (fits-alike (entries_of a) (state_of a) (state_of b) alike kept.fits));
 }
 
+-- without records, the notifications may be any
+pub kept_silent : (a b : Inside) → IsKept a → a.journal.current ≡ [] → a.journal.closed ≡ [] → IsKept (record a { notes = b.notes })
+unfolding NotesEntered Fits
+kept_silent a b kept current closed = record {
+  moment = kept.moment;
+  current = kept.current;
+  closed = kept.closed;
+  marked = kept.marked;
+  notes = λ h. absurd (subst (λ es. NotesEntered es (length a.notes.items)) current (kept.notes h));
+  fits = subst (λ es. Fits es (state_of (record a { notes = b.notes }))) (λ i. joined (sym closed i) ++ sym current i) tt;
+}
+
 -- ---- what the open record gives by being put back, after a change
 
 -- a place was changed, and its entry pushed

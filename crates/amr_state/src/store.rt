@@ -163,6 +163,17 @@ impl Store {
         self.journal.forget();
     }
 
+    /// Drops the notifications so far. No record may be left, since undoing one would need them.
+    pub fn drop_notifications(&mut self)
+        requires current { self.old.current ≡ [] }
+        requires records { self.old.records ≡ [] }
+        ensures state { self.new.state ≡ record self.old.state { notes = [] } }
+        ensures current { self.new.current ≡ [] }
+        ensures records { self.new.records ≡ [] }
+    {
+        self.notes.clear();
+    }
+
     /// Returns the number of closed records.
     pub fn records(&self) -> usize
         ensures { result ≡ length self.now.records }

@@ -6,7 +6,7 @@ ghost use Rattle.amreplay.specs.Program.Files.{FilesLeave};
 ghost use Rattle.amreplay.specs.Program.Runs.{Leaves, RunLeaves, LeavesAt};
 ghost use Rattle.amreplay.specs.Program.Ends.{StoppedBy, EndsBy};
 ghost use Rattle.amr_engine.specs.Outcomes.{outcome_view};
-ghost use Rattle.amr_engine.specs.Events.{outcome_of, after_event};
+ghost use Rattle.amr_engine.specs.Events.{outcome_of, after_event, without_notifications};
 ghost use Rattle.amr_state.specs.State.{start};
 
 use crate::program::fault::Fault;
@@ -122,7 +122,8 @@ fn write_events<W: Write>(
     Ok(())
 }
 
-/// Applies an event, writes its lines, and drops its record, which a run doesn't need.
+/// Applies an event, drops its record and its notifications from the state, and writes its lines. A
+/// run needs neither for the events that follow.
 fn pass_event<W: Write>(
     alloc: Global,
     engine: &mut Engine,
@@ -132,12 +133,14 @@ fn pass_event<W: Write>(
 ) -> Result<(), RunError>
     ensures left { Leaves (W.contents out.old.writer) (W.contents out.new.writer)
         (event_lines number (outcome_of engine.old.state event.now)) result }
-    ensures passed { OnOk result (engine.new.state ≡ after_event engine.old.state event.now) }
+    ensures passed { OnOk result (engine.new.state
+        ≡ without_notifications (after_event engine.old.state event.now)) }
     ensures forgotten { OnOk result (engine.new.records ≡ []) }
     ensures error { StoppedBy result out.old.failed out.new.failed }
 {
     let outcome = engine.apply(event)?;
     engine.forget();
+    engine.drop_notifications();
     write_event(alloc, number, &outcome, out)
 }
 

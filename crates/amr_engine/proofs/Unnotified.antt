@@ -1,0 +1,218 @@
+-- What an event does doesn't depend on the notifications before it.
+use Rattle.std.specs.Prelude.{◌≡◌, ℕ, zero, suc, Bool, true, false, List, [], ◌∷◌, ◌++◌, Option, Some, None, Result, Ok, Err, length, drop, nat_lt, if◌then◌else◌}
+use Rattle.std.specs.Option.{option_map, option_map_or}
+use Rattle.std.specs.List.{fold}
+use Rattle.std.proofs.Common.{refl, sym, ap, ◌∙◌, append_assoc, append-nil}
+use Rattle.amr_config.specs.Routing.{integrations_of, chosen}
+use Rattle.amr_labels.specs.Labels.{LabelSet}
+use Rattle.amr_labels.specs.Map.{entries, empty}
+use Rattle.amr_time.specs.Time.{Moment}
+use Rattle.amr_stated.specs.declared.receiver.Integration.{Integration}
+use Rattle.amr_stated.specs.Config.{Config}
+use Rattle.amr_rules.specs.declared.alert.Alert.{Alert}
+use Rattle.amr_rules.specs.Silences.{after_post, after_expiry}
+use Rattle.amr_posts.specs.Reasons.{Reason}
+use Rattle.amr_actions.specs.Events.{Event, Act}
+use Rattle.amr_state.specs.declared.due.Due.{Due}
+use Rattle.amr_state.specs.declared.due.Kind.{Kind}
+use Rattle.amr_state.specs.declared.due.Kind.TheVariants.{AlertRemoval, GroupRemoval, GroupFlush}
+use Rattle.amr_state.specs.declared.notification.LogKey.{LogKey}
+use Rattle.amr_state.specs.declared.notification.Notification.{Notification}
+use Rattle.amr_state.specs.declared.route_labels.RouteLabels.{RouteLabels}
+use Rattle.amr_state.specs.State.{State, on_route, members, place, place_on}
+use Rattle.amr_state.specs.Dues.{dues, next_due}
+use Rattle.amr_engine.specs.Stages.{taken_away}
+use Rattle.amr_engine.specs.Flush.{Members, notify, notify_all, record_notification, notifications_of, drop_member, mark_if_empty, drop_resolved, run_pipeline, flush, firing_of, resolved_of, let_through, log_key_of}
+use Rattle.amr_engine.specs.Runs as run
+use Rattle.amr_engine.specs.Moves.{move, move_of_kind, advance}
+use Rattle.amr_engine.specs.Events.{put, put_all, valid_alerts, with_config, with_silences, on_ok, after_act, at_moment, finish, judge, do_within, do_event, after_event, Outcome, skipped_of, outcome_from, outcome_of, without_notifications, move_limit}
+
+drop_first : {A : Type 0} (xs ys : List A) → drop (length xs) (xs ++ ys) ≡ ys
+drop_first [] ys = refl
+drop_first (x ∷ xs) ys = drop_first xs ys
+
+on_ok-twice : {A B C : Type 0} (f : B → C) (g : A → B) (r : Result A Reason) → on_ok f (on_ok g r) ≡ on_ok (λ x. f (g x)) r
+on_ok-twice f g (Ok x) = refl
+on_ok-twice f g (Err e) = refl
+
+module _ (earlier : List Notification) where
+  -- the state with earlier notifications before its own
+  abbrev after : State → State
+  after s = record s { notes = earlier ++ s.notes }
+
+  abbrev after_moves : List Due × State → List Due × State
+  after_moves r = (r.0, after r.1)
+
+  fold_after : {A : Type 0} (f : State → A → State) → ((s : State) (a : A) → f (after s) a ≡ after (f s a)) → (xs : List A) (s : State) → fold f (after s) xs ≡ after (fold f s xs)
+  fold_after f same [] s = refl
+  fold_after f same (x ∷ xs) s = ap (λ (y : State). fold f y xs) (same s x) ∙ fold_after f same xs (f s x)
+
+  chosen_after : (b : Bool) (x y z : State) → x ≡ after y → (if b then x else after z) ≡ after (if b then y else z)
+  chosen_after true x y z e = e
+  chosen_after false x y z e = refl
+
+  -- ---- a flush
+
+  recorded_after : (at : Moment) (group : RouteLabels) (key : LogKey) (send_resolved : Bool) (ms : Members) (s : State)
+      → record_notification at group key send_resolved ms (after s) ≡ after (record_notification at group key send_resolved ms s)
+  recorded_after at group key send_resolved ms s = λ i. record (record_notification at group key send_resolved ms s) { notes = append_assoc earlier s.notes (notifications_of at group key send_resolved (firing_of at ms) (resolved_of at ms)) i }
+
+  notify_after : (at : Moment) (group : RouteLabels) (ms : Members) (s : State) (i : Integration) → notify at group ms (after s) i ≡ after (notify at group ms s i)
+  unfolding notify
+  notify_after at group ms s i =
+      let key : LogKey = log_key_of s.config group i in
+      chosen_after _ (record_notification at group key i.send_resolved ms (after s)) (record_notification at group key i.send_resolved ms s) s (recorded_after at group key i.send_resolved ms s)
+
+  notify_all_after : (at : Moment) (group : RouteLabels) (ms : Members) (s : State) → notify_all at group ms (after s) ≡ after (notify_all at group ms s)
+  notify_all_after at group [] s = refl
+  notify_all_after at group (m ∷ ms) s = fold_after (notify at group (m ∷ ms)) (notify_after at group (m ∷ ms)) (integrations_of s.config group.route) s
+
+  mark_after : (at : Moment) (group : RouteLabels) (ms : Members) (s : State) → mark_if_empty at group ms (after s) ≡ after (mark_if_empty at group ms s)
+  mark_after at group [] s = refl
+  mark_after at group (m ∷ ms) s = refl
+
+  drop_after : (at : Moment) (group : RouteLabels) (ms : Members) (s : State) → drop_resolved at group ms (after s) ≡ after (drop_resolved at group ms s)
+  unfolding drop_resolved
+  drop_after at group ms s =
+      ap (mark_if_empty at group (firing_of at ms)) (fold_after (drop_member group) (λ _ _. refl) (resolved_of at ms) s)
+      ∙ mark_after at group (firing_of at ms) (fold (drop_member group) s (resolved_of at ms))
+
+  pipeline_after : (at : Moment) (group : RouteLabels) (ms : Members) (s : State) → run_pipeline at group ms (after s) ≡ after (run_pipeline at group ms s)
+  unfolding taken_away
+  pipeline_after at group [] s = refl
+  pipeline_after at group (m ∷ ms) s =
+      ap (drop_resolved at group (m ∷ ms)) (notify_all_after at group (let_through s at group.route (m ∷ ms)) s)
+      ∙ drop_after at group (m ∷ ms) (notify_all at group (let_through s at group.route (m ∷ ms)) s)
+
+  flush_after : (at : Moment) (group : RouteLabels) (s : State) → flush at group (after s) ≡ after (flush at group s)
+  unfolding flush members
+  flush_after at group s = pipeline_after at group (members s group) _
+
+  -- ---- the moves
+
+  kind_after : (kind : Kind) (d : Due) (s : State) → move_of_kind kind d (after s) ≡ after (move_of_kind kind d s)
+  kind_after AlertRemoval d s = refl
+  kind_after GroupRemoval d s = refl
+  kind_after GroupFlush d s = flush_after d.moment (on_route d.route d.labels) s
+
+  move_after : (d : Due) (s : State) → move d (after s) ≡ after (move d s)
+  unfolding move
+  move_after d s = kind_after d.kind d s
+
+  next_due_after : (at : Moment) (s : State) → next_due at (after s) ≡ next_due at s
+  unfolding next_due dues
+  next_due_after at s = refl
+
+  after_step_after : (d : Due) (o : Option (List Due × State)) → option_map (run.after_step (next_due 0) move d) (option_map after_moves o) ≡ option_map after_moves (option_map (run.after_step (next_due 0) move d) o)
+  after_step_after d None = refl
+  after_step_after d (Some r) = refl
+
+  advance_after : (limit : ℕ) (at : Moment) (s : State) → advance limit at (after s) ≡ option_map after_moves (advance limit at s)
+  advance_after zero at s = ap (λ (o : Option Due). option_map_or (λ d. None) o (Some ([], after s))) (next_due_after at s) ∙ last (next_due at s)
+    where
+      last : (o : Option Due) → option_map_or (λ d. None) o (Some ([], after s)) ≡ option_map after_moves (option_map_or (λ d. None) o (Some ([], s)))
+      last None = refl
+      last (Some d) = refl
+  advance_after (suc limit) at s =
+      ap (λ (o : Option Due). option_map_or (λ d. option_map (run.after_step (next_due at) move d) (advance limit at (move d (after s)))) o (Some ([], after s))) (next_due_after at s)
+      ∙ more (next_due at s) (λ d. advance_after limit at (move d s))
+    where
+      more : (o : Option Due) → ((d : Due) → advance limit at (after (move d s)) ≡ option_map after_moves (advance limit at (move d s)))
+          → option_map_or (λ d. option_map (run.after_step (next_due at) move d) (advance limit at (move d (after s)))) o (Some ([], after s))
+          ≡ option_map after_moves (option_map_or (λ d. option_map (run.after_step (next_due at) move d) (advance limit at (move d s))) o (Some ([], s)))
+      more None rest = refl
+      more (Some d) rest =
+          ap (λ (x : State). option_map (run.after_step (next_due at) move d) (advance limit at x)) (move_after d s)
+          ∙ ap (option_map (run.after_step (next_due at) move d)) (rest d)
+          ∙ after_step_after d (advance limit at (move d s))
+
+  -- ---- the action
+
+  place_after : (s : State) (alert : LabelSet × Alert) → place (after s) alert ≡ after (place s alert)
+  unfolding place
+  place_after s alert = fold_after (place_on alert.0 alert.1) (λ _ _. refl) (chosen s.config alert.0) s
+
+  put_after : (s : State) (alert : LabelSet × Alert) → put (after s) alert ≡ after (put s alert)
+  unfolding put
+  put_after s alert = place_after _ _
+
+  put_all_after : (s : State) (alerts : List (LabelSet × Alert)) → put_all (after s) alerts ≡ on_ok after (put_all s alerts)
+  put_all_after s [] = refl
+  put_all_after s (alert ∷ alerts) = ap (λ (x : State). Ok x) (fold_after put put_after (alert ∷ alerts) s)
+
+  with_config_after : (s : State) (config : Config) → with_config (after s) config ≡ after (with_config s config)
+  unfolding with_config
+  with_config_after s config = fold_after place place_after (entries s.alerts) (record s { config = config; placements = empty; timers = empty })
+
+  reloaded_after : (s : State) (config : Result Config Reason) → on_ok (with_config (after s)) config ≡ on_ok after (on_ok (with_config s) config)
+  reloaded_after s (Ok config) = ap (λ (x : State). Ok x) (with_config_after s config)
+  reloaded_after s (Err e) = refl
+
+  act_after : (s : State) (act : Act) → after_act (after s) act ≡ on_ok after (after_act s act)
+  unfolding after_act
+  act_after s (Act.Post posted) = put_all_after s (valid_alerts s posted)
+  act_after s (Act.Silence posted) = sym (on_ok-twice after (with_silences s) (after_post s.moment posted s.silences))
+  act_after s (Act.Expire id) = sym (on_ok-twice after (with_silences s) (after_expiry s.moment id s.silences))
+  act_after s (Act.Reload config) = reloaded_after s config
+  act_after s Act.Tick = refl
+
+  -- ---- the event
+
+  finish_after : (event : Event) (o : Option (List Due × State)) → finish event (option_map after_moves o) ≡ on_ok after_moves (finish event o)
+  finish_after event None = refl
+  finish_after event (Some r) =
+      ap (on_ok (λ end. (r.0, end))) (act_after (at_moment event.at r.1) event.act)
+      ∙ on_ok-twice (λ end. (r.0, end)) after (after_act (at_moment event.at r.1) event.act)
+      ∙ sym (on_ok-twice after_moves (λ end. (r.0, end)) (after_act (at_moment event.at r.1) event.act))
+
+  judge_after : (limit : ℕ) (s : State) (event : Event) (r : Result State Reason) → judge limit (after s) event (on_ok after r) ≡ on_ok after_moves (judge limit s event r)
+  judge_after limit s event (Err e) = refl
+  judge_after limit s event (Ok x) = ap (finish event) (advance_after limit event.at s) ∙ finish_after event (advance limit event.at s)
+
+  refused_or : (b : Bool) (e : Reason) (r : Result (List Due × State) Reason) → (if b then Err e else on_ok after_moves r) ≡ on_ok after_moves (if b then Err e else r)
+  refused_or true e r = refl
+  refused_or false e r = refl
+
+  do_within_after : (limit : ℕ) (s : State) (event : Event) → do_within limit (after s) event ≡ on_ok after_moves (do_within limit s event)
+  unfolding do_within
+  do_within_after limit s event =
+      ap (λ (r : Result (List Due × State) Reason). if nat_lt event.at s.moment then Err 20 else r)
+      (ap (judge limit (after s) event) (act_after (at_moment event.at s) event.act) ∙ judge_after limit s event (after_act (at_moment event.at s) event.act))
+      ∙ refused_or (nat_lt event.at s.moment) 20 (judge limit s event (after_act (at_moment event.at s) event.act))
+
+-- ---- an event after which the notifications before it are dropped
+
+whole : (s : State) → after s.notes (without_notifications s) ≡ s
+whole s = λ i. record s { notes = append-nil s.notes i }
+
+done_whole : (s : State) (event : Event) → do_event s event ≡ on_ok (after_moves s.notes) (do_event (without_notifications s) event)
+done_whole s event = ap (λ (x : State). do_event x event) (sym (whole s)) ∙ do_within_after s.notes move_limit (without_notifications s) event
+
+skipped_same : (s : State) (act : Act) → skipped_of (without_notifications s) act ≡ skipped_of s act
+skipped_same s (Act.Post posted) = refl
+skipped_same s (Act.Silence posted) = refl
+skipped_same s (Act.Expire id) = refl
+skipped_same s (Act.Reload config) = refl
+skipped_same s Act.Tick = refl
+
+outcome_same : (s : State) (event : Event) (r : Result (List Due × State) Reason) → outcome_from (without_notifications s) event r ≡ outcome_from s event (on_ok (after_moves s.notes) r)
+outcome_same s event (Err e) = refl
+outcome_same s event (Ok done) =
+    λ i. Outcome.Accepted (length done.0) (sym (drop_first s.notes done.1.notes) i) (skipped_same (at_moment event.at s) event.act i)
+
+-- what an event does can be seen without the notifications before it
+pub outcome_without : (s : State) (event : Event) → outcome_of (without_notifications s) event ≡ outcome_of s event
+unfolding outcome_of
+outcome_without s event = outcome_same s event (do_event (without_notifications s) event) ∙ ap (outcome_from s event) (sym (done_whole s event))
+
+after_same : (s : State) (r : Result (List Due × State) Reason)
+    → without_notifications (elim r [ Ok done ↦ done.1 | Err reason ↦ without_notifications s ]) ≡ without_notifications (elim (on_ok (after_moves s.notes) r) [ Ok done ↦ done.1 | Err reason ↦ s ])
+after_same s (Err e) = refl
+after_same s (Ok done) = refl
+
+-- and leads to the same state, apart from these notifications
+pub after_without : (s : State) (event : Event) → without_notifications (after_event (without_notifications s) event) ≡ without_notifications (after_event s event)
+unfolding after_event
+after_without s event =
+    after_same s (do_event (without_notifications s) event)
+    ∙ ap (λ (r : Result (List Due × State) Reason). without_notifications (elim r [ Ok done ↦ done.1 | Err reason ↦ s ])) (sym (done_whole s event))

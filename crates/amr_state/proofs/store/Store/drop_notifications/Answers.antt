@@ -1,0 +1,11 @@
+use Rattle.std.proofs.Common.{◌≡◌, [], ap, subst, ◌∙◌}
+use Rattle.amr_state.specs.Kept.{Kept}
+use Rattle.amr_state.proofs.Soundness.{kept_silent}
+use Rattle.amr_state.proofs.store.Store.drop_notifications.Goals as goal
+
+pub invariant_of-self : goal.invariant_of-self
+invariant_of-self c =
+    let current = ap (λ (k : Kept). k.current) c.self.view_is ∙ c.requires.current in
+    let closed = ap (λ (k : Kept). k.records) c.self.view_is ∙ c.requires.records in
+    let a = c.self.inside in
+    kept_silent a (record a { notes = c.clear.new.self }) c.self.invariant current closed
