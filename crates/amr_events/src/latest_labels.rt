@@ -1,12 +1,10 @@
 //! The labels that were read latest. Most alerts of a script have labels that were read before, so
-//! they are found by the members of the JSON object, before any of its texts is copied.
-ghost use Rattle.std.specs.Prelude.{◌≡◌, Some, true, IfSome};
-ghost use Rattle.serde_json.specs.View.{view};
-ghost use Rattle.amr_events.specs.Shapes.{named_text, texts_in};
+//! they are found by their names and texts as the line has them, before any of these is copied.
+ghost use Rattle.std.specs.Prelude.{◌≡◌, true, IfSome};
+ghost use Rattle.amr_events.specs.Tokens.{spelled};
 
 use amr_labels::{Text, spread_of};
 use amr_posts::PostedLabels;
-use serde_json::Value;
 use std::alloc::{AllocError, Global};
 
 /// The most labels that are kept. Beyond that, labels take the place of others.
@@ -30,9 +28,10 @@ impl LatestLabels {
         }
     }
 
-    /// Returns the labels that an object states, if they are the last that were noted at its place.
-    pub(crate) fn get(&self, stated: &Value) -> Option<&PostedLabels>
-        ensures { IfSome result (λ known. texts_in (view stated.now) ≡ Some known.now) }
+    /// Returns the labels of these names and texts, if they are the last that were noted at their
+    /// place.
+    pub(crate) fn get(&self, stated: &[(&str, &str)]) -> Option<&PostedLabels>
+        ensures { IfSome result (λ known. known.now ≡ spelled stated.now) }
     {
         let known = self.places.get(self.place_of(stated))?.as_ref()?;
         if are_stated(known.pairs(), stated) {
@@ -41,8 +40,12 @@ impl LatestLabels {
         None
     }
 
-    /// Notes the labels that an object states.
-    pub(crate) fn note(&mut self, stated: &Value, labels: PostedLabels) -> Result<(), AllocError> {
+    /// Notes the labels of these names and texts.
+    pub(crate) fn note(
+        &mut self,
+        stated: &[(&str, &str)],
+        labels: PostedLabels,
+    ) -> Result<(), AllocError> {
         if self.noted >= self.places.len() && self.places.len() < MOST {
             self.grow()?;
         }
@@ -65,49 +68,41 @@ impl LatestLabels {
         Ok(())
     }
 
-    /// Returns the place of the labels that an object states.
-    fn place_of(&self, stated: &Value) -> usize {
-        spread_of_members(stated) & self.places.len().wrapping_sub(1)
+    /// Returns the place of the labels of these names and texts.
+    fn place_of(&self, stated: &[(&str, &str)]) -> usize {
+        spread_of_texts(stated) & self.places.len().wrapping_sub(1)
     }
 }
 
-/// Returns a number made of the names and texts of an object.
-fn spread_of_members(stated: &Value) -> usize {
+/// Returns a number made of names and texts.
+fn spread_of_texts(stated: &[(&str, &str)]) -> usize {
     let mut spread: usize = 0;
-    if let Some(members) = stated.as_object() {
-        for (name, value) in members {
-            spread = spread.rotate_left(5) ^ spread_of(name.as_str());
-            if let Some(text) = value.as_str() {
-                spread = spread.rotate_left(5) ^ spread_of(text);
-            }
-        }
+    for (name, text) in stated {
+        spread = spread.rotate_left(5) ^ spread_of(name);
+        spread = spread.rotate_left(5) ^ spread_of(text);
     }
     spread
 }
 
-/// Returns whether an object states these names and texts, in this order.
-fn are_stated(pairs: &[(Text, Text)], stated: &Value) -> bool
-    ensures { result ≡ true → texts_in (view stated.now) ≡ Some pairs.now }
+/// Returns whether these are the same names and texts, in the same order.
+fn are_stated(pairs: &[(Text, Text)], stated: &[(&str, &str)]) -> bool
+    ensures { result ≡ true → pairs.now ≡ spelled stated.now }
 {
-    let Some(members) = stated.as_object() else {
+    if pairs.len() != stated.len() {
         return false;
-    };
-    let mut compared = 0;
-    for (name, value) in members {
-        if compared == pairs.len() || !is_stated(&pairs[compared], name.as_str(), value) {
+    }
+    for (place, pair) in pairs.iter().enumerate() {
+        let (name, text) = stated[place];
+        if !is_stated(pair, name, text) {
             return false;
         }
-        compared += 1;
     }
-    compared == pairs.len()
+    true
 }
 
-/// Returns whether a member of an object states this name and text.
-fn is_stated(pair: &(Text, Text), name: &str, value: &Value) -> bool
-    ensures { result ≡ true → named_text name.now (view value.now) ≡ Some pair.now }
+/// Returns whether this is the same name and text.
+fn is_stated(pair: &(Text, Text), name: &str, text: &str) -> bool
+    ensures { result ≡ true → pair.now ≡ (name.now, text.now) }
 {
-    match value.as_str() {
-        Some(text) => pair.0.as_str() == name && pair.1.as_str() == text,
-        None => false,
-    }
+    pair.0.as_str() == name && pair.1.as_str() == text
 }

@@ -11,6 +11,7 @@ ghost use Rattle.amr_events.specs.Lines.{json_of, count_of as count_in, act_coun
 ghost use Rattle.amr_events.specs.Refused.{ReloadIs, ActIs, EventIs, LineIs};
 
 use crate::error::LineError;
+use crate::post_line::read_post;
 use crate::posted::alerts;
 use crate::posted_silence::{id, silence};
 use crate::seen_texts::SeenTexts;
@@ -30,7 +31,8 @@ pub(crate) fn read_single_line(alloc: Global, line: &[u8]) -> Result<Event, Line
     read_line(alloc, &mut seen, line)
 }
 
-/// Reads the event of a line. It shares the texts of its alerts with those that were seen.
+/// Reads the event of a line. It shares the texts of its alerts with those that were seen. A line
+/// of the usual shape of a post is read without a JSON value.
 #[tactic(auto, unfolding(crate::specs::Lines::event_of_line))]
 pub(crate) fn read_line(
     alloc: Global,
@@ -39,6 +41,9 @@ pub(crate) fn read_line(
 ) -> Result<Event, LineError>
     ensures { ReadsSuch (λ event. LineIs line.now event) result (event_of_line line.now) }
 {
+    if let Some(event) = read_post(alloc, seen, line)? {
+        return Ok(event);
+    }
     let stated = json(alloc, line)?;
     event(alloc, seen, &stated)
 }

@@ -52,7 +52,7 @@ fn alert(alloc: Global, seen: &mut SeenTexts, alert: &Value) -> Result<PostedAle
     ensures { Reads (λ a. a) result (alert_of (view alert.now)) }
 {
     let stated = alert.get("labels").ok_or(LineError::Faulty)?;
-    let labels = seen.labels(alloc, stated)?;
+    let labels = seen.share_labels(alloc, texts(alloc, stated)?)?;
     let annotations = annotations(alloc, seen, alert)?;
     let starts_at = time(alert, "startsAt")?;
     let ends_at = time(alert, "endsAt")?;
@@ -90,7 +90,7 @@ fn time(alert: &Value, key: &str) -> Result<Option<Moment>, BadTime>
 
 /// Reads a time, which may be missing.
 #[tactic(auto, unfolding(crate::specs::Posted::time_of))]
-fn time_of(text: &str) -> Result<Option<Moment>, BadTime>
+pub(crate) fn time_of(text: &str) -> Result<Option<Moment>, BadTime>
     ensures { result_ok result ≡ time_of text.now }
 {
     if is_missing(text) {

@@ -1,18 +1,14 @@
 //! The texts and the labels of a script that were read before. Names and values of labels are
 //! repeated in most lines, and most alerts are posted again, so `Script::read` shares them: it
 //! holds each text once, and the labels of an alert once, however often they are posted.
-ghost use Rattle.std.specs.Prelude.{◌≡◌, true, IfOk, IfSome};
-ghost use Rattle.serde_json.specs.View.{view};
-ghost use Rattle.amr_events.specs.Answers.{Reads};
-ghost use Rattle.amr_events.specs.Shapes.{texts_in};
+ghost use Rattle.std.specs.Prelude.{◌≡◌, true, reverse, IfOk, IfSome};
+ghost use Rattle.amr_labels.specs.Map as map;
+ghost use Rattle.amr_events.specs.Tokens.{spelled};
 
-use crate::error::LineError;
 use crate::latest_labels::LatestLabels;
-use crate::shapes::texts;
-use amr_labels::{Labels, Text};
+use amr_labels::{Labels, Text, TextMap};
 use amr_posts::PostedLabels;
 use amr_tables::Keyed;
-use serde_json::Value;
 use std::alloc::{AllocError, Global};
 use std::cmp::Ordering;
 use std::collections::BTreeSet;
@@ -24,6 +20,8 @@ pub(crate) struct SeenTexts {
     latest: LatestLabels,
     texts: BTreeSet<Text>,
     posted: Keyed<Labels, PostedLabels>,
+    /// An empty map, if one was needed. All alerts without annotations share it.
+    none: Option<TextMap>,
 }
 
 impl SeenTexts {
@@ -33,6 +31,7 @@ impl SeenTexts {
             latest: LatestLabels::new(alloc),
             texts: BTreeSet::new(alloc),
             posted: Keyed::new(alloc),
+            none: None,
         }
     }
 
@@ -62,26 +61,54 @@ impl SeenTexts {
         Ok(shared)
     }
 
-    /// Reads the labels that an object of texts states. They are shared with equal labels that were
-    /// read before.
-    pub(crate) fn labels(
+    /// Returns the labels of names and texts. They are shared with equal labels that were returned
+    /// before.
+    pub(crate) fn labels_of(
         &mut self,
         alloc: Global,
-        stated: &Value,
-    ) -> Result<PostedLabels, LineError>
-        ensures { Reads (λ labels. labels) result (texts_in (view stated.now)) }
+        stated: &[(&str, &str)],
+    ) -> Result<PostedLabels, AllocError>
+        ensures { IfOk result (λ labels. labels ≡ spelled stated.now) }
     {
         if let Some(known) = self.latest.get(stated) {
             return Ok(known.clone()?);
         }
-        let labels = self.share_labels(alloc, texts(alloc, stated)?)?;
+        let labels = self.share_labels(alloc, copies(alloc, stated)?)?;
         self.latest.note(stated, labels.clone()?)?;
         Ok(labels)
     }
 
+    /// Returns the map of names and texts. It shares each of them with an equal text that was
+    /// returned before.
+    pub(crate) fn annotations_of(
+        &mut self,
+        alloc: Global,
+        stated: &[(&str, &str)],
+    ) -> Result<TextMap, AllocError>
+        ensures { IfOk result (λ texts. texts ≡ map.from_entries (reverse (spelled stated.now))) }
+    {
+        let copies = copies(alloc, stated)?;
+        let shared = self.share_pairs(alloc, copies.as_slice())?;
+        TextMap::from_pairs(alloc, shared.as_slice())
+    }
+
+    /// Returns an empty map, which is shared by all to which it is returned.
+    pub(crate) fn no_texts(&mut self, alloc: Global) -> Result<TextMap, AllocError>
+        ensures { IfOk result (λ none. none ≡ map.empty) }
+    {
+        if let Some(none) = &self.none {
+            if none.is_empty() {
+                return Ok(none.clone()?);
+            }
+        }
+        let none = TextMap::empty(alloc)?;
+        self.none = Some(none.clone()?);
+        Ok(none)
+    }
+
     /// Returns the posted labels of names and values. They are shared with equal labels that were
     /// returned before.
-    fn share_labels(
+    pub(crate) fn share_labels(
         &mut self,
         alloc: Global,
         pairs: Vec<(Text, Text)>,
@@ -119,6 +146,17 @@ impl SeenTexts {
         }
         Ok(shared)
     }
+}
+
+/// Copies names and texts.
+fn copies(alloc: Global, stated: &[(&str, &str)]) -> Result<Vec<(Text, Text)>, AllocError>
+    ensures { IfOk result (λ copies. copies.items ≡ spelled stated.now) }
+{
+    let mut copies = Vec::with_capacity(alloc, stated.len())?;
+    for (name, text) in stated {
+        copies.push((Text::from_str(alloc, name)?, Text::from_str(alloc, text)?))?;
+    }
+    Ok(copies)
 }
 
 /// Returns whether the names and values are the same, also those with an empty value.

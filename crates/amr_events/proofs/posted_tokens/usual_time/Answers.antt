@@ -1,0 +1,10 @@
+use Rattle.std.proofs.Common.{◌≡◌, Some, sym}
+use Rattle.amr_loading.specs.Members.{present}
+use Rattle.amr_events.specs.Posted.{time_at, time_of}
+use Rattle.amr_events.proofs.Stating.{states_text}
+use Rattle.amr_events.proofs.posted_tokens.usual_time.Goals as goal
+
+pub returns-in-Ok-clause-read : goal.returns-in-Ok-clause-read
+returns-in-Ok-clause-read c depth =
+    let given : time_of c.in_ok-string.field-0.now ≡ Some c.in-Ok.time = sym c.in-Ok.ensures in
+    states_text depth (λ d. time_at (present (Some d)) ≡ Some c.in-Ok.time) _ _ c.in_ok-string.field-0.now c.in_ok-string.ensures given
