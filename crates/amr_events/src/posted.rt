@@ -1,19 +1,20 @@
 //! Reading posted alerts from a line of a script. Only the shape is checked; whether an alert is
 //! valid is decided when it is posted.
-ghost use Rattle.std.specs.Prelude.{◌≡◌, option_map};
+ghost use Rattle.std.specs.Prelude.{◌≡◌, option_map, IfOk};
 ghost use Rattle.std.specs.Result.{result_ok};
 ghost use Rattle.serde_json.specs.View.{view};
 ghost use Rattle.amr_events.specs.Answers.{Reads};
+ghost use Rattle.amr_events.specs.Tokens.{spelled};
 ghost use Rattle.amr_events.specs.Posted.{is_missing as is_missing_text, time_of, time_in, annotations_in, alert_of, alerts_of};
 
 use crate::error::LineError;
 use crate::seen_texts::SeenTexts;
 use crate::shapes::{member, texts};
-use amr_labels::{Listing, TextMap};
+use amr_labels::{Listing, Text, TextMap};
 use amr_posts::PostedAlert;
 use amr_time::{BadTime, Moment, read_moment};
 use serde_json::Value;
-use std::alloc::Global;
+use std::alloc::{AllocError, Global};
 
 /// The first moment of the year 1, which Alertmanager writes for a missing time (Go's zero time).
 const MISSING_MARKS: [&str; 10] = [
@@ -52,7 +53,8 @@ fn alert(alloc: Global, seen: &mut SeenTexts, alert: &Value) -> Result<PostedAle
     ensures { Reads (λ a. a) result (alert_of (view alert.now)) }
 {
     let stated = alert.get("labels").ok_or(LineError::Faulty)?;
-    let labels = seen.share_labels(alloc, texts(alloc, stated)?)?;
+    let texts = texts(alloc, stated)?;
+    let labels = seen.labels_of(alloc, lent(alloc, texts.as_slice())?.as_slice())?;
     let annotations = annotations(alloc, seen, alert)?;
     let starts_at = time(alert, "startsAt")?;
     let ends_at = time(alert, "endsAt")?;
@@ -73,8 +75,18 @@ fn annotations(alloc: Global, seen: &mut SeenTexts, alert: &Value) -> Result<Tex
         Some(value) => texts(alloc, value)?,
         None => Vec::new(alloc),
     };
-    let shared = seen.share_pairs(alloc, texts.as_slice())?;
-    Ok(TextMap::from_pairs(alloc, shared.as_slice())?)
+    Ok(seen.annotations_of(alloc, lent(alloc, texts.as_slice())?.as_slice())?)
+}
+
+/// Lends names and texts.
+fn lent<'a>(alloc: Global, texts: &'a [(Text, Text)]) -> Result<Vec<(&'a str, &'a str)>, AllocError>
+    ensures { IfOk result (λ lent. spelled lent.items ≡ texts.now) }
+{
+    let mut lent = Vec::with_capacity(alloc, texts.len())?;
+    for (name, text) in texts {
+        lent.push((name.as_str(), text.as_str()))?;
+    }
+    Ok(lent)
 }
 
 /// Reads the time under a key, if the alert has one.

@@ -1,25 +1,22 @@
 //! The texts and the labels of a script that were read before. Names and values of labels are
 //! repeated in most lines, and most alerts are posted again, so `Script::read` shares them: it
-//! holds each text once, and the labels of an alert once, however often they are posted.
+//! holds each text once, and the labels of an alert once, however often they are posted. They are
+//! found by comparing them with what a line states, before any text is copied.
 ghost use Rattle.std.specs.Prelude.{◌≡◌, true, reverse, IfOk, IfSome};
 ghost use Rattle.amr_labels.specs.Map as map;
 ghost use Rattle.amr_events.specs.Tokens.{spelled};
 
-use crate::latest_labels::LatestLabels;
-use amr_labels::{Labels, Text, TextMap};
+use crate::places::{Places, Spread};
+use amr_labels::{Text, TextMap, spread_of};
 use amr_posts::PostedLabels;
-use amr_tables::Keyed;
 use std::alloc::{AllocError, Global};
-use std::cmp::Ordering;
-use std::collections::BTreeSet;
 
-/// Texts and labels that were read before. Looking up a text takes about the logarithm of their
-/// number, and looking up labels mostly one or two comparisons.
+/// Texts and labels that were read before. Looking up a text or labels mostly takes one or two
+/// comparisons.
 #[derive(Drop)]
 pub(crate) struct SeenTexts {
-    latest: LatestLabels,
-    texts: BTreeSet<Text>,
-    posted: Keyed<Labels, PostedLabels>,
+    texts: Places<Text>,
+    labels: Places<PostedLabels>,
     /// An empty map, if one was needed. All alerts without annotations share it.
     none: Option<TextMap>,
 }
@@ -28,37 +25,10 @@ impl SeenTexts {
     /// Returns a memory of texts and labels that holds none.
     pub(crate) fn new(alloc: Global) -> SeenTexts {
         SeenTexts {
-            latest: LatestLabels::new(alloc),
-            texts: BTreeSet::new(alloc),
-            posted: Keyed::new(alloc),
+            texts: Places::new(alloc),
+            labels: Places::new(alloc),
             none: None,
         }
-    }
-
-    /// Returns the text. It shares its bytes with an equal text that was returned before.
-    fn share(&mut self, text: &Text) -> Result<Text, AllocError>
-        ensures { IfOk result (λ shared. shared ≡ text.now) }
-    {
-        if let Some(known) = self.texts.get(text) {
-            return Ok(known.clone()?);
-        }
-        self.texts.insert(text.clone()?)?;
-        Ok(text.clone()?)
-    }
-
-    /// Returns the names and values, each shared with an equal text that was returned before.
-    pub(crate) fn share_pairs(
-        &mut self,
-        alloc: Global,
-        pairs: &[(Text, Text)],
-    ) -> Result<Vec<(Text, Text)>, AllocError>
-        ensures { IfOk result (λ shared. shared.items ≡ pairs.now) }
-    {
-        let mut shared = Vec::with_capacity(alloc, pairs.len())?;
-        for (name, value) in pairs {
-            shared.push((self.share(name)?, self.share(value)?))?;
-        }
-        Ok(shared)
     }
 
     /// Returns the labels of names and texts. They are shared with equal labels that were returned
@@ -70,11 +40,12 @@ impl SeenTexts {
     ) -> Result<PostedLabels, AllocError>
         ensures { IfOk result (λ labels. labels ≡ spelled stated.now) }
     {
-        if let Some(known) = self.latest.get(stated) {
+        if let Some(known) = labels_among(self.labels.near(spread_of_texts(stated)), stated) {
             return Ok(known.clone()?);
         }
-        let labels = self.share_labels(alloc, copies(alloc, stated)?)?;
-        self.latest.note(stated, labels.clone()?)?;
+        let pairs = self.share_pairs(alloc, stated)?;
+        let labels = PostedLabels::new(alloc, pairs)?;
+        self.labels.add(labels.clone()?)?;
         Ok(labels)
     }
 
@@ -87,9 +58,8 @@ impl SeenTexts {
     ) -> Result<TextMap, AllocError>
         ensures { IfOk result (λ texts. texts ≡ map.from_entries (reverse (spelled stated.now))) }
     {
-        let copies = copies(alloc, stated)?;
-        let shared = self.share_pairs(alloc, copies.as_slice())?;
-        TextMap::from_pairs(alloc, shared.as_slice())
+        let pairs = self.share_pairs(alloc, stated)?;
+        TextMap::from_pairs(alloc, pairs.as_slice())
     }
 
     /// Returns an empty map, which is shared by all to which it is returned.
@@ -106,65 +76,113 @@ impl SeenTexts {
         Ok(none)
     }
 
-    /// Returns the posted labels of names and values. They are shared with equal labels that were
-    /// returned before.
-    pub(crate) fn share_labels(
+    /// Returns the names and texts, each shared with an equal text that was returned before.
+    fn share_pairs(
         &mut self,
         alloc: Global,
-        pairs: Vec<(Text, Text)>,
-    ) -> Result<PostedLabels, AllocError>
-        ensures { IfOk result (λ posted. posted ≡ pairs.items) }
+        stated: &[(&str, &str)],
+    ) -> Result<Vec<(Text, Text)>, AllocError>
+        ensures { IfOk result (λ shared. shared.items ≡ spelled stated.now) }
     {
-        let posted = PostedLabels::new(alloc, pairs)?;
-        match self.known(&posted) {
-            Some(known) => Ok(known.clone()?),
-            None => self.remember(alloc, &posted),
+        let mut shared = Vec::with_capacity(alloc, stated.len())?;
+        for (name, text) in stated {
+            shared.push((self.share(alloc, name)?, self.share(alloc, text)?))?;
         }
+        Ok(shared)
     }
 
-    /// Returns equal labels that were returned before.
-    fn known(&self, posted: &PostedLabels) -> Option<&PostedLabels>
-        ensures { IfSome result (λ known. known.now ≡ posted.now) }
+    /// Returns the text. It shares its bytes with an equal text that was returned before.
+    fn share(&mut self, alloc: Global, text: &str) -> Result<Text, AllocError>
+        ensures { IfOk result (λ shared. shared ≡ text.now) }
     {
-        let known = self.posted.get(posted.label_set()?)?;
-        if are_same(known, posted) {
-            return Some(known);
+        if let Some(known) = text_among(self.texts.near(spread_of(text)), text) {
+            return Ok(known.clone()?);
         }
-        None
-    }
-
-    /// Returns the labels with their texts shared, and returns them again for equal labels, if they
-    /// make a label set.
-    fn remember(&mut self, alloc: Global, posted: &PostedLabels) -> Result<PostedLabels, AllocError>
-        ensures { IfOk result (λ shared. shared ≡ posted.now) }
-    {
-        let pairs = self.share_pairs(alloc, posted.pairs())?;
-        let shared = PostedLabels::new(alloc, pairs)?;
-        if let Some(labels) = shared.label_set() {
-            self.posted.make_place(labels.clone()?)?;
-            drop(self.posted.displace(labels, Some(shared.clone()?)));
-        }
+        let shared = Text::from_str(alloc, text)?;
+        self.texts.add(shared.clone()?)?;
         Ok(shared)
     }
 }
 
-/// Copies names and texts.
-fn copies(alloc: Global, stated: &[(&str, &str)]) -> Result<Vec<(Text, Text)>, AllocError>
-    ensures { IfOk result (λ copies. copies.items ≡ spelled stated.now) }
-{
-    let mut copies = Vec::with_capacity(alloc, stated.len())?;
-    for (name, text) in stated {
-        copies.push((Text::from_str(alloc, name)?, Text::from_str(alloc, text)?))?;
+impl Spread for Text {
+    fn spread(&self) -> usize {
+        spread_of(self.as_str())
     }
-    Ok(copies)
 }
 
-/// Returns whether the names and values are the same, also those with an empty value.
-fn are_same(known: &PostedLabels, posted: &PostedLabels) -> bool
-    ensures { result ≡ true → known.now ≡ posted.now }
-{
-    match known.pairs().cmp(posted.pairs()) {
-        Ordering::Equal => true,
-        _ => false,
+impl Spread for PostedLabels {
+    fn spread(&self) -> usize {
+        let mut spread: usize = 0;
+        for (name, text) in self.pairs() {
+            spread = spread_after(spread, name.as_str(), text.as_str());
+        }
+        spread
     }
+}
+
+/// Returns a number made of names and texts, as that of the labels with them.
+fn spread_of_texts(stated: &[(&str, &str)]) -> usize {
+    let mut spread: usize = 0;
+    for (name, text) in stated {
+        spread = spread_after(spread, name, text);
+    }
+    spread
+}
+
+/// Returns the number of some names and texts, given that of all but the last.
+fn spread_after(spread: usize, name: &str, text: &str) -> usize {
+    let with_name = spread.rotate_left(5) ^ spread_of(name);
+    with_name.rotate_left(5) ^ spread_of(text)
+}
+
+/// Returns the text at one of these places.
+fn text_among<'a>(places: &'a [Option<Text>], text: &str) -> Option<&'a Text>
+    ensures { IfSome result (λ known. known.now ≡ text.now) }
+{
+    for place in places {
+        match place {
+            Some(known) if known.as_str() == text => return Some(known),
+            _ => {}
+        }
+    }
+    None
+}
+
+/// Returns the labels of names and texts at one of these places.
+fn labels_among<'a>(
+    places: &'a [Option<PostedLabels>],
+    stated: &[(&str, &str)],
+) -> Option<&'a PostedLabels>
+    ensures { IfSome result (λ known. known.now ≡ spelled stated.now) }
+{
+    for place in places {
+        match place {
+            Some(known) if are_stated(known.pairs(), stated) => return Some(known),
+            _ => {}
+        }
+    }
+    None
+}
+
+/// Returns whether these are the same names and texts, in the same order.
+fn are_stated(pairs: &[(Text, Text)], stated: &[(&str, &str)]) -> bool
+    ensures { result ≡ true → pairs.now ≡ spelled stated.now }
+{
+    if pairs.len() != stated.len() {
+        return false;
+    }
+    for (place, pair) in pairs.iter().enumerate() {
+        let (name, text) = stated[place];
+        if !is_stated(pair, name, text) {
+            return false;
+        }
+    }
+    true
+}
+
+/// Returns whether this is the same name and text.
+fn is_stated(pair: &(Text, Text), name: &str, text: &str) -> bool
+    ensures { result ≡ true → pair.now ≡ (name.now, text.now) }
+{
+    pair.0.as_str() == name && pair.1.as_str() == text
 }

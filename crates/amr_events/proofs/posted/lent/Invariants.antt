@@ -1,6 +1,6 @@
 use Rattle.std.proofs.Common.{◌≡◌, take}
 use Rattle.amr_events.specs.Tokens.{spelled}
-use Rattle.amr_events.proofs.seen_texts.copies.Given as goal
+use Rattle.amr_events.proofs.posted.lent.Given as goal
 
 abbrev pub invariant-loop-name : goal.invariant-loop-name
-invariant-loop-name l = l.copies.items ≡ spelled (take l.name-index l.stated)
+invariant-loop-name l = spelled l.lent.items ≡ take l.name-index l.texts
