@@ -20,6 +20,7 @@ use amr_actions::{Act, Event};
 use amr_config::Config;
 use amr_loading::{ConfigError, Refusal, load_config};
 use amr_posts::Reason;
+use json::Scratch;
 use serde_json::Value;
 use std::alloc::{AllocError, Global};
 
@@ -27,8 +28,9 @@ use std::alloc::{AllocError, Global};
 pub(crate) fn read_single_line(alloc: Global, line: &[u8]) -> Result<Event, LineError>
     ensures { ReadsSuch (λ event. LineIs line.now event) result (event_of_line line.now) }
 {
+    let mut scratch = Scratch::new(alloc);
     let mut seen = SeenTexts::new(alloc);
-    read_line(alloc, &mut seen, line)
+    read_line(alloc, &mut scratch, &mut seen, line)
 }
 
 /// Reads the event of a line. It shares the texts of its alerts with those that were seen. A line
@@ -36,12 +38,13 @@ pub(crate) fn read_single_line(alloc: Global, line: &[u8]) -> Result<Event, Line
 #[tactic(auto, unfolding(crate::specs::Lines::event_of_line))]
 pub(crate) fn read_line(
     alloc: Global,
+    scratch: &mut Scratch,
     seen: &mut SeenTexts,
     line: &[u8],
 ) -> Result<Event, LineError>
     ensures { ReadsSuch (λ event. LineIs line.now event) result (event_of_line line.now) }
 {
-    if let Some(event) = read_post(alloc, seen, line)? {
+    if let Some(event) = read_post(alloc, scratch, seen, line)? {
         return Ok(event);
     }
     let stated = json(alloc, line)?;

@@ -22,9 +22,11 @@ use std::alloc::{AllocError, Global};
 use std::str;
 
 /// Reads the event of a line that has a moment under `at` and then alerts under `alerts`, and no
-/// other key. Returns `None` for a line of another shape.
+/// other key. Returns `None` for a line of another shape. The scratch is the reader's memory, kept
+/// from line to line.
 pub(crate) fn read_post(
     alloc: Global,
+    scratch: &mut Scratch,
     seen: &mut SeenTexts,
     line: &[u8],
 ) -> Result<Option<Event>, AllocError>
@@ -33,8 +35,7 @@ pub(crate) fn read_post(
     let Ok(text) = str::from_utf8(line) else {
         return Ok(None);
     };
-    let mut scratch = Scratch::new(alloc);
-    let mut reader = Reader::new(text, &mut scratch)?;
+    let mut reader = Reader::new(text, scratch)?;
     let event = post(alloc, seen, &mut reader)?;
     if reader.next().is_some() {
         return Ok(None);

@@ -12,6 +12,7 @@ use crate::line::{read_line, read_single_line};
 use crate::seen_texts::SeenTexts;
 use amr_actions::Event;
 use amr_labels::Listing;
+use json::Scratch;
 use std::alloc::Global;
 use std::marker::Model;
 
@@ -51,6 +52,7 @@ fn is_blank(line: &[u8]) -> bool
 /// Reads one more line, and appends its event unless it is blank.
 fn add_line(
     alloc: Global,
+    scratch: &mut Scratch,
     seen: &mut SeenTexts,
     number: u64,
     line: &[u8],
@@ -68,7 +70,7 @@ fn add_line(
     if events.len() >= MOST_EVENTS {
         return Err(ScriptError::Refused(Fault::TooManyEvents));
     }
-    match read_line(alloc, seen, line) {
+    match read_line(alloc, scratch, seen, line) {
         Ok(event) => {
             events.push(event)?;
             Ok(())
@@ -116,11 +118,12 @@ impl Script {
     pub fn read(alloc: Global, bytes: &[u8]) -> Result<Script, ScriptError>
         ensures { Answers (ScriptIs bytes.now) result }
     {
+        let mut scratch = Scratch::new(alloc);
         let mut seen = SeenTexts::new(alloc);
         let mut events = Vec::new(alloc);
         let mut number = 1;
         for line in bytes.split(|byte| *byte == b'\n') {
-            add_line(alloc, &mut seen, number, line, &mut events)?;
+            add_line(alloc, &mut scratch, &mut seen, number, line, &mut events)?;
             number += 1;
         }
         Ok(Script {
