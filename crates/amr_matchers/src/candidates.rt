@@ -1,5 +1,6 @@
-//! Asking a list of matchers for many label sets at once, one matcher after the other. Flushes with
-//! several new members ask silences like this.
+//! Asking a list of matchers for many label sets at once, one matcher after the other. Each label
+//! set has a mark, which it loses at the first matcher that doesn't match it. Flushes with several
+//! new members ask silences like this.
 ghost use Rattle.std.specs.Prelude.{◌≡◌, IfOk};
 ghost use Rattle.std.specs.List.{list_any};
 ghost use Rattle.amr_matchers.specs.Candidates.{matches_each};
