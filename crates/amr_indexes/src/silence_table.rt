@@ -22,7 +22,7 @@ use std::marker::Model;
 
 /// How many label sets the silences are asked for at once at most. It bounds the memory that the
 /// answers take.
-const MOST_AT_ONCE: usize = 256;
+const MOST_AT_ONCE: usize = 1024;
 
 /// How many label sets the silences are asked for at once at least. For fewer, remembered answers
 /// are faster than preparing the search of each pattern.

@@ -1,5 +1,5 @@
-//! The silences that match each of many label sets. The state calls `silence_rows` for up to 256 of
-//! them at a time, and then `periods_at` for each.
+//! The silences that match each of many label sets. The state calls `silence_rows` for many of them
+//! at a time, and then `periods_at` for each.
 ghost use Rattle.std.specs.Prelude.{◌≡◌, ◌<◌, ◌≤◌, List, length, get_or, IfOk};
 ghost use Rattle.amr_labels.specs.Labels.{LabelSet};
 ghost use Rattle.amr_labels.specs.Map as map;
