@@ -22,15 +22,15 @@ use std::marker::Model;
 
 /// How many label sets the silences are asked for at once at most. It bounds the memory that the
 /// answers take.
-const MOST_AT_ONCE: usize = 256;
+const MOST_AT_ONCE: usize = 1024;
 
 /// How many label sets the silences are asked for at once at least. For fewer, remembered answers
 /// are faster than preparing the search of each pattern.
 const FEWEST_AT_ONCE: usize = 4;
 
-/// A flush that meets this many unknown label sets also asks the silences for others ahead. They
-/// were most likely posted just now, and the next flushes meet the others.
-const MANY_UNKNOWN: usize = 4;
+/// How many label sets have to have arrived, at least, for the silences to be asked ahead for them.
+/// If alerts come one by one, most values are known, and their answers are remembered.
+const FEWEST_AHEAD: usize = 64;
 
 /// How many changes of silences are kept at most. When one more comes, all that is known of label
 /// sets is forgotten.
@@ -135,8 +135,8 @@ impl SilenceTable {
 
     /// Works out when silences that match these label sets are active from a moment on, and
     /// remembers it. Skips label sets that are known, and does nothing if no silence is stored. If
-    /// many are unknown, it also asks for the next ones that arrived: the search of each pattern is
-    /// then prepared once for all.
+    /// some are unknown and many arrived, it first asks for those that arrived, which the next
+    /// flushes most likely meet: the search of each pattern is then prepared once for all.
     pub fn learn(
         &mut self,
         at: Moment,
@@ -149,7 +149,8 @@ impl SilenceTable {
             return Ok(());
         }
         let unknown = self.unknown(at, label_sets)?;
-        if unknown.len() < MANY_UNKNOWN {
+        let ahead = arrived.len().saturating_sub(self.asked_ahead);
+        if unknown.is_empty() || ahead < FEWEST_AHEAD {
             return self.learn_all(at, unknown.as_slice());
         }
         self.ask_ahead(at, arrived)?;

@@ -1,11 +1,11 @@
 -- Asking one matcher after the other is asking all of them.
-use Rattle.std.proofs.Common.{◌≡◌, Bool, true, false, ◌&&◌, ◌||◌, List, [], ◌∷◌, map, fold, refl, sym, ap, ◌∙◌}
+use Rattle.std.proofs.Common.{◌≡◌, ℕ, zero, suc, ◌+◌, ◌<◌, Bool, true, false, ◌&&◌, List, [], ◌∷◌, map, fold, length, take, set, get_or, replicate, refl, sym, ap, ◌∙◌, arith, add-one}
 use Rattle.std.proofs.Math.Bool.{and_assoc}
-use Rattle.amr_labels.specs.Labels.{LabelSet}
-use Rattle.amr_matchers.specs.Matchers.{Matcher, holds, all_hold}
 use Rattle.std.specs.List.{list_any}
 use Rattle.std.proofs.lemmas.Bool.{true≢false}
-use Rattle.amr_matchers.specs.Candidates.{Candidate, kept_by, with_matches}
+use Rattle.amr_labels.specs.Labels.{LabelSet}
+use Rattle.amr_matchers.specs.Matchers.{Matcher, holds, all_hold}
+use Rattle.amr_matchers.specs.Candidates.{marked, kept_by, matches_each}
 
 and_true : (b : Bool) → (b && true) ≡ b
 and_true true = refl
@@ -13,34 +13,58 @@ and_true false = refl
 
 -- one more matcher is asked of label sets with what is known of them
 kept_more : (matcher : Matcher) (known : LabelSet → Bool) (label_sets : List LabelSet)
-    → kept_by matcher (map (λ labels. (labels, known labels)) label_sets) ≡ map (λ labels. (labels, known labels && holds matcher labels)) label_sets
+    → kept_by matcher label_sets (map known label_sets) ≡ map (λ labels. known labels && holds matcher labels) label_sets
 kept_more matcher known [] = refl
-kept_more matcher known (labels ∷ label_sets) = λ i. (labels, known labels && holds matcher labels) ∷ kept_more matcher known label_sets i
+kept_more matcher known (labels ∷ label_sets) = λ i. (known labels && holds matcher labels) ∷ kept_more matcher known label_sets i
 
 asked_all : (matchers : List Matcher) (known : LabelSet → Bool) (label_sets : List LabelSet)
-    → fold (λ candidates matcher. kept_by matcher candidates) (map (λ labels. (labels, known labels)) label_sets) matchers
-    ≡ map (λ labels. (labels, known labels && all_hold matchers labels)) label_sets
-asked_all [] known label_sets = λ i. map (λ labels. (labels, sym (and_true (known labels)) i)) label_sets
+    → fold (λ marks matcher. kept_by matcher label_sets marks) (map known label_sets) matchers
+    ≡ map (λ labels. known labels && all_hold matchers labels) label_sets
+asked_all [] known label_sets = λ i. map (λ labels. sym (and_true (known labels)) i) label_sets
 asked_all (matcher ∷ matchers) known label_sets =
-    ap (λ candidates. fold (λ candidates matcher. kept_by matcher candidates) candidates matchers) (kept_more matcher known label_sets)
+    ap (λ marks. fold (λ marks matcher. kept_by matcher label_sets marks) marks matchers) (kept_more matcher known label_sets)
     ∙ asked_all matchers (λ labels. known labels && holds matcher labels) label_sets
-    ∙ (λ i. map (λ labels. (labels, and_assoc (known labels) (holds matcher labels) (all_hold matchers labels) i)) label_sets)
+    ∙ (λ i. map (λ labels. and_assoc (known labels) (holds matcher labels) (all_hold matchers labels) i) label_sets)
+
+all_marked : (label_sets : List LabelSet) → replicate (length label_sets) true ≡ map (λ labels. true) label_sets
+all_marked [] = refl
+all_marked (labels ∷ label_sets) = ap (λ marks. true ∷ marks) (all_marked label_sets)
 
 pub asked_each : (matchers : List Matcher) (label_sets : List LabelSet)
-    → fold (λ candidates matcher. kept_by matcher candidates) (map (λ labels. (labels, true)) label_sets) matchers ≡ with_matches matchers label_sets
-asked_each matchers label_sets = asked_all matchers (λ labels. true) label_sets
+    → fold (λ marks matcher. kept_by matcher label_sets marks) (replicate (length label_sets) true) matchers ≡ matches_each matchers label_sets
+asked_each matchers label_sets =
+    ap (λ marks. fold (λ marks matcher. kept_by matcher label_sets marks) marks matchers) (all_marked label_sets)
+    ∙ asked_all matchers (λ labels. true) label_sets
 
 -- no label set is left, so one more matcher changes nothing
-none_left : (matcher : Matcher) (candidates : List Candidate) → list_any (λ candidate. candidate.1) candidates ≡ false → kept_by matcher candidates ≡ candidates
-none_left matcher [] none = refl
-none_left matcher (candidate ∷ candidates) none =
-    elim candidate.1 as (λ b. candidate.1 ≡ b → kept_by matcher (candidate ∷ candidates) ≡ candidate ∷ candidates) [
-      | true ↦ λ is. absurd (true≢false (ap (λ b. b || list_any (λ c. c.1) candidates) (sym is) ∙ none))
-      | false ↦ λ is. λ i. (candidate.0, (ap (λ b. b && holds matcher candidate.0) is ∙ sym is) i) ∷ none_left matcher candidates (ap (λ b. b || list_any (λ c. c.1) candidates) (sym is) ∙ none) i
-    ] refl
+none_left : (matcher : Matcher) (label_sets : List LabelSet) (marks : List Bool) → list_any (λ mark. mark) marks ≡ false → kept_by matcher label_sets marks ≡ marks
+none_left matcher [] marks none = refl
+none_left matcher (labels ∷ label_sets) [] none = refl
+none_left matcher (labels ∷ label_sets) (true ∷ marks) none = absurd (true≢false none)
+none_left matcher (labels ∷ label_sets) (false ∷ marks) none = ap (λ kept. false ∷ kept) (none_left matcher label_sets marks none)
 
-pub asked_in_vain : (matchers : List Matcher) (candidates : List Candidate) → list_any (λ candidate. candidate.1) candidates ≡ false
-    → fold (λ candidates matcher. kept_by matcher candidates) candidates matchers ≡ candidates
-asked_in_vain [] candidates none = refl
-asked_in_vain (matcher ∷ matchers) candidates none =
-    ap (λ kept. fold (λ candidates matcher. kept_by matcher candidates) kept matchers) (none_left matcher candidates none) ∙ asked_in_vain matchers candidates none
+pub asked_in_vain : (matchers : List Matcher) (label_sets : List LabelSet) (marks : List Bool) → list_any (λ mark. mark) marks ≡ false
+    → fold (λ marks matcher. kept_by matcher label_sets marks) marks matchers ≡ marks
+asked_in_vain [] label_sets marks none = refl
+asked_in_vain (matcher ∷ matchers) label_sets marks none =
+    ap (λ kept. fold (λ marks matcher. kept_by matcher label_sets marks) kept matchers) (none_left matcher label_sets marks none)
+    ∙ asked_in_vain matchers label_sets marks none
+
+-- the mark at a place is changed after those before it
+mark_next : (test : LabelSet → Bool) (label_sets : List LabelSet) (marks : List Bool) (place : ℕ) (labels : LabelSet)
+    → place < length label_sets → length marks ≡ length label_sets
+    → set (marked test (take place label_sets) marks) place (get_or (marked test (take place label_sets) marks) place false && test (get_or label_sets place labels))
+    ≡ marked test (take (suc place) label_sets) marks
+mark_next test [] marks place labels lt same = absurd (omega (arith, lt))
+mark_next test (first ∷ label_sets) [] place labels lt same = absurd (omega (arith, same))
+mark_next test (first ∷ label_sets) (mark ∷ marks) zero labels lt same = refl
+mark_next test (first ∷ label_sets) (mark ∷ marks) (suc place) labels lt same =
+    ap (λ kept. (mark && test first) ∷ kept) (mark_next test label_sets marks place labels (omega (arith, lt)) (omega (arith, same)))
+
+pub marked_more : (test : LabelSet → Bool) (label_sets : List LabelSet) (marks so_far : List Bool) (place : ℕ) (mark : Bool) (labels : LabelSet)
+    → place < length label_sets → length marks ≡ length label_sets → so_far ≡ marked test (take place label_sets) marks
+    → labels ≡ get_or label_sets place labels → mark ≡ (get_or so_far place false && test labels)
+    → set so_far place mark ≡ marked test (take (place + 1) label_sets) marks
+marked_more test label_sets marks so_far place mark labels lt same is there changed =
+    (λ i. set (is i) place ((changed ∙ (λ j. get_or (is j) place false && test (there j))) i)) ∙ mark_next test label_sets marks place labels lt same
+    ∙ ap (λ count. marked test (take count label_sets) marks) (sym (add-one place))

@@ -1,7 +1,6 @@
 //! How a matcher compares the value of a label with its own value. `matcher.rt` uses it; a pattern
 //! is built here, once.
-ghost use Rattle.std.specs.Prelude.{◌≡◌, ◌&&◌, IfOk, IsErrOf, IsOk, false, true};
-ghost use Rattle.amr_labels.specs.Labels.{value_of};
+ghost use Rattle.std.specs.Prelude.{◌≡◌, length, IfOk, IsErrOf, IsOk, OnOk, false, true};
 ghost use Rattle.amr_matchers.specs.Matchers.{compares, takes_pattern};
 ghost use Rattle.amr_matchers.specs.Candidates.{kept_where, equal_or_not};
 ghost use Rattle.amr_matchers.specs.Comparisons.{operator_of, own_value};
@@ -10,9 +9,8 @@ ghost use Rattle.amr_matchers.specs.declared.pattern.MatcherError.TheVariants.{B
 
 use crate::Operator;
 use crate::answers::Answers;
-use crate::candidates::Candidate;
 use crate::pattern::{MatcherError, Pattern};
-use amr_labels::{Shared, Text};
+use amr_labels::{Labels, Shared, Text};
 use std::alloc::{AllocError, Global};
 use std::cmp::Ordering;
 
@@ -78,23 +76,31 @@ impl Comparison {
         }
     }
 
-    /// Compares the values of the label with this name in the candidates so far.
+    /// Unmarks the label sets whose value of the label with this name doesn't pass the comparison.
+    /// It compares the values of those alone that are marked.
     pub(crate) fn keep(
         &self,
         alloc: Global,
         name: &str,
-        candidates: &[Candidate],
-    ) -> Result<Vec<Candidate>, AllocError>
-        ensures { IfOk result (λ kept. kept.items
+        label_sets: &[Labels],
+        marks: &mut [bool],
+    ) -> Result<(), AllocError>
+        requires { length marks.old ≡ length label_sets.now }
+        ensures { OnOk result (marks.new
             ≡ kept_where (compares (operator_of self.now) (own_value self.now))
-            name.now candidates.now) }
+            name.now label_sets.now marks.old) }
     {
         match self {
-            Comparison::Is(own) => keep_equal(alloc, own, false, name, candidates),
-            Comparison::IsNot(own) => keep_equal(alloc, own, true, name, candidates),
-            Comparison::Matches(pattern) => pattern.get().keep(alloc, name, false, candidates),
-            Comparison::MatchesNot(pattern) => pattern.get().keep(alloc, name, true, candidates),
+            Comparison::Is(own) => keep_equal(own, false, name, label_sets, marks),
+            Comparison::IsNot(own) => keep_equal(own, true, name, label_sets, marks),
+            Comparison::Matches(pattern) => {
+                pattern.get().keep(alloc, name, false, label_sets, marks)?;
+            }
+            Comparison::MatchesNot(pattern) => {
+                pattern.get().keep(alloc, name, true, label_sets, marks)?;
+            }
         }
+        Ok(())
     }
 
     /// Returns whether a label's value passes the comparison. Only patterns' answers are
@@ -113,40 +119,16 @@ impl Comparison {
     }
 }
 
-/// Compares the values of the label with this name one by one: keeps those that equal the matcher's
-/// own value, or those that don't if `negated`.
-fn keep_equal(
-    alloc: Global,
-    own: &Text,
-    negated: bool,
-    name: &str,
-    candidates: &[Candidate],
-) -> Result<Vec<Candidate>, AllocError>
-    ensures { IfOk result (λ kept. kept.items
-        ≡ kept_where (equal_or_not negated own.now) name.now candidates.now) }
+/// Unmarks the label sets whose value of the label with this name isn't the matcher's own value, or
+/// is if `negated`.
+fn keep_equal(own: &Text, negated: bool, name: &str, label_sets: &[Labels], marks: &mut [bool])
+    requires { length marks.old ≡ length label_sets.now }
+    ensures { marks.new
+        ≡ kept_where (equal_or_not negated own.now) name.now label_sets.now marks.old }
 {
-    let mut kept = Vec::new(alloc);
-    for candidate in candidates {
-        kept.push(ask(own, negated, name, candidate)?)?;
+    for (place, labels) in label_sets.iter().enumerate() {
+        marks[place] = marks[place] && is_equal(own, negated, labels.value_of(name));
     }
-    Ok(kept)
-}
-
-/// Returns a candidate with the answer for its value of the label with this name.
-fn ask(
-    own: &Text,
-    negated: bool,
-    name: &str,
-    candidate: &Candidate,
-) -> Result<Candidate, AllocError>
-    ensures { IfOk result (λ asked. asked ≡ (
-      candidate.now.0,
-      candidate.now.1 && equal_or_not negated own.now (value_of candidate.now.0 name.now),
-    )) }
-{
-    let labels = candidate.0.clone()?;
-    let found = candidate.1 && is_equal(own, negated, labels.value_of(name));
-    Ok((labels, found))
 }
 
 /// Returns whether a label's value equals the matcher's own value, or whether it doesn't if

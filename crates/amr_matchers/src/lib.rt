@@ -14,7 +14,6 @@ mod parse;
 mod pattern;
 
 pub use answers::Answers;
-pub use candidates::Candidate;
 pub use matcher::{Matcher, all_match};
 pub use matchers::Matchers;
 pub use parse::ParseError;

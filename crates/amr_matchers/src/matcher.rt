@@ -1,6 +1,6 @@
 //! Matchers: whether one matches a label set, and their order, which is by name, value and
 //! operator.
-ghost use Rattle.std.specs.Prelude.{◌≡◌, IfOk, IsErrOf, IsOk, false, true};
+ghost use Rattle.std.specs.Prelude.{◌≡◌, length, IfOk, IsErrOf, IsOk, OnOk, false, true};
 ghost use Rattle.std.proofs.Common.{rules};
 ghost use Rattle.std.specs.Cmp.{partial_order_from_own_ties};
 ghost use Rattle.std.specs.Cmp.Rules.{comparing};
@@ -12,7 +12,6 @@ ghost use Rattle.amr_matchers.specs.declared.pattern.MatcherError.TheVariants.{B
 
 use crate::Operator;
 use crate::answers::Answers;
-use crate::candidates::Candidate;
 use crate::comparison::Comparison;
 use crate::pattern::MatcherError;
 use amr_labels::{Exact, Labels, Text};
@@ -100,15 +99,19 @@ impl Matcher {
             .compares(answers, labels.value_of(self.name.as_str()))
     }
 
-    /// Asks the matcher for each label set that all matchers so far match.
+    /// Unmarks the label sets that the matcher doesn't match. It asks for those alone that are
+    /// marked.
     pub(crate) fn keep(
         &self,
         alloc: Global,
-        candidates: &[Candidate],
-    ) -> Result<Vec<Candidate>, AllocError>
-        ensures { IfOk result (λ kept. kept.items ≡ kept_by self.now candidates.now) }
+        label_sets: &[Labels],
+        marks: &mut [bool],
+    ) -> Result<(), AllocError>
+        requires { length marks.old ≡ length label_sets.now }
+        ensures { OnOk result (marks.new ≡ kept_by self.now label_sets.now marks.old) }
     {
-        self.comparison.keep(alloc, self.name.as_str(), candidates)
+        let name = self.name.as_str();
+        self.comparison.keep(alloc, name, label_sets, marks)
     }
 }
 

@@ -5,11 +5,11 @@ ghost use Rattle.std.specs.Cmp.{partial_order_from_own_ties};
 ghost use Rattle.std.specs.Cmp.Rules.{comparing};
 ghost use Rattle.std.specs.Cmp.Lexicographic.{slice_cmp, lists_total};
 ghost use Rattle.std.specs.Ordering.{as_partial_cmp, eq_by_cmp};
-ghost use Rattle.amr_matchers.specs.Candidates.{with_matches};
+ghost use Rattle.amr_matchers.specs.Candidates.{matches_each};
 ghost use Rattle.amr_matchers.specs.Matchers.{all_hold, matcher_cmp, matcher_cmp_total};
 
 use crate::answers::Answers;
-use crate::candidates::{Candidate, match_each};
+use crate::candidates::match_each;
 use crate::matcher::{Matcher, all_match, all_match_remembered};
 use amr_labels::{Exact, Labels};
 use std::alloc::{AllocError, Global};
@@ -78,12 +78,8 @@ impl Matchers {
     }
 
     /// Returns for each label set whether all matchers match it.
-    pub fn match_each(
-        &self,
-        alloc: Global,
-        label_sets: &[Labels],
-    ) -> Result<Vec<Candidate>, AllocError>
-        ensures { IfOk result (λ found. found.items ≡ with_matches self.now label_sets.now) }
+    pub fn match_each(&self, alloc: Global, label_sets: &[Labels]) -> Result<Vec<bool>, AllocError>
+        ensures { IfOk result (λ found. found.items ≡ matches_each self.now label_sets.now) }
     {
         match_each(alloc, self.as_slice(), label_sets)
     }

@@ -1,14 +1,12 @@
 //! Patterns that have to match a whole value. `regex` builds and runs them; a pattern that it
 //! refuses makes no matcher.
-ghost use Rattle.std.specs.Prelude.{◌≡◌, ◌&&◌, IfOk, IsErrOf};
+ghost use Rattle.std.specs.Prelude.{◌≡◌, length, IfOk, IsErrOf, OnOk};
 ghost use Rattle.amr_matchers.specs.Candidates.{kept_where, found_or_not};
 ghost use Rattle.regex.specs.Strings.{matcher_pattern};
-ghost use Rattle.amr_labels.specs.Labels.{value_of};
 ghost use Rattle.amr_matchers.specs.Patterns.{pattern_matches, IsSearchFor, MayRefuse};
 ghost use Rattle.amr_matchers.specs.declared.pattern.MatcherError.TheVariants.{BadPattern};
 
-use crate::candidates::Candidate;
-use amr_labels::{Text, spread_of};
+use amr_labels::{Labels, Text, spread_of};
 use regex::{Error, Matcher as Search, Regex};
 use std::alloc::{AllocError, AllocFailed, Global};
 use std::marker::Model;
@@ -111,66 +109,43 @@ impl Pattern {
         self.spread
     }
 
-    /// Compares the values of the label with this name in the candidates so far: keeps those that
-    /// the pattern matches, or those that it doesn't if `negated`. One search serves all of them,
-    /// because it takes longer to prepare a search than to run it.
+    /// Unmarks the label sets whose value of the label with this name the pattern doesn't match, or
+    /// matches if `negated`. One search serves all of them, because it takes longer to prepare a
+    /// search than to run it.
     pub(crate) fn keep(
         &self,
         alloc: Global,
         name: &str,
         negated: bool,
-        candidates: &[Candidate],
-    ) -> Result<Vec<Candidate>, AllocError>
-        ensures { IfOk result (λ kept. kept.items
-            ≡ kept_where (found_or_not negated self.now) name.now candidates.now) }
+        label_sets: &[Labels],
+        marks: &mut [bool],
+    ) -> Result<(), AllocError>
+        requires { length marks.old ≡ length label_sets.now }
+        ensures { OnOk result (marks.new
+            ≡ kept_where (found_or_not negated self.now) name.now label_sets.now marks.old) }
     {
         let mut search = self.regex.matcher(alloc)?;
-        self.ask_each(alloc, &mut search, name, negated, candidates)
+        self.ask_each(&mut search, name, negated, label_sets, marks);
+        Ok(())
     }
 
-    /// Returns each candidate with the answer for its value of the label with this name.
+    /// Unmarks the same label sets. It searches in the values of those alone that are marked.
     fn ask_each(
         &self,
-        alloc: Global,
         search: &mut Search<'_>,
         name: &str,
         negated: bool,
-        candidates: &[Candidate],
-    ) -> Result<Vec<Candidate>, AllocError>
-        requires { IsSearchFor search.old self.now }
-        ensures { IfOk result (λ kept. kept.items
-            ≡ kept_where (found_or_not negated self.now) name.now candidates.now) }
+        label_sets: &[Labels],
+        marks: &mut [bool],
+    )
+        requires search { IsSearchFor search.old self.now }
+        requires marks { length marks.old ≡ length label_sets.now }
+        ensures { marks.new
+            ≡ kept_where (found_or_not negated self.now) name.now label_sets.now marks.old }
     {
-        let mut kept = Vec::new(alloc);
-        for candidate in candidates {
-            kept.push(self.ask(search, name, negated, candidate)?)?;
+        for (place, labels) in label_sets.iter().enumerate() {
+            marks[place] = marks[place] && self.passes(search, negated, labels.value_of(name));
         }
-        Ok(kept)
-    }
-
-    /// Returns a candidate with the answer for its value of the label with this name. It doesn't
-    /// search if a matcher before didn't match.
-    fn ask(
-        &self,
-        search: &mut Search<'_>,
-        name: &str,
-        negated: bool,
-        candidate: &Candidate,
-    ) -> Result<Candidate, AllocError>
-        requires { IsSearchFor search.old self.now }
-        ensures asked { IfOk result (λ asked. asked ≡ (
-          candidate.now.0,
-          candidate.now.1 && found_or_not negated self.now
-              (value_of candidate.now.0 name.now),
-        )) }
-        ensures same { matcher_pattern search.new ≡ matcher_pattern search.old }
-    {
-        let labels = candidate.0.clone()?;
-        if !candidate.1 {
-            return Ok((labels, false));
-        }
-        let passes = self.passes(search, negated, labels.value_of(name));
-        Ok((labels, passes))
     }
 
     /// Returns whether the pattern matches the whole value, or whether it doesn't if `negated`.

@@ -5,7 +5,6 @@ use Rattle.std.proofs.lemmas.List.{get_or-map}
 use Rattle.amr_labels.specs.Map.{empty, entries}
 use Rattle.amr_labels.specs.Labels.{LabelSet}
 use Rattle.amr_matchers.specs.Matchers.{all_hold}
-use Rattle.amr_matchers.specs.Candidates.{Candidate}
 use Rattle.amr_time.specs.Time.{Moment}
 use Rattle.amr_rules.specs.declared.silence.Silence.{Silence}
 use Rattle.amr_rules.specs.declared.silence_row.SilenceRow.{SilenceRow}
@@ -18,7 +17,7 @@ module _ (from : Moment) (label_sets : List LabelSet) (place : ℕ) (within : pl
   labels = get_or label_sets place empty
 
   matches_there : (stored : ℕ × Silence) → matches_at place (row_of label_sets stored) ≡ all_hold stored.1.matchers labels
-  matches_there stored = ap (λ (candidate : Candidate). candidate.1) (get_or-map (λ labels. (labels, all_hold stored.1.matchers labels)) label_sets place empty (empty, false) within)
+  matches_there stored = get_or-map (all_hold stored.1.matchers) label_sets place empty false within
 
   one_more : (b : Bool) (stored : ℕ × Silence) (rows : List SilenceRow) (kept : List (ℕ × Silence))
       → map (λ (row : SilenceRow). row.period) rows ≡ map period_of kept

@@ -2,10 +2,10 @@
 -- moments.
 use Rattle.std.specs.Prelude.{ℕ, Bool, false, get_or, not, ◌&&◌, List, Option, map, option_map, nat_le, nat_lt}
 use Rattle.std.specs.List.{find, filter}
-use Rattle.amr_labels.specs.Map.{entries, empty}
+use Rattle.amr_labels.specs.Map.{entries}
 use Rattle.amr_labels.specs.Labels.{LabelSet}
 use Rattle.amr_matchers.specs.Matchers.{all_hold}
-use Rattle.amr_matchers.specs.Candidates.{with_matches}
+use Rattle.amr_matchers.specs.Candidates.{matches_each}
 use Rattle.amr_time.specs.Time.{Moment}
 use Rattle.amr_rules.specs.declared.silence.Silence.{Silence}
 use Rattle.amr_rules.specs.declared.silence_period.SilencePeriod.{SilencePeriod}
@@ -28,9 +28,9 @@ periods_among from labels listed = map period_of (filter (λ stored. may_silence
 abbrev pub silence_periods : Moment → LabelSet → Silences → List SilencePeriod
 silence_periods from labels silences = periods_among from labels (entries silences)
 
--- a silence's period, and the label sets of a list with whether the silence matches them
+-- a silence's period, and for each label set of a list whether the silence matches it
 abbrev pub row_of : List LabelSet → ℕ × Silence → SilenceRow
-row_of label_sets stored = record { period = period_of stored; candidates = with_matches stored.1.matchers label_sets }
+row_of label_sets stored = record { period = period_of stored; matches = matches_each stored.1.matchers label_sets }
 
 -- those of these silences that aren't expired at this moment
 abbrev pub unexpired_of : Moment → List (ℕ × Silence) → List (ℕ × Silence)
@@ -50,7 +50,7 @@ silence_rows from label_sets silences = rows_among from label_sets (entries sile
 
 -- whether the silence matches the label set at this place of the list
 abbrev pub matches_at : ℕ → SilenceRow → Bool
-matches_at place row = (get_or row.candidates place (empty, false)).1
+matches_at place row = get_or row.matches place false
 
 -- the periods of the silences that match the label set at this place of the list
 abbrev pub periods_at : ℕ → List SilenceRow → List SilencePeriod

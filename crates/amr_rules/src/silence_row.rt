@@ -1,5 +1,5 @@
-//! The silences that match each of many label sets. The state calls `silence_rows` for up to 256 of
-//! them at a time, and then `periods_at` for each.
+//! The silences that match each of many label sets. The state calls `silence_rows` for many of them
+//! at a time, and then `periods_at` for each.
 ghost use Rattle.std.specs.Prelude.{◌≡◌, ◌<◌, ◌≤◌, List, length, get_or, IfOk};
 ghost use Rattle.amr_labels.specs.Labels.{LabelSet};
 ghost use Rattle.amr_labels.specs.Map as map;
@@ -9,7 +9,6 @@ ghost use Rattle.amr_rules.specs.Silences.{Silences};
 use crate::silence::Silence;
 use crate::silence_period::SilencePeriod;
 use amr_labels::{Labels, Listing};
-use amr_matchers::Candidate;
 use amr_posts::SilenceId;
 use amr_time::Moment;
 use std::alloc::{AllocError, Global};
@@ -18,7 +17,7 @@ use std::alloc::{AllocError, Global};
 #[derive(Drop)]
 pub struct SilenceRow {
     pub period: SilencePeriod,
-    pub candidates: Listing<Candidate>,
+    pub matches: Listing<bool>,
 }
 
 ghost use Rattle.amr_rules.specs.SilencePeriods.{row_of, rows_among, silence_rows, matches_at, periods_at, silence_periods, unexpired};
@@ -61,7 +60,7 @@ fn row_of(
             starts_at: silence.starts_at,
             ends_at: silence.ends_at,
         },
-        candidates: Listing::from_vec(silence.matchers.match_each(alloc, label_sets)?),
+        matches: Listing::from_vec(silence.matchers.match_each(alloc, label_sets)?),
     })
 }
 
@@ -92,9 +91,7 @@ impl SilenceRow {
     fn matches_at(&self, place: usize) -> bool
         ensures { result ≡ matches_at place self.now }
     {
-        match self.candidates.as_slice().get(place) {
-            Some((_, matches)) => *matches,
-            None => false,
-        }
+        let matches = self.matches.as_slice();
+        matches.get(place).copied().unwrap_or(false)
     }
 }

@@ -1,9 +1,9 @@
--- the matchers that are left give the same of these candidates as all matchers of the first ones
-use Rattle.std.proofs.Common.{◌≡◌, true, map, fold, drop}
-use Rattle.amr_matchers.specs.Candidates.{kept_by}
+-- the matchers that are left leave the same marks as all matchers
+use Rattle.std.proofs.Common.{◌≡◌, fold, length, drop}
+use Rattle.amr_matchers.specs.Candidates.{kept_by, matches_each}
 use Rattle.amr_matchers.proofs.candidates.match_each.Given as goal
 
 abbrev pub invariant-loop-matcher : goal.invariant-loop-matcher
 invariant-loop-matcher l =
-    fold (λ candidates matcher. kept_by matcher candidates) l.candidates.items (drop l.matcher-index l.matchers)
-    ≡ fold (λ candidates matcher. kept_by matcher candidates) (map (λ labels. (labels, true)) l.label_sets) l.matchers
+    (length l.marks.items ≡ length l.label_sets)
+    × fold (λ marks matcher. kept_by matcher l.label_sets marks) l.marks.items (drop l.matcher-index l.matchers) ≡ matches_each l.matchers l.label_sets
