@@ -93,16 +93,16 @@ impl<D: Drop> Tree<D> {
     pub(crate) fn first(&self) -> Option<&D>
         ensures { option_copied result ≡ slice_get self.now.0 0 }
     {
-        match &self.root {
-            None => None,
-            Some(node) => match &**node {
-                Node::Spare => None,
-                Node::Fork { left, item, .. } => match left.first() {
-                    None => Some(item),
-                    Some(first) => Some(first),
-                },
-            },
+        let mut first = None;
+        let mut tree = self;
+        while let Some(node) = &tree.root {
+            let Node::Fork { left, item, .. } = &**node else {
+                break;
+            };
+            first = Some(item);
+            tree = left;
         }
+        first
     }
 
     /// Splits the tree at its root. Returns `None` for an empty tree.
@@ -365,8 +365,24 @@ fn join<D: Drop>(left: Tree<D>, mut right: Tree<D>) -> Tree<D>
     }
 }
 
-/// Removes an item from a tree, if it is there, and returns its memory.
+/// Removes an item from a tree, if it is there, and returns its memory. It compares once if the
+/// item is the first.
 pub(crate) fn take<D: Ord + Drop>(tree: &mut Tree<D>, item: &D) -> Option<Box<Node<D>>>
+    requires sorted { IsStrictlySortedBy D.cmp tree.old.0 }
+    requires fits { length tree.old.0 < 2 ^ 64 }
+    ensures list { tree.new.0 ≡ without D.cmp tree.old.0 item.now }
+    ensures found { is_some result ≡ has D.cmp tree.old.0 item.now }
+    ensures shorter { length tree.old.0 ≡ length tree.new.0 + count_of result }
+    ensures height { (tree.old.1 ≤ tree.new.1 + 1) × (tree.new.1 ≤ tree.old.1) }
+{
+    match tree.first() {
+        Some(first) if item.cmp(first).is_eq() => Some(take_first(tree)?.memory),
+        _ => take_anywhere(tree, item),
+    }
+}
+
+/// Removes an item from a tree, if it is there, and returns its memory.
+fn take_anywhere<D: Ord + Drop>(tree: &mut Tree<D>, item: &D) -> Option<Box<Node<D>>>
     requires sorted { IsStrictlySortedBy D.cmp tree.old.0 }
     requires fits { length tree.old.0 < 2 ^ 64 }
     ensures list { tree.new.0 ≡ without D.cmp tree.old.0 item.now }
@@ -385,7 +401,7 @@ pub(crate) fn take<D: Ord + Drop>(tree: &mut Tree<D>, item: &D) -> Option<Box<No
                 ..
             } => match item.cmp(other) {
                 Ordering::Less => {
-                    let memory = take(left, item);
+                    let memory = take_anywhere(left, item);
                     rebalance(&mut tree.root);
                     memory
                 }
@@ -400,7 +416,7 @@ pub(crate) fn take<D: Ord + Drop>(tree: &mut Tree<D>, item: &D) -> Option<Box<No
                     }
                 }
                 Ordering::Greater => {
-                    let memory = take(right, item);
+                    let memory = take_anywhere(right, item);
                     rebalance(&mut tree.root);
                     memory
                 }
