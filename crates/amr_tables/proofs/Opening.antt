@@ -1,5 +1,5 @@
 -- A tree that is opened at its root.
-use Rattle.std.proofs.Common.{◌≡◌, ℕ, List, [], ◌++◌, sym, ap, ◌∙◌, subst}
+use Rattle.std.proofs.Common.{◌≡◌, ℕ, ◌+◌, max, List, [], ◌++◌, sym, ap, ◌∙◌, subst}
 use Rattle.std.specs.Prelude.{Option, None, Some, Box}
 use Rattle.std.specs.Box.{with_value}
 use Rattle.std.specs.declared.alloc.Global.{Global}
@@ -17,6 +17,10 @@ parts_of {node = node} view good some fork =
       height = ap (λ t. t.1) whole ∙ balanced.0;
       balanced = balanced.1;
     }
+
+-- the height that its root stores
+pub stored_height : {D : Type 0} {l r : List D × ℕ} {root : Option (Box (Node D) Global)} {node : Box (Node D) Global} {x : D} {h : ℕ} → IsBalancedRoot root → root ≡ Some node → node.value ≡ Fork l x h r → h ≡ max l.1 r.1 + 1
+stored_height good some fork = (subst IsBalanced fork (subst IsBalancedRoot some good)).0
 
 -- the items of the two sides
 abbrev others_of : {D : Type 0} → Node D → List D

@@ -5,7 +5,7 @@ ghost use Rattle.std.specs.Prelude.{◌≡◌, ◌+◌, ◌^◌, ◌<◌, ◌≤
 ghost use Rattle.std.specs.List.Sorted.{IsStrictlySortedBy};
 ghost use Rattle.std.specs.Option.{option_copied};
 ghost use Rattle.std.specs.BTreeSet.{insert_key};
-ghost use Rattle.amr_tables.specs.Balanced.{root_view, sides_of, IsBalancedRoot, IsNearlyBalanced, DifferByAtMost, IsHeightOf, IsLow};
+ghost use Rattle.amr_tables.specs.Balanced.{root_view, sides_of, IsBalancedRoot, IsNearlyBalanced, HasRightHeight, DifferByAtMost, IsHeightOf, IsLow};
 ghost use Rattle.amr_tables.specs.InParts.{items_of};
 ghost use Rattle.amr_tables.specs.Parted.{AreEmpty, IsPartsOf, IsFirstOf};
 ghost use Rattle.amr_tables.specs.Queued.{values_of, has, without, count_of};
@@ -292,6 +292,31 @@ fn rebalance<D: Drop>(root: &mut Option<Box<Node<D>>>)
     rebuild(root);
 }
 
+/// Restores the balance and the stored height of a tree after a side of it has changed, whose
+/// height was `before` and is `after`. It writes nothing if these are equal.
+fn rebalance_after<D: Drop>(root: &mut Option<Box<Node<D>>>, before: usize, after: usize)
+    requires near { IsNearlyBalanced root.old }
+    requires right { before ≡ after → HasRightHeight root.old }
+    ensures list { (root_view root.new).0 ≡ (root_view root.old).0 }
+    ensures height { IsHeightOf (sides_of root.old).0 (sides_of root.old).1 (root_view root.new).1 }
+    ensures balanced { IsBalancedRoot root.new }
+{
+    if before != after {
+        return rebalance(root);
+    }
+    let Some(node) = root else { return };
+    let Node::Fork {
+        left,
+        height,
+        right,
+        ..
+    } = &mut **node
+    else {
+        return;
+    };
+    prove!(*height == left.height().max(right.height()) + 1);
+}
+
 /// Adds an item to a tree, in order. It uses the memory that is given.
 pub(crate) fn put<D: Ord + Drop>(tree: &mut Tree<D>, memory: Box<Node<D>>, item: D)
     requires sorted { IsStrictlySortedBy D.cmp tree.old.0 }
@@ -312,11 +337,15 @@ pub(crate) fn put<D: Ord + Drop>(tree: &mut Tree<D>, memory: Box<Node<D>>, item:
                 ..
             } => {
                 if item.cmp(other).is_lt() {
+                    let before = left.height();
                     put(left, memory, item);
-                    rebalance(&mut tree.root);
+                    let after = left.height();
+                    rebalance_after(&mut tree.root, before, after);
                 } else {
+                    let before = right.height();
                     put(right, memory, item);
-                    rebalance(&mut tree.root);
+                    let after = right.height();
+                    rebalance_after(&mut tree.root, before, after);
                 }
             }
         },
@@ -332,22 +361,26 @@ fn take_first<D: Drop>(tree: &mut Tree<D>) -> Option<First<D>>
         None => None,
         Some(node) => match &mut **node {
             Node::Spare => None,
-            Node::Fork { left, .. } => match take_first(left) {
-                None => {
-                    let mut memory = tree.root.take()?;
-                    match mem::replace(&mut *memory, Node::Spare) {
-                        Node::Spare => None,
-                        Node::Fork { item, right, .. } => {
-                            *tree = right;
-                            Some(First { item, memory })
+            Node::Fork { left, .. } => {
+                let before = left.height();
+                match take_first(left) {
+                    None => {
+                        let mut memory = tree.root.take()?;
+                        match mem::replace(&mut *memory, Node::Spare) {
+                            Node::Spare => None,
+                            Node::Fork { item, right, .. } => {
+                                *tree = right;
+                                Some(First { item, memory })
+                            }
                         }
                     }
+                    Some(first) => {
+                        let after = left.height();
+                        rebalance_after(&mut tree.root, before, after);
+                        Some(first)
+                    }
                 }
-                Some(first) => {
-                    rebalance(&mut tree.root);
-                    Some(first)
-                }
-            },
+            }
         },
     }
 }
@@ -401,8 +434,10 @@ fn take_anywhere<D: Ord + Drop>(tree: &mut Tree<D>, item: &D) -> Option<Box<Node
                 ..
             } => match item.cmp(other) {
                 Ordering::Less => {
+                    let before = left.height();
                     let memory = take_anywhere(left, item);
-                    rebalance(&mut tree.root);
+                    let after = left.height();
+                    rebalance_after(&mut tree.root, before, after);
                     memory
                 }
                 Ordering::Equal => {
@@ -416,8 +451,10 @@ fn take_anywhere<D: Ord + Drop>(tree: &mut Tree<D>, item: &D) -> Option<Box<Node
                     }
                 }
                 Ordering::Greater => {
+                    let before = right.height();
                     let memory = take_anywhere(right, item);
-                    rebalance(&mut tree.root);
+                    let after = right.height();
+                    rebalance_after(&mut tree.root, before, after);
                     memory
                 }
             },
