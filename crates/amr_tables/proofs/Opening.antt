@@ -1,12 +1,12 @@
 -- A tree that is opened at its root.
-use Rattle.std.proofs.Common.{◌≡◌, ℕ, ◌+◌, max, List, [], ◌++◌, sym, ap, ◌∙◌, subst}
+use Rattle.std.proofs.Common.{◌≡◌, ℕ, ◌+◌, max, List, [], ◌∷◌, ◌++◌, sym, ap, ◌∙◌, subst}
 use Rattle.std.specs.Prelude.{Option, None, Some, Box}
 use Rattle.std.specs.Box.{with_value}
 use Rattle.std.specs.declared.alloc.Global.{Global}
 use Rattle.amr_tables.specs.declared.tree.Node.{Node}
 use Rattle.amr_tables.specs.declared.tree.Node.TheVariants.{Spare, Fork}
 use Rattle.amr_tables.specs.Balanced.{root_view, node_view, IsBalanced, IsBalancedRoot}
-use Rattle.amr_tables.specs.Parted.{IsPartsOf}
+use Rattle.amr_tables.specs.Parted.{IsPartsOf, IsFirstIn}
 
 pub parts_of : {D : Type 0} {tree l r : List D × ℕ} {root : Option (Box (Node D) Global)} {node : Box (Node D) Global} {x : D} {h : ℕ} → root_view root ≡ tree → IsBalancedRoot root → root ≡ Some node → node.value ≡ Fork l x h r → IsPartsOf tree (record { memory = node; left = l; item = x; right = r })
 parts_of {node = node} view good some fork =
@@ -34,3 +34,8 @@ others_in (Some node) = others_of node.value
 -- of a node that is taken out of its memory
 pub same_others : {D : Type 0} {l r m s : List D × ℕ} {x y : D} {h k : ℕ} {memory : Box (Node D) Global} (node : Box (Node D) Global) → Some memory ≡ Some (with_value node (Fork m y k s)) → Fork l x h r ≡ memory.value → l.0 ++ r.0 ≡ m.0 ++ s.0
 same_others node some fork = ap others_of fork ∙ ap others_in some
+
+-- the first item, of its node
+pub first_in : {D : Type 0} (tree rest : List D × ℕ) (memory : Box (Node D) Global) (node : Node D) → IsFirstIn tree rest memory node → (item : D) × (tree.0 ≡ item ∷ rest.0)
+first_in tree rest memory Spare first = absurd first
+first_in tree rest memory (Fork l item height r) first = (item, first.list)

@@ -7,7 +7,7 @@ ghost use Rattle.std.specs.Option.{option_copied};
 ghost use Rattle.std.specs.BTreeSet.{insert_key};
 ghost use Rattle.amr_tables.specs.Balanced.{root_view, sides_of, IsBalancedRoot, IsNearlyBalanced, HasRightHeight, DifferByAtMost, IsHeightOf, IsLow};
 ghost use Rattle.amr_tables.specs.InParts.{items_of};
-ghost use Rattle.amr_tables.specs.Parted.{AreEmpty, IsPartsOf, IsFirstOf};
+ghost use Rattle.amr_tables.specs.Parted.{AreEmpty, IsPartsOf, IsFirstOf, IsFirstNodeOf};
 ghost use Rattle.amr_tables.specs.Queued.{values_of, has, without, count_of};
 
 use crate::parts::InParts;
@@ -268,6 +268,7 @@ pub(crate) fn list_part<'a, D: InParts>(
 
 /// Restores the balance and the stored height of a tree after one of its sides has changed. It
 /// moves no item unless the heights of the sides differ by two.
+#[inline(never)]
 fn rebalance<D: Drop>(root: &mut Option<Box<Node<D>>>)
     requires { IsNearlyBalanced root.old }
     ensures list { (root_view root.new).0 ≡ (root_view root.old).0 }
@@ -294,6 +295,7 @@ fn rebalance<D: Drop>(root: &mut Option<Box<Node<D>>>)
 
 /// Restores the balance and the stored height of a tree after a side of it has changed, whose
 /// height was `before` and is `after`. It writes nothing if these are equal.
+#[inline]
 fn rebalance_after<D: Drop>(root: &mut Option<Box<Node<D>>>, before: usize, after: usize)
     requires near { IsNearlyBalanced root.old }
     requires right { before ≡ after → HasRightHeight root.old }
@@ -352,27 +354,23 @@ pub(crate) fn put<D: Ord + Drop>(tree: &mut Tree<D>, memory: Box<Node<D>>, item:
     }
 }
 
-/// Removes the first item of a tree. Returns `None` for an empty tree.
-fn take_first<D: Drop>(tree: &mut Tree<D>) -> Option<First<D>>
+/// Removes the node of the first item from a tree. Returns `None` for an empty tree.
+fn take_first_node<D: Drop>(tree: &mut Tree<D>) -> Option<Box<Node<D>>>
     requires fits { length tree.old.0 < 2 ^ 64 }
-    ensures { MatchOption result (AreEmpty tree.old tree.new) (IsFirstOf tree.old tree.new) }
+    ensures { MatchOption result (AreEmpty tree.old tree.new) (IsFirstNodeOf tree.old tree.new) }
 {
     match &mut tree.root {
         None => None,
         Some(node) => match &mut **node {
             Node::Spare => None,
-            Node::Fork { left, .. } => {
+            Node::Fork { left, right, .. } => {
                 let before = left.height();
-                match take_first(left) {
+                match take_first_node(left) {
                     None => {
-                        let mut memory = tree.root.take()?;
-                        match mem::replace(&mut *memory, Node::Spare) {
-                            Node::Spare => None,
-                            Node::Fork { item, right, .. } => {
-                                *tree = right;
-                                Some(First { item, memory })
-                            }
-                        }
+                        let rest = mem::replace(right, Tree::new());
+                        let node = tree.root.take();
+                        *tree = rest;
+                        node
                     }
                     Some(first) => {
                         let after = left.height();
@@ -382,6 +380,18 @@ fn take_first<D: Drop>(tree: &mut Tree<D>) -> Option<First<D>>
                 }
             }
         },
+    }
+}
+
+/// Removes the first item of a tree. Returns `None` for an empty tree.
+fn take_first<D: Drop>(tree: &mut Tree<D>) -> Option<First<D>>
+    requires fits { length tree.old.0 < 2 ^ 64 }
+    ensures { MatchOption result (AreEmpty tree.old tree.new) (IsFirstOf tree.old tree.new) }
+{
+    let mut memory = take_first_node(tree)?;
+    match mem::replace(&mut *memory, Node::Spare) {
+        Node::Spare => None,
+        Node::Fork { item, .. } => Some(First { item, memory }),
     }
 }
 
@@ -409,7 +419,11 @@ pub(crate) fn take<D: Ord + Drop>(tree: &mut Tree<D>, item: &D) -> Option<Box<No
     ensures height { (tree.old.1 ≤ tree.new.1 + 1) × (tree.new.1 ≤ tree.old.1) }
 {
     match tree.first() {
-        Some(first) if item.cmp(first).is_eq() => Some(take_first(tree)?.memory),
+        Some(first) if item.cmp(first).is_eq() => {
+            let mut memory = take_first_node(tree)?;
+            *memory = Node::Spare;
+            Some(memory)
+        }
         _ => take_anywhere(tree, item),
     }
 }
