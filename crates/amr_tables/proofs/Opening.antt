@@ -5,7 +5,7 @@ use Rattle.std.specs.Box.{with_value}
 use Rattle.std.specs.declared.alloc.Global.{Global}
 use Rattle.amr_tables.specs.declared.tree.Node.{Node}
 use Rattle.amr_tables.specs.declared.tree.Node.TheVariants.{Spare, Fork}
-use Rattle.amr_tables.specs.Balanced.{root_view, node_view, IsBalanced, IsBalancedRoot}
+use Rattle.amr_tables.specs.Balanced.{root_view, node_view, sides_of, node_sides, IsBalanced, IsBalancedRoot}
 use Rattle.amr_tables.specs.Parted.{IsPartsOf, IsFirstIn}
 
 pub parts_of : {D : Type 0} {tree l r : List D × ℕ} {root : Option (Box (Node D) Global)} {node : Box (Node D) Global} {x : D} {h : ℕ} → root_view root ≡ tree → IsBalancedRoot root → root ≡ Some node → node.value ≡ Fork l x h r → IsPartsOf tree (record { memory = node; left = l; item = x; right = r })
@@ -21,6 +21,10 @@ parts_of {node = node} view good some fork =
 -- the height that its root stores
 pub stored_height : {D : Type 0} {l r : List D × ℕ} {root : Option (Box (Node D) Global)} {node : Box (Node D) Global} {x : D} {h : ℕ} → IsBalancedRoot root → root ≡ Some node → node.value ≡ Fork l x h r → h ≡ max l.1 r.1 + 1
 stored_height good some fork = (subst IsBalanced fork (subst IsBalancedRoot some good)).0
+
+-- the heights of its sides
+pub heights_of : {D : Type 0} {l r : List D × ℕ} {root : Option (Box (Node D) Global)} {node : Box (Node D) Global} {x : D} {h : ℕ} → root ≡ Some node → node.value ≡ Fork l x h r → sides_of root ≡ (l.1, r.1)
+heights_of some fork = ap sides_of some ∙ ap node_sides fork
 
 -- the items of the two sides
 abbrev others_of : {D : Type 0} → Node D → List D

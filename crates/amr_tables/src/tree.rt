@@ -160,28 +160,6 @@ fn balance<D: Drop>(memory: Box<Node<D>>, left: Tree<D>, item: D, right: Tree<D>
     }
 }
 
-/// Takes the root apart, and joins its sides again.
-fn rebuild<D: Drop>(root: &mut Option<Box<Node<D>>>)
-    requires { IsNearlyBalanced root.old }
-    ensures list { (root_view root.new).0 ≡ (root_view root.old).0 }
-    ensures height { IsHeightOf (sides_of root.old).0 (sides_of root.old).1 (root_view root.new).1 }
-    ensures balanced { IsBalancedRoot root.new }
-{
-    let Some(mut memory) = root.take() else {
-        return
-    };
-    let Node::Fork {
-        left,
-        item,
-        right,
-        ..
-    } = mem::replace(&mut *memory, Node::Spare)
-    else {
-        return;
-    };
-    *root = balance(memory, left, item, right).root;
-}
-
 /// Joins two trees around an item, if the left one is higher by two.
 fn lean_right<D: Drop>(memory: Box<Node<D>>, left: Tree<D>, item: D, right: Tree<D>) -> Tree<D>
     requires two_higher { left.1 ≡ right.1 + 2 }
@@ -266,6 +244,132 @@ pub(crate) fn list_part<'a, D: InParts>(
     }
 }
 
+/// Moves the right side of a tree up to the root, if it is higher by two. No item moves in memory.
+fn lift_right<D: Drop>(root: &mut Option<Box<Node<D>>>)
+    requires near { IsNearlyBalanced root.old }
+    requires two_higher { (sides_of root.old).1 ≡ (sides_of root.old).0 + 2 }
+    ensures list { (root_view root.new).0 ≡ (root_view root.old).0 }
+    ensures height { IsHeightOf (sides_of root.old).0 (sides_of root.old).1 (root_view root.new).1 }
+    ensures balanced { IsBalancedRoot root.new }
+{
+    let Some(mut node) = root.take() else { return };
+    let Node::Fork {
+        left,
+        height,
+        right,
+        ..
+    } = &mut *node
+    else {
+        return;
+    };
+    let Some(mut side) = mem::replace(right, Tree::new()).root else {
+        return;
+    };
+    let Node::Fork {
+        left: inner,
+        height: side_height,
+        right: outer,
+        ..
+    } = &mut *side
+    else {
+        return;
+    };
+    if outer.height() >= inner.height() {
+        mem::swap(right, inner);
+        *height = left.height().max(right.height()) + 1;
+        let lower = Tree { root: Some(node) };
+        *inner = lower;
+        *side_height = inner.height().max(outer.height()) + 1;
+        *root = Some(side);
+        return;
+    }
+    let Some(mut middle) = mem::replace(inner, Tree::new()).root else {
+        return;
+    };
+    let Node::Fork {
+        left: low,
+        height: middle_height,
+        right: high,
+        ..
+    } = &mut *middle
+    else {
+        return;
+    };
+    mem::swap(right, low);
+    *height = left.height().max(right.height()) + 1;
+    let first = Tree { root: Some(node) };
+    mem::swap(inner, high);
+    *side_height = inner.height().max(outer.height()) + 1;
+    let second = Tree { root: Some(side) };
+    *low = first;
+    *high = second;
+    *middle_height = low.height().max(high.height()) + 1;
+    *root = Some(middle);
+}
+
+/// Moves the left side of a tree up to the root, if it is higher by two. No item moves in memory.
+fn lift_left<D: Drop>(root: &mut Option<Box<Node<D>>>)
+    requires near { IsNearlyBalanced root.old }
+    requires two_higher { (sides_of root.old).0 ≡ (sides_of root.old).1 + 2 }
+    ensures list { (root_view root.new).0 ≡ (root_view root.old).0 }
+    ensures height { IsHeightOf (sides_of root.old).0 (sides_of root.old).1 (root_view root.new).1 }
+    ensures balanced { IsBalancedRoot root.new }
+{
+    let Some(mut node) = root.take() else { return };
+    let Node::Fork {
+        left,
+        height,
+        right,
+        ..
+    } = &mut *node
+    else {
+        return;
+    };
+    let Some(mut side) = mem::replace(left, Tree::new()).root else {
+        return;
+    };
+    let Node::Fork {
+        right: inner,
+        height: side_height,
+        left: outer,
+        ..
+    } = &mut *side
+    else {
+        return;
+    };
+    if outer.height() >= inner.height() {
+        mem::swap(left, inner);
+        *height = left.height().max(right.height()) + 1;
+        let lower = Tree { root: Some(node) };
+        *inner = lower;
+        *side_height = outer.height().max(inner.height()) + 1;
+        *root = Some(side);
+        return;
+    }
+    let Some(mut middle) = mem::replace(inner, Tree::new()).root else {
+        return;
+    };
+    let Node::Fork {
+        left: low,
+        height: middle_height,
+        right: high,
+        ..
+    } = &mut *middle
+    else {
+        return;
+    };
+    mem::swap(inner, low);
+    *side_height = outer.height().max(inner.height()) + 1;
+    let first = Tree { root: Some(side) };
+    mem::swap(left, high);
+    *height = left.height().max(right.height()) + 1;
+    let second = Tree { root: Some(node) };
+    *low = first;
+    *high = second;
+    *middle_height = low.height().max(high.height()) + 1;
+    *root = Some(middle);
+}
+
 /// Restores the balance and the stored height of a tree after one of its sides has changed. It
 /// moves no item unless the heights of the sides differ by two.
 #[inline(never)]
@@ -290,7 +394,11 @@ fn rebalance<D: Drop>(root: &mut Option<Box<Node<D>>>)
         *height = left_height.max(right_height) + 1;
         return;
     }
-    rebuild(root);
+    if left_height > right_height {
+        lift_left(root);
+    } else {
+        lift_right(root);
+    }
 }
 
 /// Restores the balance and the stored height of a tree after a side of it has changed, whose
