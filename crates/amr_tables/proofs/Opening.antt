@@ -5,11 +5,17 @@ use Rattle.std.specs.Box.{with_value}
 use Rattle.std.specs.declared.alloc.Global.{Global}
 use Rattle.amr_tables.specs.declared.tree.Node.{Node}
 use Rattle.amr_tables.specs.declared.tree.Node.TheVariants.{Spare, Fork}
-use Rattle.amr_tables.specs.Balanced.{root_view, node_view, sides_of, node_sides, IsBalanced, IsBalancedRoot}
-use Rattle.amr_tables.specs.Parted.{IsPartsOf, IsFirstIn}
+use Rattle.amr_tables.specs.Balanced.{root_view, node_view, sides_of, node_sides, DifferByAtMost, IsBalanced, IsBalancedRoot}
+use Rattle.amr_tables.specs.Parted.{IsFirstIn}
 
-pub parts_of : {D : Type 0} {tree l r : List D × ℕ} {root : Option (Box (Node D) Global)} {node : Box (Node D) Global} {x : D} {h : ℕ} → root_view root ≡ tree → IsBalancedRoot root → root ≡ Some node → node.value ≡ Fork l x h r → IsPartsOf tree (record { memory = node; left = l; item = x; right = r })
-parts_of {node = node} view good some fork =
+-- the sides and the item make up the tree
+pub record IsForkOf {D : Type 0} (tree l : List D × ℕ) (x : D) (r : List D × ℕ) : Type 0 where
+  pub list : tree.0 ≡ l.0 ++ x ∷ r.0
+  pub height : tree.1 ≡ max l.1 r.1 + 1
+  pub balanced : DifferByAtMost 1 l.1 r.1
+
+pub parts_of : {D : Type 0} {tree l r : List D × ℕ} {root : Option (Box (Node D) Global)} {node : Box (Node D) Global} {x : D} {h : ℕ} → root_view root ≡ tree → IsBalancedRoot root → root ≡ Some node → node.value ≡ Fork l x h r → IsForkOf tree l x r
+parts_of view good some fork =
     let whole = sym view ∙ ap root_view some ∙ ap node_view fork in
     let balanced = subst IsBalanced fork (subst IsBalancedRoot some good) in
     record {
@@ -40,6 +46,6 @@ pub same_others : {D : Type 0} {l r m s : List D × ℕ} {x y : D} {h k : ℕ} {
 same_others node some fork = ap others_of fork ∙ ap others_in some
 
 -- the first item, of its node
-pub first_in : {D : Type 0} (tree rest : List D × ℕ) (memory : Box (Node D) Global) (node : Node D) → IsFirstIn tree rest memory node → (item : D) × (tree.0 ≡ item ∷ rest.0)
-first_in tree rest memory Spare first = absurd first
-first_in tree rest memory (Fork l item height r) first = (item, first.list)
+pub first_in : {D : Type 0} (tree rest : List D × ℕ) (node : Node D) → IsFirstIn tree rest node → (item : D) × (tree.0 ≡ item ∷ rest.0)
+first_in tree rest Spare first = absurd first
+first_in tree rest (Fork l item height r) first = (item, first.list)

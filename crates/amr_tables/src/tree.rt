@@ -7,7 +7,7 @@ ghost use Rattle.std.specs.Option.{option_copied};
 ghost use Rattle.std.specs.BTreeSet.{insert_key};
 ghost use Rattle.amr_tables.specs.Balanced.{root_view, sides_of, IsBalancedRoot, IsNearlyBalanced, HasRightHeight, DifferByAtMost, IsHeightOf, IsLow};
 ghost use Rattle.amr_tables.specs.InParts.{items_of};
-ghost use Rattle.amr_tables.specs.Parted.{AreEmpty, IsPartsOf, IsFirstOf, IsFirstNodeOf};
+ghost use Rattle.amr_tables.specs.Parted.{AreEmpty, IsFirstNodeOf};
 ghost use Rattle.amr_tables.specs.Queued.{values_of, has, without, count_of};
 
 use crate::parts::InParts;
@@ -58,15 +58,6 @@ impl<D> Model for Tree<D> {
     ghost size_decreases = { λ t h. root_falls t.root };
 }
 
-/// What a tree has at its root, and the root's memory.
-#[derive(Drop)]
-struct Parts<D> {
-    memory: Box<Node<D>>,
-    left: Tree<D>,
-    item: D,
-    right: Tree<D>,
-}
-
 impl<D: Drop> Tree<D> {
     /// Builds an empty tree.
     pub(crate) fn new() -> Tree<D>
@@ -104,27 +95,6 @@ impl<D: Drop> Tree<D> {
         }
         first
     }
-
-    /// Splits the tree at its root. Returns `None` for an empty tree.
-    fn take_apart(self) -> Option<Parts<D>>
-        ensures { MatchOption result (self ≡ ([], 0)) (IsPartsOf self) }
-    {
-        let mut memory = self.root?;
-        match mem::replace(&mut *memory, Node::Spare) {
-            Node::Spare => None,
-            Node::Fork {
-                left,
-                item,
-                right,
-                ..
-            } => Some(Parts {
-                memory,
-                left,
-                item,
-                right,
-            }),
-        }
-    }
 }
 
 /// Joins two trees around an item. It uses the memory that is given.
@@ -141,74 +111,6 @@ fn fork<D: Drop>(mut memory: Box<Node<D>>, left: Tree<D>, item: D, right: Tree<D
         right,
     };
     Tree { root: Some(memory) }
-}
-
-/// Joins two trees around an item, if their heights differ by at most two.
-fn balance<D: Drop>(memory: Box<Node<D>>, left: Tree<D>, item: D, right: Tree<D>) -> Tree<D>
-    requires near { DifferByAtMost 2 left.1 right.1 }
-    requires fits { length left.0 + length right.0 + 1 < 2 ^ 64 }
-    ensures list { result.0 ≡ left.0 ++ item ∷ right.0 }
-    ensures height { IsHeightOf left.1 right.1 result.1 }
-{
-    let (left_height, right_height) = (left.height(), right.height());
-    if left_height > right_height + 1 {
-        lean_right(memory, left, item, right)
-    } else if right_height > left_height + 1 {
-        lean_left(memory, left, item, right)
-    } else {
-        fork(memory, left, item, right)
-    }
-}
-
-/// Joins two trees around an item, if the left one is higher by two.
-fn lean_right<D: Drop>(memory: Box<Node<D>>, left: Tree<D>, item: D, right: Tree<D>) -> Tree<D>
-    requires two_higher { left.1 ≡ right.1 + 2 }
-    requires fits { length left.0 + length right.0 + 1 < 2 ^ 64 }
-    ensures list { result.0 ≡ left.0 ++ item ∷ right.0 }
-    ensures height { (left.1 ≤ result.1) × (result.1 ≤ left.1 + 1) }
-{
-    let Some(outer) = left.take_apart() else {
-        unreachable!()
-    };
-    if outer.left.height() >= outer.right.height() {
-        let lower = fork(memory, outer.right, item, right);
-        return fork(outer.memory, outer.left, outer.item, lower);
-    }
-    let Some(inner) = outer.right.take_apart() else {
-        unreachable!()
-    };
-    let first = fork(outer.memory, outer.left, outer.item, inner.left);
-    let second = fork(memory, inner.right, item, right);
-    fork(inner.memory, first, inner.item, second)
-}
-
-/// Joins two trees around an item, if the right one is higher by two.
-fn lean_left<D: Drop>(memory: Box<Node<D>>, left: Tree<D>, item: D, right: Tree<D>) -> Tree<D>
-    requires two_higher { right.1 ≡ left.1 + 2 }
-    requires fits { length left.0 + length right.0 + 1 < 2 ^ 64 }
-    ensures list { result.0 ≡ left.0 ++ item ∷ right.0 }
-    ensures height { (right.1 ≤ result.1) × (result.1 ≤ right.1 + 1) }
-{
-    let Some(outer) = right.take_apart() else {
-        unreachable!()
-    };
-    if outer.right.height() >= outer.left.height() {
-        let lower = fork(memory, left, item, outer.left);
-        return fork(outer.memory, lower, outer.item, outer.right);
-    }
-    let Some(inner) = outer.left.take_apart() else {
-        unreachable!()
-    };
-    let first = fork(memory, left, item, inner.left);
-    let second = fork(outer.memory, inner.right, outer.item, outer.right);
-    fork(inner.memory, first, inner.item, second)
-}
-
-/// The first item of a tree, and its memory.
-#[derive(Drop)]
-struct First<D> {
-    item: D,
-    memory: Box<Node<D>>,
 }
 
 /// Appends the items of a part to a list, in order. It visits a side of a node only if that side
@@ -244,7 +146,8 @@ pub(crate) fn list_part<'a, D: InParts>(
     }
 }
 
-/// Moves the right side of a tree up to the root, if it is higher by two. No item moves in memory.
+/// Moves the right side of a tree, which is higher by two, up to the root. It moves no item in
+/// memory.
 fn lift_right<D: Drop>(root: &mut Option<Box<Node<D>>>)
     requires near { IsNearlyBalanced root.old }
     requires two_higher { (sides_of root.old).1 ≡ (sides_of root.old).0 + 2 }
@@ -307,7 +210,8 @@ fn lift_right<D: Drop>(root: &mut Option<Box<Node<D>>>)
     *root = Some(middle);
 }
 
-/// Moves the left side of a tree up to the root, if it is higher by two. No item moves in memory.
+/// Moves the left side of a tree, which is higher by two, up to the root. It moves no item in
+/// memory.
 fn lift_left<D: Drop>(root: &mut Option<Box<Node<D>>>)
     requires near { IsNearlyBalanced root.old }
     requires two_higher { (sides_of root.old).0 ≡ (sides_of root.old).1 + 2 }
@@ -370,8 +274,7 @@ fn lift_left<D: Drop>(root: &mut Option<Box<Node<D>>>)
     *root = Some(middle);
 }
 
-/// Restores the balance and the stored height of a tree after one of its sides has changed. It
-/// moves no item unless the heights of the sides differ by two.
+/// Restores the balance and the stored height of a tree after one of its sides has changed.
 #[inline(never)]
 fn rebalance<D: Drop>(root: &mut Option<Box<Node<D>>>)
     requires { IsNearlyBalanced root.old }
@@ -462,7 +365,7 @@ pub(crate) fn put<D: Ord + Drop>(tree: &mut Tree<D>, memory: Box<Node<D>>, item:
     }
 }
 
-/// Removes the node of the first item from a tree. Returns `None` for an empty tree.
+/// Removes the first item of a tree, in its node. Returns `None` for an empty tree.
 fn take_first_node<D: Drop>(tree: &mut Tree<D>) -> Option<Box<Node<D>>>
     requires fits { length tree.old.0 < 2 ^ 64 }
     ensures { MatchOption result (AreEmpty tree.old tree.new) (IsFirstNodeOf tree.old tree.new) }
@@ -491,18 +394,6 @@ fn take_first_node<D: Drop>(tree: &mut Tree<D>) -> Option<Box<Node<D>>>
     }
 }
 
-/// Removes the first item of a tree. Returns `None` for an empty tree.
-fn take_first<D: Drop>(tree: &mut Tree<D>) -> Option<First<D>>
-    requires fits { length tree.old.0 < 2 ^ 64 }
-    ensures { MatchOption result (AreEmpty tree.old tree.new) (IsFirstOf tree.old tree.new) }
-{
-    let mut memory = take_first_node(tree)?;
-    match mem::replace(&mut *memory, Node::Spare) {
-        Node::Spare => None,
-        Node::Fork { item, .. } => Some(First { item, memory }),
-    }
-}
-
 /// Joins two trees, one after the other.
 fn join<D: Drop>(left: Tree<D>, mut right: Tree<D>) -> Tree<D>
     requires near { DifferByAtMost 1 left.1 right.1 }
@@ -510,10 +401,22 @@ fn join<D: Drop>(left: Tree<D>, mut right: Tree<D>) -> Tree<D>
     ensures list { result.0 ≡ left.0 ++ right.0 }
     ensures height { (max left.1 right.1 ≤ result.1) × (result.1 ≤ max left.1 right.1 + 1) }
 {
-    match take_first(&mut right) {
-        None => left,
-        Some(first) => balance(first.memory, left, first.item, right),
-    }
+    let Some(mut node) = take_first_node(&mut right) else {
+        return left;
+    };
+    let Node::Fork {
+        left: before,
+        right: after,
+        ..
+    } = &mut *node
+    else {
+        return left;
+    };
+    *before = left;
+    *after = right;
+    let mut root = Some(node);
+    rebalance(&mut root);
+    Tree { root }
 }
 
 /// Removes an item from a tree, if it is there, and returns its memory. It compares once if the
