@@ -1,5 +1,5 @@
 -- The lengths of forks, and the heights of trees of which a side changes.
-use Rattle.std.proofs.Common.{◌≡◌, ℕ, ◌+◌, ◌≤◌, max, List, ◌∷◌, ◌++◌, length, sym, ap, ◌∙◌, arith, append_assoc, length-append}
+use Rattle.std.proofs.Common.{◌≡◌, ℕ, ◌+◌, ◌≤◌, max, List, ◌∷◌, ◌++◌, length, ap, arith, length-append}
 use Rattle.amr_tables.specs.Balanced.{DifferByAtMost, IsHeightOf}
 
 module _ {D : Type 0} where
@@ -12,10 +12,3 @@ lower_left l r t h all is near less made = (grind arith, grind arith)
 
 pub lower_right : (l r t h all : ℕ) → all ≡ max l r + 1 → DifferByAtMost 1 l r → (r ≤ t + 1) × (t ≤ r) → IsHeightOf l t h → (all ≤ h + 1) × (h ≤ all)
 lower_right l r t h all is near less made = (grind arith, grind arith)
-
--- one side of a tree of this height is higher by one at most
-pub higher_left : (l r t h all : ℕ) → all ≡ max l r + 1 → DifferByAtMost 1 l r → (l ≤ t) × (t ≤ l + 1) → IsHeightOf t r h → (all ≤ h) × (h ≤ all + 1)
-higher_left l r t h all is near more made = (grind arith, grind arith)
-
-pub higher_right : (l r t h all : ℕ) → all ≡ max l r + 1 → DifferByAtMost 1 l r → (r ≤ t) × (t ≤ r + 1) → IsHeightOf l t h → (all ≤ h) × (h ≤ all + 1)
-higher_right l r t h all is near more made = (grind arith, grind arith)

@@ -1,8 +1,11 @@
--- Trees that are split after their first items.
-use Rattle.std.specs.Prelude.{◌≡◌, ℕ, ◌+◌, ◌≤◌, List, [], ◌∷◌, Box}
+-- Trees that are split after their first items, and nodes that are put into trees.
+use Rattle.std.specs.Prelude.{◌≡◌, ℕ, ◌+◌, ◌≤◌, List, [], ◌∷◌, Box, false}
 use Rattle.std.specs.declared.alloc.Global.{Global}
+use Rattle.std.specs.declared.cmp.Ordering.{Ordering}
+use Rattle.std.specs.BTreeSet.{insert_key}
 use Rattle.amr_tables.specs.declared.tree.Node.{Node}
 use Rattle.amr_tables.specs.declared.tree.Node.TheVariants.{Spare, Fork}
+use Rattle.amr_tables.specs.Queued.{has}
 
 module _ {D : Type 0} where
   -- both trees are empty
@@ -22,3 +25,18 @@ module _ {D : Type 0} where
 
   abbrev pub IsFirstNodeOf : List D × ℕ → List D × ℕ → Box (Node D) Global → Type 0
   IsFirstNodeOf tree rest node = IsFirstIn tree rest node.value
+
+  -- a node with an item and no sides
+  abbrev pub IsLeaf : Node D → Type 0
+  IsLeaf Spare = ⊥
+  IsLeaf (Fork l item height r) = (l ≡ ([], 0)) × (height ≡ 1) × (r ≡ ([], 0))
+
+  -- the node's item isn't in the list
+  abbrev pub IsAbsent : (D → D → Ordering) → List D → Node D → Type 0
+  IsAbsent cmp dues Spare = ⊥
+  IsAbsent cmp dues (Fork l item height r) = has cmp dues item ≡ false
+
+  -- the second list is the first with the node's item
+  abbrev pub IsPut : (D → D → Ordering) → List D → Node D → List D → Type 0
+  IsPut cmp dues Spare more = ⊥
+  IsPut cmp dues (Fork l item height r) more = more ≡ insert_key cmp dues item

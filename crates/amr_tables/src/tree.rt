@@ -7,7 +7,7 @@ ghost use Rattle.std.specs.Option.{option_copied};
 ghost use Rattle.std.specs.BTreeSet.{insert_key};
 ghost use Rattle.amr_tables.specs.Balanced.{root_view, sides_of, IsBalancedRoot, IsNearlyBalanced, HasRightHeight, DifferByAtMost, IsHeightOf, IsLow};
 ghost use Rattle.amr_tables.specs.InParts.{items_of};
-ghost use Rattle.amr_tables.specs.Parted.{AreEmpty, IsFirstNodeOf};
+ghost use Rattle.amr_tables.specs.Parted.{AreEmpty, IsFirstNodeOf, IsLeaf, IsAbsent, IsPut};
 ghost use Rattle.amr_tables.specs.Queued.{values_of, has, without, count_of};
 
 use crate::parts::InParts;
@@ -95,22 +95,6 @@ impl<D: Drop> Tree<D> {
         }
         first
     }
-}
-
-/// Joins two trees around an item. It uses the memory that is given.
-fn fork<D: Drop>(mut memory: Box<Node<D>>, left: Tree<D>, item: D, right: Tree<D>) -> Tree<D>
-    requires near { DifferByAtMost 1 left.1 right.1 }
-    requires fits { length left.0 + length right.0 + 1 < 2 ^ 64 }
-    ensures { result ≡ (left.0 ++ item ∷ right.0, max left.1 right.1 + 1) }
-{
-    let height = left.height().max(right.height()) + 1;
-    *memory = Node::Fork {
-        left,
-        item,
-        height,
-        right,
-    };
-    Tree { root: Some(memory) }
 }
 
 /// Appends the items of a part to a list, in order. It visits a side of a node only if that side
@@ -275,7 +259,6 @@ fn lift_left<D: Drop>(root: &mut Option<Box<Node<D>>>)
 }
 
 /// Restores the balance and the stored height of a tree after one of its sides has changed.
-#[inline(never)]
 fn rebalance<D: Drop>(root: &mut Option<Box<Node<D>>>)
     requires { IsNearlyBalanced root.old }
     ensures list { (root_view root.new).0 ≡ (root_view root.old).0 }
@@ -306,7 +289,6 @@ fn rebalance<D: Drop>(root: &mut Option<Box<Node<D>>>)
 
 /// Restores the balance and the stored height of a tree after a side of it has changed, whose
 /// height was `before` and is `after`. It writes nothing if these are equal.
-#[inline]
 fn rebalance_after<D: Drop>(root: &mut Option<Box<Node<D>>>, before: usize, after: usize)
     requires near { IsNearlyBalanced root.old }
     requires right { before ≡ after → HasRightHeight root.old }
@@ -331,7 +313,7 @@ fn rebalance_after<D: Drop>(root: &mut Option<Box<Node<D>>>, before: usize, afte
 }
 
 /// Adds an item to a tree, in order. It uses the memory that is given.
-pub(crate) fn put<D: Ord + Drop>(tree: &mut Tree<D>, memory: Box<Node<D>>, item: D)
+pub(crate) fn put<D: Ord + Drop>(tree: &mut Tree<D>, mut memory: Box<Node<D>>, item: D)
     requires sorted { IsStrictlySortedBy D.cmp tree.old.0 }
     requires absent { has D.cmp tree.old.0 item ≡ false }
     requires fits { length tree.old.0 + 1 < 2 ^ 64 }
@@ -339,8 +321,30 @@ pub(crate) fn put<D: Ord + Drop>(tree: &mut Tree<D>, memory: Box<Node<D>>, item:
     ensures longer { length tree.new.0 ≡ length tree.old.0 + 1 }
     ensures height { (tree.old.1 ≤ tree.new.1) × (tree.new.1 ≤ tree.old.1 + 1) }
 {
+    *memory = Node::Fork {
+        left: Tree::new(),
+        item,
+        height: 1,
+        right: Tree::new(),
+    };
+    put_leaf(tree, memory);
+}
+
+/// Adds the item of a node without sides to a tree, in order. It moves no item in memory.
+fn put_leaf<D: Ord + Drop>(tree: &mut Tree<D>, leaf: Box<Node<D>>)
+    requires sorted { IsStrictlySortedBy D.cmp tree.old.0 }
+    requires leaf { IsLeaf leaf.value }
+    requires absent { IsAbsent D.cmp tree.old.0 leaf.value }
+    requires fits { length tree.old.0 + 1 < 2 ^ 64 }
+    ensures list { IsPut D.cmp tree.old.0 leaf.value tree.new.0 }
+    ensures longer { length tree.new.0 ≡ length tree.old.0 + 1 }
+    ensures height { (tree.old.1 ≤ tree.new.1) × (tree.new.1 ≤ tree.old.1 + 1) }
+{
+    let Node::Fork { item, .. } = &*leaf else {
+        return;
+    };
     match &mut tree.root {
-        None => *tree = fork(memory, Tree::new(), item, Tree::new()),
+        None => *tree = Tree { root: Some(leaf) },
         Some(node) => match &mut **node {
             Node::Spare => (),
             Node::Fork {
@@ -351,12 +355,12 @@ pub(crate) fn put<D: Ord + Drop>(tree: &mut Tree<D>, memory: Box<Node<D>>, item:
             } => {
                 if item.cmp(other).is_lt() {
                     let before = left.height();
-                    put(left, memory, item);
+                    put_leaf(left, leaf);
                     let after = left.height();
                     rebalance_after(&mut tree.root, before, after);
                 } else {
                     let before = right.height();
-                    put(right, memory, item);
+                    put_leaf(right, leaf);
                     let after = right.height();
                     rebalance_after(&mut tree.root, before, after);
                 }
