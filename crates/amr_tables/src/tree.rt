@@ -74,7 +74,7 @@ impl<D: Drop> Tree<D> {
         match &self.root {
             None => 0,
             Some(node) => match &**node {
-                Node::Spare => 0,
+                Node::Spare => unreachable!(),
                 Node::Fork { height, .. } => *height,
             },
         }
@@ -88,7 +88,7 @@ impl<D: Drop> Tree<D> {
         let mut tree = self;
         while let Some(node) = &tree.root {
             let Node::Fork { left, item, .. } = &**node else {
-                break;
+                unreachable!()
             };
             first = Some(item);
             tree = left;
@@ -139,7 +139,9 @@ fn lift_right<D: Drop>(root: &mut Option<Box<Node<D>>>)
     ensures height { IsHeightOf (sides_of root.old).0 (sides_of root.old).1 (root_view root.new).1 }
     ensures balanced { IsBalancedRoot root.new }
 {
-    let Some(mut node) = root.take() else { return };
+    let Some(mut node) = root.take() else {
+        unreachable!()
+    };
     let Node::Fork {
         left,
         height,
@@ -147,10 +149,10 @@ fn lift_right<D: Drop>(root: &mut Option<Box<Node<D>>>)
         ..
     } = &mut *node
     else {
-        return;
+        unreachable!()
     };
     let Some(mut side) = mem::replace(right, Tree::new()).root else {
-        return;
+        unreachable!()
     };
     let Node::Fork {
         left: inner,
@@ -159,7 +161,7 @@ fn lift_right<D: Drop>(root: &mut Option<Box<Node<D>>>)
         ..
     } = &mut *side
     else {
-        return;
+        unreachable!()
     };
     if outer.height() >= inner.height() {
         mem::swap(right, inner);
@@ -171,7 +173,7 @@ fn lift_right<D: Drop>(root: &mut Option<Box<Node<D>>>)
         return;
     }
     let Some(mut middle) = mem::replace(inner, Tree::new()).root else {
-        return;
+        unreachable!()
     };
     let Node::Fork {
         left: low,
@@ -180,7 +182,7 @@ fn lift_right<D: Drop>(root: &mut Option<Box<Node<D>>>)
         ..
     } = &mut *middle
     else {
-        return;
+        unreachable!()
     };
     mem::swap(right, low);
     *height = left.height().max(right.height()) + 1;
@@ -203,7 +205,9 @@ fn lift_left<D: Drop>(root: &mut Option<Box<Node<D>>>)
     ensures height { IsHeightOf (sides_of root.old).0 (sides_of root.old).1 (root_view root.new).1 }
     ensures balanced { IsBalancedRoot root.new }
 {
-    let Some(mut node) = root.take() else { return };
+    let Some(mut node) = root.take() else {
+        unreachable!()
+    };
     let Node::Fork {
         left,
         height,
@@ -211,10 +215,10 @@ fn lift_left<D: Drop>(root: &mut Option<Box<Node<D>>>)
         ..
     } = &mut *node
     else {
-        return;
+        unreachable!()
     };
     let Some(mut side) = mem::replace(left, Tree::new()).root else {
-        return;
+        unreachable!()
     };
     let Node::Fork {
         right: inner,
@@ -223,7 +227,7 @@ fn lift_left<D: Drop>(root: &mut Option<Box<Node<D>>>)
         ..
     } = &mut *side
     else {
-        return;
+        unreachable!()
     };
     if outer.height() >= inner.height() {
         mem::swap(left, inner);
@@ -235,7 +239,7 @@ fn lift_left<D: Drop>(root: &mut Option<Box<Node<D>>>)
         return;
     }
     let Some(mut middle) = mem::replace(inner, Tree::new()).root else {
-        return;
+        unreachable!()
     };
     let Node::Fork {
         left: low,
@@ -244,7 +248,7 @@ fn lift_left<D: Drop>(root: &mut Option<Box<Node<D>>>)
         ..
     } = &mut *middle
     else {
-        return;
+        unreachable!()
     };
     mem::swap(inner, low);
     *side_height = outer.height().max(inner.height()) + 1;
@@ -265,7 +269,7 @@ fn rebalance<D: Drop>(root: &mut Option<Box<Node<D>>>)
     ensures height { IsHeightOf (sides_of root.old).0 (sides_of root.old).1 (root_view root.new).1 }
     ensures balanced { IsBalancedRoot root.new }
 {
-    let Some(node) = root else { return };
+    let Some(node) = root else { unreachable!() };
     let Node::Fork {
         left,
         height,
@@ -273,7 +277,7 @@ fn rebalance<D: Drop>(root: &mut Option<Box<Node<D>>>)
         ..
     } = &mut **node
     else {
-        return;
+        unreachable!()
     };
     let (left_height, right_height) = (left.height(), right.height());
     if left_height <= right_height + 1 && right_height <= left_height + 1 {
@@ -299,7 +303,7 @@ fn rebalance_after<D: Drop>(root: &mut Option<Box<Node<D>>>, before: usize, afte
     if before != after {
         return rebalance(root);
     }
-    let Some(node) = root else { return };
+    let Some(node) = root else { unreachable!() };
     let Node::Fork {
         left,
         height,
@@ -307,7 +311,7 @@ fn rebalance_after<D: Drop>(root: &mut Option<Box<Node<D>>>, before: usize, afte
         ..
     } = &mut **node
     else {
-        return;
+        unreachable!()
     };
     prove!(*height == left.height().max(right.height()) + 1);
 }
@@ -341,12 +345,12 @@ fn put_leaf<D: Ord + Drop>(tree: &mut Tree<D>, leaf: Box<Node<D>>)
     ensures height { (tree.old.1 ≤ tree.new.1) × (tree.new.1 ≤ tree.old.1 + 1) }
 {
     let Node::Fork { item, .. } = &*leaf else {
-        return;
+        unreachable!()
     };
     match &mut tree.root {
         None => *tree = Tree { root: Some(leaf) },
         Some(node) => match &mut **node {
-            Node::Spare => (),
+            Node::Spare => unreachable!(),
             Node::Fork {
                 left,
                 item: other,
@@ -377,7 +381,7 @@ fn take_first_node<D: Drop>(tree: &mut Tree<D>) -> Option<Box<Node<D>>>
     match &mut tree.root {
         None => None,
         Some(node) => match &mut **node {
-            Node::Spare => None,
+            Node::Spare => unreachable!(),
             Node::Fork { left, right, .. } => {
                 let before = left.height();
                 match take_first_node(left) {
@@ -414,7 +418,7 @@ fn join<D: Drop>(left: Tree<D>, mut right: Tree<D>) -> Tree<D>
         ..
     } = &mut *node
     else {
-        return left;
+        unreachable!()
     };
     *before = left;
     *after = right;
@@ -455,7 +459,7 @@ fn take_anywhere<D: Ord + Drop>(tree: &mut Tree<D>, item: &D) -> Option<Box<Node
     match &mut tree.root {
         None => None,
         Some(node) => match &mut **node {
-            Node::Spare => None,
+            Node::Spare => unreachable!(),
             Node::Fork {
                 left,
                 item: other,
@@ -472,7 +476,7 @@ fn take_anywhere<D: Ord + Drop>(tree: &mut Tree<D>, item: &D) -> Option<Box<Node
                 Ordering::Equal => {
                     let mut memory = tree.root.take()?;
                     match mem::replace(&mut *memory, Node::Spare) {
-                        Node::Spare => None,
+                        Node::Spare => unreachable!(),
                         Node::Fork { left, right, .. } => {
                             *tree = join(left, right);
                             Some(memory)

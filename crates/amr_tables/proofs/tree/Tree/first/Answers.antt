@@ -24,8 +24,8 @@ loop-tree-preserved g c =
     ∙ ap (λ l. option_or (slice_get l 0) (option_copied c.loop-tree.first)) (sym whole)
     ∙ c.loop-tree.invariant
 
-pub returns-in_default : goal.returns-in_default
-returns-in_default g c =
+pub returns : goal.returns
+returns g c =
     let none : c.loop-tree.tree.now.0 ≡ [] = ap (λ t. t.0) (sym c.tree.view_is) ∙ ap (λ r. (root_view r).0) c.in_default.is in
     ap (λ l. option_or (slice_get l 0) (option_copied c.loop-tree.first)) (sym none)
     ∙ c.loop-tree.invariant
