@@ -413,15 +413,15 @@ fn join<D: Drop>(left: Tree<D>, mut right: Tree<D>) -> Tree<D>
         return left;
     };
     let Node::Fork {
-        left: before,
-        right: after,
+        left: earlier,
+        right: later,
         ..
     } = &mut *node
     else {
         unreachable!()
     };
-    *before = left;
-    *after = right;
+    *earlier = left;
+    *later = right;
     let mut root = Some(node);
     rebalance(&mut root);
     Tree { root }

@@ -17,7 +17,7 @@ invariant_of-lower g c =
     let moved = ap (λ t. t.1) c.swap.ensures.x_after in
     let height : c.max.result + 1 ≡ max c.swap.new.x.1 n.right.1 + 1 = omega (arith, c.max.ensures, c.height-then-height.ensures.height, c.height-then-height-2.ensures.height) in
     let near : DifferByAtMost 1 c.swap.new.x.1 n.right.1 = (omega arith, omega arith) in
-    (height, near, fork_low (c.swap.new.x.0) n.item (n.right.0) height near c.height-then-height.ensures.low c.height-then-height-2.ensures.low)
+    (height, near, fork_low c.swap.new.x.0 n.item n.right.0 height near c.height-then-height.ensures.low c.height-then-height-2.ensures.low)
 
 pub returns-then-height-clause-balanced : goal.returns-then-height-clause-balanced
 returns-then-height-clause-balanced g c =
@@ -32,7 +32,7 @@ returns-then-height-clause-balanced g c =
     let moved = ap (λ t. t.1) c.swap.ensures.x_after in
     let height : c.max-then-height.result + 1 ≡ max s.outer.1 (c.max.result + 1) + 1 = omega (arith, c.max-then-height.ensures, c.height-then-height-3.ensures.height, c.height-then-height-4.ensures.height) in
     let near : DifferByAtMost 1 s.outer.1 (c.max.result + 1) = (omega arith, omega arith) in
-    (height, near, fork_low (s.outer.0) s.item (c.swap.new.x.0 ++ n.item ∷ n.right.0) height near c.height-then-height-3.ensures.low c.height-then-height-4.ensures.low)
+    (height, near, fork_low s.outer.0 s.item (c.swap.new.x.0 ++ n.item ∷ n.right.0) height near c.height-then-height-3.ensures.low c.height-then-height-4.ensures.low)
 
 pub invariant_of-first : goal.invariant_of-first
 invariant_of-first g c =
@@ -52,7 +52,7 @@ invariant_of-first g c =
     let moved = ap (λ t. t.1) c.swap-2.ensures.x_after in
     let height : c.max-2.result + 1 ≡ max s.outer.1 c.swap-2.new.x.1 + 1 = omega (arith, c.max-2.ensures, c.height-3.ensures.height, c.height-4.ensures.height) in
     let near : DifferByAtMost 1 s.outer.1 c.swap-2.new.x.1 = (omega arith, omega arith) in
-    (height, near, fork_low (s.outer.0) s.item (c.swap-2.new.x.0) height near c.height-3.ensures.low c.height-4.ensures.low)
+    (height, near, fork_low s.outer.0 s.item c.swap-2.new.x.0 height near c.height-3.ensures.low c.height-4.ensures.low)
 
 pub invariant_of-second : goal.invariant_of-second
 invariant_of-second g c =
@@ -72,7 +72,7 @@ invariant_of-second g c =
     let moved = ap (λ t. t.1) c.swap-3.ensures.x_after in
     let height : c.max-3.result + 1 ≡ max c.swap-3.new.x.1 n.right.1 + 1 = omega (arith, c.max-3.ensures, c.height-5.ensures.height, c.height-6.ensures.height) in
     let near : DifferByAtMost 1 c.swap-3.new.x.1 n.right.1 = (omega arith, omega arith) in
-    (height, near, fork_low (c.swap-3.new.x.0) n.item (n.right.0) height near c.height-5.ensures.low c.height-6.ensures.low)
+    (height, near, fork_low c.swap-3.new.x.0 n.item n.right.0 height near c.height-5.ensures.low c.height-6.ensures.low)
 
 pub returns-clause-balanced : goal.returns-clause-balanced
 returns-clause-balanced g c =
