@@ -1,5 +1,5 @@
 -- A fork of two low trees is low.
-use Rattle.std.proofs.Common.{◌≡◌, ℕ, ◌+◌, ◌*◌, ◌^◌, ◌≤◌, inl, inr, max, ◌∙◌, sym, arith}
+use Rattle.std.proofs.Common.{◌≡◌, ℕ, ◌+◌, ◌*◌, ◌^◌, ◌≤◌, List, ◌∷◌, ◌++◌, length, length-append, inl, inr, max, ◌∙◌, sym, subst, arith}
 use Rattle.std.proofs.Math.Nat.{pow-le-pow_right, mul_comm, mul-mul-mul_comm}
 use Rattle.std.proofs.lemmas.Bool.{cases_lt}
 use Rattle.std.proofs.lemmas.Nat.{mul-le}
@@ -25,11 +25,16 @@ twice h n m all low higher more =
     let d = four_squares n in
     omega (arith, a, b, c, d)
 
-pub fork_low : (hl hr nl nr : ℕ) → DifferByAtMost 1 hl hr → IsLow hl nl → IsLow hr nr → IsLow (max hl hr + 1) (nl + nr + 1)
-fork_low hl hr nl nr near l r = record {
+low_sum : (hl hr nl nr : ℕ) → DifferByAtMost 1 hl hr → IsLow hl nl → IsLow hr nr → IsLow (max hl hr + 1) (nl + nr + 1)
+low_sum hl hr nl nr near l r = record {
   at_most_items = omega (arith, near.0, near.1, l.at_most_items, r.at_most_items);
   logarithmic = elim (cases_lt nl nr) [
     | inl h ↦ twice hl (nl + 1) _ _ l.logarithmic (omega (arith, near.0, near.1)) (omega (arith, h))
     | inr h ↦ twice hr (nr + 1) _ _ r.logarithmic (omega (arith, near.0, near.1)) (omega (arith, h))
   ];
 }
+
+pub fork_low : {D : Type 0} (l : List D) (x : D) (r : List D) {hl hr h : ℕ} → h ≡ max hl hr + 1 → DifferByAtMost 1 hl hr → IsLow hl (length l) → IsLow hr (length r) → IsLow h (length (l ++ x ∷ r))
+fork_low l x r {hl} {hr} height near left right =
+    let items : length l + length r + 1 ≡ length (l ++ x ∷ r) = omega (arith, length-append l (x ∷ r)) in
+    rw height (subst (IsLow _) items (low_sum hl hr _ _ near left right))

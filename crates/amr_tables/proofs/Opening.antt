@@ -1,15 +1,21 @@
 -- A tree that is opened at its root.
-use Rattle.std.proofs.Common.{◌≡◌, ℕ, List, [], ◌++◌, sym, ap, ◌∙◌, subst}
+use Rattle.std.proofs.Common.{◌≡◌, ℕ, ◌+◌, max, List, [], ◌∷◌, ◌++◌, sym, ap, ◌∙◌, subst}
 use Rattle.std.specs.Prelude.{Option, None, Some, Box}
 use Rattle.std.specs.Box.{with_value}
 use Rattle.std.specs.declared.alloc.Global.{Global}
 use Rattle.amr_tables.specs.declared.tree.Node.{Node}
 use Rattle.amr_tables.specs.declared.tree.Node.TheVariants.{Spare, Fork}
-use Rattle.amr_tables.specs.Balanced.{root_view, node_view, IsBalanced, IsBalancedRoot}
-use Rattle.amr_tables.specs.Parted.{IsPartsOf}
+use Rattle.amr_tables.specs.Balanced.{root_view, node_view, sides_of, node_sides, DifferByAtMost, IsBalanced, IsBalancedRoot}
+use Rattle.amr_tables.specs.Parted.{IsFirstIn}
 
-pub parts_of : {D : Type 0} {tree l r : List D × ℕ} {root : Option (Box (Node D) Global)} {node : Box (Node D) Global} {x : D} {h : ℕ} → root_view root ≡ tree → IsBalancedRoot root → root ≡ Some node → node.value ≡ Fork l x h r → IsPartsOf tree (record { memory = node; left = l; item = x; right = r })
-parts_of {node = node} view good some fork =
+-- the sides and the item make up the tree
+pub record IsForkOf {D : Type 0} (tree l : List D × ℕ) (x : D) (r : List D × ℕ) : Type 0 where
+  pub list : tree.0 ≡ l.0 ++ x ∷ r.0
+  pub height : tree.1 ≡ max l.1 r.1 + 1
+  pub balanced : DifferByAtMost 1 l.1 r.1
+
+pub parts_of : {D : Type 0} {tree l r : List D × ℕ} {root : Option (Box (Node D) Global)} {node : Box (Node D) Global} {x : D} {h : ℕ} → root_view root ≡ tree → IsBalancedRoot root → root ≡ Some node → node.value ≡ Fork l x h r → IsForkOf tree l x r
+parts_of view good some fork =
     let whole = sym view ∙ ap root_view some ∙ ap node_view fork in
     let balanced = subst IsBalanced fork (subst IsBalancedRoot some good) in
     record {
@@ -17,6 +23,14 @@ parts_of {node = node} view good some fork =
       height = ap (λ t. t.1) whole ∙ balanced.0;
       balanced = balanced.1;
     }
+
+-- the height that its root stores
+pub stored_height : {D : Type 0} {l r : List D × ℕ} {root : Option (Box (Node D) Global)} {node : Box (Node D) Global} {x : D} {h : ℕ} → IsBalancedRoot root → root ≡ Some node → node.value ≡ Fork l x h r → h ≡ max l.1 r.1 + 1
+stored_height good some fork = (subst IsBalanced fork (subst IsBalancedRoot some good)).0
+
+-- the heights of its sides
+pub heights_of : {D : Type 0} {l r : List D × ℕ} {root : Option (Box (Node D) Global)} {node : Box (Node D) Global} {x : D} {h : ℕ} → root ≡ Some node → node.value ≡ Fork l x h r → sides_of root ≡ (l.1, r.1)
+heights_of some fork = ap sides_of some ∙ ap node_sides fork
 
 -- the items of the two sides
 abbrev others_of : {D : Type 0} → Node D → List D
@@ -30,3 +44,8 @@ others_in (Some node) = others_of node.value
 -- of a node that is taken out of its memory
 pub same_others : {D : Type 0} {l r m s : List D × ℕ} {x y : D} {h k : ℕ} {memory : Box (Node D) Global} (node : Box (Node D) Global) → Some memory ≡ Some (with_value node (Fork m y k s)) → Fork l x h r ≡ memory.value → l.0 ++ r.0 ≡ m.0 ++ s.0
 same_others node some fork = ap others_of fork ∙ ap others_in some
+
+-- the first item, of its node
+pub first_in : {D : Type 0} (tree rest : List D × ℕ) (node : Node D) → IsFirstIn tree rest node → (item : D) × (tree.0 ≡ item ∷ rest.0)
+first_in tree rest Spare first = absurd first
+first_in tree rest (Fork l item height r) first = (item, first.list)

@@ -55,3 +55,12 @@ module _ {D : Type 0} where
   abbrev pub IsNearlyBalanced : Option (Box (Node D) Global) → Type 0
   IsNearlyBalanced None = ⊥
   IsNearlyBalanced (Some node) = IsNearlyBalancedNode node.value
+
+  -- the stored height is that of the sides, which differ by at most one
+  abbrev pub HasRightHeightNode : Node D → Type 0
+  HasRightHeightNode Spare = ⊥
+  HasRightHeightNode (Fork l item height r) = (height ≡ max l.1 r.1 + 1) × DifferByAtMost 1 l.1 r.1
+
+  abbrev pub HasRightHeight : Option (Box (Node D) Global) → Type 0
+  HasRightHeight None = ⊥
+  HasRightHeight (Some node) = HasRightHeightNode node.value

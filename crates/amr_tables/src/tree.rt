@@ -5,9 +5,9 @@ ghost use Rattle.std.specs.Prelude.{◌≡◌, ◌+◌, ◌^◌, ◌<◌, ◌≤
 ghost use Rattle.std.specs.List.Sorted.{IsStrictlySortedBy};
 ghost use Rattle.std.specs.Option.{option_copied};
 ghost use Rattle.std.specs.BTreeSet.{insert_key};
-ghost use Rattle.amr_tables.specs.Balanced.{root_view, sides_of, IsBalancedRoot, IsNearlyBalanced, DifferByAtMost, IsHeightOf, IsLow};
+ghost use Rattle.amr_tables.specs.Balanced.{root_view, sides_of, IsBalancedRoot, IsNearlyBalanced, HasRightHeight, DifferByAtMost, IsHeightOf, IsLow};
 ghost use Rattle.amr_tables.specs.InParts.{items_of};
-ghost use Rattle.amr_tables.specs.Parted.{AreEmpty, IsPartsOf, IsFirstOf};
+ghost use Rattle.amr_tables.specs.Parted.{AreEmpty, IsFirstNodeOf, IsLeaf, IsAbsent, IsPut};
 ghost use Rattle.amr_tables.specs.Queued.{values_of, has, without, count_of};
 
 use crate::parts::InParts;
@@ -58,15 +58,6 @@ impl<D> Model for Tree<D> {
     ghost size_decreases = { λ t h. root_falls t.root };
 }
 
-/// What a tree has at its root, and the root's memory.
-#[derive(Drop)]
-struct Parts<D> {
-    memory: Box<Node<D>>,
-    left: Tree<D>,
-    item: D,
-    right: Tree<D>,
-}
-
 impl<D: Drop> Tree<D> {
     /// Builds an empty tree.
     pub(crate) fn new() -> Tree<D>
@@ -83,7 +74,7 @@ impl<D: Drop> Tree<D> {
         match &self.root {
             None => 0,
             Some(node) => match &**node {
-                Node::Spare => 0,
+                Node::Spare => unreachable!(),
                 Node::Fork { height, .. } => *height,
             },
         }
@@ -93,144 +84,17 @@ impl<D: Drop> Tree<D> {
     pub(crate) fn first(&self) -> Option<&D>
         ensures { option_copied result ≡ slice_get self.now.0 0 }
     {
-        match &self.root {
-            None => None,
-            Some(node) => match &**node {
-                Node::Spare => None,
-                Node::Fork { left, item, .. } => match left.first() {
-                    None => Some(item),
-                    Some(first) => Some(first),
-                },
-            },
+        let mut first = None;
+        let mut tree = self;
+        while let Some(node) = &tree.root {
+            let Node::Fork { left, item, .. } = &**node else {
+                unreachable!()
+            };
+            first = Some(item);
+            tree = left;
         }
+        first
     }
-
-    /// Splits the tree at its root. Returns `None` for an empty tree.
-    fn take_apart(self) -> Option<Parts<D>>
-        ensures { MatchOption result (self ≡ ([], 0)) (IsPartsOf self) }
-    {
-        let mut memory = self.root?;
-        match mem::replace(&mut *memory, Node::Spare) {
-            Node::Spare => None,
-            Node::Fork {
-                left,
-                item,
-                right,
-                ..
-            } => Some(Parts {
-                memory,
-                left,
-                item,
-                right,
-            }),
-        }
-    }
-}
-
-/// Joins two trees around an item. It uses the memory that is given.
-fn fork<D: Drop>(mut memory: Box<Node<D>>, left: Tree<D>, item: D, right: Tree<D>) -> Tree<D>
-    requires near { DifferByAtMost 1 left.1 right.1 }
-    requires fits { length left.0 + length right.0 + 1 < 2 ^ 64 }
-    ensures { result ≡ (left.0 ++ item ∷ right.0, max left.1 right.1 + 1) }
-{
-    let height = left.height().max(right.height()) + 1;
-    *memory = Node::Fork {
-        left,
-        item,
-        height,
-        right,
-    };
-    Tree { root: Some(memory) }
-}
-
-/// Joins two trees around an item, if their heights differ by at most two.
-fn balance<D: Drop>(memory: Box<Node<D>>, left: Tree<D>, item: D, right: Tree<D>) -> Tree<D>
-    requires near { DifferByAtMost 2 left.1 right.1 }
-    requires fits { length left.0 + length right.0 + 1 < 2 ^ 64 }
-    ensures list { result.0 ≡ left.0 ++ item ∷ right.0 }
-    ensures height { IsHeightOf left.1 right.1 result.1 }
-{
-    let (left_height, right_height) = (left.height(), right.height());
-    if left_height > right_height + 1 {
-        lean_right(memory, left, item, right)
-    } else if right_height > left_height + 1 {
-        lean_left(memory, left, item, right)
-    } else {
-        fork(memory, left, item, right)
-    }
-}
-
-/// Takes the root apart, and joins its sides again.
-fn rebuild<D: Drop>(root: &mut Option<Box<Node<D>>>)
-    requires { IsNearlyBalanced root.old }
-    ensures list { (root_view root.new).0 ≡ (root_view root.old).0 }
-    ensures height { IsHeightOf (sides_of root.old).0 (sides_of root.old).1 (root_view root.new).1 }
-    ensures balanced { IsBalancedRoot root.new }
-{
-    let Some(mut memory) = root.take() else {
-        return
-    };
-    let Node::Fork {
-        left,
-        item,
-        right,
-        ..
-    } = mem::replace(&mut *memory, Node::Spare)
-    else {
-        return;
-    };
-    *root = balance(memory, left, item, right).root;
-}
-
-/// Joins two trees around an item, if the left one is higher by two.
-fn lean_right<D: Drop>(memory: Box<Node<D>>, left: Tree<D>, item: D, right: Tree<D>) -> Tree<D>
-    requires two_higher { left.1 ≡ right.1 + 2 }
-    requires fits { length left.0 + length right.0 + 1 < 2 ^ 64 }
-    ensures list { result.0 ≡ left.0 ++ item ∷ right.0 }
-    ensures height { (left.1 ≤ result.1) × (result.1 ≤ left.1 + 1) }
-{
-    let Some(outer) = left.take_apart() else {
-        unreachable!()
-    };
-    if outer.left.height() >= outer.right.height() {
-        let lower = fork(memory, outer.right, item, right);
-        return fork(outer.memory, outer.left, outer.item, lower);
-    }
-    let Some(inner) = outer.right.take_apart() else {
-        unreachable!()
-    };
-    let first = fork(outer.memory, outer.left, outer.item, inner.left);
-    let second = fork(memory, inner.right, item, right);
-    fork(inner.memory, first, inner.item, second)
-}
-
-/// Joins two trees around an item, if the right one is higher by two.
-fn lean_left<D: Drop>(memory: Box<Node<D>>, left: Tree<D>, item: D, right: Tree<D>) -> Tree<D>
-    requires two_higher { right.1 ≡ left.1 + 2 }
-    requires fits { length left.0 + length right.0 + 1 < 2 ^ 64 }
-    ensures list { result.0 ≡ left.0 ++ item ∷ right.0 }
-    ensures height { (right.1 ≤ result.1) × (result.1 ≤ right.1 + 1) }
-{
-    let Some(outer) = right.take_apart() else {
-        unreachable!()
-    };
-    if outer.right.height() >= outer.left.height() {
-        let lower = fork(memory, left, item, outer.left);
-        return fork(outer.memory, lower, outer.item, outer.right);
-    }
-    let Some(inner) = outer.left.take_apart() else {
-        unreachable!()
-    };
-    let first = fork(memory, left, item, inner.left);
-    let second = fork(outer.memory, inner.right, outer.item, outer.right);
-    fork(inner.memory, first, inner.item, second)
-}
-
-/// The first item of a tree, and its memory.
-#[derive(Drop)]
-struct First<D> {
-    item: D,
-    memory: Box<Node<D>>,
 }
 
 /// Appends the items of a part to a list, in order. It visits a side of a node only if that side
@@ -266,15 +130,146 @@ pub(crate) fn list_part<'a, D: InParts>(
     }
 }
 
-/// Restores the balance and the stored height of a tree after one of its sides has changed. It
-/// moves no item unless the heights of the sides differ by two.
+/// Moves the right side of a tree, which is higher by two, up to the root. It moves no item in
+/// memory.
+fn lift_right<D: Drop>(root: &mut Option<Box<Node<D>>>)
+    requires near { IsNearlyBalanced root.old }
+    requires two_higher { (sides_of root.old).1 ≡ (sides_of root.old).0 + 2 }
+    ensures list { (root_view root.new).0 ≡ (root_view root.old).0 }
+    ensures height { IsHeightOf (sides_of root.old).0 (sides_of root.old).1 (root_view root.new).1 }
+    ensures balanced { IsBalancedRoot root.new }
+{
+    let Some(mut node) = root.take() else {
+        unreachable!()
+    };
+    let Node::Fork {
+        left,
+        height,
+        right,
+        ..
+    } = &mut *node
+    else {
+        unreachable!()
+    };
+    let Some(mut side) = mem::replace(right, Tree::new()).root else {
+        unreachable!()
+    };
+    let Node::Fork {
+        left: inner,
+        height: side_height,
+        right: outer,
+        ..
+    } = &mut *side
+    else {
+        unreachable!()
+    };
+    if outer.height() >= inner.height() {
+        mem::swap(right, inner);
+        *height = left.height().max(right.height()) + 1;
+        let lower = Tree { root: Some(node) };
+        *inner = lower;
+        *side_height = inner.height().max(outer.height()) + 1;
+        *root = Some(side);
+        return;
+    }
+    let Some(mut middle) = mem::replace(inner, Tree::new()).root else {
+        unreachable!()
+    };
+    let Node::Fork {
+        left: low,
+        height: middle_height,
+        right: high,
+        ..
+    } = &mut *middle
+    else {
+        unreachable!()
+    };
+    mem::swap(right, low);
+    *height = left.height().max(right.height()) + 1;
+    let first = Tree { root: Some(node) };
+    mem::swap(inner, high);
+    *side_height = inner.height().max(outer.height()) + 1;
+    let second = Tree { root: Some(side) };
+    *low = first;
+    *high = second;
+    *middle_height = low.height().max(high.height()) + 1;
+    *root = Some(middle);
+}
+
+/// Moves the left side of a tree, which is higher by two, up to the root. It moves no item in
+/// memory.
+fn lift_left<D: Drop>(root: &mut Option<Box<Node<D>>>)
+    requires near { IsNearlyBalanced root.old }
+    requires two_higher { (sides_of root.old).0 ≡ (sides_of root.old).1 + 2 }
+    ensures list { (root_view root.new).0 ≡ (root_view root.old).0 }
+    ensures height { IsHeightOf (sides_of root.old).0 (sides_of root.old).1 (root_view root.new).1 }
+    ensures balanced { IsBalancedRoot root.new }
+{
+    let Some(mut node) = root.take() else {
+        unreachable!()
+    };
+    let Node::Fork {
+        left,
+        height,
+        right,
+        ..
+    } = &mut *node
+    else {
+        unreachable!()
+    };
+    let Some(mut side) = mem::replace(left, Tree::new()).root else {
+        unreachable!()
+    };
+    let Node::Fork {
+        right: inner,
+        height: side_height,
+        left: outer,
+        ..
+    } = &mut *side
+    else {
+        unreachable!()
+    };
+    if outer.height() >= inner.height() {
+        mem::swap(left, inner);
+        *height = left.height().max(right.height()) + 1;
+        let lower = Tree { root: Some(node) };
+        *inner = lower;
+        *side_height = outer.height().max(inner.height()) + 1;
+        *root = Some(side);
+        return;
+    }
+    let Some(mut middle) = mem::replace(inner, Tree::new()).root else {
+        unreachable!()
+    };
+    let Node::Fork {
+        left: low,
+        height: middle_height,
+        right: high,
+        ..
+    } = &mut *middle
+    else {
+        unreachable!()
+    };
+    mem::swap(inner, low);
+    *side_height = outer.height().max(inner.height()) + 1;
+    let first = Tree { root: Some(side) };
+    mem::swap(left, high);
+    *height = left.height().max(right.height()) + 1;
+    let second = Tree { root: Some(node) };
+    *low = first;
+    *high = second;
+    *middle_height = low.height().max(high.height()) + 1;
+    *root = Some(middle);
+}
+
+/// Restores the balance and the stored height of a tree after one of its sides has changed.
 fn rebalance<D: Drop>(root: &mut Option<Box<Node<D>>>)
     requires { IsNearlyBalanced root.old }
     ensures list { (root_view root.new).0 ≡ (root_view root.old).0 }
     ensures height { IsHeightOf (sides_of root.old).0 (sides_of root.old).1 (root_view root.new).1 }
     ensures balanced { IsBalancedRoot root.new }
 {
-    let Some(node) = root else { return };
+    let Some(node) = root else { unreachable!() };
     let Node::Fork {
         left,
         height,
@@ -282,18 +277,47 @@ fn rebalance<D: Drop>(root: &mut Option<Box<Node<D>>>)
         ..
     } = &mut **node
     else {
-        return;
+        unreachable!()
     };
     let (left_height, right_height) = (left.height(), right.height());
     if left_height <= right_height + 1 && right_height <= left_height + 1 {
         *height = left_height.max(right_height) + 1;
         return;
     }
-    rebuild(root);
+    if left_height > right_height {
+        lift_left(root);
+    } else {
+        lift_right(root);
+    }
+}
+
+/// Restores the balance and the stored height of a tree after a side of it has changed, whose
+/// height was `before` and is `after`. It writes nothing if these are equal.
+fn rebalance_after<D: Drop>(root: &mut Option<Box<Node<D>>>, before: usize, after: usize)
+    requires near { IsNearlyBalanced root.old }
+    requires right { before ≡ after → HasRightHeight root.old }
+    ensures list { (root_view root.new).0 ≡ (root_view root.old).0 }
+    ensures height { IsHeightOf (sides_of root.old).0 (sides_of root.old).1 (root_view root.new).1 }
+    ensures balanced { IsBalancedRoot root.new }
+{
+    if before != after {
+        return rebalance(root);
+    }
+    let Some(node) = root else { unreachable!() };
+    let Node::Fork {
+        left,
+        height,
+        right,
+        ..
+    } = &mut **node
+    else {
+        unreachable!()
+    };
+    prove!(*height == left.height().max(right.height()) + 1);
 }
 
 /// Adds an item to a tree, in order. It uses the memory that is given.
-pub(crate) fn put<D: Ord + Drop>(tree: &mut Tree<D>, memory: Box<Node<D>>, item: D)
+pub(crate) fn put<D: Ord + Drop>(tree: &mut Tree<D>, mut memory: Box<Node<D>>, item: D)
     requires sorted { IsStrictlySortedBy D.cmp tree.old.0 }
     requires absent { has D.cmp tree.old.0 item ≡ false }
     requires fits { length tree.old.0 + 1 < 2 ^ 64 }
@@ -301,10 +325,32 @@ pub(crate) fn put<D: Ord + Drop>(tree: &mut Tree<D>, memory: Box<Node<D>>, item:
     ensures longer { length tree.new.0 ≡ length tree.old.0 + 1 }
     ensures height { (tree.old.1 ≤ tree.new.1) × (tree.new.1 ≤ tree.old.1 + 1) }
 {
+    *memory = Node::Fork {
+        left: Tree::new(),
+        item,
+        height: 1,
+        right: Tree::new(),
+    };
+    put_leaf(tree, memory);
+}
+
+/// Adds the item of a node without sides to a tree, in order. It moves no item in memory.
+fn put_leaf<D: Ord + Drop>(tree: &mut Tree<D>, leaf: Box<Node<D>>)
+    requires sorted { IsStrictlySortedBy D.cmp tree.old.0 }
+    requires leaf { IsLeaf leaf.value }
+    requires absent { IsAbsent D.cmp tree.old.0 leaf.value }
+    requires fits { length tree.old.0 + 1 < 2 ^ 64 }
+    ensures list { IsPut D.cmp tree.old.0 leaf.value tree.new.0 }
+    ensures longer { length tree.new.0 ≡ length tree.old.0 + 1 }
+    ensures height { (tree.old.1 ≤ tree.new.1) × (tree.new.1 ≤ tree.old.1 + 1) }
+{
+    let Node::Fork { item, .. } = &*leaf else {
+        unreachable!()
+    };
     match &mut tree.root {
-        None => *tree = fork(memory, Tree::new(), item, Tree::new()),
+        None => *tree = Tree { root: Some(leaf) },
         Some(node) => match &mut **node {
-            Node::Spare => (),
+            Node::Spare => unreachable!(),
             Node::Fork {
                 left,
                 item: other,
@@ -312,42 +358,46 @@ pub(crate) fn put<D: Ord + Drop>(tree: &mut Tree<D>, memory: Box<Node<D>>, item:
                 ..
             } => {
                 if item.cmp(other).is_lt() {
-                    put(left, memory, item);
-                    rebalance(&mut tree.root);
+                    let before = left.height();
+                    put_leaf(left, leaf);
+                    let after = left.height();
+                    rebalance_after(&mut tree.root, before, after);
                 } else {
-                    put(right, memory, item);
-                    rebalance(&mut tree.root);
+                    let before = right.height();
+                    put_leaf(right, leaf);
+                    let after = right.height();
+                    rebalance_after(&mut tree.root, before, after);
                 }
             }
         },
     }
 }
 
-/// Removes the first item of a tree. Returns `None` for an empty tree.
-fn take_first<D: Drop>(tree: &mut Tree<D>) -> Option<First<D>>
+/// Removes the first item of a tree, in its node. Returns `None` for an empty tree.
+fn take_first_node<D: Drop>(tree: &mut Tree<D>) -> Option<Box<Node<D>>>
     requires fits { length tree.old.0 < 2 ^ 64 }
-    ensures { MatchOption result (AreEmpty tree.old tree.new) (IsFirstOf tree.old tree.new) }
+    ensures { MatchOption result (AreEmpty tree.old tree.new) (IsFirstNodeOf tree.old tree.new) }
 {
     match &mut tree.root {
         None => None,
         Some(node) => match &mut **node {
-            Node::Spare => None,
-            Node::Fork { left, .. } => match take_first(left) {
-                None => {
-                    let mut memory = tree.root.take()?;
-                    match mem::replace(&mut *memory, Node::Spare) {
-                        Node::Spare => None,
-                        Node::Fork { item, right, .. } => {
-                            *tree = right;
-                            Some(First { item, memory })
-                        }
+            Node::Spare => unreachable!(),
+            Node::Fork { left, right, .. } => {
+                let before = left.height();
+                match take_first_node(left) {
+                    None => {
+                        let rest = mem::replace(right, Tree::new());
+                        let node = tree.root.take();
+                        *tree = rest;
+                        node
+                    }
+                    Some(first) => {
+                        let after = left.height();
+                        rebalance_after(&mut tree.root, before, after);
+                        Some(first)
                     }
                 }
-                Some(first) => {
-                    rebalance(&mut tree.root);
-                    Some(first)
-                }
-            },
+            }
         },
     }
 }
@@ -359,14 +409,46 @@ fn join<D: Drop>(left: Tree<D>, mut right: Tree<D>) -> Tree<D>
     ensures list { result.0 ≡ left.0 ++ right.0 }
     ensures height { (max left.1 right.1 ≤ result.1) × (result.1 ≤ max left.1 right.1 + 1) }
 {
-    match take_first(&mut right) {
-        None => left,
-        Some(first) => balance(first.memory, left, first.item, right),
+    let Some(mut node) = take_first_node(&mut right) else {
+        return left;
+    };
+    let Node::Fork {
+        left: earlier,
+        right: later,
+        ..
+    } = &mut *node
+    else {
+        unreachable!()
+    };
+    *earlier = left;
+    *later = right;
+    let mut root = Some(node);
+    rebalance(&mut root);
+    Tree { root }
+}
+
+/// Removes an item from a tree, if it is there, and returns its memory. It compares once if the
+/// item is the first.
+pub(crate) fn take<D: Ord + Drop>(tree: &mut Tree<D>, item: &D) -> Option<Box<Node<D>>>
+    requires sorted { IsStrictlySortedBy D.cmp tree.old.0 }
+    requires fits { length tree.old.0 < 2 ^ 64 }
+    ensures list { tree.new.0 ≡ without D.cmp tree.old.0 item.now }
+    ensures found { is_some result ≡ has D.cmp tree.old.0 item.now }
+    ensures shorter { length tree.old.0 ≡ length tree.new.0 + count_of result }
+    ensures height { (tree.old.1 ≤ tree.new.1 + 1) × (tree.new.1 ≤ tree.old.1) }
+{
+    match tree.first() {
+        Some(first) if item.cmp(first).is_eq() => {
+            let mut memory = take_first_node(tree)?;
+            *memory = Node::Spare;
+            Some(memory)
+        }
+        _ => take_anywhere(tree, item),
     }
 }
 
 /// Removes an item from a tree, if it is there, and returns its memory.
-pub(crate) fn take<D: Ord + Drop>(tree: &mut Tree<D>, item: &D) -> Option<Box<Node<D>>>
+fn take_anywhere<D: Ord + Drop>(tree: &mut Tree<D>, item: &D) -> Option<Box<Node<D>>>
     requires sorted { IsStrictlySortedBy D.cmp tree.old.0 }
     requires fits { length tree.old.0 < 2 ^ 64 }
     ensures list { tree.new.0 ≡ without D.cmp tree.old.0 item.now }
@@ -377,7 +459,7 @@ pub(crate) fn take<D: Ord + Drop>(tree: &mut Tree<D>, item: &D) -> Option<Box<No
     match &mut tree.root {
         None => None,
         Some(node) => match &mut **node {
-            Node::Spare => None,
+            Node::Spare => unreachable!(),
             Node::Fork {
                 left,
                 item: other,
@@ -385,14 +467,16 @@ pub(crate) fn take<D: Ord + Drop>(tree: &mut Tree<D>, item: &D) -> Option<Box<No
                 ..
             } => match item.cmp(other) {
                 Ordering::Less => {
-                    let memory = take(left, item);
-                    rebalance(&mut tree.root);
+                    let before = left.height();
+                    let memory = take_anywhere(left, item);
+                    let after = left.height();
+                    rebalance_after(&mut tree.root, before, after);
                     memory
                 }
                 Ordering::Equal => {
                     let mut memory = tree.root.take()?;
                     match mem::replace(&mut *memory, Node::Spare) {
-                        Node::Spare => None,
+                        Node::Spare => unreachable!(),
                         Node::Fork { left, right, .. } => {
                             *tree = join(left, right);
                             Some(memory)
@@ -400,8 +484,10 @@ pub(crate) fn take<D: Ord + Drop>(tree: &mut Tree<D>, item: &D) -> Option<Box<No
                     }
                 }
                 Ordering::Greater => {
-                    let memory = take(right, item);
-                    rebalance(&mut tree.root);
+                    let before = right.height();
+                    let memory = take_anywhere(right, item);
+                    let after = right.height();
+                    rebalance_after(&mut tree.root, before, after);
                     memory
                 }
             },
