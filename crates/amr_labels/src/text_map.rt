@@ -4,6 +4,7 @@ ghost use Rattle.std.specs.Prelude.{◌≡◌, ◌==◌, ℕ, List, T, not, leng
 ghost use Rattle.std.specs.List.{filter, list_all, list_any};
 ghost use Rattle.std.specs.Ordering.{eq_by_cmp, is_lt};
 ghost use Rattle.std.specs.Option.{option_copied};
+ghost use Rattle.std.specs.Str.{bytes_eq};
 ghost use Rattle.std.specs.BTreeMap.{IsOrdered};
 ghost use Rattle.std.specs.FinMap.{find, is_sorted};
 ghost use Rattle.amr_labels.specs.Map as map;
@@ -152,11 +153,19 @@ fn first_under<'a>(pairs: &'a [(Text, Text)], name: &str) -> Option<&'a Text>
     ensures { option_copied result ≡ find text_cmp name.now pairs.now }
 {
     for pair in pairs {
-        if pair.0.as_str() == name {
+        if is_named(&pair.0, name) {
             return Some(&pair.1);
         }
     }
     None
+}
+
+/// Returns whether two names are equal. Names of different lengths aren't compared any further,
+/// which is so for most labels of a label set.
+fn is_named(own: &Text, name: &str) -> bool
+    ensures { result ≡ bytes_eq own.now name.now }
+{
+    own.as_str().len() == name.len() && own.as_str() == name
 }
 
 /// Searches for the text under a name, given pairs in strictly ascending order of names.

@@ -9,18 +9,18 @@ use lib.Pointwise.{pointwise}
 pub loop-pair-init : goal.loop-pair-init
 loop-pair-init c = refl
 
-pub returns-then-eq : goal.returns-then-eq
-returns-then-eq c =
+pub returns-then-is_named : goal.returns-then-is_named
+returns-then-is_named c =
     sym (c.loop-pair.invariant
     ∙ found_here _ _ _ c.pair-item.result c.loop-pair-test.true
-    (ap (λ p. pointwise nat_eq p.0 c.args.name.now) (sym c.pair-item.is) ∙ ap (λ s. pointwise nat_eq s c.args.name.now) (sym c.as_str.ensures) ∙ sym c.eq.ensures ∙ c.if-eq.true)
+    (ap (λ p. pointwise nat_eq p.0 c.args.name.now) (sym c.pair-item.is) ∙ sym c.is_named.ensures ∙ c.if-is_named.true)
     ∙ ap (λ p. Some p.1) (sym c.pair-item.is))
 
 pub loop-pair-preserved : goal.loop-pair-preserved
 loop-pair-preserved c =
     c.loop-pair.invariant
     ∙ found_later _ _ _ c.pair-item.result c.loop-pair-test.true
-    (ap (λ p. pointwise nat_eq p.0 c.args.name.now) (sym c.pair-item.is) ∙ ap (λ s. pointwise nat_eq s c.args.name.now) (sym c.as_str.ensures) ∙ sym c.eq.ensures ∙ c.if-eq.false)
+    (ap (λ p. pointwise nat_eq p.0 c.args.name.now) (sym c.pair-item.is) ∙ sym c.is_named.ensures ∙ c.if-is_named.false)
 
 pub returns : goal.returns
 returns c = sym (c.loop-pair.invariant ∙ ap (find text_cmp c.args.name.now) (drop_all _ _ c.loop-pair-test.false))
