@@ -1,13 +1,12 @@
 -- Who was notified of some members needn't be notified of fewer.
-use Rattle.std.specs.Prelude.{◌≡◌, ℕ, Bool, true, false, not, ◌&&◌, ◌||◌, List, [], ◌∷◌, Option, Some, None, map, cond, length, nat_eq, nat_lt, ◌+◌}
+use Rattle.std.specs.Prelude.{◌≡◌, Bool, true, false, not, ◌&&◌, ◌||◌, List, [], ◌∷◌, Option, Some, None, map, cond, length, nat_eq, nat_lt, ◌+◌}
 use Rattle.std.specs.List.{list_all, filter}
-use Rattle.std.specs.declared.cmp.Ordering.{Ordering}
 use Rattle.std.specs.declared.cmp.Ordering.TheVariants.{Less, Equal, Greater}
 use Rattle.std.specs.FinMap.{put}
 use Rattle.std.specs.FinMap.Entries.{by_order}
-use Rattle.std.proofs.Common.{refl, sym, ap, ◌∙◌, ◌<◌, arith}
+use Rattle.std.proofs.Common.{refl, sym, ap, ◌∙◌, arith}
 use Rattle.std.proofs.lemmas.Bool.Decides.{nat_tests}
-use Rattle.amr_labels.specs.Map.{get, insert, entries, empty, entries-insert}
+use Rattle.amr_labels.specs.Map.{get, entries, empty, entries-insert}
 use Rattle.amr_labels.specs.Set.{is_subset, is_empty, contains, from_list}
 use Rattle.amr_labels.specs.Labels.{LabelSet, label_set_cmp, label_set_cmp_total, label_set_cmp-IsAntisymmetric}
 use Rattle.amr_time.specs.Time.{Moment, Span}

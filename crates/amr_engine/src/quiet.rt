@@ -1,7 +1,8 @@
 //! The groups whose flushes change nothing but the group timer, and until when. Most moves of a
 //! long replay are such flushes. `moves.rt` flushes groups through this memory, which is no part of
 //! the state: it only knows what the state implies. The engine keeps it from one tick to the next,
-//! and clears it at each other event.
+//! and clears it at each other event. Most quiet groups are those whose members all fire and were
+//! all notified of: then it doesn't matter what mutes them, and nobody is asked.
 ghost use Rattle.std.specs.Prelude.{◌≡◌, ◌≤◌, ◌<◌, ◌*◌, ◌==◌, ◌&&◌, true, OnOk, IfOk, IfSome};
 ghost use Rattle.std.specs.List.{list_any, list_all};
 ghost use Rattle.amr_config.specs.Routing.{integrations_of};
@@ -34,8 +35,8 @@ const LOOKED_AT_PER_FLUSH: usize = 100;
 /// other, what a look found is forgotten before it is of use.
 const MOST_PATIENCE: usize = 16;
 
-/// How many groups that are quiet whatever mutes their members aren't remembered at first. Between
-/// posts that come one after the other, a group is mostly forgotten before it is flushed again.
+/// After all is forgotten, how many groups that are quiet whatever mutes their members aren't
+/// remembered. Between posts that come one after the other, it would be of no use.
 const TOLD_BEFORE_LEARNING: usize = 16;
 
 /// The moments from one until just before another, both in nanoseconds since 1970. The end may be
@@ -143,8 +144,8 @@ impl QuietGroups {
         self.flush_unknown(store, at, group)
     }
 
-    /// Flushes a group that isn't remembered as quiet. If all integrations were notified of all its
-    /// members, it doesn't find out what mutes them.
+    /// Flushes a group that isn't remembered as quiet. It doesn't find out what mutes the members
+    /// if all integrations were notified of all of them.
     fn flush_unknown(
         &mut self,
         store: &mut Store,
@@ -198,7 +199,7 @@ impl QuietGroups {
     }
 
     /// Returns true only if a flush of the group with these members is known to only set its timer,
-    /// whatever mutes them, and remembers until when.
+    /// whatever mutes them. Then it may remember until when.
     fn is_told(
         &mut self,
         store: &Store,
@@ -221,14 +222,9 @@ impl QuietGroups {
         }
     }
 
-    /// Remembers that a group is quiet from a moment until another, unless few groups were found so
-    /// since all were forgotten.
-    fn note_told(
-        &mut self,
-        at: Moment,
-        group: &RouteLabels,
-        until: u128,
-    ) -> Result<(), AllocError>
+    /// Remembers that a group is quiet from a moment until another, unless fewer than
+    /// `TOLD_BEFORE_LEARNING` were found so before, since all were forgotten.
+    fn note_told(&mut self, at: Moment, group: &RouteLabels, until: u128) -> Result<(), AllocError>
         ensures { OnOk result ((s : State) → IsTrueOf self.old s
             → IsQuiet s group.now at until → IsTrueOf self.new s) }
     {
@@ -241,8 +237,9 @@ impl QuietGroups {
     }
 
     /// Returns true only if a flush of the group with these members, of which no stage mutes
-    /// `through`, is known to only set its timer. If it isn't worth it yet to find out until when,
-    /// nothing is remembered.
+    /// `through`, is known to only set its timer. The group isn't one that is quiet whatever mutes
+    /// its members, so it isn't quiet if nothing does. If it isn't worth it yet to find out until
+    /// when it is, nothing is remembered.
     fn is_quiet(
         &mut self,
         store: &Store,
@@ -492,9 +489,9 @@ fn quiet_until(
     }
 }
 
-/// Returns until when a group with these members is quiet from a moment on, whatever mutes them,
-/// since all integrations were notified of all of them. Returns `None` if one may not have been, or
-/// may have to be notified again at the moment.
+/// Returns until when a group with these members is quiet from a moment on, whatever mutes them: all
+/// integrations were notified of all of them. Returns `None` if one may not have been or may have to
+/// be notified again, or if a member is resolved at the moment.
 fn told_until(
     store: &Store,
     at: Moment,
