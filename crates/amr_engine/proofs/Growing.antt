@@ -1,6 +1,5 @@
 -- How many entries an event adds to the open record.
-use Rattle.std.specs.Prelude.{◌≡◌, ℕ, zero, suc, List, [], Option, None, Some, Result, Ok, Err, length, drop, ◌+◌, ◌-◌, ◌*◌, ◌≤◌, ◌<◌}
-use Rattle.std.specs.Result.{IfOk}
+use Rattle.std.specs.Prelude.{◌≡◌, ℕ, zero, suc, List, [], Option, None, Some, length, drop, ◌+◌, ◌-◌, ◌*◌, ◌≤◌, ◌<◌}
 use Rattle.std.specs.Option.{option_map, option_map_or}
 use Rattle.std.specs.List.{fold, sum_by}
 use Rattle.std.proofs.Common.{get_or, refl, sym, ap, subst, ◌∙◌, arith}
@@ -16,10 +15,7 @@ use Rattle.amr_actions.specs.Events.{Event, Act}
 use Rattle.amr_actions.specs.Acts.{event_at}
 use Rattle.amr_state.specs.declared.due.Due.{Due}
 use Rattle.amr_state.specs.State.{State}
-use Rattle.amr_state.specs.Kept.{Kept}
 use Rattle.amr_state.specs.Dues.{next_due}
-use Rattle.amr_engine.specs.declared.outcome.Outcome.{Outcome}
-use Rattle.amr_engine.specs.declared.outcome.Outcome.TheVariants.{Accepted, Refused}
 use Rattle.amr_engine.specs.declared.prepare.Prepared as prepare
 use Rattle.amr_engine.specs.Runs.{after_step}
 use Rattle.amr_engine.specs.Moves.{move, advance}
@@ -27,7 +23,6 @@ use Rattle.amr_engine.specs.Events.{at_moment, move_limit, with_config}
 use Rattle.amr_engine.specs.Applied.{run_moved}
 use Rattle.amr_engine.specs.Prepared.{DoesAsPrepared, entries_of}
 use Rattle.amr_engine.specs.Weight.{move_weight, moves_weight, first_weight, reload_entries, alert_weight, alerts_weight, copies, act_weight, weight, event_weight}
-use Rattle.amr_engine.specs.Kept.{IsLight, IsLightIfAccepted}
 use Rattle.amr_engine.proofs.Endings.{Ran, some_run, stays}
 use Rattle.amr_engine.proofs.Copied.{copies_are_members}
 

@@ -9,6 +9,7 @@ pub mod Partitions
 pub mod Settling
 pub mod Copied
 pub mod Growing
+pub mod FewerNotified
 pub mod QuietLaws
 pub mod QuietStays
 pub mod MovesNoted

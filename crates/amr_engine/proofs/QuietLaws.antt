@@ -2,7 +2,7 @@
 use Rattle.std.specs.Prelude.{◌≡◌, ℕ, Bool, true, false, not, ◌&&◌, ◌||◌, List, [], ◌∷◌, Option, Some, None, option_map, if◌then◌else◌, ◌+◌, ◌≤◌, ◌<◌, nat_le, nat_lt, length, ◌==◌, cond}
 use Rattle.std.specs.List.{list_all, list_any, find, filter, fold}
 use Rattle.std.specs.Option.{option_or, is_none}
-use Rattle.std.proofs.Common.{refl, sym, ap, ◌∙◌, arith}
+use Rattle.std.proofs.Common.{refl, sym, ap, ◌∙◌, arith, inl, inr}
 use Rattle.std.proofs.lemmas.Bool.Decides.{nat_tests}
 use Rattle.amr_labels.specs.Map.{Map, get, entries}
 use Rattle.amr_labels.specs.Labels.{LabelSet, Text}
@@ -26,11 +26,8 @@ use Rattle.amr_state.specs.declared.notification.GroupTimer.{GroupTimer}
 use Rattle.amr_state.specs.declared.notification.Notification.{Notification}
 use Rattle.amr_labels.specs.Set.{is_subset, is_empty}
 use Rattle.amr_engine.specs.declared.explain.Finding.TheVariants.{Inhibited, OutsideActive, TimeMuted, Silenced}
+use Rattle.amr_engine.proofs.FewerNotified.{both, is_no, fewer_notified}
 use Rattle.amr_engine.specs.Quiet.{is_outside, no_alert_ends, no_source_ends, no_silence_turns, IsStill, all_fire_until, is_untimed, no_repeat_before, is_notified, are_notified, with_timer_reset, IsQuietWith, IsQuiet}
-
-pub both : (a b : Bool) → (a && b) ≡ true → (a ≡ true) × (b ≡ true)
-both true b e = (refl, e)
-both false b e = absurd (cc)
 
 -- two tests find the same where they agree on each element
 found_same : {X : Type 0} (ok p q : X → Bool) → ((x : X) → ok x ≡ true → p x ≡ q x) → (xs : List X) → list_all ok xs ≡ true → find p xs ≡ find q xs
@@ -49,10 +46,6 @@ no_more false true c d e h = absurd (cc)
 no_more false false false d e h = refl
 no_more false false true true e h = absurd (cc)
 no_more false false true false e h = refl
-
-is_no : (b : Bool) → not b ≡ true → b ≡ false
-is_no true e = absurd (cc)
-is_no false e = refl
 
 -- two moments between which nothing of a sort happens
 module _ (from until at : Moment) (not_before : from ≤ at) (before : at < until) where
@@ -185,13 +178,17 @@ module _ (from until at : Moment) (not_before : from ≤ at) (before : at < unti
 
   pub pipeline_none : (s : State) (group : RouteLabels) (ms : Members) → IsQuietWith s group from until ms → run_pipeline at group ms s ≡ s
   pipeline_none s group [] quiet = refl
-  pipeline_none s group (m ∷ ms) quiet =
+  pipeline_none s group (m ∷ ms) (inl quiet) =
       let through : let_through s at group.route (m ∷ ms) ≡ let_through s from group.route (m ∷ ms) =
       (λ i. filter (λ member. is_none (taken_same s group.route quiet.still quiet.untimed member.0 i)) (m ∷ ms)) in
       let fire : all_fire_until until (let_through s from group.route (m ∷ ms)) ≡ true = fire_kept (λ member. is_none (taken_away s from group.route member.0)) (m ∷ ms) quiet.fire in
       ap (λ (ps : Members). drop_resolved at group (m ∷ ms) (notify_all at group ps s)) through
       ∙ ap (drop_resolved at group (m ∷ ms)) (notify_all_none s group (let_through s from group.route (m ∷ ms)) fire quiet.notified)
       ∙ drop_none s group m ms quiet.fire
+  pipeline_none s group (m ∷ ms) (inr told) =
+      let through : LabelSet × Alert → Bool = λ member. is_none (taken_away s at group.route member.0) in
+      ap (drop_resolved at group (m ∷ ms)) (notify_all_none s group (filter through (m ∷ ms)) (fire_kept through (m ∷ ms) told.fire) (fewer_notified s group from until through (m ∷ ms) told.notified))
+      ∙ drop_none s group m ms told.fire
 
 -- ---- what keeps a group quiet
 
@@ -200,12 +197,13 @@ kept_with : (s : State) (moment : Moment) (timers : Map route_labels_cmp GroupTi
     → IsQuietWith s group from until ms → IsQuietWith (record s { moment = moment; timers = timers; notes = notes }) group from until ms
 unfolding taken_away
 kept_with s moment timers notes group from until [] quiet = tt
-kept_with s moment timers notes group from until (m ∷ ms) quiet = record {
+kept_with s moment timers notes group from until (m ∷ ms) (inl quiet) = inl (record {
   fire = quiet.fire;
   still = record { sources = quiet.still.sources; silences = quiet.still.silences };
   untimed = quiet.untimed;
   notified = quiet.notified;
-}
+})
+kept_with s moment timers notes group from until (m ∷ ms) (inr told) = inr (record { fire = told.fire; notified = told.notified })
 
 -- quietness depends on neither the clock nor the group timers nor the notifications
 pub stays_quiet : (s : State) (moment : Moment) (timers : Map route_labels_cmp GroupTimer) (notes : List Notification) (group : RouteLabels) (from until : Moment)

@@ -7,7 +7,7 @@ use Rattle.std.specs.declared.cmp.Ordering.TheVariants.{Less, Equal, Greater}
 use Rattle.std.specs.Ordering.{eq_by_cmp, is_eq}
 use Rattle.std.specs.FinMap.{IsAntisymmetric}
 use Rattle.std.specs.FinMap.Entries.{where_key}
-use Rattle.std.proofs.Common.{refl, sym, ap, ◌∙◌, subst}
+use Rattle.std.proofs.Common.{refl, sym, ap, ◌∙◌, subst, inl, inr}
 use Rattle.amr_labels.specs.Map.{get, insert, remove, entries, get-insert, entries-retain_keys}
 use Rattle.amr_labels.specs.Labels.{LabelSet}
 use Rattle.amr_time.specs.Time.{Moment}
@@ -66,12 +66,13 @@ module _ (s t : State) (group : RouteLabels) (from until : Moment) (log : (key :
   quiet_with_same : (ms : Members) → IsQuietWith s group from until ms → IsQuietWith (mixed s t) group from until ms
   unfolding taken_away
   quiet_with_same [] quiet = tt
-  quiet_with_same (m ∷ ms) quiet = record {
+  quiet_with_same (m ∷ ms) (inl quiet) = inl (record {
     fire = quiet.fire;
     still = record { sources = quiet.still.sources; silences = quiet.still.silences };
     untimed = quiet.untimed;
     notified = all_notified_same (let_through s from group.route (m ∷ ms)) ∙ quiet.notified;
-  }
+  })
+  quiet_with_same (m ∷ ms) (inr told) = inr (record { fire = told.fire; notified = all_notified_same (m ∷ ms) ∙ told.notified })
 
 -- a group with other labels that is quiet in the one state is quiet in the other
 pub quiet_left : (labels : LabelSet) (s t : State) → LeavesOthers labels s t → (group : RouteLabels) → (group.labels ≡ labels → ⊥) → (from until : Moment)

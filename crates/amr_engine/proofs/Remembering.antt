@@ -4,7 +4,7 @@ use Rattle.std.specs.Option.{option_or, is_none}
 use Rattle.std.specs.Result.{OnOk}
 use Rattle.std.specs.List.{list_any, list_all, filter}
 use Rattle.std.specs.Ordering.{eq_by_cmp, is_eq}
-use Rattle.std.proofs.Common.{refl, sym, ap, ◌∙◌, subst, arith, get_or, drop}
+use Rattle.std.proofs.Common.{refl, sym, ap, ◌∙◌, subst, arith, get_or, drop, inl, inr}
 use Rattle.std.proofs.lemmas.List.{at_drop_more}
 use Rattle.std.proofs.lemmas.Bool.Decides.{nat_tests}
 use Rattle.std.proofs.lemmas.Cmp.{tied_itself}
@@ -34,7 +34,8 @@ use Rattle.amr_engine.specs.declared.quiet.QuietGroups.{QuietGroups}
 use Rattle.amr_engine.specs.Flush.{Members, let_through, labels_of, log_key_of, flush}
 use Rattle.amr_engine.specs.Quiet.{is_outside, no_alert_ends, no_source_ends, no_silence_turns, all_fire_until, is_untimed, no_repeat_before, is_notified, are_notified, with_timer_reset, IsStill, IsQuiet, IsQuietWith, LeavesOthers}
 use Rattle.amr_engine.specs.Remembered.{covers, Times, remembered, times_at, is_known, of_others, with_time, AreQuiet, IsStillIn, IsTrueOf}
-use Rattle.amr_engine.proofs.QuietLaws.{both, quiet_flush, stays_quiet}
+use Rattle.amr_engine.proofs.FewerNotified.{both}
+use Rattle.amr_engine.proofs.QuietLaws.{quiet_flush, stays_quiet}
 use Rattle.amr_engine.proofs.QuietStays.{equal, flush_leaves, quiet_left, still_left}
 
 -- ---- what is remembered
@@ -108,6 +109,12 @@ learned s before after group stretch are still holds quiet =
           ] refl);
       still = subst (IsStillIn s) (sym still) holds.still;
     }
+
+-- the same of a step that may run out of memory
+pub learned_if : {T E : Type 0} (r : Result T E) (before after : QuietGroups) (group : RouteLabels) (stretch : Stretch) → OnOk r (remembered after ≡ with_time group stretch (remembered before))
+    → after.still ≡ before.still → OnOk r ((s : State) → IsTrueOf before s → IsQuiet s group stretch.from stretch.until → IsTrueOf after s)
+learned_if (Ok x) before after group stretch are still = λ s holds quiet. learned s before after group stretch are still holds quiet
+learned_if (Err e) before after group stretch are still = tt
 
 still_in_left : (labels : LabelSet) (s t : State) → LeavesOthers labels s t → (stretch : Option Stretch) → IsStillIn s stretch → IsStillIn t stretch
 still_in_left labels s t same None still = tt
@@ -185,12 +192,13 @@ module _ (s : State) (alerts : Alerts) (none : s.config.rules ≡ []) where
 
   with_alike : (group : RouteLabels) (from until : Moment) (ms : Members) → IsQuietWith s group from until ms → IsQuietWith (record s { alerts = alerts }) group from until ms
   with_alike group from until [] quiet = tt
-  with_alike group from until (m ∷ ms) quiet = record {
+  with_alike group from until (m ∷ ms) (inl quiet) = inl (record {
     fire = quiet.fire;
     still = still_alike from until quiet.still;
     untimed = quiet.untimed;
     notified = notified_alike group from until (let_through (record s { alerts = alerts }) from group.route (m ∷ ms)) ∙ ap (are_notified s group from until) (through_alike from group.route (m ∷ ms)) ∙ quiet.notified;
-  }
+  })
+  with_alike group from until (m ∷ ms) (inr told) = inr (record { fire = told.fire; notified = told.notified })
 
   quiet_alike : (group : RouteLabels) (from until : Moment) → IsQuiet s group from until → IsQuiet (record s { alerts = alerts }) group from until
   unfolding IsQuiet members
@@ -288,7 +296,18 @@ module _ (s : State) (group : RouteLabels) (from : Moment) (firing : LabelSets) 
 pub is_settled : (s : State) (group : RouteLabels) (from until : Moment) (ms : Members) → all_fire_until until ms ≡ true → IsStill s from until → is_untimed s.config group.route ≡ true
     → are_notified s group from until (let_through s from group.route ms) ≡ true → IsQuietWith s group from until ms
 is_settled s group from until [] fire still untimed notified = tt
-is_settled s group from until (m ∷ ms) fire still untimed notified = record { fire = fire; still = still; untimed = untimed; notified = notified }
+is_settled s group from until (m ∷ ms) fire still untimed notified = inl (record { fire = fire; still = still; untimed = untimed; notified = notified })
+
+told_with : (s : State) (group : RouteLabels) (from until : Moment) (ms : Members) → all_fire_until until ms ≡ true → are_notified s group from until ms ≡ true → IsQuietWith s group from until ms
+told_with s group from until [] fire notified = tt
+told_with s group from until (m ∷ ms) fire notified = inr (record { fire = fire; notified = notified })
+
+-- a group is quiet whose members all integrations were notified of
+pub found_told : (s : State) (group : RouteLabels) (from first end : Moment) (ms : Members) → ms ≡ members s group → all_fire_until first ms ≡ true → end ≤ first
+    → are_notified s group from end ms ≡ true → IsQuiet s group from end
+unfolding IsQuiet
+found_told s group from first end ms all fire within notified =
+    subst (IsQuietWith s group from end) all (told_with s group from end ms (fire_sooner first end within ms fire) notified)
 
 -- a group is quiet that was found so
 pub found_quiet : (s : State) (group : RouteLabels) (from until first end : Moment) (ms through : Members) → ms ≡ members s group → through ≡ let_through s from group.route ms

@@ -1,5 +1,5 @@
 -- Groups whose flushes change nothing but the group timer, from one moment until another.
-use Rattle.std.specs.Prelude.{◌≡◌, ℕ, Bool, true, not, ◌&&◌, ◌||◌, List, [], ◌∷◌, Option, Some, None, ◌+◌, nat_le, length, ◌==◌}
+use Rattle.std.specs.Prelude.{◌≡◌, ℕ, Bool, true, not, ◌&&◌, ◌||◌, List, [], ◌∷◌, Option, Some, None, ◌+◌, nat_le, length, ◌==◌, ◌⊎◌}
 use Rattle.std.specs.List.{list_all}
 use Rattle.amr_labels.specs.Map.{get, entries}
 use Rattle.amr_time.specs.Time.{Moment, Span}
@@ -78,10 +78,16 @@ pub record IsSettled (s : State) (group : RouteLabels) (from until : Moment) (me
   pub untimed : is_untimed s.config group.route ≡ true
   pub notified : are_notified s group from until (let_through s from group.route members) ≡ true
 
+-- All members fire until the moment, all integrations were notified of them, and no repeated
+-- notification is due before. Whatever mutes some of them, nobody is to be notified.
+pub record IsTold (s : State) (group : RouteLabels) (from until : Moment) (members : Members) : Type 0 where
+  pub fire : all_fire_until until members ≡ true
+  pub notified : are_notified s group from until members ≡ true
+
 -- a group without members is quiet for ever
 abbrev pub IsQuietWith : State → RouteLabels → Moment → Moment → Members → Type 0
 IsQuietWith s group from until [] = Unit {0}
-IsQuietWith s group from until (member ∷ members) = IsSettled s group from until (member ∷ members)
+IsQuietWith s group from until (member ∷ members) = IsSettled s group from until (member ∷ members) ⊎ IsTold s group from until (member ∷ members)
 
 -- the group's flushes from one moment until another set the group timer and change nothing else
 unfoldable pub IsQuiet : State → RouteLabels → Moment → Moment → Type 0

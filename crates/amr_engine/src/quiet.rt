@@ -1,7 +1,8 @@
 //! The groups whose flushes change nothing but the group timer, and until when. Most moves of a
 //! long replay are such flushes. `moves.rt` flushes groups through this memory, which is no part of
 //! the state: it only knows what the state implies. The engine keeps it from one tick to the next,
-//! and clears it at each other event.
+//! and clears it at each other event. Most quiet groups are those whose members all fire and were
+//! all notified of: then it doesn't matter what mutes them, and nobody is asked.
 ghost use Rattle.std.specs.Prelude.{◌≡◌, ◌≤◌, ◌<◌, ◌*◌, ◌==◌, ◌&&◌, true, OnOk, IfOk, IfSome};
 ghost use Rattle.std.specs.List.{list_any, list_all};
 ghost use Rattle.amr_config.specs.Routing.{integrations_of};
@@ -34,6 +35,10 @@ const LOOKED_AT_PER_FLUSH: usize = 100;
 /// other, what a look found is forgotten before it is of use.
 const MOST_PATIENCE: usize = 16;
 
+/// After all is forgotten, how many groups that are quiet whatever mutes their members aren't
+/// remembered. Between posts that come one after the other, it would be of no use.
+const TOLD_BEFORE_LEARNING: usize = 16;
+
 /// The moments from one until just before another, both in nanoseconds since 1970. The end may be
 /// after the last moment, so it isn't a `Moment`.
 #[derive(Clone, Copy)]
@@ -62,6 +67,8 @@ pub(crate) struct QuietGroups {
     patience: usize,
     /// Whether a flush was saved since the last look.
     has_saved: bool,
+    /// How many groups were found quiet whatever mutes their members, since all were forgotten.
+    told: usize,
     /// When no source of an inhibition rule ends and no silence starts or ends.
     still: Option<Stretch>,
     /// The quiet groups, by their labels.
@@ -81,6 +88,7 @@ impl QuietGroups {
             price: 0,
             patience: 1,
             has_saved: true,
+            told: 0,
             still: None,
             times: Keyed::new(alloc),
         }
@@ -90,6 +98,7 @@ impl QuietGroups {
     pub(crate) fn clear(&mut self)
         ensures { (s : State) → IsTrueOf self.new s }
     {
+        self.told = 0;
         self.still = None;
         self.times = Keyed::new(self.alloc);
     }
@@ -135,8 +144,8 @@ impl QuietGroups {
         self.flush_unknown(store, at, group)
     }
 
-    /// Flushes a group that isn't remembered as quiet. It looks for the group's members and for
-    /// what mutes them once, to find out whether the group is quiet and to notify of them.
+    /// Flushes a group that isn't remembered as quiet. It doesn't find out what mutes the members
+    /// if all integrations were notified of all of them.
     fn flush_unknown(
         &mut self,
         store: &mut Store,
@@ -153,19 +162,84 @@ impl QuietGroups {
         ensures memory { OnOk result (IsTrueOf self.new store.new.state) }
     {
         let members = members_of(store, group)?;
-        let through = let_through(store, at, group.route, members.as_slice())?;
-        if self.is_quiet(store, at, group, members.as_slice(), through.as_slice())? {
+        if self.is_told(store, at, group, members.as_slice())? {
+            reset_timer(store, at, group)?;
+            return Ok(true);
+        }
+        self.flush_untold(store, at, group, members.as_slice())
+    }
+
+    /// Flushes the group with these members. It finds out what mutes them once, to find out whether
+    /// the group is quiet and to notify of them.
+    fn flush_untold(
+        &mut self,
+        store: &mut Store,
+        at: Moment,
+        group: &RouteLabels,
+        members: &[Member],
+    ) -> Result<bool, AllocError>
+        requires late { at ≤ latest_read }
+        requires memory { IsTrueOf self.old store.old.state }
+        requires members { members.now ≡ state.members store.old.state group.now }
+        ensures ok { OnOk result (store.new.state ≡ flush at group.now store.old.state) }
+        ensures quiet { IfOk result (λ quiet. quiet ≡ true
+            → flush at group.now store.old.state ≡ with_timer_reset at group.now store.old.state) }
+        ensures kept { undone store.new ≡ undone store.old }
+        ensures grown { GrownBy (2 * flush_weight store.old.state group.now) store.old store.new }
+        ensures memory { OnOk result (IsTrueOf self.new store.new.state) }
+    {
+        let through = let_through(store, at, group.route, members)?;
+        if self.is_quiet(store, at, group, members, through.as_slice())? {
             reset_timer(store, at, group)?;
             return Ok(true);
         }
         self.forget(&group.labels);
-        flush(store, at, group, members.as_slice(), through.as_slice())?;
+        flush(store, at, group, members, through.as_slice())?;
         Ok(false)
     }
 
+    /// Returns true only if a flush of the group with these members is known to only set its timer,
+    /// whatever mutes them. Then it may remember until when.
+    fn is_told(
+        &mut self,
+        store: &Store,
+        at: Moment,
+        group: &RouteLabels,
+        members: &[Member],
+    ) -> Result<bool, AllocError>
+        requires memory { IsTrueOf self.old store.now.state }
+        requires members { members.now ≡ state.members store.now.state group.now }
+        ensures quiet { IfOk result (λ quiet. quiet ≡ true
+            → flush at group.now store.now.state ≡ with_timer_reset at group.now store.now.state) }
+        ensures memory { OnOk result (IsTrueOf self.new store.now.state) }
+    {
+        match told_until(store, at, group, members)? {
+            None => Ok(false),
+            Some(until) => {
+                self.note_told(at, group, until)?;
+                Ok(true)
+            }
+        }
+    }
+
+    /// Remembers that a group is quiet from a moment until another, unless fewer than
+    /// `TOLD_BEFORE_LEARNING` were found so before, since all were forgotten.
+    fn note_told(&mut self, at: Moment, group: &RouteLabels, until: u128) -> Result<(), AllocError>
+        ensures { OnOk result ((s : State) → IsTrueOf self.old s
+            → IsQuiet s group.now at until → IsTrueOf self.new s) }
+    {
+        self.told = self.told.saturating_add(1);
+        if self.told <= TOLD_BEFORE_LEARNING {
+            return Ok(());
+        }
+        let from = at.nanoseconds();
+        self.learn(group, Stretch { from, until })
+    }
+
     /// Returns true only if a flush of the group with these members, of which no stage mutes
-    /// `through`, is known to only set its timer. If it isn't worth it yet to find out until when,
-    /// nothing is remembered.
+    /// `through`, is known to only set its timer. The group isn't one that is quiet whatever mutes
+    /// its members, so it isn't quiet if nothing does. If it isn't worth it yet to find out until
+    /// when it is, nothing is remembered.
     fn is_quiet(
         &mut self,
         store: &Store,
@@ -182,6 +256,9 @@ impl QuietGroups {
             → flush at group.now store.now.state ≡ with_timer_reset at group.now store.now.state) }
         ensures memory { OnOk result (IsTrueOf self.new store.now.state) }
     {
+        if through.len() == members.len() {
+            return Ok(false);
+        }
         match self.still_until(store, at) {
             None => {
                 self.flushes = self.flushes.saturating_add(1);
@@ -407,6 +484,29 @@ fn quiet_until(
         return Ok(None);
     }
     match notified_until(store, at, group, through, until)? {
+        Some(end) if at.nanoseconds() < end => Ok(Some(end)),
+        _ => Ok(None),
+    }
+}
+
+/// Returns until when a group with these members is quiet from a moment on, whatever mutes them: all
+/// integrations were notified of all of them. Returns `None` if one may not have been or may have to
+/// be notified again, or if a member is resolved at the moment.
+fn told_until(
+    store: &Store,
+    at: Moment,
+    group: &RouteLabels,
+    members: &[Member],
+) -> Result<Option<u128>, AllocError>
+    requires { members.now ≡ state.members store.now.state group.now }
+    ensures { IfOk result (λ found. IfSome found
+        (λ end. (at < end) × IsQuiet store.now.state group.now at end)) }
+{
+    let until = first_end(members, u128::MAX);
+    if until <= at.nanoseconds() {
+        return Ok(None);
+    }
+    match notified_until(store, at, group, members, until)? {
         Some(end) if at.nanoseconds() < end => Ok(Some(end)),
         _ => Ok(None),
     }

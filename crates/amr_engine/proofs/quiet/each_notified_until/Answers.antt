@@ -1,4 +1,4 @@
-use Rattle.std.proofs.Common.{◌≤◌, arith}
+use Rattle.std.proofs.Common.{arith}
 use Rattle.amr_engine.specs.Flush.{labels_of}
 use Rattle.amr_engine.proofs.Remembering.{notified_sooner, all_notified}
 use Rattle.amr_engine.proofs.quiet.each_notified_until.Goals as goal

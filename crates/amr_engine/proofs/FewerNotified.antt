@@ -1,0 +1,137 @@
+-- Who was notified of some members needn't be notified of fewer.
+use Rattle.std.specs.Prelude.{◌≡◌, Bool, true, false, not, ◌&&◌, ◌||◌, List, [], ◌∷◌, Option, Some, None, map, cond, length, nat_eq, nat_lt, ◌+◌}
+use Rattle.std.specs.List.{list_all, filter}
+use Rattle.std.specs.declared.cmp.Ordering.TheVariants.{Less, Equal, Greater}
+use Rattle.std.specs.FinMap.{put}
+use Rattle.std.specs.FinMap.Entries.{by_order}
+use Rattle.std.proofs.Common.{refl, sym, ap, ◌∙◌, arith}
+use Rattle.std.proofs.lemmas.Bool.Decides.{nat_tests}
+use Rattle.amr_labels.specs.Map.{get, entries, empty, entries-insert}
+use Rattle.amr_labels.specs.Set.{is_subset, is_empty, contains, from_list}
+use Rattle.amr_labels.specs.Labels.{LabelSet, label_set_cmp, label_set_cmp_total, label_set_cmp-IsAntisymmetric}
+use Rattle.amr_time.specs.Time.{Moment, Span}
+use Rattle.amr_stated.specs.declared.receiver.Integration.{Integration}
+use Rattle.amr_config.specs.Routing.{integrations_of, repeat_interval_of}
+use Rattle.amr_rules.specs.declared.alert.Alert.{Alert}
+use Rattle.amr_rules.specs.declared.dedup.LogEntry.{LogEntry}
+use Rattle.amr_rules.specs.Dedup.{LabelSets, needs_update}
+use Rattle.amr_state.specs.declared.route_labels.RouteLabels.{RouteLabels}
+use Rattle.amr_state.specs.State.{State}
+use Rattle.amr_engine.specs.Flush.{Members, labels_of, log_key_of}
+use Rattle.amr_engine.specs.Quiet.{no_repeat_before, is_notified, are_notified}
+
+pub both : (a b : Bool) → (a && b) ≡ true → (a ≡ true) × (b ≡ true)
+both true b e = (refl, e)
+both false b e = absurd (cc)
+
+pub is_no : (b : Bool) → not b ≡ true → b ≡ false
+is_no true e = absurd (cc)
+is_no false e = refl
+
+-- ---- a set of fewer members
+
+again : (a b : Bool) → (a && b) ≡ (a && (a && b))
+again true b = refl
+again false b = refl
+
+swapped : (a b c : Bool) → (a && (b && c)) ≡ (b && (a && c))
+swapped true true c = refl
+swapped true false c = refl
+swapped false true c = refl
+swapped false false c = refl
+
+module _ (f : LabelSet → Bool) (k : LabelSet) where
+  all_put : (es : List (LabelSet × Unit {0})) → list_all f (map (λ e. e.0) (put label_set_cmp k tt es)) ≡ (f k && list_all f (map (λ e. e.0) es))
+  all_put [] = refl
+  all_put (e ∷ es) =
+      let rest : Bool = list_all f (map (λ e. e.0) es) in
+      elim (label_set_cmp k e.0) as (λ r. label_set_cmp k e.0 ≡ r
+      → list_all f (map (λ e. e.0) (by_order r ((k, tt) ∷ e ∷ es) ((e.0, tt) ∷ es) (e ∷ put label_set_cmp k tt es))) ≡ (f k && (f e.0 && rest))) [
+        | Less ↦ λ is. refl
+        | Equal ↦ λ is. again (f e.0) rest ∙ ap (λ (l : LabelSet). f l && (f e.0 && rest)) (sym (label_set_cmp-IsAntisymmetric k e.0 is))
+        | Greater ↦ λ is. ap (λ b. f e.0 && b) (all_put es) ∙ swapped (f e.0) (f k) rest
+      ] refl
+
+none_put : (f : LabelSet → Bool) → list_all f (map (λ e. e.0) (entries (empty {X = Unit {0}} {R = label_set_cmp}))) ≡ true
+unfolding entries empty
+none_put f = refl
+
+all_in : (f : LabelSet → Bool) (ks : List LabelSet) → list_all f (map (λ e. e.0) (entries (from_list {R = label_set_cmp} ks))) ≡ list_all f ks
+all_in f [] = none_put f
+all_in f (k ∷ ks) =
+    ap (λ es. list_all f (map (λ e. e.0) es)) (entries-insert label_set_cmp_total (from_list ks) k tt)
+    ∙ all_put f k (entries (from_list {R = label_set_cmp} ks)) ∙ ap (λ b. f k && b) (all_in f ks)
+
+all_kept : (f : LabelSet → Bool) (p : LabelSet × Alert → Bool) (ms : Members) → list_all f (map (λ member. member.0) ms) ≡ true → list_all f (map (λ member. member.0) (filter p ms)) ≡ true
+all_kept f p [] all = refl
+all_kept f p (m ∷ ms) all =
+    let parts = both (f m.0) (list_all f (map (λ member. member.0) ms)) all in
+    elim (p m) as (λ b. list_all f (map (λ member. member.0) (cond b (m ∷ filter p ms) (filter p ms))) ≡ true) [
+      | true ↦ (λ i. parts.0 i && all_kept f p ms parts.1 i)
+      | false ↦ all_kept f p ms parts.1
+    ]
+
+fewer : (p : LabelSet × Alert → Bool) (ms : Members) (found : LabelSets) → is_subset (labels_of ms) found ≡ true → is_subset (labels_of (filter p ms)) found ≡ true
+fewer p ms found all =
+    all_in (contains found) (map (λ member. member.0) (filter p ms))
+    ∙ all_kept (contains found) p ms (sym (all_in (contains found) (map (λ member. member.0) ms)) ∙ all)
+
+filled : (e : LabelSet × Unit {0}) (es : List (LabelSet × Unit {0})) → nat_eq (length (e ∷ es)) 0 ≡ false
+filled e es = grind (arith, nat_tests)
+
+some_put : (k : LabelSet) (es : List (LabelSet × Unit {0})) → nat_eq (length (put label_set_cmp k tt es)) 0 ≡ false
+some_put k [] = filled (k, tt) []
+some_put k (e ∷ es) =
+    elim (label_set_cmp k e.0) as (λ r. nat_eq (length (by_order r ((k, tt) ∷ e ∷ es) ((e.0, tt) ∷ es) (e ∷ put label_set_cmp k tt es))) 0 ≡ false) [
+      | Less ↦ filled (k, tt) (e ∷ es)
+      | Equal ↦ filled (e.0, tt) es
+      | Greater ↦ filled e (put label_set_cmp k tt es)
+    ]
+
+some_labels : (m : LabelSet × Alert) (ms : Members) → is_empty (labels_of (m ∷ ms)) ≡ false
+some_labels m ms = ap (λ es. nat_eq (length es) 0) (entries-insert label_set_cmp_total (labels_of ms) m.0 tt) ∙ some_put m.0 (entries (labels_of ms))
+
+-- ---- the dedup check
+
+unchanged : (all all_fewer none none_fewer ended late : Bool) → none ≡ false → none_fewer ≡ false → (all ≡ true → all_fewer ≡ true)
+    → (not all || (none && ended) || (not none && late)) ≡ false → (not all_fewer || (none_fewer && ended) || (not none_fewer && late)) ≡ false
+unchanged false all_fewer none none_fewer ended late some some_fewer then kept = absurd (cc)
+unchanged true all_fewer true none_fewer ended late some some_fewer then kept = absurd (cc)
+unchanged true all_fewer false true ended late some some_fewer then kept = absurd (cc)
+unchanged true all_fewer false false ended late some some_fewer then kept = ap (λ b. not b || (false && ended) || (not false && late)) (then refl) ∙ kept
+
+fewer_fire : (entry : Option LogEntry) (firing less resolved : LabelSets) (send_resolved : Bool) (now : Moment) (interval : Span) → is_empty firing ≡ false → is_empty less ≡ false
+    → ((found : LabelSets) → is_subset firing found ≡ true → is_subset less found ≡ true)
+    → needs_update entry firing resolved send_resolved now interval ≡ false → needs_update entry less resolved send_resolved now interval ≡ false
+unfolding needs_update
+fewer_fire None firing less resolved send_resolved now interval some some_fewer then kept = absurd (cc (ap not some, kept))
+fewer_fire (Some entry) firing less resolved send_resolved now interval some some_fewer then kept =
+    unchanged (is_subset firing entry.firing) (is_subset less entry.firing) (is_empty firing) (is_empty less) (not (is_empty entry.firing))
+    ((send_resolved && not (is_subset resolved entry.resolved)) || nat_lt (entry.time + interval) now) some some_fewer (then entry.firing) kept
+
+module _ (s : State) (group : RouteLabels) (from until : Moment) (firing fewer_firing : LabelSets) (some : is_empty firing ≡ false) (some_fewer : is_empty fewer_firing ≡ false)
+    (then : (found : LabelSets) → is_subset firing found ≡ true → is_subset fewer_firing found ≡ true) where
+  one_notified : (integration : Integration) → is_notified s group from until firing integration ≡ true → is_notified s group from until fewer_firing integration ≡ true
+  one_notified integration notified =
+      let entry : Option LogEntry = get s.log (log_key_of s.config group integration) in
+      let interval : Span = repeat_interval_of s.config group.route in
+      let parts = both (not (needs_update entry firing (labels_of []) integration.send_resolved from interval)) (no_repeat_before until interval entry) notified in
+      (λ i. not (fewer_fire entry firing fewer_firing (labels_of []) integration.send_resolved from interval some some_fewer then (is_no _ parts.0) i) && parts.1 i)
+
+  each_notified : (integrations : List Integration) → list_all (is_notified s group from until firing) integrations ≡ true → list_all (is_notified s group from until fewer_firing) integrations ≡ true
+  each_notified [] notified = refl
+  each_notified (integration ∷ integrations) notified =
+      let parts = both (is_notified s group from until firing integration) (list_all (is_notified s group from until firing) integrations) notified in
+      (λ i. one_notified integration parts.0 i && each_notified integrations parts.1 i)
+
+module _ (s : State) (group : RouteLabels) (from until : Moment) where
+  among_notified : (m : LabelSet × Alert) (ms kept : Members) → ((found : LabelSets) → is_subset (labels_of (m ∷ ms)) found ≡ true → is_subset (labels_of kept) found ≡ true)
+      → are_notified s group from until (m ∷ ms) ≡ true → are_notified s group from until kept ≡ true
+  among_notified m ms [] then notified = refl
+  among_notified m ms (k ∷ kept) then notified =
+      each_notified s group from until (labels_of (m ∷ ms)) (labels_of (k ∷ kept)) (some_labels m ms) (some_labels k kept) then (integrations_of s.config group.route) notified
+
+  -- who was notified of all members was notified of those that a test keeps
+  pub fewer_notified : (p : LabelSet × Alert → Bool) (ms : Members) → are_notified s group from until ms ≡ true → are_notified s group from until (filter p ms) ≡ true
+  fewer_notified p [] notified = refl
+  fewer_notified p (m ∷ ms) notified = among_notified m ms (filter p (m ∷ ms)) (fewer p (m ∷ ms)) notified

@@ -1,0 +1,15 @@
+use Rattle.std.specs.Prelude.{OnOk}
+use Rattle.std.proofs.Common.{ℕ, subst}
+use Rattle.amr_state.specs.State.{State}
+use Rattle.amr_engine.specs.Quiet.{IsQuiet}
+use Rattle.amr_engine.specs.Remembered.{IsTrueOf}
+use Rattle.amr_engine.proofs.Remembering.{learned_if}
+use Rattle.amr_engine.proofs.quiet.QuietGroups.note_told.Goals as goal
+
+pub returns-then-self-le-TOLD_BEFORE_LEARNING : goal.returns-then-self-le-TOLD_BEFORE_LEARNING
+returns-then-self-le-TOLD_BEFORE_LEARNING c = λ s holds quiet. record { quiet = holds.quiet; still = holds.still }
+
+pub returns : goal.returns
+returns c =
+    subst (λ (from : ℕ). OnOk c.learn.result ((s : State) → IsTrueOf c.args.self.now s → IsQuiet s c.args.group.now from c.args.until → IsTrueOf c.learn.new.self s)) c.nanoseconds-from.ensures.value
+    (learned_if c.learn.result c.args.self.now c.learn.new.self c.args.group.now (record { from = c.nanoseconds-from.result; until = c.args.until }) c.learn.ensures.times c.learn.ensures.still)
