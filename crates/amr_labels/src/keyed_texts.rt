@@ -1,8 +1,9 @@
 //! The texts of a label set with their sort key, by which label sets are compared. `Labels` shares
 //! one of these between its clones.
-ghost use Rattle.std.specs.Prelude.{◌≡◌, ◌++◌, false, string_bytes, IfOk, IfSome, OnOk};
+ghost use Rattle.std.specs.Prelude.{◌≡◌, ◌++◌, false, true, string_bytes, IfOk, IfSome, IfNone, OnOk};
 ghost use Rattle.amr_labels.specs.Labels.{label_set_cmp};
 ghost use Rattle.amr_labels.specs.SortKey.{key_of_text, key_of_label, sort_key, has_zero, label_has_zero, has_zeros};
+ghost use Rattle.amr_labels.specs.Spread.{label_set_spread};
 
 use crate::text::{Text, spread_of};
 use crate::text_map::TextMap;
@@ -18,8 +19,7 @@ pub(crate) struct KeyedTexts {
     /// itself. Most label sets differ only in their last labels, so comparing one text is much
     /// faster than following the texts one by one.
     key: Option<String>,
-    /// A number made of the sort key, by which tables spread label sets out. Contracts don't see
-    /// it.
+    /// A number made of the sort key, by which tables spread label sets out.
     spread: usize,
 }
 
@@ -29,6 +29,7 @@ impl Model for KeyedTexts {
     ghost use Rattle.amr_labels.specs.Map as map;
     ghost use Rattle.amr_labels.specs.Labels.{text_cmp};
     ghost use Rattle.amr_labels.specs.SortKey.{sort_key, has_zeros};
+    ghost use Rattle.amr_labels.specs.Spread.{label_set_spread};
 
     ghost Value = { map.Map text_cmp (List ℕ) };
 
@@ -38,11 +39,13 @@ impl Model for KeyedTexts {
 
     ghost invariant = { λ keyed. IfSome keyed.key (λ key.
         (string_bytes key ≡ sort_key (map.entries keyed.texts))
-        × (has_zeros (map.entries keyed.texts) ≡ false)) };
+        × (has_zeros (map.entries keyed.texts) ≡ false))
+        × (keyed.spread ≡ label_set_spread keyed.texts) };
 }
 
 impl KeyedTexts {
     /// Works out the sort key of the texts.
+    #[tactic(auto, unfolding(crate::specs::Spread::label_set_spread))]
     pub(crate) fn new(alloc: Global, texts: TextMap) -> Result<KeyedTexts, AllocError>
         ensures { IfOk result (λ keyed. keyed ≡ texts) }
     {
@@ -55,7 +58,9 @@ impl KeyedTexts {
     }
 
     /// Returns a number made of the texts.
-    pub(crate) fn spread(&self) -> usize {
+    pub(crate) fn spread(&self) -> usize
+        ensures { result ≡ label_set_spread self.now }
+    {
         self.spread
     }
 
@@ -82,6 +87,7 @@ fn sort_key(alloc: Global, labels: &[(Text, Text)]) -> Result<Option<String>, Al
     ensures key { IfOk result (λ found. IfSome found (λ key.
         string_bytes key ≡ sort_key labels.now)) }
     ensures zeros { IfOk result (λ found. IfSome found (λ key. has_zeros labels.now ≡ false)) }
+    ensures none { IfOk result (λ found. IfNone found (has_zeros labels.now ≡ true)) }
 {
     if has_zeros(labels) {
         return Ok(None);
@@ -110,11 +116,12 @@ fn has_zero(text: &Text) -> bool
     text.as_str().as_bytes().contains(&0)
 }
 
-/// Joins names and values, with a zero byte after each.
+/// Joins names and values, with a zero byte after each. Most labels take no more than the bytes that
+/// are reserved for each.
 fn joined(alloc: Global, labels: &[(Text, Text)]) -> Result<String, AllocError>
     ensures { IfOk result (λ key. string_bytes key ≡ sort_key labels.now) }
 {
-    let mut key = String::new(alloc);
+    let mut key = String::with_capacity(alloc, labels.len().saturating_mul(32))?;
     for label in labels {
         push_label(&mut key, label)?;
     }

@@ -8,6 +8,7 @@ ghost use Rattle.std.specs.Option.{option_copied};
 ghost use Rattle.std.specs.Ordering.{as_partial_cmp, eq_by_cmp};
 ghost use Rattle.amr_labels.specs.Map as map;
 ghost use Rattle.amr_labels.specs.Labels.{text_cmp, value_of, label_set_cmp, label_set_cmp_total, labels_of_pairs, IsLabelSet};
+ghost use Rattle.amr_labels.specs.Spread.{label_set_spread};
 
 use crate::keyed_texts::KeyedTexts;
 use crate::shared::Shared;
@@ -113,7 +114,9 @@ impl Labels {
     }
 
     /// Returns a number made of the texts, by which tables spread label sets out.
-    pub fn spread(&self) -> usize {
+    pub fn spread(&self) -> usize
+        ensures { result ≡ label_set_spread self.now }
+    {
         self.shared.get().spread()
     }
 

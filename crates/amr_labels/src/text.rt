@@ -7,6 +7,7 @@ ghost use Rattle.std.specs.Cmp.Rules.{comparing};
 ghost use Rattle.std.specs.Ordering.{as_partial_cmp, nat_cmp, eq_by_cmp};
 ghost use Rattle.std.specs.Cmp.Lexicographic.{slice_cmp};
 ghost use Rattle.amr_labels.specs.Labels.{is_empty};
+ghost use Rattle.amr_labels.specs.Spread.{text_spread};
 
 use std::alloc::{AllocError, Global};
 use std::cmp::Ordering;
@@ -126,7 +127,10 @@ impl fmt::Debug for Text {
 
 /// Returns a number made of the bytes of a text, by which tables spread keys out: the hash of
 /// Fowler, Noll and Vo (FNV-1a).
-pub fn spread_of(text: &str) -> usize {
+#[tactic(auto, unfolding(crate::specs::Spread::text_spread))]
+pub fn spread_of(text: &str) -> usize
+    ensures { result ≡ text_spread text.now }
+{
     let mut spread: usize = 0xcbf2_9ce4_8422_2325;
     for byte in text.as_bytes() {
         spread = (spread ^ usize::from(*byte)).wrapping_mul(0x100_0000_01b3);

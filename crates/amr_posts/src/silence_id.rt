@@ -102,6 +102,9 @@ impl Exact for SilenceId {
 
 impl Key for SilenceId {
     ghost use Rattle.std.specs.FinMap.{nat_cmp-IsAntisymmetric};
+    ghost use Rattle.std.specs.Prelude.{bit_and, ◌-◌, ◌^◌};
+
+    ghost spread = { λ id. bit_and id (2 ^ 64 - 1) };
 
     ghost exact = { nat_cmp-IsAntisymmetric };
 

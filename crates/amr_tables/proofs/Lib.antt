@@ -1,4 +1,5 @@
 mod Adding
+mod Noting
 pub mod Leaning
 pub mod Entering
 pub mod Marking

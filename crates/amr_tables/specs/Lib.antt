@@ -3,6 +3,7 @@ pub mod Records
 pub mod Laws
 pub mod Marked
 pub mod Numbered
+pub mod Hinted
 pub mod Balanced
 pub mod BalancedFalls
 pub mod Parted

@@ -1,22 +1,47 @@
-//! Guesses of where keys are in a list, so that most look-ups compare one key. `Numbers` has the
-//! list. A guess may be wrong, so whoever uses one compares the key at that place.
+//! Guesses of where keys are in a list, so that most look-ups compare one key or none. `Numbers`
+//! has the list. A guess may be wrong, so whoever uses one compares the key at that place.
 #![tactic(auto)]
 
+ghost use Rattle.std.specs.Prelude.{◌≡◌, ℕ, ◌+◌, ◌-◌, ◌^◌, false, min, slice_set};
+ghost use Rattle.amr_tables.specs.Hinted.{is_free, remainder};
+
 use std::alloc::{AllocError, Global};
+use std::marker::Model;
 
 /// Guesses by remainders of keys' spreads. A key is noted at the remainder of its spread or, if
 /// another key is noted there, at that of its turned spread. A guess is a place and one, or zero if
-/// no key was noted. The number of guesses is zero or a power of two.
+/// no key was noted. The number of guesses is zero or a power of two. Contracts see the guesses.
 #[derive(Drop)]
 pub(crate) struct Hints {
+    alloc: Global,
     guesses: Vec<usize>,
+}
+
+impl Model for Hints {
+    ghost use Rattle.std.specs.Prelude.{List, ℕ};
+
+    ghost Value = { List ℕ };
+
+    ghost view = { λ hints. hints.guesses.items };
 }
 
 impl Hints {
     /// Builds hints about an empty list.
     pub(crate) fn new(alloc: Global) -> Hints {
         Hints {
+            alloc,
             guesses: Vec::new(alloc),
+        }
+    }
+
+    /// Returns whether it is known that no key with this spread was noted.
+    #[tactic(auto, unfolding(crate::specs::Hinted::is_free))]
+    pub(crate) fn is_free(&self, spread: usize) -> bool
+        ensures { result ≡ is_free self.now spread }
+    {
+        match self.guesses.get(self.remainder(spread)) {
+            Some(guess) => *guess == 0,
+            None => false,
         }
     }
 
@@ -32,15 +57,6 @@ impl Hints {
         self.noted(turned(spread)).wrapping_sub(1)
     }
 
-    /// Notes the place of a key with this spread.
-    pub(crate) fn note(&mut self, spread: usize, place: usize) {
-        let free = self.noted(spread) == 0;
-        let remainder = self.remainder(if free { spread } else { turned(spread) });
-        if let Some(guess) = self.guesses.get_mut(remainder) {
-            *guess = place.wrapping_add(1);
-        }
-    }
-
     /// Returns the guess for a spread, or zero if no key was noted.
     fn noted(&self, spread: usize) -> usize {
         match self.guesses.get(self.remainder(spread)) {
@@ -49,21 +65,51 @@ impl Hints {
         }
     }
 
-    /// Returns whether there are too few guesses for one more key. Four guesses for each key keep
-    /// most keys apart.
-    pub(crate) fn is_full(&self, keys: usize) -> bool {
-        keys >= self.guesses.len() / 4
+    /// Notes the place of a key with this spread.
+    #[tactic(auto, using(crate::proofs::Noting::noted_is, crate::proofs::Noting::noted_stays))]
+    pub(crate) fn note(&mut self, spread: usize, place: usize)
+        ensures noted { is_free self.new spread ≡ false }
+        ensures kept { (other : ℕ) → is_free self.old other ≡ false
+            → is_free self.new other ≡ false }
+    {
+        if self.is_free(spread) {
+            self.note_at(self.remainder(spread), place);
+        } else {
+            self.note_at(self.remainder(turned(spread)), place);
+        }
     }
 
-    /// Doubles the number of guesses and forgets them. The keys have to be noted again.
-    pub(crate) fn grow(&mut self) -> Result<(), AllocError> {
+    /// Notes a place at a remainder.
+    fn note_at(&mut self, remainder: usize, place: usize)
+        ensures { self.new ≡ slice_set self.old remainder (min (place + 1) (2 ^ 64 - 1)) }
+    {
+        if let Some(guess) = self.guesses.get_mut(remainder) {
+            *guess = place.saturating_add(1);
+        }
+    }
+
+    /// Returns whether there are too few guesses for one more key. Eight guesses for each key keep
+    /// most keys apart.
+    pub(crate) fn is_full(&self, keys: usize) -> bool {
+        keys >= self.guesses.len() / 8
+    }
+
+    /// Returns twice as many guesses, at which no key is noted yet.
+    pub(crate) fn doubled(&self) -> Result<Hints, AllocError> {
         let doubled = self.guesses.len().saturating_mul(2);
-        self.guesses.clear();
-        self.guesses.resize(doubled.max(64), 0)
+        let mut guesses = Vec::new(self.alloc);
+        guesses.resize(doubled.max(64), 0)?;
+        Ok(Hints {
+            alloc: self.alloc,
+            guesses,
+        })
     }
 
     /// Returns the remainder of a spread.
-    fn remainder(&self, spread: usize) -> usize {
+    #[tactic(auto, unfolding(crate::specs::Hinted::remainder))]
+    fn remainder(&self, spread: usize) -> usize
+        ensures { result ≡ remainder self.now spread }
+    {
         spread & self.guesses.len().wrapping_sub(1)
     }
 }

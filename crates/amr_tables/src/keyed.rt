@@ -1,7 +1,7 @@
 //! Values by key. Each key has a number, and its value is at the place with that number, so that a
 //! value can be swapped without memory. The state keeps alerts, silences, members, timers and the
 //! notification log in such tables.
-ghost use Rattle.std.specs.Prelude.{◌≡◌, [], IsTrue, Option, is_some, false, OnOk, OnErr, IfOk, IfErr, ◌<◌};
+ghost use Rattle.std.specs.Prelude.{◌≡◌, ℕ, [], IsTrue, Option, is_some, false, OnOk, OnErr, IfOk, IfErr, ◌<◌};
 ghost use Rattle.std.specs.Option.{option_copied};
 ghost use Rattle.std.specs.FinMap.{IsAntisymmetric};
 ghost use Rattle.amr_labels.specs.Map as map;
@@ -20,15 +20,22 @@ use std::marker::Model;
 
 /// A type of keys. Keys that compare equal are the same value.
 pub trait Key: Ord + Exact {
-    /// Returns a number that spreads keys out. Nothing depends on it but how fast a key is found:
-    /// equal keys should have the same one, and other keys seldom.
-    fn spread(&self) -> usize;
+    /// The number that a value is spread by.
+    ghost spread: { Self → ℕ };
+
+    /// Returns a number that spreads keys out. Nothing depends on which one but how fast a key is
+    /// found: other keys should seldom have the same one.
+    fn spread(&self) -> usize
+        ensures { result ≡ spread self.now };
 
     ghost exact: { IsAntisymmetric Self.Ord.cmp };
 }
 
 impl Key for Labels {
     ghost use Rattle.amr_labels.specs.Labels.{label_set_cmp-IsAntisymmetric};
+    ghost use Rattle.amr_labels.specs.Spread.{label_set_spread};
+
+    ghost spread = { label_set_spread };
 
     ghost exact = { label_set_cmp-IsAntisymmetric };
 

@@ -1,6 +1,7 @@
 //! The numbers of the keys of a table. `Keyed` looks its keys up here.
-ghost use Rattle.std.specs.Prelude.{◌≡◌, None, Some, [], is_some, IfSome, OnOk, OnErr};
+ghost use Rattle.std.specs.Prelude.{◌≡◌, None, Some, [], is_some, IfOk, IfSome, OnOk, OnErr};
 ghost use Rattle.std.specs.FinMap.{find, put};
+ghost use Rattle.amr_tables.specs.Hinted.{AreNoted};
 
 use crate::hints::Hints;
 use crate::keyed::Key;
@@ -25,6 +26,7 @@ impl<K: Key> Model for Numbers<K> {
     ghost use Rattle.std.specs.Coded.{coded_list, coded_ℕ, coded×};
     ghost use Rattle.std.specs.FinMap.{find};
     ghost use Rattle.std.specs.List.{All};
+    ghost use Rattle.amr_tables.specs.Hinted.{AreNoted, HasKeys};
 
     ghost Value = { List (K × ℕ) };
 
@@ -33,7 +35,9 @@ impl<K: Key> Model for Numbers<K> {
     ghost view = { λ numbers. numbers.tree.entries };
 
     ghost invariant = { λ numbers. IsOrdered K.cmp numbers.tree
-        × All (λ key. find K.cmp key.0 numbers.tree.entries ≡ Some key.1) numbers.added.items };
+        × (All (λ key. find K.cmp key.0 numbers.tree.entries ≡ Some key.1) numbers.added.items
+        × (HasKeys K.cmp numbers.added.items numbers.tree.entries
+        × AreNoted K.spread numbers.hints numbers.added.items)) };
 }
 
 impl<K: Key + Drop> Numbers<K> {
@@ -48,11 +52,15 @@ impl<K: Key + Drop> Numbers<K> {
         }
     }
 
-    /// Returns the number of a key.
+    /// Returns the number of a key. Most keys without a number are found out by the hints alone.
     pub(crate) fn get(&self, key: &K) -> Option<usize>
         ensures { result ≡ find K.cmp key.now self.now }
     {
-        match self.guessed(key) {
+        let spread = key.spread();
+        if self.hints.is_free(spread) {
+            return None;
+        }
+        match self.guessed(key, spread) {
             Some(number) => Some(number),
             None => self.tree.get(key).copied(),
         }
@@ -65,11 +73,10 @@ impl<K: Key + Drop> Numbers<K> {
         self.get(key).is_some()
     }
 
-    /// Returns the number of a key if one of the guesses of its place is right.
-    fn guessed(&self, key: &K) -> Option<usize>
+    /// Returns the number of a key with this spread if one of the guesses of its place is right.
+    fn guessed(&self, key: &K, spread: usize) -> Option<usize>
         ensures { IfSome result (λ number. find K.cmp key.now self.now ≡ Some number) }
     {
-        let spread = key.spread();
         match self.number_at(self.hints.guess(spread), key) {
             Some(number) => Some(number),
             None => self.number_at(self.hints.second_guess(spread), key),
@@ -104,19 +111,9 @@ impl<K: Key + Drop> Numbers<K> {
         ensures same { self.new ≡ self.old }
     {
         if self.hints.is_full(self.added.len()) {
-            self.hints.grow()?;
-            self.note_all();
+            self.hints = more_hints(&self.hints, self.added.as_slice())?;
         }
         Ok(())
-    }
-
-    /// Notes the places of all keys.
-    fn note_all(&mut self)
-        ensures { self.new ≡ self.old }
-    {
-        for (place, added) in self.added.iter().enumerate() {
-            self.hints.note(added.0.spread(), place);
-        }
     }
 
     /// Returns the keys with their numbers, in the order of the keys.
@@ -125,4 +122,15 @@ impl<K: Key + Drop> Numbers<K> {
     {
         self.tree.iter()
     }
+}
+
+/// Returns hints about all keys of a list, with twice as many guesses.
+fn more_hints<K: Key>(hints: &Hints, added: &[(K, usize)]) -> Result<Hints, AllocError>
+    ensures { IfOk result (λ more. AreNoted K.spread more added.now) }
+{
+    let mut more = hints.doubled()?;
+    for (place, key) in added.iter().enumerate() {
+        more.note(key.0.spread(), place);
+    }
+    Ok(more)
 }

@@ -13,10 +13,10 @@ pub returns-in-Some-Some : goal.returns-in-Some-Some
 returns-in-Some-Some c =
     let mine = subst (λ found. IfSome found (λ key.
     (string_bytes key ≡ sort_key (entries c.self.inside.texts)) × (has_zeros (entries c.self.inside.texts) ≡ false)))
-    c.in-Some-Some.is-0 c.self.invariant in
+    c.in-Some-Some.is-0 c.self.invariant.0 in
     let others = subst (λ found. IfSome found (λ key.
     (string_bytes key ≡ sort_key (entries c.other.inside.texts)) × (has_zeros (entries c.other.inside.texts) ≡ false)))
-    c.in-Some-Some.is-1 c.other.invariant in
+    c.in-Some-Some.is-1 c.other.invariant.0 in
     c.cmp.ensures
     ∙ (λ i. slice_cmp nat_cmp (c.as_str.ensures.value i) (c.as_str-in-Some-Some.ensures.value i))
     ∙ (λ i. slice_cmp nat_cmp (mine.0 i) (others.0 i))
