@@ -18,7 +18,8 @@ use crate::seen_texts::SeenTexts;
 use crate::shapes::moment;
 use amr_actions::{Act, Event};
 use amr_config::Config;
-use amr_loading::{ConfigError, Refusal, load_config};
+use amr_loading::{ConfigError, Refusal, load_config_sharing};
+use amr_matchers::Patterns;
 use amr_posts::Reason;
 use json::Scratch;
 use serde_json::Value;
@@ -74,13 +75,13 @@ fn act(alloc: Global, seen: &mut SeenTexts, line: &Value) -> Result<Act, LineErr
         return Ok(Act::Post(alerts(alloc, seen, stated)?));
     }
     if let Some(stated) = line.get("silence") {
-        return Ok(Act::Silence(silence(alloc, line, stated)?));
+        return Ok(Act::Silence(silence(alloc, seen.patterns(), line, stated)?));
     }
     if let Some(stated) = line.get("expire") {
         return Ok(Act::Expire(id(stated)?));
     }
     if let Some(stated) = line.get("reload") {
-        return Ok(Act::Reload(reload(alloc, stated)?));
+        return Ok(Act::Reload(reload(alloc, seen.patterns(), stated)?));
     }
     let passes = line.get("tick").ok_or(LineError::Faulty)?;
     tick(passes)?;
@@ -88,10 +89,14 @@ fn act(alloc: Global, seen: &mut SeenTexts, line: &Value) -> Result<Act, LineErr
 }
 
 /// Reads the configuration of a reload, or returns why it can't be loaded.
-fn reload(alloc: Global, value: &Value) -> Result<Result<Config, Reason>, AllocError>
+fn reload(
+    alloc: Global,
+    patterns: &mut Patterns,
+    value: &Value,
+) -> Result<Result<Config, Reason>, AllocError>
     ensures { IfOk result (λ read. ReloadIs (view value.now) (by_number read)) }
 {
-    match load_config(alloc, value) {
+    match load_config_sharing(alloc, patterns, value) {
         Ok(config) => Ok(Ok(config)),
         Err(ConfigError::Refused(refusal)) => Ok(Err(reason_of(&refusal))),
         Err(ConfigError::Memory) => Err(AllocError),

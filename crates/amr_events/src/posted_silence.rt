@@ -15,7 +15,7 @@ ghost use Rattle.amr_events.specs.Refused.{MatchersAre, SilenceIs};
 use crate::error::LineError;
 use crate::shapes::{flag, member, moment, text};
 use amr_labels::Text;
-use amr_matchers::{Matcher, MatcherError, Matchers, Operator};
+use amr_matchers::{Matcher, MatcherError, Matchers, Operator, Patterns};
 use amr_posts::{PostedSilence, SilenceId};
 use serde_json::Value;
 use std::alloc::{AllocError, Global};
@@ -41,6 +41,7 @@ impl Model for StatedMatcher {
 #[tactic(auto, unfolding(crate::specs::PostedSilences::silence_of))]
 pub(crate) fn silence(
     alloc: Global,
+    patterns: &mut Patterns,
     line: &Value,
     silence: &Value,
 ) -> Result<PostedSilence, LineError>
@@ -51,7 +52,7 @@ pub(crate) fn silence(
     let stated = matchers(alloc, silence.get("matchers").ok_or(LineError::Faulty)?)?;
     let starts_at = moment(silence, "startsAt")?;
     let ends_at = moment(silence, "endsAt")?;
-    let matchers = built_matchers(alloc, stated.as_slice())?;
+    let matchers = built_matchers(alloc, patterns, stated.as_slice())?;
     Ok(PostedSilence {
         id,
         new_id,
@@ -82,12 +83,12 @@ fn changed_id(silence: &Value) -> Result<Option<SilenceId>, LineError>
 
 impl StatedMatcher {
     /// Builds the pattern.
-    fn build(&self, alloc: Global) -> Result<Matcher, MatcherError>
+    fn build(&self, patterns: &mut Patterns) -> Result<Matcher, MatcherError>
         ensures made { IfOk result (λ matcher. matcher ≡ self.now) }
         ensures refused { IsErrOf result BadPattern → MayBeRefused self.now }
     {
-        Matcher::new(
-            alloc,
+        Matcher::new_sharing(
+            patterns,
             self.name.clone()?,
             self.operator,
             self.value.clone()?,
@@ -117,13 +118,17 @@ pub(crate) fn id(value: &Value) -> Result<SilenceId, LineError>
 }
 
 /// Returns the matchers, or `None` if a name is empty or `regex` refuses a pattern.
-fn built_matchers(alloc: Global, stated: &[StatedMatcher]) -> Result<Option<Matchers>, AllocError>
+fn built_matchers(
+    alloc: Global,
+    patterns: &mut Patterns,
+    stated: &[StatedMatcher],
+) -> Result<Option<Matchers>, AllocError>
     ensures { IfOk result (λ matchers. MatchersAre (if_named stated.now) matchers) }
 {
     if some_nameless(stated) {
         return Ok(None);
     }
-    match build(alloc, stated) {
+    match build(alloc, patterns, stated) {
         Ok(matchers) => Ok(Some(matchers)),
         Err(MatcherError::BadPattern) => Ok(None),
         Err(MatcherError::Memory) => Err(AllocError),
@@ -138,13 +143,17 @@ fn some_nameless(stated: &[StatedMatcher]) -> bool
 }
 
 /// Builds the patterns, each once.
-fn build(alloc: Global, stated: &[StatedMatcher]) -> Result<Matchers, MatcherError>
+fn build(
+    alloc: Global,
+    patterns: &mut Patterns,
+    stated: &[StatedMatcher],
+) -> Result<Matchers, MatcherError>
     ensures made { IfOk result (λ matchers. matchers ≡ stated.now) }
     ensures refused { IsErrOf result BadPattern → Any MayBeRefused stated.now }
 {
     let mut matchers = Vec::new(alloc);
     for matcher in stated {
-        matchers.push(matcher.build(alloc)?)?;
+        matchers.push(matcher.build(patterns)?)?;
     }
     Ok(Matchers::from_vec(alloc, matchers)?)
 }

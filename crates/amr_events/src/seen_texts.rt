@@ -1,34 +1,43 @@
 //! The texts and the labels of a script that were read before. Names and values of labels are
 //! repeated in most lines, and most alerts are posted again, so `Script::read` shares them: it
 //! holds each text once, and the labels of an alert once, however often they are posted. They are
-//! found by comparing them with what a line states, before any text is copied.
+//! found by comparing them with what a line states, before any text is copied. It also keeps the
+//! patterns of silences and reloads, so that each is built once.
 ghost use Rattle.std.specs.Prelude.{◌≡◌, true, reverse, IfOk, IfSome};
 ghost use Rattle.amr_labels.specs.Map as map;
 ghost use Rattle.amr_events.specs.Tokens.{spelled};
 
 use crate::places::{Places, Spread};
 use amr_labels::{Text, TextMap, spread_of};
+use amr_matchers::Patterns;
 use amr_posts::PostedLabels;
 use std::alloc::{AllocError, Global};
 
-/// Texts and labels that were read before. Looking up a text or labels mostly takes one or two
-/// comparisons.
+/// Texts, labels and patterns that were read before. Looking up a text or labels mostly takes one
+/// or two comparisons.
 #[derive(Drop)]
 pub(crate) struct SeenTexts {
     texts: Places<Text>,
     labels: Places<PostedLabels>,
     /// An empty map, if one was needed. All alerts without annotations share it.
     none: Option<TextMap>,
+    patterns: Patterns,
 }
 
 impl SeenTexts {
-    /// Returns a memory of texts and labels that holds none.
+    /// Returns a memory of texts, labels and patterns that holds none.
     pub(crate) fn new(alloc: Global) -> SeenTexts {
         SeenTexts {
             texts: Places::new(alloc),
             labels: Places::new(alloc),
             none: None,
+            patterns: Patterns::new(alloc),
         }
+    }
+
+    /// Returns the patterns that were built before.
+    pub(crate) fn patterns(&mut self) -> &mut Patterns {
+        &mut self.patterns
     }
 
     /// Returns the labels of names and texts. They are shared with equal labels that were returned

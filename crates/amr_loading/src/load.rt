@@ -9,6 +9,7 @@ use crate::read::walk;
 use crate::read_routes::is_too_deep;
 use crate::validate::refusal;
 use amr_config::Config;
+use amr_matchers::Patterns;
 use serde_json::Value;
 use std::alloc::Global;
 
@@ -19,14 +20,27 @@ use std::alloc::Global;
 /// If there are several faults, `TooDeep` is answered first, then `BadConfig` with the first faulty
 /// place, walking through members by key in byte order and through lists in order, then the refusal
 /// with the least number.
-#[tactic(auto, unfolding(crate::specs::Reading::reading_of, crate::specs::Readings::next))]
 pub fn load_config(alloc: Global, value: &Value) -> Result<Config, ConfigError>
+    ensures { Answers (λ config. config) result (ConfigIs (view value.now)) }
+{
+    let mut seen = Patterns::new(alloc);
+    load_config_sharing(alloc, &mut seen, value)
+}
+
+/// Reads a configuration, as `load_config` does. Its matchers share their patterns with matchers
+/// that were made before.
+#[tactic(auto, unfolding(crate::specs::Reading::reading_of, crate::specs::Readings::next))]
+pub fn load_config_sharing(
+    alloc: Global,
+    seen: &mut Patterns,
+    value: &Value,
+) -> Result<Config, ConfigError>
     ensures { Answers (λ config. config) result (ConfigIs (view value.now)) }
 {
     if is_too_deep(value) {
         return Err(ConfigError::Refused(Refusal::TooDeep));
     }
-    let stated = walk(alloc, value)?;
+    let stated = walk(alloc, seen, value)?;
     if let Some(refusal) = refusal(alloc, &stated)? {
         return Err(ConfigError::Refused(refusal));
     }

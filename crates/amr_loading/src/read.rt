@@ -15,23 +15,24 @@ use crate::read_intervals::{read_intervals, read_mute_time_intervals};
 use crate::read_receivers::read_receivers;
 use crate::read_routes::read_routes;
 use crate::read_rules::read_rules;
+use amr_matchers::Patterns;
 use amr_stated::Stated;
 use amr_time::Span;
 use serde_json::Value;
 use std::alloc::Global;
 
 /// Reads a configuration. It visits members by key in byte order, and lists in order, and fails
-/// with the path of the first faulty value. It builds each pattern once, when it meets it. Callers
-/// check `is_too_deep` first; the depth limit here only bounds the recursion.
+/// with the path of the first faulty value. It builds each pattern when it meets it, unless it was
+/// seen before. Callers check `is_too_deep` first; the depth limit here only bounds the recursion.
 #[tactic(auto, unfolding(crate::specs::Walking::walked_at, crate::specs::Readings::next))]
-pub(crate) fn walk(alloc: Global, value: &Value) -> Result<Stated, ConfigError>
+pub(crate) fn walk(alloc: Global, seen: &mut Patterns, value: &Value) -> Result<Stated, ConfigError>
     ensures { Reads (λ stated. stated) result (walked_at (view value.now)) }
 {
     let resolve_timeout = read_timeout(alloc, value)?;
-    let rules = read_rules(alloc, value)?;
+    let rules = read_rules(alloc, seen, value)?;
     let mute = read_mute_time_intervals(alloc, value)?;
     let receivers = read_receivers(alloc, value)?;
-    let routes = read_routes(alloc, value)?;
+    let routes = read_routes(alloc, seen, value)?;
     let time_intervals = read_intervals(alloc, value, "time_intervals", mute)?;
     Ok(Stated {
         routes,

@@ -12,7 +12,7 @@ use crate::error::ConfigError;
 use crate::members::{items, member, text};
 use crate::place::Place;
 use amr_labels::Text;
-use amr_matchers::{Matcher, MatcherError, Matchers, Operator, ParseError};
+use amr_matchers::{Matcher, MatcherError, Matchers, Operator, ParseError, Patterns};
 use serde_json::Value;
 use std::alloc::{AllocError, Global};
 
@@ -21,6 +21,7 @@ use std::alloc::{AllocError, Global};
 #[tactic(auto, unfolding(crate::specs::ReadMatchers::matchers_at, crate::specs::Readings::next))]
 pub(crate) fn read_matchers(
     alloc: Global,
+    seen: &mut Patterns,
     place: &Place,
     equal: &str,
     patterns: &str,
@@ -31,16 +32,25 @@ pub(crate) fn read_matchers(
         (matchers_at (place_path place.now) equal.now patterns.now texts.now (view value.now)) }
 {
     let mut matchers = Vec::new(alloc);
-    add_object(alloc, Operator::Equal, place, value, equal, &mut matchers)?;
     add_object(
         alloc,
+        seen,
+        Operator::Equal,
+        place,
+        value,
+        equal,
+        &mut matchers,
+    )?;
+    add_object(
+        alloc,
+        seen,
         Operator::Matches,
         place,
         value,
         patterns,
         &mut matchers,
     )?;
-    add_list(alloc, place, value, texts, &mut matchers)?;
+    add_list(alloc, seen, place, value, texts, &mut matchers)?;
     Ok(Matchers::from_vec(alloc, matchers)?)
 }
 
@@ -48,6 +58,7 @@ pub(crate) fn read_matchers(
 #[tactic(auto, unfolding(crate::specs::ReadMatchers::list_into))]
 fn add_list(
     alloc: Global,
+    seen: &mut Patterns,
     place: &Place,
     value: &Value,
     key: &str,
@@ -57,7 +68,7 @@ fn add_list(
         (list_into (place_path place.now) key.now (view value.now) matchers.old.items) }
 {
     match member(value, key) {
-        Some(found) => add_texts(alloc, &Place::Member(place, key), found, matchers),
+        Some(found) => add_texts(alloc, seen, &Place::Member(place, key), found, matchers),
         None => Ok(()),
     }
 }
@@ -66,6 +77,7 @@ fn add_list(
 #[tactic(auto, unfolding(crate::specs::ReadMatchers::texts_into, crate::specs::Readings::next))]
 fn add_texts(
     alloc: Global,
+    seen: &mut Patterns,
     place: &Place,
     value: &Value,
     matchers: &mut Vec<Matcher>,
@@ -75,7 +87,7 @@ fn add_texts(
 {
     let items = items(alloc, place, value)?;
     for (index, item) in items.iter().enumerate() {
-        add_text(alloc, place, index, item, matchers)?;
+        add_text(alloc, seen, place, index, item, matchers)?;
     }
     Ok(())
 }
@@ -84,6 +96,7 @@ fn add_texts(
 #[tactic(auto, unfolding(crate::specs::ReadMatchers::spelled_into, crate::specs::Readings::next))]
 fn add_text(
     alloc: Global,
+    seen: &mut Patterns,
     place: &Place,
     index: usize,
     value: &Value,
@@ -94,7 +107,7 @@ fn add_text(
 {
     let here = Place::Item(place, index);
     let text = text(alloc, &here, value)?;
-    let more = spelled(alloc, &here, text)?;
+    let more = spelled(alloc, seen, &here, text)?;
     add_all(matchers, more.as_slice())?;
     Ok(())
 }
@@ -110,10 +123,15 @@ fn add_all(matchers: &mut Vec<Matcher>, more: &[Matcher]) -> Result<(), AllocErr
 }
 
 /// Parses the text of matchers at a path.
-fn spelled(alloc: Global, place: &Place, text: &str) -> Result<Matchers, ConfigError>
+fn spelled(
+    alloc: Global,
+    seen: &mut Patterns,
+    place: &Place,
+    text: &str,
+) -> Result<Matchers, ConfigError>
     ensures { Reads (λ ms. ms) result (spelled_at (place_path place.now) (matchers_of text.now)) }
 {
-    match Matchers::parse(alloc, text) {
+    match Matchers::parse_sharing(alloc, seen, text) {
         Ok(matchers) => Ok(matchers),
         Err(ParseError::Memory) => Err(ConfigError::Memory),
         Err(ParseError::BadMatcher { at: _ }) => Err(place.faulty(alloc)),
@@ -125,6 +143,7 @@ fn spelled(alloc: Global, place: &Place, text: &str) -> Result<Matchers, ConfigE
 #[tactic(auto, unfolding(crate::specs::ReadMatchers::object_into))]
 fn add_object(
     alloc: Global,
+    seen: &mut Patterns,
     operator: Operator,
     place: &Place,
     value: &Value,
@@ -135,7 +154,14 @@ fn add_object(
         (object_into operator (place_path place.now) key.now (view value.now) matchers.old.items) }
 {
     match member(value, key) {
-        Some(found) => add_members(alloc, operator, &Place::Member(place, key), found, matchers),
+        Some(found) => add_members(
+            alloc,
+            seen,
+            operator,
+            &Place::Member(place, key),
+            found,
+            matchers,
+        ),
         None => Ok(()),
     }
 }
@@ -144,6 +170,7 @@ fn add_object(
 #[tactic(auto, unfolding(crate::specs::ReadMatchers::members_into, crate::specs::Readings::next))]
 fn add_members(
     alloc: Global,
+    seen: &mut Patterns,
     operator: Operator,
     place: &Place,
     value: &Value,
@@ -156,7 +183,7 @@ fn add_members(
         return Err(place.faulty(alloc));
     };
     for (key, value) in members {
-        add_member(alloc, operator, place, key.as_str(), value, matchers)?;
+        add_member(alloc, seen, operator, place, key.as_str(), value, matchers)?;
     }
     Ok(())
 }
@@ -165,6 +192,7 @@ fn add_members(
 #[tactic(auto, unfolding(crate::specs::ReadMatchers::matcher_into, crate::specs::Readings::next))]
 fn add_member(
     alloc: Global,
+    seen: &mut Patterns,
     operator: Operator,
     place: &Place,
     name: &str,
@@ -180,6 +208,7 @@ fn add_member(
     }
     add_stated(
         alloc,
+        seen,
         operator,
         &Place::Member(place, name),
         name,
@@ -192,6 +221,7 @@ fn add_member(
 #[tactic(auto, unfolding(crate::specs::ReadMatchers::stated_into, crate::specs::Readings::next))]
 fn add_stated(
     alloc: Global,
+    seen: &mut Patterns,
     operator: Operator,
     place: &Place,
     name: &str,
@@ -202,7 +232,7 @@ fn add_stated(
         (stated_into operator (place_path place.now) name.now (view value.now) matchers.old.items) }
 {
     let value = text(alloc, place, value)?;
-    let made = matcher(alloc, operator, place, name, value)?;
+    let made = matcher(alloc, seen, operator, place, name, value)?;
     matchers.push(made)?;
     Ok(())
 }
@@ -212,6 +242,7 @@ fn add_stated(
 #[tactic(auto, unfolding(crate::specs::ReadMatchers::matcher_at))]
 fn matcher(
     alloc: Global,
+    seen: &mut Patterns,
     operator: Operator,
     place: &Place,
     name: &str,
@@ -225,7 +256,7 @@ fn matcher(
     }
     let name = Text::from_str(alloc, name)?;
     let value = Text::from_str(alloc, value)?;
-    match Matcher::new(alloc, name, operator, value) {
+    match Matcher::new_sharing(seen, name, operator, value) {
         Ok(matcher) => Ok(matcher),
         Err(MatcherError::Memory) => Err(ConfigError::Memory),
         Err(MatcherError::BadPattern) => Err(place.faulty(alloc)),

@@ -15,6 +15,7 @@ use crate::place::Place;
 use crate::read_matchers::read_matchers;
 use crate::whole::Whole;
 use amr_labels::{Listing, Shared, Text};
+use amr_matchers::Patterns;
 use amr_stated::{Grouping, Route};
 use amr_time::Span;
 use serde_json::Value;
@@ -22,7 +23,11 @@ use std::alloc::{AllocError, Global};
 
 /// Reads the routing tree of a whole configuration, in preorder.
 #[tactic(auto, unfolding(crate::specs::ReadRoutes::routes_at, crate::specs::Readings::next))]
-pub(crate) fn read_routes(alloc: Global, value: &Value) -> Result<Listing<Route>, ConfigError>
+pub(crate) fn read_routes(
+    alloc: Global,
+    seen: &mut Patterns,
+    value: &Value,
+) -> Result<Listing<Route>, ConfigError>
     ensures { Reads (λ rs. rs) result (routes_at (view value.now)) }
 {
     let top = Place::Top;
@@ -32,7 +37,7 @@ pub(crate) fn read_routes(alloc: Global, value: &Value) -> Result<Listing<Route>
     };
     let mut routes = Listing::new(alloc);
     let whole = Whole::new(alloc, value)?;
-    add_route(alloc, &whole, 32, &here, None, route, &mut routes)?;
+    add_route(alloc, seen, &whole, 32, &here, None, route, &mut routes)?;
     Ok(routes)
 }
 
@@ -70,6 +75,7 @@ fn is_deeper(left: u32, value: &Value) -> bool
 /// Appends a route and those below it in preorder, down to `left` levels.
 fn add_route(
     alloc: Global,
+    seen: &mut Patterns,
     whole: &Whole,
     left: u32,
     place: &Place,
@@ -85,12 +91,13 @@ fn add_route(
         return Err(ConfigError::Refused(Refusal::TooDeep));
     }
     let index = routes.len();
-    add_own(alloc, whole, place, parent, value, routes)?;
+    add_own(alloc, seen, whole, place, parent, value, routes)?;
     let children = children(alloc, place, value)?;
     let below = Place::Member(&*place, "routes");
     for (i, child) in children.iter().enumerate() {
         add_route(
             alloc,
+            seen,
             whole,
             left - 1,
             &Place::Item(&below, i),
@@ -118,6 +125,7 @@ fn children<'v>(alloc: Global, place: &Place, value: &'v Value) -> Result<&'v [V
 #[tactic(auto, unfolding(crate::specs::ReadRoutes::own_into, crate::specs::Readings::next))]
 fn add_own(
     alloc: Global,
+    seen: &mut Patterns,
     whole: &Whole,
     place: &Place,
     parent: Option<usize>,
@@ -128,7 +136,7 @@ fn add_own(
         (own_into (view whole.now.value.now) (place_path place.now) parent (view value.now)
         routes.old) }
 {
-    let route = read_route(alloc, whole, place, parent, value)?;
+    let route = read_route(alloc, seen, whole, place, parent, value)?;
     routes.push(route)?;
     Ok(())
 }
@@ -137,6 +145,7 @@ fn add_own(
 #[tactic(auto, unfolding(crate::specs::ReadRoutes::route_at, crate::specs::Readings::next))]
 fn read_route(
     alloc: Global,
+    seen: &mut Patterns,
     whole: &Whole,
     place: &Place,
     parent: Option<usize>,
@@ -153,7 +162,7 @@ fn read_route(
     let group_by = texts_member(alloc, place, value, "group_by")?;
     let group_interval = span_member(alloc, place, value, "group_interval")?;
     let group_wait = span_member(alloc, place, value, "group_wait")?;
-    let matchers = read_matchers(alloc, place, "match", "match_re", "matchers", value)?;
+    let matchers = read_matchers(alloc, seen, place, "match", "match_re", "matchers", value)?;
     let mute = names_member(alloc, whole, place, value, "mute_time_intervals")?;
     let receiver = text_member(alloc, place, value, "receiver")?;
     let repeat_interval = span_member(alloc, place, value, "repeat_interval")?;

@@ -11,30 +11,45 @@ use crate::members::{items, member, texts_member};
 use crate::place::Place;
 use crate::read_matchers::read_matchers;
 use amr_labels::Listing;
+use amr_matchers::Patterns;
 use amr_stated::InhibitRule;
 use serde_json::Value;
 use std::alloc::Global;
 
 /// Reads the inhibition rules of a whole configuration; none if the member is absent.
 #[tactic(auto, unfolding(crate::specs::ReadRules::rules_at))]
-pub(crate) fn read_rules(alloc: Global, value: &Value) -> Result<Listing<InhibitRule>, ConfigError>
+pub(crate) fn read_rules(
+    alloc: Global,
+    seen: &mut Patterns,
+    value: &Value,
+) -> Result<Listing<InhibitRule>, ConfigError>
     ensures { Reads (λ rules. rules) result (rules_at (view value.now)) }
 {
     match member(value, "inhibit_rules") {
-        Some(found) => rules(alloc, &Place::Member(&Place::Top, "inhibit_rules"), found),
+        Some(found) => rules(
+            alloc,
+            seen,
+            &Place::Member(&Place::Top, "inhibit_rules"),
+            found,
+        ),
         None => Ok(Listing::new(alloc)),
     }
 }
 
 /// Reads a list of inhibition rules.
 #[tactic(auto, unfolding(crate::specs::ReadRules::rules_list, crate::specs::Readings::next))]
-fn rules(alloc: Global, place: &Place, value: &Value) -> Result<Listing<InhibitRule>, ConfigError>
+fn rules(
+    alloc: Global,
+    seen: &mut Patterns,
+    place: &Place,
+    value: &Value,
+) -> Result<Listing<InhibitRule>, ConfigError>
     ensures { Reads (λ rules. rules) result (rules_list (place_path place.now) (view value.now)) }
 {
     let items = items(alloc, place, value)?;
     let mut rules = Listing::new(alloc);
     for (index, item) in items.iter().enumerate() {
-        add_rule(alloc, place, index, item, &mut rules)?;
+        add_rule(alloc, seen, place, index, item, &mut rules)?;
     }
     Ok(rules)
 }
@@ -43,6 +58,7 @@ fn rules(alloc: Global, place: &Place, value: &Value) -> Result<Listing<InhibitR
 #[tactic(auto, unfolding(crate::specs::ReadRules::rule_into, crate::specs::Readings::next))]
 fn add_rule(
     alloc: Global,
+    seen: &mut Patterns,
     place: &Place,
     index: usize,
     value: &Value,
@@ -51,14 +67,19 @@ fn add_rule(
     ensures { ReadsInto (λ rules. rules) result rules.new
         (rule_into (place_path place.now) index (view value.now) rules.old) }
 {
-    let rule = read_rule(alloc, &Place::Item(place, index), value)?;
+    let rule = read_rule(alloc, seen, &Place::Item(place, index), value)?;
     rules.push(rule)?;
     Ok(())
 }
 
 /// Reads an inhibition rule, by its keys in byte order.
 #[tactic(auto, unfolding(crate::specs::ReadRules::rule_at, crate::specs::Readings::next))]
-fn read_rule(alloc: Global, place: &Place, value: &Value) -> Result<InhibitRule, ConfigError>
+fn read_rule(
+    alloc: Global,
+    seen: &mut Patterns,
+    place: &Place,
+    value: &Value,
+) -> Result<InhibitRule, ConfigError>
     ensures { Reads (λ rule. rule) result (rule_at (place_path place.now) (view value.now)) }
 {
     if !value.is_object() {
@@ -67,6 +88,7 @@ fn read_rule(alloc: Global, place: &Place, value: &Value) -> Result<InhibitRule,
     let equal = texts_member(alloc, place, value, "equal")?;
     let source = read_matchers(
         alloc,
+        seen,
         place,
         "source_match",
         "source_match_re",
@@ -75,6 +97,7 @@ fn read_rule(alloc: Global, place: &Place, value: &Value) -> Result<InhibitRule,
     )?;
     let target = read_matchers(
         alloc,
+        seen,
         place,
         "target_match",
         "target_match_re",

@@ -1,6 +1,7 @@
 pub mod Asking
 pub mod Finds
 pub mod Remembered
+pub mod BuiltPatterns
 pub mod MatcherRuns
 pub mod MatcherKinds
 pub mod MatcherSpelled

@@ -1,5 +1,4 @@
-//! How a matcher compares the value of a label with its own value. `matcher.rt` uses it; a pattern
-//! is built here, once.
+//! How a matcher compares the value of a label with its own value. `matcher.rt` uses it.
 ghost use Rattle.std.specs.Prelude.{◌≡◌, length, IfOk, IsErrOf, IsOk, OnOk, false, true};
 ghost use Rattle.amr_matchers.specs.Matchers.{compares, takes_pattern};
 ghost use Rattle.amr_matchers.specs.Candidates.{kept_where, equal_or_not};
@@ -10,6 +9,7 @@ ghost use Rattle.amr_matchers.specs.declared.pattern.MatcherError.TheVariants.{B
 use crate::Operator;
 use crate::answers::Answers;
 use crate::pattern::{MatcherError, Pattern};
+use crate::patterns::Patterns;
 use amr_labels::{Labels, Shared, Text};
 use std::alloc::{AllocError, Global};
 use std::cmp::Ordering;
@@ -23,19 +23,10 @@ pub(crate) enum Comparison {
     MatchesNot(Shared<Pattern>),
 }
 
-/// Builds a pattern, so that clones can share it.
-fn shared_pattern(alloc: Global, text: Text) -> Result<Shared<Pattern>, MatcherError>
-    ensures read { IfOk result (λ shared. shared ≡ text) }
-    ensures refused { IsErrOf result BadPattern → MayRefuse text }
-{
-    let pattern = Pattern::new(alloc, text)?;
-    Ok(Shared::new(alloc, pattern)?)
-}
-
 impl Comparison {
     /// Makes the comparison for an operator and the matcher's own value.
     pub(crate) fn new(
-        alloc: Global,
+        patterns: &mut Patterns,
         operator: Operator,
         own: Text,
     ) -> Result<Comparison, MatcherError>
@@ -47,8 +38,8 @@ impl Comparison {
         match operator {
             Operator::Equal => Ok(Comparison::Is(own)),
             Operator::NotEqual => Ok(Comparison::IsNot(own)),
-            Operator::Matches => Ok(Comparison::Matches(shared_pattern(alloc, own)?)),
-            Operator::NotMatches => Ok(Comparison::MatchesNot(shared_pattern(alloc, own)?)),
+            Operator::Matches => Ok(Comparison::Matches(patterns.pattern(own)?)),
+            Operator::NotMatches => Ok(Comparison::MatchesNot(patterns.pattern(own)?)),
         }
     }
 

@@ -12,12 +12,14 @@ mod matcher_steps;
 mod matchers;
 mod parse;
 mod pattern;
+mod patterns;
 
 pub use answers::Answers;
 pub use matcher::{Matcher, all_match};
 pub use matchers::Matchers;
 pub use parse::ParseError;
 pub use pattern::{MatcherError, Pattern};
+pub use patterns::Patterns;
 
 /// How a matcher compares a label's value with its own.
 #[derive(Clone, Copy, PartialEq, Eq)]

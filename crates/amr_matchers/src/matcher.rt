@@ -14,6 +14,7 @@ use crate::Operator;
 use crate::answers::Answers;
 use crate::comparison::Comparison;
 use crate::pattern::MatcherError;
+use crate::patterns::Patterns;
 use amr_labels::{Exact, Labels, Text};
 use std::alloc::{AllocError, Global};
 use std::cmp::Ordering;
@@ -51,7 +52,23 @@ impl Matcher {
         ensures refused { IsErrOf result BadPattern → (takes_pattern operator ≡ true)
             × MayRefuse value }
     {
-        let comparison = Comparison::new(alloc, operator, value)?;
+        let mut patterns = Patterns::new(alloc);
+        Matcher::new_sharing(&mut patterns, name, operator, value)
+    }
+
+    /// Makes a matcher, as `new` does. It shares its pattern with those that were made before.
+    pub fn new_sharing(
+        patterns: &mut Patterns,
+        name: Text,
+        operator: Operator,
+        value: Text,
+    ) -> Result<Matcher, MatcherError>
+        ensures made { IfOk result (λ matcher. matcher
+            ≡ record { name = name; operator = operator; value = value }) }
+        ensures refused { IsErrOf result BadPattern → (takes_pattern operator ≡ true)
+            × MayRefuse value }
+    {
+        let comparison = Comparison::new(patterns, operator, value)?;
         Ok(Matcher { name, comparison })
     }
 

@@ -10,6 +10,7 @@ use crate::matcher::Matcher;
 use crate::matcher_reader::{Draft, Reader};
 use crate::matchers::Matchers;
 use crate::pattern::MatcherError;
+use crate::patterns::Patterns;
 use std::alloc::{AllocError, AllocFailed, Global};
 use std::error::Error;
 use std::fmt;
@@ -98,23 +99,27 @@ fn drafts_of(alloc: Global, text: &str) -> Result<Vec<Draft>, ParseError>
 }
 
 /// Builds a matcher with its pattern.
-fn matcher_of(alloc: Global, draft: &Draft) -> Result<Matcher, MatcherError>
+fn matcher_of(patterns: &mut Patterns, draft: &Draft) -> Result<Matcher, MatcherError>
     ensures built { IfOk result (λ matcher. matcher ≡ draft.now) }
     ensures refused { IsErrOf result RefusedPattern → MayBeRefused draft.now }
 {
     let name = draft.name.clone()?;
     let value = draft.value.clone()?;
-    Matcher::new(alloc, name, draft.operator, value)
+    Matcher::new_sharing(patterns, name, draft.operator, value)
 }
 
-/// Builds the matchers with their patterns, each once.
-fn build(alloc: Global, drafts: &[Draft]) -> Result<Vec<Matcher>, MatcherError>
+/// Builds the matchers with their patterns.
+fn build(
+    alloc: Global,
+    patterns: &mut Patterns,
+    drafts: &[Draft],
+) -> Result<Vec<Matcher>, MatcherError>
     ensures built { IfOk result (λ matchers. matchers.items ≡ drafts.now) }
     ensures refused { IsErrOf result RefusedPattern → OneMayBeRefused drafts.now }
 {
     let mut built = Vec::new(alloc);
     for draft in drafts {
-        let matcher = matcher_of(alloc, draft)?;
+        let matcher = matcher_of(patterns, draft)?;
         built.push(matcher)?;
     }
     Ok(built)
@@ -133,8 +138,23 @@ impl Matchers {
         ensures spelled { IfOk result (λ matchers. Spells (chars text.now) matchers) }
         ensures refused { IfErr result (Explains text.now) }
     {
+        let mut patterns = Patterns::new(alloc);
+        Matchers::parse_sharing(alloc, &mut patterns, text)
+    }
+
+    /// Reads a list of matchers, as `parse` does. They share their patterns with matchers that were
+    /// made before.
+    pub fn parse_sharing(
+        alloc: Global,
+        patterns: &mut Patterns,
+        text: &str,
+    ) -> Result<Matchers, ParseError>
+        ensures read { IfOk result (λ matchers. matchers_of text.now ≡ Some matchers) }
+        ensures spelled { IfOk result (λ matchers. Spells (chars text.now) matchers) }
+        ensures refused { IfErr result (Explains text.now) }
+    {
         let drafts = drafts_of(alloc, text)?;
-        let built = build(alloc, drafts.as_slice())?;
+        let built = build(alloc, patterns, drafts.as_slice())?;
         Ok(Matchers::from_vec(alloc, built)?)
     }
 }
