@@ -5,4 +5,5 @@ pub mod Durations
 pub mod Takes
 pub mod Spelled
 pub mod Written
+pub mod Printed
 pub mod SpanTexts

@@ -1,7 +1,7 @@
 //! Writing moments in RFC 3339, for everything that is printed.
-ghost use Rattle.std.specs.Prelude.{◌≡◌, ◌≤◌, ◌++◌, ◌∷◌, [], OnOk, IfOk, string_bytes};
+ghost use Rattle.std.specs.Prelude.{◌≡◌, ◌/◌, ◌%◌, ◌<◌, ◌++◌, ◌∷◌, OnOk, IfOk, IsUtf8, string_bytes};
 ghost use Rattle.amr_time.specs.Calendar.{date_of};
-ghost use Rattle.amr_time.specs.MomentText.{digit, two_digits, four_digits, nine_digits, fraction_digits, fraction_text, date_text, time_text, moment_text};
+ghost use Rattle.amr_time.specs.MomentText.{digit as digit_of, four_digits, nine_digits, fraction_digits, fraction_text, date_text, time_text, moment_text};
 
 use crate::calendar::date_with_number;
 use crate::moments::Moment;
@@ -9,60 +9,63 @@ use std::alloc::{AllocError, Global};
 
 const SECOND: u128 = 1_000_000_000;
 
-const MINUTE: u128 = 60 * SECOND;
+const DAY: u64 = 86_400;
 
-const HOUR: u128 = 60 * MINUTE;
-
-const DAY: u128 = 24 * HOUR;
+/// The length of the longest text, in bytes.
+const LONGEST: usize = 30;
 
 /// Returns a moment in RFC 3339, in UTC, with nine digits of a fraction unless the fraction is
 /// zero.
 pub fn write_moment(alloc: Global, moment: Moment) -> Result<String, AllocError>
     ensures { IfOk result (λ text. string_bytes text ≡ moment_text moment) }
 {
-    let nanoseconds = moment.nanoseconds();
-    let mut out = String::new(alloc);
-    push_date(&mut out, (nanoseconds / DAY) as u32)?;
-    out.push('T')?;
-    push_time(
-        &mut out,
-        (nanoseconds / HOUR % 24) as u32,
-        (nanoseconds / MINUTE % 60) as u32,
-        (nanoseconds / SECOND % 60) as u32,
-    )?;
-    push_fraction(&mut out, (nanoseconds % SECOND) as u32)?;
-    out.push('Z')?;
+    let mut out = String::with_capacity(alloc, LONGEST)?;
+    push_moment(&mut out, moment)?;
     Ok(out)
 }
 
-/// Appends a time of day.
-fn push_time(out: &mut String, hours: u32, minutes: u32, seconds: u32) -> Result<(), AllocError>
-    ensures { OnOk result
-        (string_bytes out.new ≡ string_bytes out.old ++ time_text hours minutes seconds) }
+/// Appends a moment as `write_moment` writes it.
+pub fn push_moment(out: &mut String, moment: Moment) -> Result<(), AllocError>
+    ensures { OnOk result (string_bytes out.new ≡ string_bytes out.old ++ moment_text moment) }
 {
-    push_two(out, hours)?;
-    out.push(':')?;
-    push_two(out, minutes)?;
-    out.push(':')?;
-    push_two(out, seconds)?;
-    Ok(())
+    let nanoseconds = moment.nanoseconds();
+    let seconds = (nanoseconds / SECOND) as u64;
+    push_ascii(out, &date_and_time(seconds))?;
+    push_fraction(out, (nanoseconds % SECOND) as u32)?;
+    out.push_str("Z")
 }
 
-/// Appends the date of a day, numbered from 1970-01-01.
-fn push_date(out: &mut String, day: u32) -> Result<(), AllocError>
-    requires { day ≤ 2_932_896 }
-    ensures { OnOk result
-        (string_bytes out.new
-        ≡ string_bytes out.old
-        ++ (let date = date_of day in date_text date.year date.month date.day)) }
+/// Returns the date and the time of day of a second, counted from 1970, with a `T` between them.
+fn date_and_time(seconds: u64) -> [u8; 19]
+    requires { seconds < 253_402_300_800 }
+    ensures { result
+        ≡ (let date = date_of (seconds / 86_400) in date_text date.year date.month date.day)
+        ++ 84 ∷ time_text (seconds / 3_600 % 24) (seconds / 60 % 60) (seconds % 60) }
 {
-    let date = date_with_number(day);
-    push_four(out, date.0)?;
-    out.push('-')?;
-    push_two(out, date.1)?;
-    out.push('-')?;
-    push_two(out, date.2)?;
-    Ok(())
+    let (year, month, day) = date_with_number((seconds / DAY) as u32);
+    let time = (seconds % DAY) as u32;
+    let [hours, minutes, seconds] = [time / 3_600, time / 60 % 60, time % 60];
+    [
+        digit(year / 1_000),
+        digit(year / 100),
+        digit(year / 10),
+        digit(year),
+        b'-',
+        digit(month / 10),
+        digit(month),
+        b'-',
+        digit(day / 10),
+        digit(day),
+        b'T',
+        digit(hours / 10),
+        digit(hours),
+        b':',
+        digit(minutes / 10),
+        digit(minutes),
+        b':',
+        digit(seconds / 10),
+        digit(seconds),
+    ]
 }
 
 /// Appends the fraction of a second, unless it is zero.
@@ -71,45 +74,44 @@ fn push_fraction(out: &mut String, nanoseconds: u32) -> Result<(), AllocError>
         (string_bytes out.new ≡ string_bytes out.old
         ++ fraction_text (fraction_digits nanoseconds)) }
 {
-    if nanoseconds != 0 {
-        out.push('.')?;
-        push_nine(out, nanoseconds)?;
+    if nanoseconds == 0 {
+        return Ok(());
     }
-    Ok(())
+    push_ascii(out, &fraction(nanoseconds))
 }
 
-/// Appends the last nine digits of a number.
-fn push_nine(out: &mut String, number: u32) -> Result<(), AllocError>
-    ensures { OnOk result (string_bytes out.new ≡ string_bytes out.old ++ nine_digits number) }
+/// Returns a dot and the last nine digits of a number.
+fn fraction(number: u32) -> [u8; 10]
+    ensures { result ≡ 46 ∷ nine_digits number }
 {
-    push_digit(out, number / 100_000_000)?;
-    push_four(out, number / 10_000 % 10_000)?;
-    push_four(out, number % 10_000)?;
-    Ok(())
+    [
+        b'.',
+        digit(number / 100_000_000),
+        digit(number / 10_000_000),
+        digit(number / 1_000_000),
+        digit(number / 100_000),
+        digit(number / 10_000),
+        digit(number / 1_000),
+        digit(number / 100),
+        digit(number / 10),
+        digit(number),
+    ]
 }
 
-/// Appends the last four digits of a number.
-fn push_four(out: &mut String, number: u32) -> Result<(), AllocError>
-    ensures { OnOk result (string_bytes out.new ≡ string_bytes out.old ++ four_digits number) }
+/// Returns the last digit of a number.
+fn digit(number: u32) -> u8
+    ensures { result ≡ digit_of number }
 {
-    push_two(out, number / 100)?;
-    push_two(out, number % 100)?;
-    Ok(())
+    b'0' + (number % 10) as u8
 }
 
-/// Appends the last two digits of a number.
-fn push_two(out: &mut String, number: u32) -> Result<(), AllocError>
-    ensures { OnOk result (string_bytes out.new ≡ string_bytes out.old ++ two_digits number) }
+/// Appends ASCII.
+fn push_ascii(out: &mut String, bytes: &[u8]) -> Result<(), AllocError>
+    requires { IsUtf8 bytes.now }
+    ensures { OnOk result (string_bytes out.new ≡ string_bytes out.old ++ bytes.now) }
 {
-    push_digit(out, number / 10)?;
-    push_digit(out, number)?;
-    Ok(())
-}
-
-/// Appends the last digit of a number.
-fn push_digit(out: &mut String, number: u32) -> Result<(), AllocError>
-    ensures { OnOk result (string_bytes out.new ≡ string_bytes out.old ++ digit number ∷ []) }
-{
-    out.push((b'0' + (number % 10) as u8) as char)?;
-    Ok(())
+    match str::from_utf8(bytes) {
+        Ok(text) => out.push_str(text),
+        Err(_) => unreachable!(),
+    }
 }
