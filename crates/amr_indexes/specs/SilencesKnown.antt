@@ -1,14 +1,15 @@
 -- What the table of silences remembers of label sets.
-use Rattle.std.specs.Prelude.{◌≡◌, ◌≢◌, ◌≤◌, ◌<◌, ℕ, Bool, false, List, length, get_or, Option, Some, None}
-use Rattle.std.specs.List.{filter, list_any}
-use Rattle.std.specs.Ordering.{nat_cmp, eq_by_cmp}
+use Rattle.std.specs.Prelude.{◌≡◌, ◌≢◌, ◌≤◌, ◌<◌, ℕ, Bool, false, not, List, ◌∷◌, ◌++◌, length, get_or, Option, Some, None, if◌then◌else◌, nat_lt}
+use Rattle.std.specs.List.{All, filter, list_any}
+use Rattle.std.specs.Ordering.{nat_cmp, eq_by_cmp, is_lt}
 use Rattle.amr_labels.specs.Map.{get}
-use Rattle.amr_labels.specs.Labels.{LabelSet, label_set_cmp}
-use Rattle.amr_tables.specs.Numbered.{Numbered, shown}
+use Rattle.amr_labels.specs.Labels.{LabelSet}
+use Rattle.amr_time.specs.Time.{Moment}
+use Rattle.amr_rules.specs.declared.silence.Silence.{Silence}
 use Rattle.amr_rules.specs.declared.silence_period.SilencePeriod.{SilencePeriod}
 use Rattle.amr_rules.specs.Silences.{Silences}
-use Rattle.amr_rules.specs.SilencePeriods.{silence_periods, unexpired}
-use Rattle.amr_indexes.specs.declared.silence_table.KnownPeriods.{KnownPeriods}
+use Rattle.amr_rules.specs.SilencePeriods.{may_silence, period_of, silence_periods, unexpired}
+use Rattle.amr_indexes.specs.declared.known_periods.KnownPeriods.{KnownPeriods}
 use Rattle.amr_indexes.specs.declared.silence_table.Unexpired.{Unexpired}
 
 -- the silence with this id has one of the periods
@@ -23,20 +24,44 @@ picked test periods = filter (λ period. test period.id) periods
 abbrev pub PicksNone : (ℕ → Bool) → List ℕ → ℕ → Type 0
 PicksNone test changes seen = (i : ℕ) → seen ≤ i → i < length changes → test (get_or changes i 0) ≡ false
 
--- the silence isn't among the periods, and may not mute the labels from their moment on
-pub record IsApart (silences : Silences) (labels : LabelSet) (found : KnownPeriods) (id : ℕ) : Type 0 where
-  pub before : lists found.periods id ≡ false
-  pub now : lists (silence_periods found.from labels silences) id ≡ false
+-- the period is of a silence with a lower id, and with a higher one
+abbrev pub is_below : ℕ → SilencePeriod → Bool
+is_below id period = is_lt (nat_cmp period.id id)
+
+abbrev pub is_above : ℕ → SilencePeriod → Bool
+is_above id period = is_lt (nat_cmp id period.id)
+
+-- the period goes on after the moment
+abbrev pub ends_after : Moment → SilencePeriod → Bool
+ends_after at period = nat_lt at period.ends_at
+
+-- the periods of the other silences
+abbrev pub without : ℕ → List SilencePeriod → List SilencePeriod
+without id = filter (λ period. not (eq_by_cmp nat_cmp id period.id))
+
+-- the period in place of that of the same silence, in the order of ids
+abbrev pub with_period : SilencePeriod → List SilencePeriod → List SilencePeriod
+with_period period periods = filter (is_below period.id) periods ++ period ∷ filter (is_above period.id) periods
+
+-- the silence with this id has this period now, or none
+abbrev pub noted : ℕ → Option SilencePeriod → List SilencePeriod → List SilencePeriod
+noted id None periods = without id periods
+noted id (Some period) periods = with_period period periods
+
+-- when a silence mutes the labels from a moment on, if it may
+abbrev pub period_from : Moment → LabelSet → ℕ → Option Silence → Option SilencePeriod
+period_from from labels id None = None
+period_from from labels id (Some silence) = if may_silence from labels silence then Some (period_of (id, silence)) else None
 
 -- the periods are those of the silences that may mute the labels, but for silences that changed
 -- since they were learned
-pub record IsKnown (silences : Silences) (changes : List ℕ) (labels : LabelSet) (found : KnownPeriods) : Type 0 where
+pub record IsKnown (silences : Silences) (changes : List ℕ) (found : KnownPeriods) : Type 0 where
   pub seen : found.seen ≤ length changes
-  pub others : (test : ℕ → Bool) → PicksNone test changes found.seen → picked test found.periods ≡ picked test (silence_periods found.from labels silences)
+  pub others : (test : ℕ → Bool) → PicksNone test changes found.seen → picked test found.periods ≡ picked test (silence_periods found.from found.labels silences)
 
 -- what is remembered of each label set is right
-abbrev pub AreKnown : Silences → List ℕ → Numbered LabelSet KnownPeriods → Type 0
-AreKnown silences changes known = (labels : LabelSet) (found : KnownPeriods) → get (shown label_set_cmp known) labels ≡ Some found → IsKnown silences changes labels found
+abbrev pub AreKnown : Silences → List ℕ → List KnownPeriods → Type 0
+AreKnown silences changes known = All (IsKnown silences changes) known
 
 -- only the silence with this id may have changed
 abbrev pub SameOthers : ℕ → Silences → Silences → Type 0

@@ -4,6 +4,7 @@
 #![tactic(auto)]
 
 mod alert_table;
+mod known_periods;
 mod label_counts;
 mod label_pair;
 mod rule_source;

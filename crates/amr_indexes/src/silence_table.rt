@@ -1,6 +1,6 @@
 //! The silences by id, with what is known of the label sets that flushes asked about: the periods
 //! of the silences that match them. `store.rt` changes the table and asks it which silence mutes.
-ghost use Rattle.std.specs.Prelude.{◌≡◌, ◌<◌, ◌≤◌, ℕ, false, IsTrue, [], length, get_or, is_some, OnOk, OnErr, IfOk, IfSome};
+ghost use Rattle.std.specs.Prelude.{◌≡◌, ◌<◌, ◌≤◌, ℕ, List, IsTrue, [], is_some, OnOk, OnErr, IfOk, IfSome};
 ghost use Rattle.std.specs.Ordering.{nat_cmp};
 ghost use Rattle.amr_labels.specs.Map as map;
 ghost use Rattle.amr_rules.specs.Muting.{is_silenced, silencer_of};
@@ -8,6 +8,7 @@ ghost use Rattle.amr_rules.specs.SilencePeriods.{silence_periods, silence_rows, 
 ghost use Rattle.amr_rules.specs.Silences.{Silences};
 ghost use Rattle.amr_tables.specs.Numbered.{shown, has_place, entry_of, Enters, GrowsBy, KeepsPlaces, SamePlaces, SameEntered, NoneEntered, IsUnchanged, HasPlaces, places_for};
 
+use crate::known_periods::KnownPeriods;
 use amr_labels::{Labels, Listing};
 use amr_matchers::Answers;
 use amr_posts::SilenceId;
@@ -44,7 +45,10 @@ pub struct SilenceTable {
     silences: Keyed<SilenceId, Silence>,
     /// What the patterns of the silences' matchers answered.
     answers: Answers,
-    known: Keyed<Labels, KnownPeriods>,
+    /// What is known of label sets, in the order in which they were asked about first.
+    known: Vec<KnownPeriods>,
+    /// Their places in that list.
+    places: Keyed<Labels, usize>,
     /// The ids of the silences that changed since the table began to remember, the latest last.
     changes: Vec<SilenceId>,
     /// The number of label sets, in the order of arrival, that the silences were asked ahead for.
@@ -61,18 +65,7 @@ pub(crate) struct Unexpired {
     pub(crate) listed: Vec<(SilenceId, Silence)>,
 }
 
-/// When silences that match a label set are active, from a moment on.
-#[derive(Drop)]
-pub(crate) struct KnownPeriods {
-    /// The moment from which on the periods are complete. Silences that were expired by then are
-    /// left out.
-    pub(crate) from: Moment,
-    /// How many changes of silences there had been when the periods were learned.
-    pub(crate) seen: usize,
-    pub(crate) periods: Listing<SilencePeriod>,
-}
-
-ghost use Rattle.amr_indexes.specs.SilencesKnown.{lists, IsApart, AreKnown, AreUnexpired, SameOthers};
+ghost use Rattle.amr_indexes.specs.SilencesKnown.{IsKnown, AreKnown, AreUnexpired, SameOthers};
 
 impl Model for SilenceTable {
     ghost use Rattle.std.specs.Prelude.{ℕ};
@@ -89,7 +82,7 @@ impl Model for SilenceTable {
 
     ghost view = { λ t. t.silences };
 
-    ghost invariant = { λ t. AreKnown (shown nat_cmp t.silences) t.changes.items t.known
+    ghost invariant = { λ t. AreKnown (shown nat_cmp t.silences) t.changes.items t.known.items
         × AreUnexpired (shown nat_cmp t.silences) t.unexpired };
 }
 
@@ -105,7 +98,8 @@ impl SilenceTable {
             alloc,
             silences: Keyed::new(alloc),
             answers: Answers::new(alloc),
-            known: Keyed::new(alloc),
+            known: Vec::new(alloc),
+            places: Keyed::new(alloc),
             changes: Vec::new(alloc),
             asked_ahead: 0,
             unexpired: None,
@@ -196,46 +190,26 @@ impl SilenceTable {
     }
 
     /// Returns whether it is known of labels, from a moment on, when silences that match them are
-    /// active. It asks the silences that changed since that was learned.
+    /// active. It first asks the silences that changed since that was learned.
     fn is_known(&mut self, at: Moment, labels: &Labels) -> Result<bool, AllocError>
         ensures { self.new ≡ self.old }
     {
-        if self.periods(at, labels).is_some() {
-            return Ok(true);
-        }
-        match self.unchanged(at, labels)? {
-            None => Ok(false),
-            Some((from, periods)) => {
-                self.remember(from, labels, periods)?;
-                Ok(true)
-            }
-        }
-    }
-
-    /// Returns the periods that were learned of labels, with the moment from which on they are
-    /// complete, if they reach back to a moment and no silence that changed since is among them or
-    /// matches the labels.
-    fn unchanged(
-        &mut self,
-        at: Moment,
-        labels: &Labels,
-    ) -> Result<Option<(Moment, Listing<SilencePeriod>)>, AllocError>
-        ensures same { self.new ≡ self.old }
-        ensures known { IfOk result (λ found. IfSome found (λ known. known.1
-            ≡ silence_periods known.0 labels.now (shown nat_cmp self.old))) }
-    {
-        let Some(known) = self.known.get(labels) else {
-            return Ok(None);
+        let place = match self.places.get(labels) {
+            Some(place) if *place < self.known.len() => *place,
+            _ => return Ok(false),
         };
+        let known = &mut self.known[place];
         if at < known.from {
-            return Ok(None);
+            return Ok(false);
         }
-        let changes = self.changes.as_slice();
-        if some_touches(&mut self.answers, &self.silences, changes, known, labels)? {
-            return Ok(None);
-        }
-        let periods = copy_of(self.alloc, known.periods.as_slice())?;
-        Ok(Some((known.from, periods)))
+        known.catch_up(
+            self.alloc,
+            &mut self.answers,
+            &self.silences,
+            self.changes.as_slice(),
+            at,
+        )?;
+        Ok(true)
     }
 
     /// Works out when silences that match these label sets are active, and remembers it. It asks
@@ -333,14 +307,13 @@ impl SilenceTable {
         requires { periods ≡ silence_periods at labels.now (shown nat_cmp self.old) }
         ensures { self.new ≡ self.old }
     {
-        self.known.make_place(labels.clone()?)?;
         let known = KnownPeriods {
+            labels: labels.clone()?,
             from: at,
             seen: self.changes.as_slice().len(),
             periods,
         };
-        drop(self.known.displace(labels, Some(known)));
-        Ok(())
+        keep(&mut self.known, &mut self.places, known)
     }
 
     /// Returns what is known of labels, if it reaches back to a moment and no silence changed
@@ -349,8 +322,12 @@ impl SilenceTable {
         ensures { IfSome result (λ periods. silenced_in at periods.now
             ≡ silencer_of at labels.now (shown nat_cmp self.now)) }
     {
-        let known = self.known.get(labels)?;
-        if at < known.from || known.seen != self.changes.len() {
+        let place = *self.places.get(labels)?;
+        if place >= self.known.len() {
+            return None;
+        }
+        let known = &self.known[place];
+        if at < known.from || known.seen != self.changes.len() || known.labels != *labels {
             return None;
         }
         Some(known.periods.as_slice())
@@ -395,7 +372,14 @@ impl SilenceTable {
         // Room for this change and for its undoing. Without room everything known is forgotten.
         drop(self.changes.reserve(2));
         let asked = &mut self.asked_ahead;
-        note_change(self.alloc, &mut self.known, &mut self.changes, asked, id);
+        note_change(
+            self.alloc,
+            &mut self.known,
+            &mut self.places,
+            &mut self.changes,
+            asked,
+            id,
+        );
         change(&mut self.silences, journal, id, silence)
     }
 
@@ -411,7 +395,14 @@ impl SilenceTable {
     {
         self.unexpired = None;
         let asked = &mut self.asked_ahead;
-        note_change(self.alloc, &mut self.known, &mut self.changes, asked, id);
+        note_change(
+            self.alloc,
+            &mut self.known,
+            &mut self.places,
+            &mut self.changes,
+            asked,
+            id,
+        );
         drop(self.silences.displace(id, silence));
     }
 }
@@ -420,79 +411,57 @@ impl SilenceTable {
 /// been many changes, or if there is no room for one more. It takes no memory.
 fn note_change(
     alloc: Global,
-    known: &mut Keyed<Labels, KnownPeriods>,
+    known: &mut Vec<KnownPeriods>,
+    places: &mut Keyed<Labels, usize>,
     changes: &mut Vec<SilenceId>,
     asked_ahead: &mut usize,
     id: &SilenceId,
 )
-    ensures { (before after : Silences) → AreKnown before changes.old.items known.old
-        → SameOthers id.now before after → AreKnown after changes.new.items known.new }
+    ensures { (before after : Silences) → AreKnown before changes.old.items known.old.items
+        → SameOthers id.now before after → AreKnown after changes.new.items known.new.items }
 {
     let count = changes.len();
     if count < MOST_CHANGES && count < changes.capacity() {
         changes.push_reserved(*id);
     } else {
-        *known = Keyed::new(alloc);
+        known.clear();
+        *places = Keyed::new(alloc);
         changes.clear();
         *asked_ahead = 0;
     }
 }
 
-/// Returns whether one of the silences that changed since periods were learned is among them, or
-/// matches the labels.
-fn some_touches(
-    answers: &mut Answers,
-    silences: &Keyed<SilenceId, Silence>,
-    changes: &[SilenceId],
-    known: &KnownPeriods,
-    labels: &Labels,
-) -> Result<bool, AllocError>
-    ensures { IfOk result (λ touches. touches ≡ false → (i : ℕ) → known.now.seen ≤ i
-        → i < length changes.now → IsApart (shown nat_cmp silences.now) labels.now known.now
-        (get_or changes.now i 0)) }
+/// Keeps what is known of a label set in place of what was known of it before.
+fn keep(
+    known: &mut Vec<KnownPeriods>,
+    places: &mut Keyed<Labels, usize>,
+    one: KnownPeriods,
+) -> Result<(), AllocError>
+    ensures { (silences : Silences) (changes : List ℕ) → IsKnown silences changes one
+        → AreKnown silences changes known.old.items → AreKnown silences changes known.new.items }
 {
-    for place in known.seen..changes.len() {
-        if touches(answers, silences, &changes[place], known, labels)? {
-            return Ok(true);
+    match places.get(&one.labels).copied() {
+        Some(place) if place < known.len() => {
+            known[place] = one;
+            Ok(())
         }
-    }
-    Ok(false)
-}
-
-/// Returns whether a silence is among periods, or matches the labels of which they were learned.
-fn touches(
-    answers: &mut Answers,
-    silences: &Keyed<SilenceId, Silence>,
-    id: &SilenceId,
-    known: &KnownPeriods,
-    labels: &Labels,
-) -> Result<bool, AllocError>
-    ensures { IfOk result (λ touches. touches ≡ false
-        → IsApart (shown nat_cmp silences.now) labels.now known.now id.now) }
-{
-    if lists(known.periods.as_slice(), id) {
-        return Ok(true);
-    }
-    match silences.get(id) {
-        None => Ok(false),
-        Some(silence) => silence.matchers.matches_all_remembered(answers, labels),
+        _ => add(known, places, one),
     }
 }
 
-/// Returns whether a silence has one of these periods.
-fn lists(periods: &[SilencePeriod], id: &SilenceId) -> bool
-    ensures { result ≡ lists periods.now id.now }
+/// Adds what is known of a label set.
+fn add(
+    known: &mut Vec<KnownPeriods>,
+    places: &mut Keyed<Labels, usize>,
+    one: KnownPeriods,
+) -> Result<(), AllocError>
+    ensures { (silences : Silences) (changes : List ℕ) → IsKnown silences changes one
+        → AreKnown silences changes known.old.items → AreKnown silences changes known.new.items }
 {
-    periods.iter().any(|period| *id == period.id)
-}
-
-/// Copies periods.
-fn copy_of(alloc: Global, periods: &[SilencePeriod]) -> Result<Listing<SilencePeriod>, AllocError>
-    ensures { IfOk result (λ copy. copy ≡ periods.now) }
-{
-    let mut copy = Listing::new(alloc);
-    for period in periods {
-        copy.push(*period)?;
-    }
-    Ok(copy)
+    let place = known.len();
+    let labels = one.labels.clone()?;
+    known.push(one)?;
+    places.make_place(labels.clone()?)?;
+    places.displace(&labels, Some(place));
+    Ok(())
 }

@@ -1,14 +1,16 @@
-use Rattle.std.proofs.Common.{◌≡◌, ◌≤◌, ℕ, Some, length, rules, arith, sym, ap, ◌∙◌}
+use Rattle.std.proofs.Common.{◌≡◌, ◌≤◌, ◌<◌, ℕ, length, rules, arith, sym, ap, subst, ◌∙◌}
 use Rattle.std.proofs.lemmas.Grind.{common_steps}
 use Rattle.std.specs.Ordering.{nat_cmp}
-use Rattle.amr_labels.specs.Map.{get}
-use Rattle.amr_labels.specs.Labels.{label_set_cmp}
+use Rattle.amr_labels.specs.Labels.{LabelSet}
 use Rattle.amr_tables.specs.Numbered.{Numbered, shown}
 use Rattle.amr_rules.specs.declared.silence.Silence.{Silence}
+use Rattle.amr_rules.specs.Silences.{Silences}
 use Rattle.amr_rules.specs.Muting.{silencer_of}
 use Rattle.amr_rules.specs.SilencePeriods.{silenced_in}
 use Rattle.amr_rules.proofs.SilencePeriods.{silencer_in}
-use Rattle.amr_indexes.proofs.SilencesKnown.{all_seen}
+use Rattle.amr_indexes.specs.declared.known_periods.KnownPeriods.{KnownPeriods}
+use Rattle.amr_indexes.specs.SilencesKnown.{IsKnown}
+use Rattle.amr_indexes.proofs.SilencesKnown.{all_seen, same_labels}
 use Rattle.amr_indexes.proofs.silence_table.SilenceTable.periods.Goals as goal
 
 pub returns : goal.returns
@@ -16,10 +18,14 @@ returns c =
     let t = c.self.inside in
     let at = c.args.at in
     let labels = c.args.labels.now in
-    let known = c.in_ok-known.known.now in
-    let found : get (shown label_set_cmp t.known) labels ≡ Some known = sym c.in_ok-known.ensures in
+    let silences : Silences = shown nat_cmp t.silences in
+    let known : KnownPeriods = c.index-known.result.now in
+    let place : ℕ = c.in_ok-place.field-0.now in
+    let within : place < length t.known.items = first_of (search rules, grind (arith, common_steps)) in
+    let right : IsKnown silences t.changes.items known = subst (IsKnown silences t.changes.items) (sym c.index-known.ensures) (c.self.invariant.0 place known within) in
     let le : known.from ≤ at = first_of (search rules, grind (arith, common_steps)) in
     let seen : known.seen ≡ length t.changes.items = first_of (omega arith, grind (arith, common_steps)) in
-    ap (silenced_in at) (c.as_slice.ensures ∙ all_seen (shown nat_cmp t.silences) t.changes.items labels known (c.self.invariant.0 labels known found) seen)
-    ∙ silencer_in at known.from labels (shown nat_cmp t.silences) le
+    ap (silenced_in at) (c.as_slice.ensures ∙ all_seen silences t.changes.items known right seen)
+    ∙ silencer_in at known.from known.labels silences le
+    ∙ ap (λ (l : LabelSet). silencer_of at l silences) (same_labels known.labels labels (sym c.ne.ensures ∙ c.if-ne.false))
     ∙ ap (λ (v : Numbered ℕ Silence). silencer_of at labels (shown nat_cmp v)) c.self.view_is
