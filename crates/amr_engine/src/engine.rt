@@ -168,6 +168,14 @@ impl Engine {
         &self.store
     }
 
+    /// Works out which alerts can inhibit one with these labels, so that `explain` needn't look for
+    /// them among all stored alerts. A flush does so for its members, too.
+    pub fn learn_sources(&mut self, labels: &Labels) -> Result<(), AllocError>
+        ensures { self.new ≡ self.old }
+    {
+        self.store.learn_sources(labels)
+    }
+
     /// Explains why an alert with these labels was or wasn't in a notification. It returns one
     /// verdict if no such alert is stored or the stored one is resolved. Otherwise it returns one
     /// for each route that takes the alert and each integration of the route's receiver.

@@ -1,14 +1,18 @@
--- The label sets that have a place are among those that arrived.
-use Rattle.std.proofs.Common.{◌≡◌, ℕ, Bool, true, false, ◌||◌, List, [], ◌∷◌, ◌++◌, refl, sym, ap, subst, ◌∙◌, IsTrue, is_some}
+-- Stored alerts have places, and the label sets that have a place are among those that arrived.
+use Rattle.std.proofs.Common.{◌≡◌, ℕ, Bool, true, false, cond, ◌||◌, List, [], ◌∷◌, ◌++◌, Option, Some, None, refl, sym, ap, subst, ◌∙◌, IsTrue, is_some}
+use Rattle.std.specs.Prelude.{Result, Ok, Err, OnOk, OnErr}
 use Rattle.std.specs.Ordering.{eq_by_cmp}
 use Rattle.std.specs.FinMap.{find}
 use Rattle.std.proofs.lemmas.Bool.{true≢false}
 use Rattle.std.proofs.lemmas.List.Folds.{list_any-append}
-use Rattle.amr_labels.specs.Labels.{LabelSet, label_set_cmp}
+use Rattle.std.proofs.lemmas.Map.Views.{tells_apart}
+use Rattle.amr_labels.specs.Map.{get, set, empty, get-set, get-empty}
+use Rattle.amr_labels.specs.Labels.{LabelSet, label_set_cmp, label_set_cmp_total, label_set_cmp-IsAntisymmetric}
 use Rattle.amr_rules.specs.declared.alert.Alert.{Alert}
-use Rattle.amr_tables.specs.Numbered.{Numbered, has_place, SamePlaces, GetsPlace}
+use Rattle.amr_rules.specs.Muting.{Alerts}
+use Rattle.amr_tables.specs.Numbered.{Numbered, shown, has_place, entry_of, KeepsPlaces, SamePlaces, SameEntered, IsUnchanged, GetsPlace}
 use Rattle.amr_tables.specs.Queued.{has}
-use Rattle.amr_indexes.specs.RuleSources.{AllArrived}
+use Rattle.amr_indexes.specs.RuleSources.{AllArrived, IsFollowed}
 
 pub nothing_arrived : (t : Numbered LabelSet Alert) (arrived : List LabelSet) → t.numbers ≡ [] → AllArrived t arrived
 unfolding has_place
@@ -38,3 +42,72 @@ arrived_in_vain t u arrived labels is same other h =
     list_any-append (eq_by_cmp label_set_cmp other) arrived (labels ∷ [])
     ∙ one_more (has label_set_cmp arrived other) (eq_by_cmp label_set_cmp other labels) (has_place label_set_cmp t other) (is other)
     (ap (λ b. eq_by_cmp label_set_cmp other labels || b) (sym (same other) ∙ h) ∙ or_true (eq_by_cmp label_set_cmp other labels))
+
+-- ---- stored alerts have places
+
+abbrev IsStored : Numbered LabelSet Alert → LabelSet → Type 0
+IsStored t labels = IsTrue (is_some (get (shown label_set_cmp t) labels))
+
+same_labels : (a b : LabelSet) → eq_by_cmp label_set_cmp a b ≡ true → a ≡ b
+same_labels a b e = tells_apart label_set_cmp-IsAntisymmetric a b e
+
+module _ (t u : Numbered LabelSet Alert) (stored : (labels : LabelSet) → IsStored t labels → IsTrue (has_place label_set_cmp t labels)) (kept : KeepsPlaces label_set_cmp t u) where
+  pub stored_same : shown label_set_cmp u ≡ shown label_set_cmp t → (labels : LabelSet) → IsStored u labels → IsTrue (has_place label_set_cmp u labels)
+  stored_same same labels h = kept labels (stored labels (subst (λ (m : Alerts). IsTrue (is_some (get m labels))) same h))
+
+  pub stored_set : (k : LabelSet) (alert : Option Alert) → IsTrue (has_place label_set_cmp u k) → shown label_set_cmp u ≡ set (shown label_set_cmp t) k alert
+      → (labels : LabelSet) → IsStored u labels → IsTrue (has_place label_set_cmp u labels)
+  stored_set k alert at shows labels h =
+      let is_set : get (shown label_set_cmp u) labels ≡ cond (eq_by_cmp label_set_cmp labels k) alert (get (shown label_set_cmp t) labels) = ap (λ (m : Alerts). get m labels) shows ∙ get-set label_set_cmp_total (shown label_set_cmp t) k alert labels in
+      elim (eq_by_cmp label_set_cmp labels k) as (λ b. eq_by_cmp label_set_cmp labels k ≡ b → IsTrue (is_some (cond b alert (get (shown label_set_cmp t) labels))) → IsTrue (has_place label_set_cmp u labels)) [
+        | true ↦ λ e _. subst (λ l. IsTrue (has_place label_set_cmp u l)) (sym (same_labels labels k e)) at
+        | false ↦ λ _ h. kept labels (stored labels h)
+      ] refl (subst (λ x. IsTrue (is_some x)) is_set h)
+
+-- ---- what follows the table
+
+pub nothing_followed : (t : Numbered LabelSet Alert) (arrived : List LabelSet) → t.numbers ≡ [] → shown label_set_cmp t ≡ empty → IsFollowed t arrived
+nothing_followed t arrived none shows = record {
+  stored = λ labels h. absurd (true≢false (sym h ∙ ap (λ (m : Alerts). is_some (get m labels)) shows ∙ ap is_some (get-empty label_set_cmp labels)));
+  arrived = nothing_arrived t arrived none;
+}
+
+keeps : (t u : Numbered LabelSet Alert) → SamePlaces label_set_cmp t u → KeepsPlaces label_set_cmp t u
+keeps t u same key h = subst IsTrue (sym (same key)) h
+
+module _ (t u : Numbered LabelSet Alert) (arrived : List LabelSet) (is : IsFollowed t arrived) where
+  -- an alert is set or removed at a place
+  pub followed_set : (k : LabelSet) (alert : Option Alert) → SamePlaces label_set_cmp t u → IsTrue (has_place label_set_cmp t k) → shown label_set_cmp u ≡ set (shown label_set_cmp t) k alert → IsFollowed u arrived
+  followed_set k alert same at shows = record {
+    stored = stored_set t u is.stored (keeps t u same) k alert (subst IsTrue (sym (same k)) at) shows;
+    arrived = arrived_same t u arrived is.arrived same;
+  }
+
+  followed_same : SamePlaces label_set_cmp t u → shown label_set_cmp u ≡ shown label_set_cmp t → IsFollowed u arrived
+  followed_same same shows = record {
+    stored = stored_same t u is.stored (keeps t u same) shows;
+    arrived = arrived_same t u arrived is.arrived same;
+  }
+
+  -- an alert is set or removed at a place, unless that fails
+  pub followed_changed : {X E : Type 0} (r : Result X E) (k : LabelSet) (alert : Option Alert) → SamePlaces label_set_cmp t u → IsTrue (has_place label_set_cmp t k)
+      → OnOk r (shown label_set_cmp u ≡ set (shown label_set_cmp t) k alert) → OnErr r (IsUnchanged label_set_cmp t u) → IsFollowed u arrived
+  followed_changed (Ok x) k alert same at shows err = followed_set k alert same at shows
+  followed_changed (Err e) k alert same at shows err = followed_same same err.0
+
+  -- a label set arrives, and gets a place unless that fails
+  pub followed_more : {X E : Type 0} (r : Result X E) (labels : LabelSet) → KeepsPlaces label_set_cmp t u → shown label_set_cmp u ≡ shown label_set_cmp t
+      → OnOk r (GetsPlace label_set_cmp t u labels) → OnErr r (SamePlaces label_set_cmp t u) → IsFollowed u (arrived ++ labels ∷ [])
+  followed_more (Ok x) labels kept shows gets err = record {
+    stored = stored_same t u is.stored kept shows;
+    arrived = arrived_more t u arrived labels is.arrived gets;
+  }
+  followed_more (Err e) labels kept shows gets err = record {
+    stored = stored_same t u is.stored kept shows;
+    arrived = arrived_in_vain t u arrived labels is.arrived err;
+  }
+
+-- what a change enters follows what the table shows and what is entered
+pub entry_same : (a b : Numbered LabelSet Alert) (k : LabelSet) → shown label_set_cmp b ≡ shown label_set_cmp a → SameEntered label_set_cmp a b → entry_of label_set_cmp b k ≡ entry_of label_set_cmp a k
+unfolding entry_of
+entry_same a b k shows same = λ i. cond (same k i) None (Some (k, get (shows i) k))

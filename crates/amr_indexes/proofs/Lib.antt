@@ -1,4 +1,3 @@
-pub mod Pairing
 pub mod Arriving
 pub mod Sources
 pub mod SilencesKnown

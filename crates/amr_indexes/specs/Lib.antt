@@ -1,3 +1,2 @@
-pub mod LabelPairs
 pub mod RuleSources
 pub mod SilencesKnown

@@ -1,5 +1,5 @@
 -- The label sets that can be sources of inhibition rules, as the table of alerts lists them.
-use Rattle.std.specs.Prelude.{◌≡◌, ◌≤◌, Bool, ◌&&◌, ◌||◌, List, map, length, take, IsTrue}
+use Rattle.std.specs.Prelude.{◌≡◌, ◌≤◌, Bool, ◌&&◌, ◌||◌, List, map, length, take, IsTrue, is_some}
 use Rattle.std.proofs.Common.{Vec}
 use Rattle.std.specs.declared.alloc.Global.{Global}
 use Rattle.std.specs.List.Sorted.{IsStrictlySortedBy}
@@ -8,16 +8,15 @@ use Rattle.std.specs.Ordering.{eq_by_cmp, ordering_then}
 use Rattle.std.specs.Cmp.{IsTotalOrder}
 use Rattle.std.specs.Cmp.Lexicographic.{slice_cmp, lists_total, nat_list_cmp_total}
 use Rattle.std.proofs.lemmas.Cmp.{on_total, then_total}
+use Rattle.amr_labels.specs.Map.{get}
 use Rattle.amr_labels.specs.Labels.{Text, text_cmp, LabelSet, label_set_cmp, label_set_cmp_total, value_of}
 use Rattle.amr_matchers.specs.Matchers.{all_hold}
 use Rattle.amr_stated.specs.declared.rule.InhibitRule.{InhibitRule}
 use Rattle.amr_rules.specs.declared.alert.Alert.{Alert}
 use Rattle.amr_rules.specs.Muting.{agree_on}
 use Rattle.amr_tables.specs.InParts.{IsInParts, IsInParts-by_first}
-use Rattle.amr_tables.specs.Numbered.{Numbered, has_place}
+use Rattle.amr_tables.specs.Numbered.{Numbered, shown, has_place}
 use Rattle.amr_tables.specs.Queued.{has}
-use Rattle.amr_indexes.specs.declared.label_pair.PairedLabels.{PairedLabels}
-use Rattle.amr_indexes.specs.LabelPairs.{ListsLabelSets}
 use Rattle.amr_indexes.specs.declared.rule_source.SourceSide.{SourceSide}
 use Rattle.amr_indexes.specs.declared.rule_source.RuleSource.{RuleSource}
 use Rattle.amr_indexes.specs.declared.rule_source.KnownSide.{KnownSide}
@@ -75,7 +74,7 @@ pub record ListsAgreeing (rule : InhibitRule) (target : LabelSet) (arrived : Lis
 abbrev pub AllArrived : Numbered LabelSet Alert → List LabelSet → Type 0
 AllArrived alerts arrived = (labels : LabelSet) → IsTrue (has_place label_set_cmp alerts labels) → IsTrue (has label_set_cmp arrived labels)
 
--- The index lists the label sets that have a place, and they are among the arrived.
-pub record IsIndexed (alerts : Numbered LabelSet Alert) (index : List PairedLabels) (sets : List LabelSet) : Type 0 where
-  pub lists : ListsLabelSets alerts index
+-- Each stored alert has a place, and the label sets that have one are among the arrived.
+pub record IsFollowed (alerts : Numbered LabelSet Alert) (sets : List LabelSet) : Type 0 where
+  pub stored : (labels : LabelSet) → IsTrue (is_some (get (shown label_set_cmp alerts) labels)) → IsTrue (has_place label_set_cmp alerts labels)
   pub arrived : AllArrived alerts sets

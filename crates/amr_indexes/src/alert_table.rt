@@ -1,34 +1,29 @@
-//! The stored alerts by label set, with an index of the label sets by label, and the label sets
-//! that can be sources of inhibition rules. `timetable.rt` changes the table; inhibition asks it
-//! for a rule's sources, or for the alerts that have a given label. It neither merges alerts nor
-//! decides when one is removed.
-ghost use Rattle.std.specs.Prelude.{◌≡◌, ◌≤◌, ◌<◌, [], IsTrue, is_some, length, OnOk, OnErr, IfOk};
+//! The stored alerts by label set, with the label sets that can be sources of inhibition rules.
+//! `timetable.rt` changes the table; inhibition asks it for a rule's sources or, where these aren't
+//! known, for the alerts that have a given label. It neither merges alerts nor decides when one is
+//! removed.
+ghost use Rattle.std.specs.Prelude.{◌≡◌, ◌<◌, [], IsTrue, is_some, OnOk, OnErr, IfOk};
 ghost use Rattle.std.specs.Option.{option_copied};
 ghost use Rattle.amr_labels.specs.Labels.{label_set_cmp};
 ghost use Rattle.amr_labels.specs.Map as map;
 ghost use Rattle.amr_tables.specs.Numbered.{shown, has_place, entry_of, Enters, GrowsBy, KeepsPlaces, SamePlaces, SameEntered, NoneEntered, IsUnchanged, HasPlaces, places_for};
-ghost use Rattle.amr_indexes.specs.LabelPairs.{all_put, CanPutAll};
+ghost use Rattle.amr_rules.specs.Muting.{has_value};
 ghost use Rattle.amr_indexes.specs.RuleSources.{AllArrived};
 
-use crate::label_counts::LabelCounts;
-use crate::label_pair::{LabelPair, PairedLabels, pairs_of};
 use crate::rule_source::RuleSources;
 use amr_labels::{Labels, Text};
 use amr_rules::{Alert, AlertStore};
 use amr_stated::InhibitRule;
-use amr_tables::{Entries, Journal, Keyed, Queue, change};
+use amr_tables::{Entries, Journal, Keyed, change};
 use std::alloc::{AllocError, Global};
+use std::cmp::Ordering;
 use std::marker::Model;
 
-/// The stored alerts by label set. The index lists each label set that has a place, with the number
-/// of the place, under each of its labels. A place is never lost, so nothing leaves the index. The
-/// sources know each label set that has a place too.
+/// The stored alerts by label set. The sources know each label set that has a place. A place is
+/// never lost, so nothing leaves the sources.
 #[derive(Drop)]
 pub struct AlertTable {
-    alloc: Global,
     alerts: Keyed<Labels, Alert>,
-    index: Queue<PairedLabels>,
-    counts: LabelCounts,
     sources: RuleSources,
 }
 
@@ -38,7 +33,7 @@ impl Model for AlertTable {
     ghost use Rattle.amr_labels.specs.Labels.{LabelSet};
     ghost use Rattle.amr_rules.specs.declared.alert.Alert.{Alert};
     ghost use Rattle.amr_tables.specs.Numbered.{Numbered};
-    ghost use Rattle.amr_indexes.specs.RuleSources.{IsIndexed};
+    ghost use Rattle.amr_indexes.specs.RuleSources.{IsFollowed};
 
     ghost Value = { Numbered LabelSet Alert };
 
@@ -46,7 +41,7 @@ impl Model for AlertTable {
 
     ghost view = { λ t. t.alerts };
 
-    ghost invariant = { λ t. IsIndexed t.alerts t.index.dues t.sources };
+    ghost invariant = { λ t. IsFollowed t.alerts t.sources };
 }
 
 impl AlertTable {
@@ -58,10 +53,7 @@ impl AlertTable {
         ensures enough { HasPlaces label_set_cmp result }
     {
         AlertTable {
-            alloc,
             alerts: Keyed::new(alloc),
-            index: Queue::new(alloc),
-            counts: LabelCounts::new(alloc),
             sources: RuleSources::new(alloc),
         }
     }
@@ -167,7 +159,7 @@ impl AlertTable {
         drop(self.alerts.displace(labels, alert));
     }
 
-    /// Makes a place for this label set and lists it in the index, unless it has one.
+    /// Makes a place for this label set and adds it to the sources, unless it has one.
     fn make_place(&mut self, labels: &Labels) -> Result<(), AllocError>
         ensures made { OnOk result (IsTrue (has_place label_set_cmp self.new labels.now)) }
         ensures shown { shown label_set_cmp self.new ≡ shown label_set_cmp self.old }
@@ -179,13 +171,8 @@ impl AlertTable {
         if self.alerts.has_place(labels) {
             return Ok(());
         }
-        let pairs = pairs_of(self.alloc, labels, self.alerts.next_number())?;
-        self.index.reserve(pairs.len())?;
-        self.counts.add(self.alloc, labels)?;
         self.sources.add(labels.clone()?)?;
-        self.alerts.make_place(labels.clone()?)?;
-        put_all(&mut self.index, pairs);
-        Ok(())
+        self.alerts.make_place(labels.clone()?)
     }
 }
 
@@ -206,21 +193,18 @@ impl AlertStore for AlertTable {
         name: &Text,
         value: &Text,
     ) -> Result<Vec<(&Labels, &Alert)>, AllocError> {
-        let pair = LabelPair {
-            name: name.clone()?,
-            value: value.clone()?,
-        };
         let mut found = Vec::new(alloc);
-        for paired in self.index.part(&pair)? {
-            if let Some(alert) = self.alerts.at(paired.number) {
-                found.push((&paired.labels, alert))?;
+        for (labels, alert) in self.iter() {
+            if has_value(labels, name, value) {
+                found.push((labels, alert))?;
             }
         }
         Ok(found)
     }
 
-    fn count_with_pair(&self, name: &Text, value: &Text) -> usize {
-        self.counts.count(name, value)
+    /// Returns the number of places, since `with_pair` looks at all of them.
+    fn count_with_pair(&self, _name: &Text, _value: &Text) -> usize {
+        self.alerts.next_number()
     }
 
     fn sources(
@@ -242,14 +226,9 @@ impl AlertStore for AlertTable {
     }
 }
 
-/// Adds label sets to the index, which has room for all of them and none of them yet. It takes no
-/// memory.
-fn put_all(index: &mut Queue<PairedLabels>, pairs: Vec<PairedLabels>)
-    requires room { length pairs.items ≤ index.old.room }
-    requires absent { CanPutAll index.old.dues pairs.items }
-    ensures { index.new.dues ≡ all_put index.old.dues pairs.items }
+/// Returns whether a label has a value, an absent label being empty.
+fn has_value(labels: &Labels, name: &Text, value: &Text) -> bool
+    ensures { result ≡ has_value name.now value.now labels.now }
 {
-    for paired in pairs {
-        index.put(paired);
-    }
+    labels.value_of(name.as_str()).cmp(value.as_str()) == Ordering::Equal
 }

@@ -301,7 +301,16 @@ impl Session {
         Ok(outcome)
     }
 
-    /// Explains why an alert with these labels was or wasn't in a notification, at the cursor.
+    /// Works out which alerts can inhibit one with these labels, so that `explain` needn't look for
+    /// them among all stored alerts.
+    pub fn learn_sources(&mut self, labels: &Labels) -> Result<(), AllocError>
+        ensures { self.new ≡ self.old }
+    {
+        self.engine.learn_sources(labels)
+    }
+
+    /// Explains why an alert with these labels was or wasn't in a notification, at the cursor. It is
+    /// much faster on a large state if `learn_sources` was called before.
     pub fn explain(&self, labels: &Labels) -> Result<Vec<Verdict>, AllocError>
         ensures { IfOk result (λ found. found.items ≡ verdicts self.now.state labels.now) }
     {

@@ -136,8 +136,8 @@ fn filled_value<'a>(labels: &'a Labels, name: &Text) -> Option<&'a Text>
     }
 }
 
-/// Of the labels with these names and a value in `target`, returns the one that the fewest label
-/// sets ever stored have. The count is not part of the contract.
+/// Of the labels with these names and a value in `labels`, returns the one under which the store
+/// looks at the fewest alerts. The count is not part of the contract.
 fn rarest_label<'a, A: AlertStore>(
     names: &'a [Text],
     labels: &'a Labels,
@@ -162,8 +162,8 @@ fn rarest_label<'a, A: AlertStore>(
 }
 
 /// Lists the stored alerts that may mute a target by a rule: the rule's sources that agree with the
-/// target, if the store keeps track of them. If it doesn't, those that share with the target the
-/// rarest of the labels in `equal` are listed, since a source has to agree on all of them.
+/// target, if the store keeps track of them. If it doesn't, those that share with the target one of
+/// the labels in `equal` are listed, since a source has to agree on all of them.
 fn possible_sources<'a, A: AlertStore>(
     alloc: Global,
     target: &Labels,

@@ -1,5 +1,5 @@
 //! The commands that only ask: those that list what the state holds, and `cursor`. None of them
-//! moves the cursor or changes the state.
+//! moves the cursor or changes the state, though the session may remember what it works out.
 ghost use Rattle.std.specs.Prelude.{◌≡◌, ◌++◌, IfOk};
 ghost use Rattle.amr_lines.specs.declared.command_lines.command.ParsedLine.TheVariants.{Asks};
 ghost use Rattle.amr_lines.specs.declared.command_lines.command.Command.TheVariants as command;
@@ -47,11 +47,37 @@ fn listed_lines(
     Ok(lines)
 }
 
-/// Executes a query.
-pub(crate) fn list(alloc: Global, session: &Session, query: &Query) -> Answer
-    ensures { AnsweredBy session.now session.now (Asks (command.Query query.now)) result }
+/// Works out what makes the answer to a query fast.
+fn prepare(session: &mut Session, query: &Query) -> Result<(), AllocError>
+    ensures { session.new ≡ session.old }
 {
-    match listed_lines(alloc, session, session.cursor(), query) {
+    match query {
+        Query::Explain(labels) => session.learn_sources(labels),
+        _ => Ok(()),
+    }
+}
+
+/// Returns what `listed_lines` returns, after preparing the session for it.
+fn prepared_lines(
+    alloc: Global,
+    session: &mut Session,
+    cursor: usize,
+    query: &Query,
+) -> Result<Vec<u8>, AllocError>
+    ensures lines { IfOk result (λ lines. lines.items
+        ≡ listed cursor query.now session.old.state) }
+    ensures same { session.new ≡ session.old }
+{
+    prepare(session, query)?;
+    listed_lines(alloc, session, cursor, query)
+}
+
+/// Executes a query.
+pub(crate) fn list(alloc: Global, session: &mut Session, query: &Query) -> Answer
+    ensures { AnsweredBy session.old session.new (Asks (command.Query query.now)) result }
+{
+    let cursor = session.cursor();
+    match prepared_lines(alloc, session, cursor, query) {
         Ok(lines) => Answer::Listed(lines),
         Err(_) => Answer::Refused(query.word(), Refusal::Memory),
     }

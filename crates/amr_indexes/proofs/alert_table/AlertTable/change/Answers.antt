@@ -2,18 +2,14 @@ use Rattle.std.proofs.Common.{◌≡◌, IfOk, IsTrue, sym, ap, subst, ◌∙◌
 use Rattle.amr_labels.specs.Labels.{LabelSet, label_set_cmp}
 use Rattle.amr_rules.specs.declared.alert.Alert.{Alert}
 use Rattle.amr_tables.specs.Numbered.{Numbered, has_place, entry_of}
-use Rattle.amr_indexes.proofs.Pairing.{index_changed, entry_same}
-use Rattle.amr_indexes.proofs.Arriving.{arrived_same}
+use Rattle.amr_indexes.proofs.Arriving.{followed_changed, entry_same}
 use Rattle.amr_indexes.proofs.alert_table.AlertTable.change.Goals as goal
 
 pub invariant_of-self : goal.invariant_of-self
 invariant_of-self g c =
     let t = c.self.inside in
     let placed = subst (λ (v : Numbered LabelSet Alert). IsTrue (has_place label_set_cmp v c.args.labels.now)) (sym c.self.view_is) c.in_ok-make_place.ensures.made in
-    record {
-      lists = index_changed t.alerts t.index.dues c.self.invariant.lists c.change.result c.change.new.table c.args.labels.now c.args.alert (c.change.ensures.numbers placed) placed c.change.ensures.shown c.change.ensures.err;
-      arrived = arrived_same t.alerts c.change.new.table t.sources c.self.invariant.arrived (c.change.ensures.no_new placed);
-    }
+    followed_changed t.alerts c.change.new.table t.sources c.self.invariant c.change.result c.args.labels.now c.args.alert (c.change.ensures.no_new placed) placed c.change.ensures.shown c.change.ensures.err
 
 pub returns-clause-entry : goal.returns-clause-entry
 returns-clause-entry g c =

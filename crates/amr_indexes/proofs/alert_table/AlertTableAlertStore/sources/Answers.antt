@@ -24,7 +24,7 @@ loop-source-init c =
     ap (λ (found : List (Bor LabelSet × Bor Alert)). map deref_pair found ++ filter_map (got (shown label_set_cmp c.args.self.now)) (values_of left)) c.new-found.ensures.items
     ∙ ap (λ (v : Numbered LabelSet Alert). filter_map (got (shown label_set_cmp v)) (values_of left)) (sym c.self.view_is)
     ∙ ap (λ items. filter_map (got (shown label_set_cmp t.alerts)) (values_of items)) c.into_iter-source-iterator.ensures.into_iter_gives.0
-    ∙ sources_are (shown label_set_cmp t.alerts) rule target t.sources (values_of c.in-Some.sources.items) listed (λ q h. c.self.invariant.arrived q (c.self.invariant.lists.stored q h))
+    ∙ sources_are (shown label_set_cmp t.alerts) rule target t.sources (values_of c.in-Some.sources.items) listed (λ q h. c.self.invariant.arrived q (c.self.invariant.stored q h))
     ∙ ap (λ (v : Numbered LabelSet Alert). sources_of rule target (shown label_set_cmp v)) c.self.view_is
 
 pub loop-source-preserved-in-Continue-branch-3 : goal.loop-source-preserved-in-Continue-branch-3
