@@ -1,4 +1,5 @@
 pub mod State
+pub mod Spread
 pub mod Dues
 pub mod Timed
 pub mod Rostered

@@ -4,6 +4,7 @@
 ghost use Rattle.std.specs.Prelude.{◌≡◌};
 ghost use Rattle.std.proofs.Common.{rules};
 ghost use Rattle.amr_state.specs.State.{log_key_cmp_integration, log_key_cmp_group};
+ghost use Rattle.amr_state.specs.Spread.{path_spread, matchers_spread};
 
 use amr_labels::{Exact, Labels, Listing, Text, TextMap, spread_of};
 use amr_matchers::{Matcher, Matchers};
@@ -141,22 +142,29 @@ impl PartialOrd for LogKey {
 
 impl Key for LogKey {
     ghost use Rattle.amr_state.specs.State.{log_key_cmp-IsAntisymmetric};
+    ghost use Rattle.amr_state.specs.Spread.{log_key_spread};
+
+    ghost spread = { log_key_spread };
 
     ghost exact = { log_key_cmp-IsAntisymmetric };
 
+    #[tactic(auto, unfolding(crate::specs::Spread::log_key_spread))]
     fn spread(&self) -> usize {
         self.group
             .spread()
             .wrapping_add(spread_of(self.receiver.as_str()))
             .wrapping_add(self.place)
-            .wrapping_add(self.kind.as_str().len() << 8)
+            .wrapping_add(self.kind.as_str().len().wrapping_mul(256))
             .wrapping_add(spread_of_path(self.path.as_slice()))
     }
 }
 
 /// Returns a number that spreads paths out, by the values of their matchers. Many routes may differ
 /// in nothing else.
-fn spread_of_path(path: &[Matchers]) -> usize {
+#[tactic(auto, unfolding(crate::specs::Spread::path_spread))]
+fn spread_of_path(path: &[Matchers]) -> usize
+    ensures { result ≡ path_spread path.now }
+{
     let mut spread: usize = 0;
     for matchers in path {
         spread = spread
@@ -167,7 +175,10 @@ fn spread_of_path(path: &[Matchers]) -> usize {
 }
 
 /// Returns a number that spreads matchers out, by their values.
-fn spread_of_values(matchers: &[Matcher]) -> usize {
+#[tactic(auto, unfolding(crate::specs::Spread::matchers_spread))]
+fn spread_of_values(matchers: &[Matcher]) -> usize
+    ensures { result ≡ matchers_spread matchers.now }
+{
     let mut spread: usize = 0;
     for matcher in matchers {
         spread = spread

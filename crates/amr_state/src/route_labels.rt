@@ -29,9 +29,13 @@ impl Clone for RouteLabels {
 
 impl Key for RouteLabels {
     ghost use Rattle.amr_state.specs.State.{route_labels_cmp-IsAntisymmetric};
+    ghost use Rattle.amr_state.specs.Spread.{route_labels_spread};
+
+    ghost spread = { route_labels_spread };
 
     ghost exact = { route_labels_cmp-IsAntisymmetric };
 
+    #[tactic(auto, unfolding(crate::specs::Spread::route_labels_spread))]
     fn spread(&self) -> usize {
         self.labels.spread().wrapping_add(self.route)
     }
