@@ -116,6 +116,7 @@ fn advance_to(
     ensures memory { OnOk result (IsTrueOf quiet_groups.new store.new.state) }
     ensures quiet { AreQuietMoves quiet_moves.new store.old.state }
 {
+    quiet_groups.expect_moves_until(at);
     let made = advance(store, quiet_groups, quiet_moves, at)?;
     store.set_moment(at)?;
     Ok(made)

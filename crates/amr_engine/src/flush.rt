@@ -126,8 +126,7 @@ pub(crate) fn let_through(
     ensures same { store.new ≡ store.old }
 {
     let mut through = Vec::with_capacity(store.alloc(), members.len())?;
-    let label_sets = label_sets_of(store.alloc(), members)?;
-    store.learn_silences(at, label_sets.as_slice())?;
+    learn_silences(store, at, members)?;
     for (labels, alert) in members {
         store.learn_sources(labels)?;
         if taken_away(store, at, route, labels)?.is_none() {
@@ -135,6 +134,18 @@ pub(crate) fn let_through(
         }
     }
     Ok(through)
+}
+
+/// Works out which silences match the labels of members, where that isn't known. Without silences it
+/// copies no labels.
+fn learn_silences(store: &mut Store, at: Moment, members: &[Member]) -> Result<(), AllocError>
+    ensures { store.new ≡ store.old }
+{
+    if store.silences().iter().next().is_none() {
+        return Ok(());
+    }
+    let label_sets = label_sets_of(store.alloc(), members)?;
+    store.learn_silences(at, label_sets.as_slice())
 }
 
 /// Returns the label sets of members.

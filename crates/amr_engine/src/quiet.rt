@@ -35,9 +35,9 @@ const LOOKED_AT_PER_FLUSH: usize = 100;
 /// other, what a look found is forgotten before it is of use.
 const MOST_PATIENCE: usize = 16;
 
-/// After all is forgotten, how many groups that are quiet whatever mutes their members aren't
-/// remembered. Between posts that come one after the other, it would be of no use.
-const TOLD_BEFORE_LEARNING: usize = 16;
+/// After all is forgotten, how many quiet groups are remembered only if they are flushed again
+/// before the event. Between posts that come one after the other, more would be of no use.
+const QUIET_BEFORE_LEARNING: usize = 1000;
 
 /// The moments from one until just before another, both in nanoseconds since 1970. The end may be
 /// after the last moment, so it isn't a `Moment`.
@@ -67,8 +67,10 @@ pub(crate) struct QuietGroups {
     patience: usize,
     /// Whether a flush was saved since the last look.
     has_saved: bool,
-    /// How many groups were found quiet whatever mutes their members, since all were forgotten.
-    told: usize,
+    /// How many times a group was found quiet, since all was forgotten.
+    found: usize,
+    /// The moment of the event before which the moves are made, in nanoseconds since 1970.
+    moves_until: u128,
     /// When no source of an inhibition rule ends and no silence starts or ends.
     still: Option<Stretch>,
     /// The quiet groups, by their labels.
@@ -88,7 +90,8 @@ impl QuietGroups {
             price: 0,
             patience: 1,
             has_saved: true,
-            told: 0,
+            found: 0,
+            moves_until: 0,
             still: None,
             times: Keyed::new(alloc),
         }
@@ -98,9 +101,16 @@ impl QuietGroups {
     pub(crate) fn clear(&mut self)
         ensures { (s : State) → IsTrueOf self.new s }
     {
-        self.told = 0;
+        self.found = 0;
         self.still = None;
         self.times = Keyed::new(self.alloc);
+    }
+
+    /// Notes the moment of the event before which the next moves are made.
+    pub(crate) fn expect_moves_until(&mut self, at: Moment)
+        ensures { (s : State) → IsTrueOf self.old s → IsTrueOf self.new s }
+    {
+        self.moves_until = at.nanoseconds();
     }
 
     /// Forgets what the removal of a stored alert may change, which is nothing if there are no
@@ -162,16 +172,16 @@ impl QuietGroups {
         ensures memory { OnOk result (IsTrueOf self.new store.new.state) }
     {
         let members = members_of(store, group)?;
-        if self.is_told(store, at, group, members.as_slice())? {
+        if self.is_all_notified(store, at, group, members.as_slice())? {
             reset_timer(store, at, group)?;
             return Ok(true);
         }
-        self.flush_untold(store, at, group, members.as_slice())
+        self.flush_unnotified(store, at, group, members.as_slice())
     }
 
     /// Flushes the group with these members. It finds out what mutes them once, to find out whether
     /// the group is quiet and to notify of them.
-    fn flush_untold(
+    fn flush_unnotified(
         &mut self,
         store: &mut Store,
         at: Moment,
@@ -200,7 +210,7 @@ impl QuietGroups {
 
     /// Returns true only if a flush of the group with these members is known to only set its timer,
     /// whatever mutes them. Then it may remember until when.
-    fn is_told(
+    fn is_all_notified(
         &mut self,
         store: &Store,
         at: Moment,
@@ -213,27 +223,40 @@ impl QuietGroups {
             → flush at group.now store.now.state ≡ with_timer_reset at group.now store.now.state) }
         ensures memory { OnOk result (IsTrueOf self.new store.now.state) }
     {
-        match told_until(store, at, group, members)? {
+        match all_notified_until(store, at, group, members)? {
             None => Ok(false),
             Some(until) => {
-                self.note_told(at, group, until)?;
+                self.note_quiet(store, at, group, until)?;
                 Ok(true)
             }
         }
     }
 
-    /// Remembers that a group is quiet from a moment until another, unless fewer than
-    /// `TOLD_BEFORE_LEARNING` were found so before, since all were forgotten.
-    fn note_told(&mut self, at: Moment, group: &RouteLabels, until: u128) -> Result<(), AllocError>
+    /// Remembers that a group is quiet from a moment until another, if that is worth it.
+    fn note_quiet(
+        &mut self,
+        store: &Store,
+        at: Moment,
+        group: &RouteLabels,
+        until: u128,
+    ) -> Result<(), AllocError>
         ensures { OnOk result ((s : State) → IsTrueOf self.old s
             → IsQuiet s group.now at until → IsTrueOf self.new s) }
     {
-        self.told = self.told.saturating_add(1);
-        if self.told <= TOLD_BEFORE_LEARNING {
+        self.found = self.found.saturating_add(1);
+        if !self.is_worth_it(store, at, group) {
             return Ok(());
         }
         let from = at.nanoseconds();
         self.learn(group, Stretch { from, until })
+    }
+
+    /// Returns whether a group is flushed again before the event, or so many groups were quiet since
+    /// all was forgotten that the next flushes may come before the next post, too.
+    fn is_worth_it(&self, store: &Store, at: Moment, group: &RouteLabels) -> bool {
+        let interval = u128::from(store.config().group_interval(group.route).nanoseconds());
+        at.nanoseconds().saturating_add(interval) <= self.moves_until
+            || self.found > QUIET_BEFORE_LEARNING
     }
 
     /// Returns true only if a flush of the group with these members, of which no stage mutes
@@ -347,8 +370,7 @@ impl QuietGroups {
         match quiet_until(store, at, group, members, through, until)? {
             None => Ok(false),
             Some(until) => {
-                let from = at.nanoseconds();
-                self.learn(group, Stretch { from, until })?;
+                self.note_quiet(store, at, group, until)?;
                 Ok(true)
             }
         }
@@ -492,7 +514,7 @@ fn quiet_until(
 /// Returns until when a group with these members is quiet from a moment on, whatever mutes them: all
 /// integrations were notified of all of them. Returns `None` if one may not have been or may have to
 /// be notified again, or if a member is resolved at the moment.
-fn told_until(
+fn all_notified_until(
     store: &Store,
     at: Moment,
     group: &RouteLabels,

@@ -138,6 +138,19 @@ impl KnownPeriods {
         }) }
         ensures err { OnErr result (self.new ≡ self.old) }
     {
+        if self.periods.is_empty() {
+            return Ok(());
+        }
+        self.leave_out_listed(alloc, id)
+    }
+
+    /// Looks for the period of a silence, and leaves it out.
+    fn leave_out_listed(&mut self, alloc: Global, id: &SilenceId) -> Result<(), AllocError>
+        ensures left { OnOk result (self.new ≡ record self.old {
+          periods = without id.now self.old.periods;
+        }) }
+        ensures err { OnErr result (self.new ≡ self.old) }
+    {
         if lists(self.periods.as_slice(), id) {
             self.periods = without(alloc, self.periods.as_slice(), id)?;
         }

@@ -4,10 +4,10 @@ use Rattle.amr_state.specs.State.{State}
 use Rattle.amr_engine.specs.Quiet.{IsQuiet}
 use Rattle.amr_engine.specs.Remembered.{IsTrueOf}
 use Rattle.amr_engine.proofs.Remembering.{learned_if}
-use Rattle.amr_engine.proofs.quiet.QuietGroups.note_told.Goals as goal
+use Rattle.amr_engine.proofs.quiet.QuietGroups.note_quiet.Goals as goal
 
-pub returns-then-self-le-TOLD_BEFORE_LEARNING : goal.returns-then-self-le-TOLD_BEFORE_LEARNING
-returns-then-self-le-TOLD_BEFORE_LEARNING c = λ s holds quiet. record { quiet = holds.quiet; still = holds.still }
+pub returns-then-not-is_worth_it : goal.returns-then-not-is_worth_it
+returns-then-not-is_worth_it c = λ s holds quiet. record { quiet = holds.quiet; still = holds.still }
 
 pub returns : goal.returns
 returns c =

@@ -3,7 +3,7 @@ use Rattle.amr_rules.specs.declared.silence_period.SilencePeriod.{SilencePeriod}
 use Rattle.amr_indexes.specs.declared.known_periods.KnownPeriods.{KnownPeriods}
 use Rattle.amr_indexes.specs.SilencesKnown.{lists}
 use Rattle.amr_indexes.proofs.CaughtUp.{not_listed}
-use Rattle.amr_indexes.proofs.known_periods.KnownPeriods.leave_out.Goals as goal
+use Rattle.amr_indexes.proofs.known_periods.KnownPeriods.leave_out_listed.Goals as goal
 
 pub returns-else-lists-clause-left : goal.returns-else-lists-clause-left
 returns-else-lists-clause-left c =

@@ -1,7 +1,7 @@
 use Rattle.std.proofs.Common.{sym, subst}
 use Rattle.amr_engine.specs.Remembered.{IsTrueOf}
 use Rattle.amr_engine.proofs.Remembering.{reset_true, forgotten}
-use Rattle.amr_engine.proofs.quiet.QuietGroups.flush_untold.Goals as goal
+use Rattle.amr_engine.proofs.quiet.QuietGroups.flush_unnotified.Goals as goal
 
 pub returns-then-branch-clause-memory : goal.returns-then-branch-clause-memory
 returns-then-branch-clause-memory c =

@@ -1,6 +1,6 @@
 use Rattle.std.proofs.Common.{◌<◌, arith}
 use Rattle.amr_engine.proofs.Remembering.{found_told}
-use Rattle.amr_engine.proofs.quiet.told_until.Goals as goal
+use Rattle.amr_engine.proofs.quiet.all_notified_until.Goals as goal
 
 pub returns-in-Some : goal.returns-in-Some
 returns-in-Some c =
