@@ -9,6 +9,8 @@ mod listed_text;
 mod listings;
 mod notification_text;
 mod outlet;
+mod plain;
+mod pushed_text;
 mod values;
 mod verdicts;
 mod word;

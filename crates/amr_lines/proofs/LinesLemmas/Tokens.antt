@@ -1,9 +1,6 @@
 -- The tokens of what is printed.
-use Rattle.std.proofs.Common.{◌≡◌, ℕ, List, [], ◌∷◌, ◌++◌, T, Bool, true, false, ◌&&◌, map, fold, flat_map, Result, Ok, Err, IfOk, OnOk, refl, rules, sym, ap, ap₂, subst, ◌∙◌, append_assoc}
+use Rattle.std.proofs.Common.{◌≡◌, ℕ, List, [], ◌∷◌, ◌++◌, T, Bool, true, false, ◌&&◌, map, fold, flat_map, Result, Ok, Err, IfOk, OnOk, refl, sym, ap, ◌∙◌, append_assoc}
 use Rattle.std.specs.Global.{Vec}
-use Rattle.std.specs.Str.{IsUtf8, IsAscii}
-use Rattle.std.proofs.lemmas.Str.{IsUtf8-append, IsUtf8-from_ascii}
-use Rattle.std.proofs.lemmas.Str.Ascii.{IsAscii-from_all}
 use Rattle.std.proofs.lemmas.Result.{on_ok_weaker}
 use Rattle.std.specs.Ordering.{match_ordering, ordering_reverse, is_lt}
 use Rattle.std.specs.Cmp.Lexicographic.{nat_list_cmp_total}
@@ -51,11 +48,11 @@ all_behind l e ms (x ∷ es) h =
     let (here, rest) = both_hold (is_lt (text_cmp l x.0)) (below_all text_cmp l es) h in
     ap (λ ns. fold with_text ns es) (put_behind x.0 l (string x.1) e ms here) ∙ all_behind l e (with_text ms x) es rest
 
-in_order : List (Text × Text) → Members
+unfoldable pub in_order : List (Text × Text) → Members
 in_order [] = no_members
 in_order (e ∷ es) = member e.0 (string e.1) (in_order es)
 
-fold_in_order : (es : List (Text × Text)) → T (is_sorted text_cmp es) → fold with_text no_members es ≡ in_order es
+pub fold_in_order : (es : List (Text × Text)) → T (is_sorted text_cmp es) → fold with_text no_members es ≡ in_order es
 unfolding in_order
 fold_in_order [] h = refl
 fold_in_order (e ∷ es) h =
@@ -110,10 +107,3 @@ line_of_more d start end lines (Ok more) none added ended =
     let printed : lines ++ print end.tokens ≡ lines ++ compact_text d = ap (λ p. lines ++ p) (ap print tokens ∙ print-data_tokens d) in
     ended ∙ ap (λ t. t ++ 10 ∷ []) printed ∙ append_assoc lines (compact_text d) (10 ∷ [])
 line_of_more d start end lines (Err e) none added ended = tt
-
-pub utf8_of_more : {E : Type 0} (printed lines : List ℕ) (r : Result (Vec ℕ) E)
-    → IfOk r (λ more. more.items ≡ (lines ++ printed) ++ 10 ∷ []) → IsUtf8 printed → IfOk r (λ more. IsUtf8 lines → IsUtf8 more.items)
-utf8_of_more printed lines (Ok more) ended is_printed = λ is_text.
-    let fed : IsAscii (10 ∷ []) = IsAscii-from_all (10 ∷ []) (search rules) in
-    subst IsUtf8 (sym ended) (IsUtf8-append _ _ (IsUtf8-append lines printed is_text is_printed) (IsUtf8-from_ascii (10 ∷ []) fed))
-utf8_of_more printed lines (Err e) ended is_printed = tt

@@ -1,7 +1,7 @@
 //! JSON written straight into a writer's buffer: texts under their names, label sets, moments,
 //! numbers. The writer sets commas, colons and escapes; a caller keeps members in the order of
 //! their names.
-ghost use Rattle.std.specs.Prelude.{◌≡◌, ◌∷◌, [], ◌++◌, T, codes, IfOk, OnOk, IsUtf8, string_bytes};
+ghost use Rattle.std.specs.Prelude.{◌≡◌, ◌∷◌, [], ◌++◌, T, codes, IfOk, OnOk};
 ghost use Rattle.std.specs.FinMap.{is_sorted};
 ghost use Rattle.json.specs.Print.{print};
 ghost use Rattle.serde_json.specs.Data.{string, boolean, null};
@@ -163,23 +163,11 @@ pub(crate) fn line_writer(alloc: Global) -> Result<Writer, AllocError>
 /// Returns the lines with that of a writer, and a line feed, after them.
 pub(crate) fn end_line(mut lines: Vec<u8>, out: Writer) -> Result<Vec<u8>, AllocError>
     requires { out.before ≡ [] }
-    ensures line { IfOk result (λ more. more.items
+    ensures { IfOk result (λ more. more.items
         ≡ (lines.items ++ print out.tokens) ++ codes "\n") }
-    ensures utf8 { IsUtf8 (print out.tokens) }
 {
     let line = out.into_inner();
     lines.extend_from_slice(line.as_slice())?;
     lines.push(b'\n')?;
     Ok(lines)
-}
-
-/// Returns a writer's bytes as a text.
-pub(crate) fn text_of(bytes: Vec<u8>) -> String
-    requires { IsUtf8 bytes.items }
-    ensures { string_bytes result ≡ bytes.items }
-{
-    match String::from_utf8(bytes) {
-        Ok(text) => text,
-        Err(_) => unreachable!(),
-    }
 }

@@ -8,14 +8,16 @@ ghost use Rattle.serde_json.specs.View.{view};
 ghost use Rattle.amr_lines.specs.Lines.Printed.{notification_line, skipped_line, skipped_lines, refused_event_line, event_lines};
 ghost use Rattle.amr_engine.specs.Outcomes.{outcome_view};
 
-use crate::lines::json_text::text_of;
-use crate::lines::notification_text::append_notification;
+use crate::lines::notification_text::push_notification_line;
 use crate::lines::values::{refused_event_value, skipped_value};
 use amr_engine::Outcome;
 use amr_labels::Shared;
 use amr_state::Notification;
 use serde_json::Value;
 use std::alloc::{AllocError, Global};
+
+/// The room that is made at once for each notification's line, in bytes: most are shorter.
+const LINE_ROOM: usize = 1024;
 
 /// Returns the lines of an event's outcome. Events are numbered from 1; an event that is only tried
 /// has number 0.
@@ -37,11 +39,11 @@ pub fn event_text(alloc: Global, event: u64, outcome: &Outcome) -> Result<String
 pub fn notes_text(alloc: Global, notes: &[Shared<Notification>]) -> Result<String, AllocError>
     ensures { IfOk result (λ text. string_bytes text ≡ flat_map notification_line notes.now) }
 {
-    let mut lines = Vec::new(alloc);
+    let mut lines = String::with_capacity(alloc, notes.len().saturating_mul(LINE_ROOM))?;
     for notification in notes {
-        lines = append_notification(lines, alloc, notification.get())?;
+        push_notification_line(&mut lines, alloc, notification.get())?;
     }
-    Ok(text_of(lines))
+    Ok(lines)
 }
 
 /// Returns the lines of an accepted event: its notifications, and the line of its skipped alerts if

@@ -1,117 +1,129 @@
-//! A notification as JSON, written straight into the buffer of its line: notifications are nearly
-//! all that a run prints, and a value of each would cost far more than its text.
-ghost use Rattle.std.specs.Prelude.{◌≡◌, ◌++◌, codes, map, IfOk, OnOk, IsUtf8};
+//! A notification as JSON, appended to the text of the lines: notifications are nearly all that a
+//! run prints, and a value of each, or a writer of tokens, would cost far more than its text.
+ghost use Rattle.std.specs.Prelude.{◌≡◌, ◌++◌, map, OnOk, string_bytes};
 ghost use Rattle.serde_json.specs.Data.{array};
 ghost use Rattle.serde_json.specs.View.{items_of};
+ghost use Rattle.serde_json.specs.Written.{compact_text};
 ghost use Rattle.amr_lines.specs.Lines.Printed.{firing_data, resolved_data, notification_data, notification_line};
-ghost use Rattle.amr_lines.specs.Lines.Tokens.{data_tokens, member_tokens, Adds};
 
-use crate::lines::json_text::{
-    end_line, line_writer, write_annotations, write_labels, write_moment_member, write_number,
-    write_text,
-};
+use crate::lines::pushed_text::{push_comma, push_labels, push_number, push_string, push_texts};
 use amr_state::{FiringAlert, Notification, ResolvedAlert};
-use json::Writer;
+use amr_time::push_moment;
 use std::alloc::{AllocError, Global};
 
-/// Returns the lines with the line of a notification after them.
-pub(crate) fn append_notification(
-    lines: Vec<u8>,
-    alloc: Global,
-    notification: &Notification,
-) -> Result<Vec<u8>, AllocError>
-    ensures line { IfOk result (λ more. more.items
-        ≡ lines.items ++ notification_line notification.now) }
-    ensures utf8 { IfOk result (λ more. IsUtf8 lines.items → IsUtf8 more.items) }
-{
-    let mut out = line_writer(alloc)?;
-    write_notification(&mut out, alloc, notification)?;
-    end_line(lines, out)
-}
-
-/// Writes a notification.
-fn write_notification(
-    out: &mut Writer,
+/// Appends the line of a notification.
+pub(crate) fn push_notification_line(
+    out: &mut String,
     alloc: Global,
     notification: &Notification,
 ) -> Result<(), AllocError>
-    ensures { OnOk result
-        (Adds out.old out.new (data_tokens (notification_data notification.now))) }
+    ensures { OnOk result (string_bytes out.new
+        ≡ string_bytes out.old ++ notification_line notification.now) }
 {
-    let key = &notification.key;
-    out.begin_object()?;
-    write_moment_member(out, alloc, "at", notification.at)?;
-    write_firing_alerts(out, alloc, notification.firing.as_slice())?;
-    write_labels(out, "groupLabels", &key.group)?;
-    write_text(out, "integration", key.kind.as_str())?;
-    write_number(out, "place", key.place)?;
-    write_text(out, "receiver", key.receiver.as_str())?;
-    write_resolved_alerts(out, alloc, notification.resolved.as_slice())?;
-    write_number(out, "route", notification.route)?;
-    out.end_object()
+    push_notification(out, alloc, notification)?;
+    out.push('\n')?;
+    Ok(())
 }
 
-/// Writes the firing alerts of a notification, as the member `firing` of its object.
-fn write_firing_alerts(
-    out: &mut Writer,
+/// Appends a notification.
+fn push_notification(
+    out: &mut String,
+    alloc: Global,
+    notification: &Notification,
+) -> Result<(), AllocError>
+    ensures { OnOk result (string_bytes out.new
+        ≡ string_bytes out.old ++ compact_text (notification_data notification.now)) }
+{
+    let key = &notification.key;
+    out.push_str("{\"at\":\"")?;
+    push_moment(out, notification.at)?;
+    out.push_str("\",\"firing\":")?;
+    push_firing_alerts(out, alloc, notification.firing.as_slice())?;
+    out.push_str(",\"groupLabels\":")?;
+    push_labels(out, alloc, &key.group)?;
+    out.push_str(",\"integration\":")?;
+    push_string(out, alloc, key.kind.as_str())?;
+    out.push_str(",\"place\":")?;
+    push_number(out, key.place)?;
+    out.push_str(",\"receiver\":")?;
+    push_string(out, alloc, key.receiver.as_str())?;
+    out.push_str(",\"resolved\":")?;
+    push_resolved_alerts(out, alloc, notification.resolved.as_slice())?;
+    out.push_str(",\"route\":")?;
+    push_number(out, notification.route)?;
+    out.push_str("}")
+}
+
+/// Appends the firing alerts of a notification.
+fn push_firing_alerts(
+    out: &mut String,
     alloc: Global,
     alerts: &[FiringAlert],
 ) -> Result<(), AllocError>
-    ensures { OnOk result (Adds out.old out.new
-        (member_tokens (codes "firing") (array (items_of (map firing_data alerts.now))))) }
+    ensures { OnOk result (string_bytes out.new ≡ string_bytes out.old
+        ++ compact_text (array (items_of (map firing_data alerts.now)))) }
 {
-    out.key("firing")?;
-    out.begin_array()?;
+    out.push('[')?;
+    let mut later = false;
     for alert in alerts {
-        write_firing_alert(out, alloc, alert)?;
+        push_comma(out, later)?;
+        push_firing_alert(out, alloc, alert)?;
+        later = true;
     }
-    out.end_array()
+    out.push(']')?;
+    Ok(())
 }
 
-/// Writes the resolved alerts of a notification, as the member `resolved` of its object.
-fn write_resolved_alerts(
-    out: &mut Writer,
+/// Appends the resolved alerts of a notification.
+fn push_resolved_alerts(
+    out: &mut String,
     alloc: Global,
     alerts: &[ResolvedAlert],
 ) -> Result<(), AllocError>
-    ensures { OnOk result (Adds out.old out.new
-        (member_tokens (codes "resolved") (array (items_of (map resolved_data alerts.now))))) }
+    ensures { OnOk result (string_bytes out.new ≡ string_bytes out.old
+        ++ compact_text (array (items_of (map resolved_data alerts.now)))) }
 {
-    out.key("resolved")?;
-    out.begin_array()?;
+    out.push('[')?;
+    let mut later = false;
     for alert in alerts {
-        write_resolved_alert(out, alloc, alert)?;
+        push_comma(out, later)?;
+        push_resolved_alert(out, alloc, alert)?;
+        later = true;
     }
-    out.end_array()
+    out.push(']')?;
+    Ok(())
 }
 
-/// Writes a firing alert.
-fn write_firing_alert(
-    out: &mut Writer,
-    alloc: Global,
-    alert: &FiringAlert,
-) -> Result<(), AllocError>
-    ensures { OnOk result (Adds out.old out.new (data_tokens (firing_data alert.now))) }
+/// Appends a firing alert.
+fn push_firing_alert(out: &mut String, alloc: Global, alert: &FiringAlert) -> Result<(), AllocError>
+    ensures { OnOk result (string_bytes out.new
+        ≡ string_bytes out.old ++ compact_text (firing_data alert.now)) }
 {
-    out.begin_object()?;
-    write_annotations(out, &alert.annotations)?;
-    write_labels(out, "labels", &alert.labels)?;
-    write_moment_member(out, alloc, "startsAt", alert.starts_at)?;
-    out.end_object()
+    out.push_str("{\"annotations\":")?;
+    push_texts(out, alloc, alert.annotations.entries())?;
+    out.push_str(",\"labels\":")?;
+    push_labels(out, alloc, &alert.labels)?;
+    out.push_str(",\"startsAt\":\"")?;
+    push_moment(out, alert.starts_at)?;
+    out.push_str("\"}")
 }
 
-/// Writes a resolved alert.
-fn write_resolved_alert(
-    out: &mut Writer,
+/// Appends a resolved alert.
+fn push_resolved_alert(
+    out: &mut String,
     alloc: Global,
     alert: &ResolvedAlert,
 ) -> Result<(), AllocError>
-    ensures { OnOk result (Adds out.old out.new (data_tokens (resolved_data alert.now))) }
+    ensures { OnOk result (string_bytes out.new
+        ≡ string_bytes out.old ++ compact_text (resolved_data alert.now)) }
 {
-    out.begin_object()?;
-    write_annotations(out, &alert.annotations)?;
-    write_moment_member(out, alloc, "endsAt", alert.ends_at)?;
-    write_labels(out, "labels", &alert.labels)?;
-    write_moment_member(out, alloc, "startsAt", alert.starts_at)?;
-    out.end_object()
+    out.push_str("{\"annotations\":")?;
+    push_texts(out, alloc, alert.annotations.entries())?;
+    out.push_str(",\"endsAt\":\"")?;
+    push_moment(out, alert.ends_at)?;
+    out.push_str("\",\"labels\":")?;
+    push_labels(out, alloc, &alert.labels)?;
+    out.push_str(",\"startsAt\":\"")?;
+    push_moment(out, alert.starts_at)?;
+    out.push_str("\"}")
 }

@@ -6,4 +6,4 @@ pub end_line-requires : goal.end_line-requires
 end_line-requires c = c.in_ok-write_group.ensures.before ∙ c.in_ok-out.ensures.0
 
 pub returns : goal.returns
-returns c = line_of_more _ _ _ _ _ c.in_ok-out.ensures.1 c.in_ok-write_group.ensures c.end_line.ensures.line
+returns c = line_of_more _ _ _ _ _ c.in_ok-out.ensures.1 c.in_ok-write_group.ensures c.end_line.ensures
