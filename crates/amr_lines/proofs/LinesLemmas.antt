@@ -3,6 +3,7 @@ pub mod Floats
 pub mod LineParts
 pub mod ObjectMembers
 pub mod Tokens
+pub mod Plain
 pub mod Pushed
 pub mod MomentTexts
 pub mod NotificationTexts

@@ -7,7 +7,7 @@ ghost use Rattle.serde_json.specs.Written.{compact_text, comma_if};
 ghost use Rattle.amr_labels.specs.Labels.{text_cmp};
 ghost use Rattle.amr_lines.specs.Lines.Printed.{texts_data, labels_data};
 
-use crate::lines::plain::is_plain;
+use crate::lines::plain::needs_no_escape;
 use amr_labels::{Labels, Text};
 use itoa::Buffer;
 use json::Writer;
@@ -76,7 +76,7 @@ pub(crate) fn push_comma(out: &mut String, later: bool) -> Result<(), AllocError
 pub(crate) fn push_string(out: &mut String, alloc: Global, text: &str) -> Result<(), AllocError>
     ensures { OnOk result (string_bytes out.new ≡ string_bytes out.old ++ quoted text.now) }
 {
-    if is_plain(text.as_bytes()) {
+    if needs_no_escape(text.as_bytes()) {
         push_plain(out, text)
     } else {
         push_escaped(out, alloc, text)
