@@ -74,7 +74,8 @@ fn prepared_lines(
 
 /// Executes a query.
 pub(crate) fn list(alloc: Global, session: &mut Session, query: &Query) -> Answer
-    ensures { AnsweredBy session.old session.new (Asks (command.Query query.now)) result }
+    ensures same { session.new ≡ session.old }
+    ensures answered { AnsweredBy session.old session.new (Asks (command.Query query.now)) result }
 {
     let cursor = session.cursor();
     match prepared_lines(alloc, session, cursor, query) {
