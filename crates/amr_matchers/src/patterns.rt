@@ -1,6 +1,6 @@
 //! Patterns that were built before. Building a pattern takes far longer than finding it again, and
 //! reloads and silences repeat patterns, so a script is read with one memory of them.
-ghost use Rattle.std.specs.Prelude.{◌≡◌, IfOk, IfSome, IsErrOf};
+ghost use Rattle.std.specs.Prelude.{◌≡◌, IfOk, IsErrOf};
 ghost use Rattle.amr_matchers.specs.Patterns.{MayRefuse};
 ghost use Rattle.amr_matchers.specs.declared.pattern.MatcherError.TheVariants.{BadPattern};
 
@@ -54,9 +54,11 @@ impl Patterns {
         ensures read { IfOk result (λ shared. shared ≡ text) }
         ensures refused { IsErrOf result BadPattern → MayRefuse text }
     {
-        let pattern = Pattern::new(self.alloc, text.clone()?)?;
+        let own = text.clone()?;
+        let pattern = Pattern::new(self.alloc, text)?;
         let shared = Shared::new(self.alloc, pattern)?;
-        self.built.insert(text, shared.clone()?)?;
+        let kept = shared.clone()?;
+        self.built.insert(own, kept)?;
         Ok(shared)
     }
 }

@@ -1,12 +1,15 @@
-use Rattle.std.proofs.Common.{◌∙◌}
+use Rattle.std.proofs.Common.{◌∙◌, sym, rules, arith}
+use Rattle.std.proofs.lemmas.Grind.{common_steps}
 use Rattle.amr_matchers.proofs.BuiltPatterns.{one_more, as_before}
 use Rattle.amr_matchers.proofs.patterns.Patterns.build.Goals as goal
 
-pub invariant_of-self-in_err-insert : goal.invariant_of-self-in_err-insert
-invariant_of-self-in_err-insert c =
+pub invariant_of-self : goal.invariant_of-self
+invariant_of-self c =
     as_before c.self.inside.built c.insert.new.self c.self.invariant c.in_err-insert.ensures.err
 
 pub invariant_of-self-2 : goal.invariant_of-self-2
 invariant_of-self-2 c =
-    one_more c.self.inside.built c.insert.new.self c.args.text c.in_ok-clone-2.field-0 c.self.invariant
-      (c.in_ok-clone-2.ensures.cases ∙ c.in_ok-shared.ensures ∙ c.in_ok-pattern.ensures.read ∙ c.in_ok-clone.ensures.cases) c.in_ok-insert.ensures.entries
+    let is_own = c.in_ok-own.ensures.cases in
+    let view_is = c.text.view_is in
+    one_more c.self.inside.built c.insert.new.self c.in_ok-own.own _ c.self.invariant
+      (c.in_ok-kept.ensures.cases ∙ c.in_ok-shared.ensures ∙ c.in_ok-pattern.ensures.read ∙ first_of (cc, search rules, grind (arith, common_steps))) c.in_ok-insert.ensures.entries
