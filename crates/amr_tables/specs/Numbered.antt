@@ -6,7 +6,7 @@ use Rattle.std.specs.declared.cmp.Ordering.{Ordering}
 use Rattle.std.specs.Ordering.{eq_by_cmp}
 use Rattle.std.specs.FinMap.{find, is_sorted}
 use Rattle.std.specs.Coded.{Coded, code_by, coded×, coded_ℕ, coded_bool, coded_list, coded_option}
-use Rattle.amr_labels.specs.Map.{Map, from_sorted, get, len}
+use Rattle.amr_labels.specs.Map.{Map, from_sorted, get, set, len}
 use Rattle.amr_tables.specs.Places.{value_at}
 use Rattle.amr_tables.specs.Marked.{is_marked}
 
@@ -71,6 +71,19 @@ module _ {K V : Type 0} where
     abbrev pub IsValueOf : Numbered K V → ℕ → Option V → Type 0
     IsValueOf t n value = (key : K) → number_of t key ≡ Some n → value ≡ get (shown t) key
 
+    -- a key has this number
+    abbrev pub IsNumber : Numbered K V → ℕ → Type 0
+    IsNumber t n = (key : K) × (number_of t key ≡ Some n)
+
+    -- the truth value says whether the place of the key with this number is marked
+    abbrev pub IsMarkOf : Numbered K V → ℕ → Bool → Type 0
+    IsMarkOf t n marked = (key : K) → number_of t key ≡ Some n → marked ≡ is_entered t key
+
+    -- the key with this number has the value in the second table, or none, and each other key keeps
+    -- its own
+    abbrev pub IsSetAt : Numbered K V → ℕ → Option V → Numbered K V → Type 0
+    IsSetAt old n value changed = (key : K) → number_of old key ≡ Some n → shown changed ≡ set (shown old) key value
+
     -- the same keys have places
     abbrev pub SamePlaces : Numbered K V → Numbered K V → Type 0
     SamePlaces old changed = (key : K) → has_place changed key ≡ has_place old key
@@ -86,6 +99,10 @@ module _ {K V : Type 0} where
     -- the key's place is marked, and so is each that was marked before
     abbrev pub Enters : Numbered K V → Numbered K V → K → Type 0
     Enters old changed key = (other : K) → is_entered changed other ≡ (eq_by_cmp R other key || is_entered old other)
+
+    -- the place of the key with this number is marked, and so is each that was marked before
+    abbrev pub EntersAt : Numbered K V → ℕ → Numbered K V → Type 0
+    EntersAt old n changed = (key : K) → number_of old key ≡ Some n → Enters old changed key
 
     -- at most n keys are added, and none is lost
     abbrev pub GrowsBy : ℕ → Numbered K V → Numbered K V → Type 0

@@ -6,7 +6,7 @@ ghost use Rattle.std.specs.Option.{option_copied};
 ghost use Rattle.std.specs.FinMap.{IsAntisymmetric};
 ghost use Rattle.amr_labels.specs.Map as map;
 ghost use Rattle.amr_tables.specs.Places.{value_at};
-ghost use Rattle.amr_tables.specs.Numbered.{shown, has_place, is_entered, entry_of, next_number, Enters, KeepsPlaces, GetsPlace, GetsNumber, IsValueOf, SamePlaces, SameEntered, NoneEntered, IsUnchanged, GrowsBy, HasPlaces, places_for};
+ghost use Rattle.amr_tables.specs.Numbered.{shown, has_place, is_entered, entry_of, next_number, number_of, Enters, KeepsPlaces, GetsPlace, GetsNumber, IsValueOf, IsNumber, IsMarkOf, IsSetAt, EntersAt, SamePlaces, SameEntered, NoneEntered, IsUnchanged, GrowsBy, HasPlaces, places_for};
 
 use crate::entries::Entries;
 use crate::journal::Journal;
@@ -113,11 +113,38 @@ impl<K: Key + Drop, V: Drop> Keyed<K, V> {
         }
     }
 
+    /// Returns the number of a key, if it has a place, and its value. With the number, `exchange_at`
+    /// and `exchange_placed` need not look for the key again.
+    pub fn look_up_number(&self, key: &K) -> (Option<usize>, Option<&V>)
+        ensures number { result.0 ≡ number_of K.cmp self.now key.now }
+        ensures value { option_copied result.1 ≡ map.get (shown K.cmp self.now) key.now }
+    {
+        match self.numbers.get(key) {
+            None => (None, None),
+            Some(number) => (Some(number), self.slots.look(number)),
+        }
+    }
+
+    /// Returns the number of a key, if it has a place.
+    fn number_of(&self, key: &K) -> Option<usize>
+        ensures { result ≡ number_of K.cmp self.now key.now }
+    {
+        self.numbers.get(key)
+    }
+
     /// Returns the number that the next new key gets.
     pub fn next_number(&self) -> usize
         ensures { result ≡ next_number self.now }
     {
         self.slots.len()
+    }
+
+    /// Returns whether the place of the key with a number is marked as entered. It compares no keys.
+    pub fn is_entered_at(&self, number: usize) -> bool
+        requires { IsNumber K.cmp self.now number }
+        ensures { IsMarkOf K.cmp self.now number result }
+    {
+        self.entered.is_marked(number)
     }
 
     /// Returns the value at a place. It compares no keys, so it is faster than `get`.
@@ -182,37 +209,28 @@ impl<K: Key + Drop, V: Drop> Keyed<K, V> {
         ensures keys { self.new.numbers ≡ self.old.numbers }
         ensures enough { HasPlaces K.cmp self.new }
     {
-        match self.try_exchange(key, value) {
-            Ok(was) => was,
-            Err(_) => unreachable!(),
+        match self.number_of(key) {
+            Some(number) => self.exchange_at(number, value),
+            None => unreachable!(),
         }
     }
 
-    /// Sets or removes the value of a key, and marks its place as entered. Returns the former
-    /// value, and whether the place was marked before. It takes no memory. Fails with the new
-    /// value, and changes nothing, if the key has no place.
-    fn try_exchange(&mut self, key: &K, value: Option<V>) -> Result<(Option<V>, bool), Option<V>>
-        ensures answer { IfOk result (λ was. was.0 ≡ map.get (shown K.cmp self.old) key.now) }
-        ensures was_entered { IfOk result (λ was. was.1 ≡ is_entered K.cmp self.old key.now) }
-        ensures shown { OnOk result
-            (shown K.cmp self.new ≡ map.set (shown K.cmp self.old) key.now value) }
-        ensures there { OnOk result (IsTrue (has_place K.cmp self.old key.now)) }
+    /// Sets or removes the value of the key with a number, and marks its place as entered. Returns
+    /// the former value, and whether the place was marked before. It compares no keys and takes no
+    /// memory.
+    pub fn exchange_at(&mut self, number: usize, value: Option<V>) -> (Option<V>, bool)
+        requires { IsNumber K.cmp self.old number }
+        ensures answer { IsValueOf K.cmp self.old number result.0 }
+        ensures was_entered { IsMarkOf K.cmp self.old number result.1 }
+        ensures shown { IsSetAt K.cmp self.old number value self.new }
         ensures places { SamePlaces K.cmp self.old self.new }
-        ensures entered { OnOk result (Enters K.cmp self.old self.new key.now) }
+        ensures entered { EntersAt K.cmp self.old number self.new }
         ensures keys { self.new.numbers ≡ self.old.numbers }
-        ensures enough { OnOk result (HasPlaces K.cmp self.new) }
-        ensures back { IfErr result (λ back. back ≡ value) }
-        ensures absent { OnErr result (has_place K.cmp self.old key.now ≡ false) }
-        ensures same { OnErr result (self.new ≡ self.old) }
+        ensures enough { HasPlaces K.cmp self.new }
     {
-        match self.numbers.get(key) {
-            Some(number) => {
-                let was_entered = self.entered.is_marked(number);
-                self.entered.mark(number);
-                Ok((self.slots.displace(number, value), was_entered))
-            }
-            None => Err(value),
-        }
+        let was_entered = self.entered.is_marked(number);
+        self.entered.mark(number);
+        (self.slots.displace(number, value), was_entered)
     }
 
     /// Clears the marks of all places. It takes no memory.
@@ -255,20 +273,24 @@ pub fn change<K: Key + Drop, V: Drop, E>(
 {
     journal.reserve_entry()?;
     let copy = key.clone()?;
-    let (was, was_entered) = exchange_placed(table, key, value)?;
+    let number = table.number_of(key);
+    let (was, was_entered) = exchange_placed(table, key, number, value)?;
     if was_entered {
         return Ok(None);
     }
     Ok(Some((copy, was)))
 }
 
-/// Sets or removes the value of a key, and marks its place as entered. It makes a place for a new
-/// key. Returns the former value, and whether the place was marked before.
-fn exchange_placed<K: Key + Drop, V: Drop>(
+/// Sets or removes the value of a key that has this number, if it has one, and marks its place as
+/// entered. It makes a place for a new key. Returns the former value, and whether the place was
+/// marked before.
+pub fn exchange_placed<K: Key + Drop, V: Drop>(
     table: &mut Keyed<K, V>,
     key: &K,
+    number: Option<usize>,
     value: Option<V>,
 ) -> Result<(Option<V>, bool), AllocError>
+    requires { number ≡ number_of K.cmp table.old key.now }
     ensures answer { IfOk result (λ was. was.0 ≡ map.get (shown K.cmp table.old) key.now) }
     ensures was_entered { IfOk result (λ was. was.1 ≡ is_entered K.cmp table.old key.now) }
     ensures shown { OnOk result (shown K.cmp table.new
@@ -284,9 +306,9 @@ fn exchange_placed<K: Key + Drop, V: Drop>(
     ensures numbers { IsTrue (has_place K.cmp table.old key.now)
         → table.new.numbers ≡ table.old.numbers }
 {
-    match table.try_exchange(key, value) {
-        Ok(was) => Ok(was),
-        Err(value) => {
+    match number {
+        Some(number) => Ok(table.exchange_at(number, value)),
+        None => {
             table.make_place(key.clone()?)?;
             Ok(table.exchange(key, value))
         }

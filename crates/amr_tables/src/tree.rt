@@ -1,7 +1,7 @@
 //! A balanced tree of sorted items. Adding and removing an item takes a number of steps that grows
 //! with the logarithm of the length. Calls nest as deep as the tree is high, at most about twice
 //! that logarithm. `queue.rt` is its only caller.
-ghost use Rattle.std.specs.Prelude.{◌≡◌, ◌+◌, ◌^◌, ◌<◌, ◌≤◌, [], ◌∷◌, ◌++◌, length, max, OnOk, MatchOption, is_some, slice_get, false};
+ghost use Rattle.std.specs.Prelude.{◌≡◌, ◌==◌, not, ◌+◌, ◌^◌, ◌<◌, ◌≤◌, [], ◌∷◌, ◌++◌, length, max, OnOk, MatchOption, is_some, slice_get, false};
 ghost use Rattle.std.specs.List.Sorted.{IsStrictlySortedBy};
 ghost use Rattle.std.specs.Option.{option_copied};
 ghost use Rattle.std.specs.BTreeSet.{insert_key};
@@ -132,6 +132,7 @@ pub(crate) fn list_part<'a, D: InParts>(
 
 /// Moves the right side of a tree, which is higher by two, up to the root. It moves no item in
 /// memory.
+#[inline(never)]
 fn lift_right<D: Drop>(root: &mut Option<Box<Node<D>>>)
     requires near { IsNearlyBalanced root.old }
     requires two_higher { (sides_of root.old).1 ≡ (sides_of root.old).0 + 2 }
@@ -198,6 +199,7 @@ fn lift_right<D: Drop>(root: &mut Option<Box<Node<D>>>)
 
 /// Moves the left side of a tree, which is higher by two, up to the root. It moves no item in
 /// memory.
+#[inline(never)]
 fn lift_left<D: Drop>(root: &mut Option<Box<Node<D>>>)
     requires near { IsNearlyBalanced root.old }
     requires two_higher { (sides_of root.old).0 ≡ (sides_of root.old).1 + 2 }
@@ -263,6 +265,7 @@ fn lift_left<D: Drop>(root: &mut Option<Box<Node<D>>>)
 }
 
 /// Restores the balance and the stored height of a tree after one of its sides has changed.
+#[inline]
 fn rebalance<D: Drop>(root: &mut Option<Box<Node<D>>>)
     requires { IsNearlyBalanced root.old }
     ensures list { (root_view root.new).0 ≡ (root_view root.old).0 }
@@ -300,8 +303,24 @@ fn rebalance_after<D: Drop>(root: &mut Option<Box<Node<D>>>, before: usize, afte
     ensures height { IsHeightOf (sides_of root.old).0 (sides_of root.old).1 (root_view root.new).1 }
     ensures balanced { IsBalancedRoot root.new }
 {
-    if before != after {
-        return rebalance(root);
+    rebalance_if(root, before != after);
+}
+
+/// Restores the balance and the stored height of a tree after a side of it has changed, if the
+/// height of that side has. Else it writes nothing. Returns whether the height of the tree has
+/// changed.
+fn rebalance_if<D: Drop>(root: &mut Option<Box<Node<D>>>, has_changed: bool) -> bool
+    requires near { IsNearlyBalanced root.old }
+    requires right { has_changed ≡ false → HasRightHeight root.old }
+    ensures list { (root_view root.new).0 ≡ (root_view root.old).0 }
+    ensures height { IsHeightOf (sides_of root.old).0 (sides_of root.old).1 (root_view root.new).1 }
+    ensures balanced { IsBalancedRoot root.new }
+    ensures changed { result ≡ not ((root_view root.new).1 == (root_view root.old).1) }
+{
+    if has_changed {
+        let before = stored_height(root);
+        rebalance(root);
+        return stored_height(root) != before;
     }
     let Some(node) = root else { unreachable!() };
     let Node::Fork {
@@ -314,6 +333,20 @@ fn rebalance_after<D: Drop>(root: &mut Option<Box<Node<D>>>, before: usize, afte
         unreachable!()
     };
     prove!(*height == left.height().max(right.height()) + 1);
+    false
+}
+
+/// Returns the height that the root of a tree stores.
+fn stored_height<D: Drop>(root: &Option<Box<Node<D>>>) -> usize
+    ensures { result ≡ (root_view root.now).1 }
+{
+    match root {
+        None => 0,
+        Some(node) => match &**node {
+            Node::Spare => 0,
+            Node::Fork { height, .. } => *height,
+        },
+    }
 }
 
 /// Adds an item to a tree, in order. It uses the memory that is given.
@@ -334,8 +367,9 @@ pub(crate) fn put<D: Ord + Drop>(tree: &mut Tree<D>, mut memory: Box<Node<D>>, i
     put_leaf(tree, memory);
 }
 
-/// Adds the item of a node without sides to a tree, in order. It moves no item in memory.
-fn put_leaf<D: Ord + Drop>(tree: &mut Tree<D>, leaf: Box<Node<D>>)
+/// Adds the item of a node without sides to a tree, in order. It moves no item in memory. Returns
+/// whether the tree is higher than before.
+fn put_leaf<D: Ord + Drop>(tree: &mut Tree<D>, leaf: Box<Node<D>>) -> bool
     requires sorted { IsStrictlySortedBy D.cmp tree.old.0 }
     requires leaf { IsLeaf leaf.value }
     requires absent { IsAbsent D.cmp tree.old.0 leaf.value }
@@ -343,12 +377,16 @@ fn put_leaf<D: Ord + Drop>(tree: &mut Tree<D>, leaf: Box<Node<D>>)
     ensures list { IsPut D.cmp tree.old.0 leaf.value tree.new.0 }
     ensures longer { length tree.new.0 ≡ length tree.old.0 + 1 }
     ensures height { (tree.old.1 ≤ tree.new.1) × (tree.new.1 ≤ tree.old.1 + 1) }
+    ensures higher { result ≡ not (tree.new.1 == tree.old.1) }
 {
     let Node::Fork { item, .. } = &*leaf else {
         unreachable!()
     };
     match &mut tree.root {
-        None => *tree = Tree { root: Some(leaf) },
+        None => {
+            *tree = Tree { root: Some(leaf) };
+            true
+        }
         Some(node) => match &mut **node {
             Node::Spare => unreachable!(),
             Node::Fork {
@@ -358,15 +396,11 @@ fn put_leaf<D: Ord + Drop>(tree: &mut Tree<D>, leaf: Box<Node<D>>)
                 ..
             } => {
                 if item.cmp(other).is_lt() {
-                    let before = left.height();
-                    put_leaf(left, leaf);
-                    let after = left.height();
-                    rebalance_after(&mut tree.root, before, after);
+                    let is_higher = put_leaf(left, leaf);
+                    rebalance_if(&mut tree.root, is_higher)
                 } else {
-                    let before = right.height();
-                    put_leaf(right, leaf);
-                    let after = right.height();
-                    rebalance_after(&mut tree.root, before, after);
+                    let is_higher = put_leaf(right, leaf);
+                    rebalance_if(&mut tree.root, is_higher)
                 }
             }
         },
