@@ -1,4 +1,4 @@
-use Rattle.std.proofs.Common.{◌≡◌, true, false, None, Some, refl, sym, ap, subst, ◌∙◌, is_some, IsTrue}
+use Rattle.std.proofs.Common.{refl, sym, ap, subst, ◌∙◌, is_some, IsTrue}
 use Rattle.amr_tables.specs.Numbered.{has_place}
 use Rattle.amr_tables.proofs.keyed.exchange_placed.Goals as goal
 

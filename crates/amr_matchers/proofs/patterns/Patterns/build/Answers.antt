@@ -12,4 +12,4 @@ invariant_of-self-2 c =
     let is_own = c.in_ok-own.ensures.cases in
     let view_is = c.text.view_is in
     one_more c.self.inside.built c.insert.new.self c.in_ok-own.own _ c.self.invariant
-      (c.in_ok-kept.ensures.cases ∙ c.in_ok-shared.ensures ∙ c.in_ok-pattern.ensures.read ∙ first_of (cc, search rules, grind (arith, common_steps))) c.in_ok-insert.ensures.entries
+    (c.in_ok-kept.ensures.cases ∙ c.in_ok-shared.ensures ∙ c.in_ok-pattern.ensures.read ∙ first_of (cc, search rules, grind (arith, common_steps))) c.in_ok-insert.ensures.entries

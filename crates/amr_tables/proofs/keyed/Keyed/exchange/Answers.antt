@@ -1,4 +1,4 @@
-use Rattle.std.proofs.Common.{◌≡◌, true, false, None, Some, sym, ap, subst, ◌∙◌, is_some, IsTrue}
+use Rattle.std.proofs.Common.{◌≡◌, true, false, sym, ap, subst, ◌∙◌, is_some, IsTrue}
 use Rattle.amr_tables.specs.Numbered.{has_place}
 use Rattle.amr_tables.proofs.keyed.Keyed.exchange.Goals as goal
 
