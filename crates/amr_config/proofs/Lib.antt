@@ -1,7 +1,9 @@
+pub mod Alike
 pub mod Chosen
 pub mod Inherited
 pub mod Lines
 pub mod Ranges
 pub mod Remembered
+pub mod RuleNames
 pub mod Settling
 pub mod Sorting

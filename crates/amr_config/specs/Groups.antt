@@ -1,12 +1,13 @@
 -- The groups that take an alert.
 use Rattle.std.specs.Prelude.{◌≡◌, ℕ, List, Some, map}
 use Rattle.amr_labels.specs.Labels.{LabelSet, label_set_cmp}
-use Rattle.amr_labels.specs.Map.{get}
+use Rattle.amr_labels.specs.Map.{Map, get}
 use Rattle.amr_tables.specs.Numbered.{Numbered, shown}
 use Rattle.amr_config.specs.declared.router.Known.{Known}
 use Rattle.amr_config.specs.declared.router.RouteGroup.{RouteGroup}
 use Rattle.amr_stated.specs.Config.{Config}
 use Rattle.amr_config.specs.Routing.{chosen, group_of}
+use Rattle.amr_stated.specs.declared.rule_sides.RuleMatch.{RuleMatch}
 use Rattle.amr_stated.specs.RuleMatches.{rule_matches}
 
 -- the group of an alert with these labels at a route
@@ -28,6 +29,10 @@ Remembers answer known = (labels : LabelSet) (found : _) → get (shown label_se
 -- what is remembered of a label set are its groups, and the sides of the rules that it is on
 abbrev pub IsKnown : Config → Numbered LabelSet Known → Type 0
 IsKnown config known = Remembers (known_of config) known
+
+-- what is remembered of a label set are the sides of the rules that it is on
+abbrev pub AreSides : Config → Map label_set_cmp (List RuleMatch) → Type 0
+AreSides config sides = (labels : LabelSet) (found : _) → get sides labels ≡ Some found → found ≡ rule_matches labels config.rules
 
 -- group labels are kept under themselves
 abbrev pub AreUnderThemselves : Numbered LabelSet LabelSet → Type 0

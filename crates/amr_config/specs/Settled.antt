@@ -1,5 +1,5 @@
 -- The settings of each route, its own and inherited ones.
-use Rattle.std.specs.Prelude.{◌≡◌, ℕ, ◌<◌, ◌*◌, List, [], ◌∷◌, ◌++◌, map, Option, Some, None, slice_get, unwrap_or}
+use Rattle.std.specs.Prelude.{◌≡◌, ℕ, ◌<◌, ◌*◌, List, [], ◌∷◌, ◌++◌, map, Option, Some, None, slice_get, unwrap_or, IfSome}
 use Rattle.std.specs.Option.{option_map_or, option_or}
 use Rattle.std.specs.List.{range_with_len}
 use Rattle.amr_matchers.specs.Matchers.{Matcher}
@@ -10,6 +10,7 @@ use Rattle.amr_config.specs.declared.settings.Settings.{Settings}
 use Rattle.amr_config.specs.declared.config.Parts.{Parts}
 use Rattle.amr_stated.specs.declared.stated.Stated.{Stated}
 use Rattle.amr_stated.specs.Config.{Config}
+use Rattle.amr_config.specs.RuleNames.{AreNamesOf}
 use Rattle.amr_config.specs.Routing.{route_numbers, route_is, parent_of, inherited, group_wait_of, group_interval_of, repeat_interval_of, receiver_name_of, active_intervals_of, mute_intervals_of, path_of, sorted_matchers}
 
 -- the settings of the route with this number; the defaults if there is no such route
@@ -45,6 +46,7 @@ AreParentsFirst config = (n parent : ℕ) → parent_of config n ≡ Some parent
 pub record AreSettled (parts : Parts) : Type 0 where
   pub settings : parts.settings ≡ settled (config_of_parts parts)
   pub parents : AreParentsFirst (config_of_parts parts)
+  pub rule_names : IfSome parts.rule_names (AreNamesOf parts.stated.rules)
 
 -- the receiver of a route, given its parent's settings, if it has a parent
 abbrev pub receiver_under : Route → Option Settings → List ℕ

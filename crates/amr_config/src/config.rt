@@ -1,30 +1,34 @@
 //! A configuration that was read and validated, with the settings of each route resolved. The
 //! engine asks it for routing, grouping, timing and receivers. Its content is shared, so a clone is
 //! cheap.
-ghost use Rattle.std.specs.Prelude.{◌≡◌, ℕ, ◌<◌, ◌≤◌, length, IfOk, MatchOption, map};
+ghost use Rattle.std.specs.Prelude.{◌≡◌, ℕ, ◌<◌, ◌≤◌, length, IfOk, IfSome, MatchOption, map};
 ghost use Rattle.std.specs.Option.{option_copied};
 ghost use Rattle.std.specs.Ordering.{eq_by_cmp};
 ghost use Rattle.std.specs.List.{find, list_any};
 ghost use Rattle.amr_labels.specs.Labels.{text_cmp};
 ghost use Rattle.amr_config.specs.Routing.{group_wait_of, group_interval_of, repeat_interval_of, receiver_name_of, integrations_of, path_of, group_of, grouped_by, is_within, is_active_at, is_muted_at};
+ghost use Rattle.amr_config.specs.RuleNames.{kept_for};
 ghost use Rattle.amr_config.specs.Settled.{settings_of, stated_config, AreParentsFirst};
 
 use crate::inherit::inherit;
+use crate::rule_names::rule_names;
 use crate::settings::Settings;
 use amr_labels::{Exact, Labels, Listing, Text};
 use amr_matchers::Matchers;
-use amr_stated::{Grouping, InhibitRule, Integration, NamedInterval, Receiver, Stated};
+use amr_stated::{Grouping, InhibitRule, Integration, NamedInterval, Receiver, Route, Stated};
 use amr_time::{Moment, Span};
 use std::alloc::{AllocError, Global};
 use std::cmp::Ordering;
 use std::marker::Model;
 use std::rc::Rc;
 
-/// The content of a configuration: what the file says, and the resolved settings of each route.
+/// The content of a configuration: what the file says, the resolved settings of each route, and the
+/// names of the labels that the rules' matchers name.
 #[derive(Drop)]
 pub(crate) struct Parts {
     pub(crate) stated: Stated,
     pub(crate) settings: Listing<Settings>,
+    pub(crate) rule_names: Option<Listing<Text>>,
 }
 
 /// A configuration. Clones share its content.
@@ -68,8 +72,14 @@ impl Config {
         ensures { IfOk result (λ config. config ≡ stated_config stated) }
     {
         let settings = inherit(alloc, &stated)?;
+        let rule_names = rule_names(alloc, stated.rules.as_slice())?;
+        let parts = Parts {
+            stated,
+            settings,
+            rule_names,
+        };
         Ok(Config {
-            shared: Rc::new(alloc, Parts { stated, settings })?,
+            shared: Rc::new(alloc, parts)?,
         })
     }
 
@@ -101,6 +111,29 @@ impl Config {
         ensures { result.now ≡ self.now.rules }
     {
         self.shared.stated.rules.as_slice()
+    }
+
+    /// Returns the labels that matchers of the inhibition rules name. Returns `None` if it is better
+    /// to ask the rules for each label set.
+    pub(crate) fn kept_for_rules(
+        &self,
+        alloc: Global,
+        labels: &Labels,
+    ) -> Result<Option<Labels>, AllocError>
+        ensures { IfOk result (λ found. IfSome found (λ kept.
+            kept ≡ kept_for self.now.rules labels.now)) }
+    {
+        match &self.shared.rule_names {
+            Some(names) => Ok(Some(labels.kept_by_names(alloc, names.as_slice())?)),
+            None => Ok(None),
+        }
+    }
+
+    /// Returns the routes, in preorder.
+    pub(crate) fn routes(&self) -> &[Route]
+        ensures { result.now ≡ self.now.routes }
+    {
+        self.shared.stated.routes.as_slice()
     }
 
     /// Returns how long after its post an alert without an end is resolved (`resolve_timeout`).

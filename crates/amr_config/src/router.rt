@@ -8,7 +8,7 @@ ghost use Rattle.amr_stated.specs.RuleMatches.{rule_matches};
 
 use crate::config::Config;
 use crate::group_labels::GroupLabels;
-use amr_labels::{Labels, Listing, Shared};
+use amr_labels::{LabelMap, Labels, Listing, Shared};
 use amr_matchers::Answers;
 use amr_stated::{RuleMatch, rule_matches, rule_matches_remembered};
 use amr_tables::Keyed;
@@ -27,6 +27,8 @@ pub struct Router {
     /// The group labels that were made, which equal groups share.
     group_labels: GroupLabels,
     known: Keyed<Labels, Known>,
+    /// The sides of the rules, by the labels that the rules' matchers name.
+    sides: LabelMap<Shared<Listing<RuleMatch>>>,
 }
 
 /// What is remembered of a label set: its groups, and the sides of the inhibition rules that it is
@@ -47,13 +49,14 @@ pub struct RouteGroup {
 
 impl Model for Router {
     ghost use Rattle.amr_stated.specs.Config.{Config};
-    ghost use Rattle.amr_config.specs.Groups.{IsKnown};
+    ghost use Rattle.amr_config.specs.Groups.{IsKnown, AreSides};
 
     ghost Value = { Config };
 
     ghost view = { λ router. router.config };
 
-    ghost invariant = { λ router. IsKnown router.config router.known };
+    ghost invariant = { λ router. IsKnown router.config router.known
+        × AreSides router.config router.sides };
 }
 
 impl Router {
@@ -67,6 +70,7 @@ impl Router {
             answers: Answers::new(alloc),
             group_labels: GroupLabels::new(alloc),
             known: Keyed::new(alloc),
+            sides: LabelMap::new(alloc),
         }
     }
 
@@ -101,13 +105,18 @@ impl Router {
     }
 
     /// Swaps what doesn't depend on the configuration with another router: what patterns answered,
-    /// and the group labels that were made. So a reload, and undoing it, lose neither.
+    /// and the group labels that were made. If the two configurations are alike, it also swaps the
+    /// groups and the sides of each label set. So a reload, and undoing it, lose none of these.
     pub fn swap_answers(&mut self, other: &mut Router)
         ensures same { self.new ≡ self.old }
         ensures other { other.new ≡ other.old }
     {
         mem::swap(&mut self.answers, &mut other.answers);
         mem::swap(&mut self.group_labels, &mut other.group_labels);
+        if self.config.is_alike(&other.config) {
+            mem::swap(&mut self.known, &mut other.known);
+            mem::swap(&mut self.sides, &mut other.sides);
+        }
     }
 
     /// Works out which sides of the configuration's inhibition rules these labels are on.
@@ -146,10 +155,43 @@ impl Router {
         requires { groups ≡ groups_of self.old labels.now }
         ensures { self.new ≡ self.old }
     {
-        let rules = sides_of(self.alloc, &self.config, &mut self.answers, labels)?;
+        let rules = self.sides_of(labels)?;
         self.known.make_place(labels.clone()?)?;
         self.known.displace(labels, Some(Known { groups, rules }));
         Ok(())
+    }
+
+    /// Returns which sides of the inhibition rules these labels are on. It asks the matchers once
+    /// for all label sets that have the same of the labels that the matchers name.
+    fn sides_of(&mut self, labels: &Labels) -> Result<Shared<Listing<RuleMatch>>, AllocError>
+        ensures sides { IfOk result (λ found. found ≡ rule_matches labels.now self.old.rules) }
+        ensures same { self.new ≡ self.old }
+    {
+        match self.config.kept_for_rules(self.alloc, labels)? {
+            Some(kept) => self.sides_of_kept(kept),
+            None => sides_of(self.alloc, &self.config, &mut self.answers, labels),
+        }
+    }
+
+    /// Returns which sides of the inhibition rules these labels are on, remembered or worked out.
+    fn sides_of_kept(&mut self, kept: Labels) -> Result<Shared<Listing<RuleMatch>>, AllocError>
+        ensures sides { IfOk result (λ found. found ≡ rule_matches kept self.old.rules) }
+        ensures same { self.new ≡ self.old }
+    {
+        match self.sides.get(&kept) {
+            Some(sides) => sides.clone(),
+            None => self.learn_sides(kept),
+        }
+    }
+
+    /// Works out which sides of the inhibition rules these labels are on, and remembers them.
+    fn learn_sides(&mut self, kept: Labels) -> Result<Shared<Listing<RuleMatch>>, AllocError>
+        ensures sides { IfOk result (λ found. found ≡ rule_matches kept self.old.rules) }
+        ensures same { self.new ≡ self.old }
+    {
+        let sides = sides_of(self.alloc, &self.config, &mut self.answers, &kept)?;
+        self.sides.insert(kept, sides.clone()?)?;
+        Ok(sides)
     }
 }
 

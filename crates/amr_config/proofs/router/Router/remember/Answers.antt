@@ -3,6 +3,7 @@ use Rattle.amr_labels.specs.Labels.{label_set_cmp}
 use Rattle.amr_labels.specs.Map.{set}
 use Rattle.amr_tables.specs.Numbered.{shown}
 use Rattle.amr_stated.specs.Config.{Config}
+use Rattle.amr_stated.specs.RuleMatches.{rule_matches}
 use Rattle.amr_config.specs.declared.router.Known.{Known}
 use Rattle.amr_config.specs.Groups.{groups_of, known_of}
 use Rattle.amr_config.proofs.Remembered.{remembers_more}
@@ -13,9 +14,11 @@ invariant_of-self-2 c =
     let config : Config = c.self.inside.config in
     let known = c.self.inside.known in
     let here = c.args.labels.now in
+    let same : config ≡ c.args.self.now = c.self.view_is ∙ c.sides_of.ensures.same in
     let found : Known = record { groups = c.args.groups; rules = c.in_ok-rules.rules } in
-    let groups : c.args.groups ≡ groups_of config here = c.requires ∙ ap (λ k. groups_of k here) (sym c.self.view_is) in
-    let is : found ≡ known_of config here = λ i. record { groups = groups i; rules = c.in_ok-rules.ensures i } in
+    let groups : c.args.groups ≡ groups_of config here = c.requires ∙ ap (λ k. groups_of k here) (sym same) in
+    let rules : c.in_ok-rules.rules ≡ rule_matches here config.rules = c.in_ok-rules.ensures.sides ∙ ap (λ k. rule_matches here k.rules) (sym same) in
+    let is : found ≡ known_of config here = λ i. record { groups = groups i; rules = rules i } in
     let shows : shown label_set_cmp c.displace.new.self ≡ set (shown label_set_cmp known) here (Some found) =
     c.displace.ensures.shown ∙ ap (λ m. set m here (Some found)) c.make_place.ensures.shown in
-    remembers_more (known_of config) known c.displace.new.self here found c.self.invariant is shows
+    (remembers_more (known_of config) known c.displace.new.self here found c.self.invariant.0 is shows, c.self.invariant.1)

@@ -1,0 +1,156 @@
+-- Configurations that are alike give the same groups and the same sides.
+use Rattle.std.proofs.Common.{◌≡◌, ℕ, Bool, true, false, not, List, [], ◌∷◌, ◌++◌, ◌+◌, ◌<◌, ◌≤◌, length, get_or, take, map, Option, Some, None, refl, sym, ap, subst, ◌∙◌, arith}
+use Rattle.std.specs.Prelude.{◌&&◌, zero, suc, nat_lt, nat_eq, ◌==◌, slice_get, option_map}
+use Rattle.std.specs.Bool.{Decides}
+use Rattle.std.specs.Cmp.{IsTotalOrder, unsigned_Decides}
+use Rattle.std.specs.Cmp.Lexicographic.{pointwise, slice_cmp, lists_total, nat_list_cmp_total}
+use Rattle.std.specs.FinMap.{IsAntisymmetric, slice_cmp-IsAntisymmetric}
+use Rattle.std.specs.declared.cmp.Ordering.{Ordering}
+use Rattle.std.specs.Ordering.{eq_by_cmp}
+use Rattle.std.proofs.lemmas.Bool.{false≢true}
+use Rattle.std.proofs.lemmas.Bool.Decides.{Decides-at}
+use Rattle.std.proofs.lemmas.Cmp.{eq_by_cmp_equiv}
+use Rattle.std.proofs.lemmas.Map.Views.{tells_apart}
+use Rattle.std.proofs.lemmas.Slice.Eq.{slice_eq-Decides}
+use Rattle.std.specs.Option.{option_map_or, option_or, option_eq}
+use Rattle.std.specs.List.{list_all, list_any, filter, range_with_len}
+use Rattle.std.proofs.lemmas.List.{length-map, get_or-map, map-append, take_all, take_more}
+use Rattle.std.proofs.lemmas.Option.{none-some, same_Some, slice_get-map}
+use Rattle.std.proofs.lemmas.Simd.{map-map}
+use Rattle.amr_labels.specs.Labels.{Text, text_cmp, text_cmp-IsAntisymmetric, LabelSet}
+use Rattle.amr_matchers.specs.Matchers.{Matcher, all_hold, matcher_cmp, matcher_cmp_total, matcher_cmp-IsAntisymmetric}
+use Rattle.amr_stated.specs.declared.route.Grouping.{Grouping}
+use Rattle.amr_stated.specs.declared.route.Grouping.TheVariants.{AllLabels, Named}
+use Rattle.amr_stated.specs.declared.route.Route.{Route}
+use Rattle.amr_stated.specs.declared.rule.InhibitRule.{InhibitRule}
+use Rattle.amr_stated.specs.declared.rule_sides.RuleMatch.{RuleMatch}
+use Rattle.amr_stated.specs.Config.{Config}
+use Rattle.amr_stated.specs.RuleMatches.{rule_matches}
+use Rattle.amr_config.specs.Alike.{RoutingPart, routing_part, sides, AreAlike}
+use Rattle.amr_config.specs.Groups.{groups_of, known_of}
+use Rattle.amr_config.specs.Routing.{route_numbers, parent_of, line_within, line_of, matches_route, is_child, is_cut_off, route_is, first_stated, inherited, grouped_by, chosen, group_of}
+
+of_mapped : {X Y Z : Type 0} (f : Y → Z) (v : X → Y) (d : Z) (o : Option X) → option_map_or f (option_map v o) d ≡ option_map_or (λ x. f (v x)) o d
+of_mapped f v d None = refl
+of_mapped f v d (Some x) = refl
+
+module _ (a b : Config) (same : map routing_part a.routes ≡ map routing_part b.routes) where
+  at_place : {X : Type 0} (f : RoutingPart → X) (d : X) (routes : List Route) (n : ℕ) → option_map_or f (slice_get (map routing_part routes) n) d ≡ option_map_or (λ route. f (routing_part route)) (slice_get routes n) d
+  at_place f d routes n = ap (λ o. option_map_or f o d) (slice_get-map routing_part routes n) ∙ of_mapped f routing_part d (slice_get routes n)
+
+  part : {X : Type 0} (f : RoutingPart → X) (d : X) (n : ℕ) → option_map_or (λ route. f (routing_part route)) (slice_get a.routes n) d ≡ option_map_or (λ route. f (routing_part route)) (slice_get b.routes n) d
+  part f d n = sym (at_place f d a.routes n) ∙ ap (λ parts. option_map_or f (slice_get parts n) d) same ∙ at_place f d b.routes n
+
+  parents : (n : ℕ) → parent_of a n ≡ parent_of b n
+  parents n = part (λ p. p.parent) None n
+
+  numbers : route_numbers a ≡ route_numbers b
+  numbers = ap (range_with_len 0) (sym (length-map a.routes routing_part) ∙ ap length same ∙ length-map b.routes routing_part)
+
+  lines : (most n : ℕ) → line_within most a n ≡ line_within most b n
+  lines zero n = refl
+  lines (suc most) n = λ i. n ∷ option_map_or (λ parent. lines most parent i) (parents n i) []
+
+  module _ (labels : LabelSet) where
+    matches : (n : ℕ) → matches_route a labels n ≡ matches_route b labels n
+    matches n = part (λ p. all_hold p.matchers labels) false n
+
+    continues : (n : ℕ) → route_is (λ route. route.continues) a n ≡ route_is (λ route. route.continues) b n
+    continues n = part (λ p. p.continues) false n
+
+    children : (parent n : ℕ) → is_child a parent n ≡ is_child b parent n
+    children parent n = λ i. option_map_or (λ p. p == parent) (parents n i) false
+
+    cut_off : (n : ℕ) → is_cut_off a labels n ≡ is_cut_off b labels n
+    cut_off n = λ i. list_any (λ m. nat_lt m n && option_map_or (λ parent. children parent m i) (parents n i) false && matches m i && not (continues m i)) (numbers i)
+
+    same_chosen : chosen a labels ≡ chosen b labels
+    unfolding chosen
+    same_chosen = λ i. filter (λ n. list_all (λ m. matches m i && not (cut_off m i)) (lines n n i) && not (list_any (λ m. children n m i && matches m i) (numbers i))) (numbers i)
+
+    same_first : (ns : List ℕ) → first_stated (λ route. route.group_by) a ns ≡ first_stated (λ route. route.group_by) b ns
+    same_first [] = refl
+    same_first (n ∷ ns) = λ i. option_or (part (λ p. p.group_by) None n i) (same_first ns i)
+
+    same_group : (n : ℕ) → group_of a n labels ≡ group_of b n labels
+    unfolding group_of inherited
+    same_group n = ap (λ grouping. grouped_by grouping labels) (ap (first_stated (λ route. route.group_by) a) (lines n n) ∙ same_first (line_of b n))
+
+    same_groups : groups_of a labels ≡ groups_of b labels
+    unfolding groups_of
+    same_groups = λ i. map (λ n. record { route = n; labels = same_group n i }) (same_chosen i)
+
+match_of : LabelSet → List Matcher × List Matcher → RuleMatch
+match_of labels side = record { is_source = all_hold side.0 labels; is_target = all_hold side.1 labels }
+
+by_sides : (labels : LabelSet) (rules : List InhibitRule) → rule_matches labels rules ≡ map (match_of labels) (map sides rules)
+unfolding rule_matches match_of
+by_sides labels rules = sym (map-map (match_of labels) sides rules)
+
+-- configurations that are alike give each label set the same groups and sides
+pub same_known : (a b : Config) → AreAlike a b → (labels : LabelSet) → known_of a labels ≡ known_of b labels
+same_known a b alike labels =
+    let rules : rule_matches labels a.rules ≡ rule_matches labels b.rules = by_sides labels a.rules ∙ ap (map (match_of labels)) alike.rules ∙ sym (by_sides labels b.rules) in
+    let groups = same_groups a b alike.routes labels in
+    λ i. record { groups = groups i; rules = rules i }
+
+-- ---- lists whose elements are alike, place by place
+
+module _ {X Y : Type 0} (f : X → Y) (xs ys : List X) (k : ℕ) (x y : X) (within : k < length xs) (within_other : k < length ys) (x_is : x ≡ get_or xs k x) (y_is : y ≡ get_or ys k y) where
+  pub alike_more : map f (take k xs) ≡ map f (take k ys) → f x ≡ f y → map f (take (k + 1) xs) ≡ map f (take (k + 1) ys)
+  alike_more so_far is =
+      let more : map f (take (k + 1) xs) ≡ map f (take k xs) ++ f x ∷ [] =
+      ap (map f) (take_more xs k x within) ∙ map-append f (take k xs) (get_or xs k x ∷ []) ∙ ap (λ z. map f (take k xs) ++ f z ∷ []) (sym x_is) in
+      let more_other : map f (take (k + 1) ys) ≡ map f (take k ys) ++ f y ∷ [] =
+      ap (map f) (take_more ys k y within_other) ∙ map-append f (take k ys) (get_or ys k y ∷ []) ∙ ap (λ z. map f (take k ys) ++ f z ∷ []) (sym y_is) in
+      more ∙ (λ i. so_far i ++ is i ∷ []) ∙ sym more_other
+
+  pub alike_at : map f xs ≡ map f ys → f x ≡ f y
+  alike_at same =
+      ap f x_is ∙ sym (get_or-map f xs k x (f x) within) ∙ ap (λ zs. get_or zs k (f x)) same
+      ∙ get_or-map f ys k y (f x) within_other ∙ ap f (sym y_is)
+
+-- as many as there are
+pub alike_all : {X Y : Type 0} (f : X → Y) (xs ys : List X) (k : ℕ) → length xs ≡ length ys → length xs ≤ k → map f (take k xs) ≡ map f (take k ys) → map f xs ≡ map f ys
+alike_all f xs ys k long le same =
+    let le_other : length ys ≤ k = omega (arith, long, le) in
+    ap (map f) (sym (take_all k xs le)) ∙ same ∙ ap (map f) (take_all k ys le_other)
+
+pub alike_long : {X Y : Type 0} (f : X → Y) (xs ys : List X) → map f xs ≡ map f ys → length xs ≡ length ys
+alike_long f xs ys same = sym (length-map xs f) ∙ ap length same ∙ length-map ys f
+
+-- ---- tests of two parts
+
+pub second_decides : {P Q R : Type 0} (s : Bool) → P → Decides s Q → (P → Q → R) → (R → Q) → Decides s R
+second_decides s first second make part = (λ yes. make first (second.0 yes), λ r. second.1 (part r))
+
+pub first_fails : {P R : Type 0} (v r : Bool) → Decides r P → (R → P) → r ≡ false → v ≡ false → Decides v R
+first_fails v r first part fails is = (λ yes. absurd (false≢true (sym is ∙ yes)), λ r. absurd (false≢true (sym fails ∙ first.1 (part r))))
+
+-- values that compare as equal are the same
+pub tie_decides : {K : Type 0} {R : K → K → Ordering} → IsTotalOrder R → IsAntisymmetric R → (x y : K) → Decides (eq_by_cmp R x y) (x ≡ y)
+tie_decides {K} {R} total same x y = (tells_apart same x y, λ e. subst (λ z. eq_by_cmp R x z ≡ true) e ((eq_by_cmp_equiv total).refl x))
+
+pub parents_decide : (x y : Option ℕ) → Decides (option_eq nat_eq x y) (x ≡ y)
+parents_decide None None = (λ e. refl, λ e. refl)
+parents_decide None (Some y) = (λ e. absurd (false≢true e), λ e. absurd (none-some y e))
+parents_decide (Some x) None = (λ e. absurd (false≢true e), λ e. absurd (none-some x (sym e)))
+parents_decide (Some x) (Some y) = (λ e. ap (λ z. Some z) ((unsigned_Decides x y).0 e), λ e. (unsigned_Decides x y).1 (same_Some x y e))
+
+pub matchers_decide : (xs ys : List Matcher) (r : Bool) → r ≡ eq_by_cmp (slice_cmp matcher_cmp) xs ys → Decides r (xs ≡ ys)
+matchers_decide xs ys r is = Decides-at r (eq_by_cmp (slice_cmp matcher_cmp) xs ys) is (tie_decides (lists_total matcher_cmp_total) (slice_cmp-IsAntisymmetric matcher_cmp-IsAntisymmetric) xs ys)
+
+pub names_decide : (xs ys : List Text) (r : Bool) → r ≡ pointwise (eq_by_cmp text_cmp) xs ys → Decides r (xs ≡ ys)
+names_decide = slice_eq-Decides (tie_decides nat_list_cmp_total text_cmp-IsAntisymmetric)
+
+pub same_part : (r s : Route) → r.parent ≡ s.parent → r.continues ≡ s.continues → r.matchers ≡ s.matchers → r.group_by ≡ s.group_by → routing_part r ≡ routing_part s
+same_part r s parent continues matchers group_by = λ i. record { parent = parent i; matchers = matchers i; continues = continues i; group_by = group_by i }
+
+names_in : Option Grouping → List Text
+names_in None = []
+names_in (Some AllLabels) = []
+names_in (Some (Named names)) = names
+
+pub named_decides : (names others : List Text) (r : Bool) → Decides r (names ≡ others) → Decides r (Some (Named names) ≡ Some (Named others))
+unfolding names_in
+named_decides names others r decides = (λ yes. ap (λ ns. Some (Named ns)) (decides.0 yes), λ same. decides.1 (ap names_in same))
