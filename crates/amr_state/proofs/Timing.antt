@@ -548,3 +548,13 @@ module _ (a : Numbered LabelSet Alert) (b c : Numbered RouteLabels GroupTimer) (
 pub twice_as_many : (b : Bool) → cond b 0 2 ≡ 2 * cond b 0 1
 twice_as_many true = refl
 twice_as_many false = refl
+
+-- the timers show the same, with at most n more places, and the queue has room for these
+pub group_kept : (a : Numbered LabelSet Alert) (b c : Numbered RouteLabels GroupTimer) (q r : Queued Due) → IsTimed a b q → (n : ℕ) → shown route_labels_cmp c ≡ shown route_labels_cmp b
+    → (length b.numbers ≤ length c.numbers) × (length c.numbers ≤ length b.numbers + n) → r.dues ≡ q.dues → q.room + 2 * n ≤ r.room → IsTimed a c r
+group_kept a b c q r timed n shows keys same room = record {
+  dues = same ∙ timed.dues ∙ ap (λ (m : GroupTimers). in_order due_cmp (dues_of (shown label_set_cmp a) m)) (sym shows);
+  room = omega (arith, keys.1, timed.room, room, ap length same);
+  alert_places = timed.alert_places;
+  timer_places = omega (arith, keys.0, timed.timer_places, ap (λ (m : GroupTimers). len m) shows);
+}

@@ -3,7 +3,7 @@
 //! nothing is changed here.
 ghost use Rattle.std.specs.Prelude.{◌≡◌, ◌≤◌, ℕ, IfOk, IfSome};
 ghost use Rattle.amr_time.specs.Time.{latest_read};
-ghost use Rattle.amr_state.specs.Dues.{kind_place, next_due, alert_removal_at, group_removal_at};
+ghost use Rattle.amr_state.specs.Dues.{kind_place, place_cmp, next_due, alert_removal_at, group_removal_at};
 
 use crate::notification::GroupTimer;
 use crate::store::Store;
@@ -89,6 +89,18 @@ pub(crate) fn group_removal(timer: &GroupTimer) -> Option<u128>
     Some(next_multiple(since, Span::from_seconds(30)))
 }
 
+impl Due {
+    /// Compares the kinds, the routes and the labels of two timers.
+    fn cmp_place(&self, other: &Due) -> Ordering
+        ensures { result ≡ place_cmp self.now other.now }
+    {
+        kind_place(self.kind)
+            .cmp(&kind_place(other.kind))
+            .then(self.route.cmp(&other.route))
+            .then_with(|| self.labels.cmp(&other.labels))
+    }
+}
+
 impl PartialEq for Due {
     ghost use Rattle.std.specs.Ordering.{eq_by_cmp};
     ghost use Rattle.std.specs.Cmp.Rules.{comparing};
@@ -129,9 +141,7 @@ impl Ord for Due {
     fn cmp(&self, other: &Due) -> Ordering {
         self.moment
             .cmp(&other.moment)
-            .then(kind_place(self.kind).cmp(&kind_place(other.kind)))
-            .then(self.route.cmp(&other.route))
-            .then_with(|| self.labels.cmp(&other.labels))
+            .then_with(|| self.cmp_place(other))
     }
 }
 

@@ -5,7 +5,7 @@ ghost use Rattle.std.specs.Prelude.{None, Some, ◌≡◌, ◌≤◌, ◌<◌, �
 ghost use Rattle.std.specs.Option.{option_copied};
 ghost use Rattle.amr_labels.specs.Labels.{LabelSet, label_set_cmp};
 ghost use Rattle.amr_labels.specs.Map as map;
-ghost use Rattle.amr_tables.specs.Numbered.{shown, has_place, entry_of, Enters, KeepsPlaces, SamePlaces, SameEntered, NoneEntered, IsUnchanged, HasPlaces};
+ghost use Rattle.amr_tables.specs.Numbered.{shown, has_place, number_of, entry_of, places_for, Enters, GrowsBy, KeepsPlaces, SamePlaces, SameEntered, NoneEntered, IsUnchanged, HasPlaces};
 ghost use Rattle.amr_tables.specs.Queued.{in_order, count_of};
 ghost use Rattle.amr_state.specs.State.{route_labels_cmp};
 ghost use Rattle.amr_state.specs.Dues.{due_cmp, dues_of};
@@ -18,7 +18,7 @@ use amr_indexes::AlertTable;
 use amr_labels::Labels;
 use amr_rules::Alert;
 use amr_stated::{InhibitRule, RuleMatch};
-use amr_tables::{Journal, Key, Keyed, Queue, change};
+use amr_tables::{Journal, Key, Keyed, Queue, exchange_placed};
 use amr_time::Moment;
 use std::alloc::{AllocError, Global};
 use std::marker::Model;
@@ -168,11 +168,11 @@ impl Timetable {
         ensures record_room { journal.new.record_room ≡ journal.old.record_room }
     {
         let copy = TimedGroup::of(group)?;
-        let (is_there, former) = self.timers.look_up(group);
+        let (number, former) = self.timers.look_up_number(group);
         let old = moments_of(former);
-        make_room(&mut self.queue, is_there, 2)?;
+        make_room(&mut self.queue, number.is_some(), 2)?;
         let new = group_moments(&timer);
-        let entry = change(&mut self.timers, journal, group, timer)?;
+        let entry = change_found(&mut self.timers, journal, group, number, timer)?;
         move_group(&mut self.queue, copy, old, new);
         Ok(entry)
     }
@@ -234,6 +234,45 @@ fn learn_sides(
         }
     }
     Ok(())
+}
+
+/// Sets or removes a group timer, as `change` does, of a group that has this number, if it has one.
+/// It doesn't look for the group again.
+fn change_found<E>(
+    timers: &mut Keyed<RouteLabels, GroupTimer>,
+    journal: &mut Journal<E>,
+    group: &RouteLabels,
+    number: Option<usize>,
+    timer: Option<GroupTimer>,
+) -> Result<Option<(RouteLabels, Option<GroupTimer>)>, AllocError>
+    requires { number ≡ number_of route_labels_cmp timers.old group.now }
+    ensures entry { IfOk result (λ entry. entry
+        ≡ entry_of route_labels_cmp timers.old group.now) }
+    ensures shown { OnOk result (shown route_labels_cmp timers.new ≡
+        map.set (shown route_labels_cmp timers.old) group.now timer) }
+    ensures entered { OnOk result (Enters route_labels_cmp timers.old timers.new group.now) }
+    ensures made { OnOk result (IsTrue (has_place route_labels_cmp timers.new group.now)) }
+    ensures err { OnErr result (IsUnchanged route_labels_cmp timers.old timers.new) }
+    ensures keys { GrowsBy route_labels_cmp
+        (places_for route_labels_cmp timers.old group.now) timers.old timers.new }
+    ensures enough { OnOk result (HasPlaces route_labels_cmp timers.new) }
+    ensures places { KeepsPlaces route_labels_cmp timers.old timers.new }
+    ensures no_new { IsTrue (has_place route_labels_cmp timers.old group.now)
+        → SamePlaces route_labels_cmp timers.old timers.new }
+    ensures numbers { IsTrue (has_place route_labels_cmp timers.old group.now)
+        → timers.new.numbers ≡ timers.old.numbers }
+    ensures room { IfOk result (λ entry. IsTrue (is_some entry) → 0 < journal.new.entry_room) }
+    ensures closed { journal.new.closed ≡ journal.old.closed }
+    ensures current { journal.new.current ≡ journal.old.current }
+    ensures record_room { journal.new.record_room ≡ journal.old.record_room }
+{
+    journal.reserve_entry()?;
+    let copy = group.clone()?;
+    let (was, was_entered) = exchange_placed(timers, group, number, timer)?;
+    if was_entered {
+        return Ok(None);
+    }
+    Ok(Some((copy, was)))
 }
 
 /// Restores the value of a key that has a place, or its absence, and drops the present value. It
@@ -368,7 +407,9 @@ fn move_group(queue: &mut Queue<Due>, group: TimedGroup, old: GroupMoments, new:
         labels,
     };
     move_due(queue, flush, old.flush, new.flush);
-    move_due(queue, removal, old.removal, new.removal);
+    if old.removal.is_some() || new.removal.is_some() {
+        move_due(queue, removal, old.removal, new.removal);
+    }
 }
 
 /// Returns when a group is flushed and removed, by the group timers.

@@ -6,8 +6,8 @@ use Rattle.amr_state.specs.declared.route_labels.RouteLabels.{RouteLabels}
 use Rattle.amr_state.specs.Timed.{CanMove, flush_moved}
 use Rattle.amr_state.proofs.timetable.move_group.Goals as goal
 
-pub move_due-requires-2 : goal.move_due-requires-2
-move_due-requires-2 c =
+pub move_due-requires-then-is_some : goal.move_due-requires-then-is_some
+move_due-requires-then-is_some c =
     let before = c.args.queue.now in
     let after = c.move_due.new.queue in
     let is = c.into_parts-route_labels.ensures in
