@@ -12,6 +12,7 @@ ghost use Rattle.amr_tables.specs.Queued.{values_of};
 ghost use Rattle.amr_state.specs.State.{member_on_route, route_labels_cmp, group_key};
 ghost use Rattle.amr_state.specs.Rostered.{in_group, member_entry_of, members_among, labels_of_members, labels_of_memberships, with_alert, enrolled, CanEnrol};
 
+use crate::displaced::BoxedRouter;
 use crate::members::Member;
 use crate::membership::Membership;
 use crate::route_labels::RouteLabels;
@@ -23,7 +24,6 @@ use amr_stated::RuleMatch;
 use amr_tables::{Journal, Keyed, Queue, change};
 use std::alloc::{AllocError, Global};
 use std::marker::Model;
-use std::mem;
 
 /// The configuration in force and the members of all groups. Every change of a member updates the
 /// index.
@@ -203,15 +203,14 @@ impl Roster {
 
     /// Replaces the configuration, while no group has members, and returns the one before. The new
     /// one takes over what patterns answered. It takes no memory.
-    pub(crate) fn replace_config(&mut self, config: Router) -> Router
+    pub(crate) fn replace_config(&mut self, mut config: BoxedRouter) -> BoxedRouter
         requires { shown route_labels_cmp self.old.placements ≡ map.empty }
         ensures before { result ≡ self.old.config }
         ensures config { self.new.config ≡ config }
         ensures placements { self.new.placements ≡ self.old.placements }
     {
-        let mut was = mem::replace(&mut self.config, config);
-        self.config.swap_answers(&mut was);
-        was
+        config.swap(&mut self.config);
+        config
     }
 }
 

@@ -18,7 +18,7 @@ ghost use Rattle.amr_state.specs.Dues.{due_cmp, dues};
 ghost use Rattle.amr_state.specs.Kept.{GrownBy, undone};
 ghost use Rattle.amr_state.specs.Rostered.{labels_of_members};
 
-use crate::displaced::Displaced;
+use crate::displaced::{BoxedRouter, Displaced};
 use crate::due::Due;
 use crate::members::Member;
 use crate::notification::{GroupTimer, LogKey, Notification};
@@ -27,7 +27,7 @@ use crate::roster::Roster;
 use crate::route_labels::{RouteLabels, TimedGroup};
 use crate::tables::Tables;
 use crate::timetable::Timetable;
-use amr_config::{Config, RouteGroup, Router};
+use amr_config::{Config, RouteGroup};
 use amr_indexes::{AlertTable, SilenceTable};
 use amr_labels::{Labels, Listing, Shared};
 use amr_posts::SilenceId;
@@ -612,10 +612,8 @@ impl Store {
         ensures grown { GrownBy 1 self.old self.new }
     {
         self.journal.reserve_entry()?;
-        let was = self
-            .tables
-            .roster
-            .replace_config(Router::new(self.alloc, config));
+        let boxed = BoxedRouter::new(self.alloc, config)?;
+        let was = self.tables.roster.replace_config(boxed);
         self.journal.push(Displaced::WasConfig(was));
         self.tables.clear_entered();
         Ok(())

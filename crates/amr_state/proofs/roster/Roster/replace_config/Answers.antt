@@ -8,4 +8,4 @@ use Rattle.amr_state.proofs.roster.Roster.replace_config.Goals as goal
 pub invariant_of-self : goal.invariant_of-self
 invariant_of-self c =
     let r = c.self.inside in
-    indexed_again r.config c.swap_answers.new.self r.placements r.index (ap (λ (r : Rostered). shown route_labels_cmp r.placements) c.self.view_is ∙ c.requires) c.self.invariant
+    indexed_again r.config c.swap.new.used r.placements r.index (ap (λ (r : Rostered). shown route_labels_cmp r.placements) c.self.view_is ∙ c.requires) c.self.invariant

@@ -32,7 +32,7 @@ returns-clause-kept c =
     let e : Displaced = WasConfig c.replace_config-was.result in
     let values = c.clear_entered.ensures.values in
     undone_pushed a b (WasConfig c.args.config) e tt
-    (λ i. record (state_of a) { config = (values.config ∙ c.replace_config-was.ensures.config ∙ c.new.ensures) i; alerts = values.alerts i; silences = values.silences i; placements = (values.placements ∙ ap (λ x. shown route_labels_cmp x) c.replace_config-was.ensures.placements) i; timers = values.timers i; log = values.log i })
+    (λ i. record (state_of a) { config = (values.config ∙ c.replace_config-was.ensures.config ∙ c.in_ok-boxed.ensures) i; alerts = values.alerts i; silences = values.silences i; placements = (values.placements ∙ ap (λ x. shown route_labels_cmp x) c.replace_config-was.ensures.placements) i; timers = values.timers i; log = values.log i })
     (λ i. WasConfig (c.replace_config-was.ensures.before i))
     (c.push.ensures.current ∙ ap (λ es. es ++ e ∷ []) c.reserve_entry.ensures.current) (c.push.ensures.closed ∙ c.reserve_entry.ensures.closed) (c.push.ensures.records ∙ c.reserve_entry.ensures.records)
     ∙ ap undone c.self.view_is
