@@ -107,7 +107,7 @@ impl Router {
     /// Swaps what doesn't depend on the configuration with another router: what patterns answered,
     /// and the group labels that were made. If the two configurations are alike, it also swaps the
     /// groups and the sides of each label set. So a reload, and undoing it, lose none of these.
-    pub fn swap_answers(&mut self, other: &mut Router)
+    pub fn swap_known(&mut self, other: &mut Router)
         ensures same { self.new ≡ self.old }
         ensures other { other.new ≡ other.old }
     {

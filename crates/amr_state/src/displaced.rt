@@ -67,6 +67,6 @@ impl BoxedRouter {
         ensures used { used.new ≡ self.old }
     {
         mem::swap(&mut *self.router, used);
-        used.swap_answers(&mut self.router);
+        used.swap_known(&mut self.router);
     }
 }

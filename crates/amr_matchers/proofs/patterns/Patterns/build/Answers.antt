@@ -1,4 +1,4 @@
-use Rattle.std.proofs.Common.{◌∙◌, sym, rules, arith}
+use Rattle.std.proofs.Common.{◌∙◌, rules, arith}
 use Rattle.std.proofs.lemmas.Grind.{common_steps}
 use Rattle.amr_matchers.proofs.BuiltPatterns.{one_more, as_before}
 use Rattle.amr_matchers.proofs.patterns.Patterns.build.Goals as goal

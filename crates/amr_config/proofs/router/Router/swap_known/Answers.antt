@@ -5,7 +5,7 @@ use Rattle.amr_stated.specs.RuleMatches.{rule_matches}
 use Rattle.amr_config.specs.Groups.{known_of, IsKnown, AreSides}
 use Rattle.amr_config.proofs.Alike.{same_known}
 use Rattle.amr_config.proofs.Remembered.{gives_same}
-use Rattle.amr_config.proofs.router.Router.swap_answers.Goals as goal
+use Rattle.amr_config.proofs.router.Router.swap_known.Goals as goal
 
 pub invariant_of-self : goal.invariant_of-self
 invariant_of-self c =
