@@ -13,7 +13,7 @@ ghost use Rattle.amr_config.specs.Settled.{settings_of, stated_config, AreParent
 use crate::inherit::inherit;
 use crate::rule_names::rule_names;
 use crate::settings::Settings;
-use amr_labels::{Exact, Labels, Listing, Text};
+use amr_labels::{Exact, Labels, Listing, Shared, Text};
 use amr_matchers::Matchers;
 use amr_stated::{Grouping, InhibitRule, Integration, NamedInterval, Receiver, Route, Stated};
 use amr_time::{Moment, Span};
@@ -189,7 +189,7 @@ impl Config {
     /// Returns the matchers of each route from the root down to this one, each list sorted by name,
     /// value and operator. It is part of the notification log's key, so that two routes with the
     /// same receiver share entries only if their paths are equal.
-    pub fn path(&self, alloc: Global, route: usize) -> Result<Listing<Matchers>, AllocError>
+    pub fn path(&self, alloc: Global, route: usize) -> Result<Shared<Listing<Matchers>>, AllocError>
         ensures { IfOk result (λ path. path ≡ path_of self.now route) }
     {
         match self.settings_at(route) {
@@ -197,7 +197,7 @@ impl Config {
             None => {
                 let mut path = Listing::new(alloc);
                 path.push(Matchers::none(alloc)?)?;
-                Ok(path)
+                Shared::new(alloc, path)
             }
         }
     }

@@ -7,7 +7,7 @@ ghost use Rattle.amr_config.specs.Settled.{stated_config, settled, settled_under
 
 use crate::settings::Settings;
 use crate::sorted::sorted;
-use amr_labels::{Listing, Text};
+use amr_labels::{Listing, Shared, Text};
 use amr_matchers::Matchers;
 use amr_stated::{Grouping, Route, Stated};
 use amr_time::Span;
@@ -78,16 +78,16 @@ fn path_under(
     alloc: Global,
     route: &Route,
     above: Option<&Settings>,
-) -> Result<Listing<Matchers>, AllocError>
+) -> Result<Shared<Listing<Matchers>>, AllocError>
     ensures { IfOk result (λ path. path
         ≡ path_under route.now (option_copied above.entry)) }
 {
     let mut path = match above {
-        Some(settings) => settings.path.clone()?,
+        Some(settings) => settings.path.get().clone()?,
         None => Listing::new(alloc),
     };
     path.push(sorted(alloc, &route.matchers)?)?;
-    Ok(path)
+    Shared::new(alloc, path)
 }
 
 /// Returns how a route groups alerts: its own `group_by`, or else its parent's.

@@ -6,7 +6,7 @@ ghost use Rattle.std.proofs.Common.{rules};
 ghost use Rattle.amr_state.specs.State.{log_key_cmp_integration, log_key_cmp_group};
 ghost use Rattle.amr_state.specs.Spread.{path_spread, matchers_spread};
 
-use amr_labels::{Exact, Labels, Listing, Text, TextMap, spread_of};
+use amr_labels::{Exact, Labels, Listing, Shared, Text, TextMap, spread_of};
 use amr_matchers::{Matcher, Matchers};
 use amr_tables::Key;
 use amr_time::Moment;
@@ -42,7 +42,7 @@ pub struct LogKey {
     /// The group labels.
     pub group: Labels,
     /// The sorted matchers of each route, from the root to the group's route.
-    pub path: Listing<Matchers>,
+    pub path: Shared<Listing<Matchers>>,
 }
 
 impl Clone for LogKey {
@@ -118,9 +118,9 @@ impl LogKey {
     fn cmp_group(&self, other: &LogKey) -> Ordering
         ensures { result ≡ log_key_cmp_group self.now other.now }
     {
-        self.group
-            .cmp(&other.group)
-            .then_with(|| self.path.as_slice().cmp(other.path.as_slice()))
+        self.group.cmp(&other.group).then_with(|| {
+            self.path.get().as_slice().cmp(other.path.get().as_slice())
+        })
     }
 }
 
@@ -155,7 +155,7 @@ impl Key for LogKey {
             .wrapping_add(spread_of(self.receiver.as_str()))
             .wrapping_add(self.place)
             .wrapping_add(self.kind.as_str().len().wrapping_mul(256))
-            .wrapping_add(spread_of_path(self.path.as_slice()))
+            .wrapping_add(spread_of_path(self.path.get().as_slice()))
     }
 }
 

@@ -85,7 +85,7 @@ pub(crate) fn write_entry(
     write_set(out, "firing", &entry.firing)?;
     write_labels(out, "groupLabels", &key.group)?;
     write_text(out, "integration", key.kind.as_str())?;
-    write_path(out, key.path.as_slice())?;
+    write_path(out, key.path.get().as_slice())?;
     write_number(out, "place", key.place)?;
     write_text(out, "receiver", key.receiver.as_str())?;
     write_set(out, "resolved", &entry.resolved)?;
