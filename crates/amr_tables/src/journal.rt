@@ -2,52 +2,38 @@
 //! the open record of the event under way. `Store` writes it; the journal doesn't know what its
 //! entries mean.
 ghost use Rattle.std.specs.Prelude.{◌≡◌, ◌+◌, ◌<◌, ◌≤◌, [], ◌∷◌, ◌++◌, length, OnOk, Some, ◌==◌, option_map};
-ghost use Rattle.std.specs.Prelude.{slice_get};
+ghost use Rattle.std.specs.Prelude.{slice_get, drop};
 
 use std::alloc::{AllocError, Global};
 use std::marker::Model;
-use std::mem;
-
-/// The record of an event: what it displaced, the oldest entry first.
-#[derive(Drop)]
-struct Record<E> {
-    entries: Vec<E>,
-}
-
-impl<E> Model for Record<E> {
-    ghost use Rattle.std.specs.Prelude.{List};
-    ghost use Rattle.std.specs.Coded.{coded_list};
-
-    ghost Value = { List E };
-
-    ghost coded = { coded_list E.code };
-
-    ghost view = { λ r. r.entries.items };
-}
 
 /// A journal of records. Contracts see the closed records, the open one, and the room that is
-/// reserved.
+/// reserved. All records lie one after another in one vector, so that an event takes no memory of
+/// its own: the closed ones by their sizes, and from `opened` on the open one.
 #[derive(Drop)]
 pub struct Journal<E> {
-    alloc: Global,
-    records: Vec<Record<E>>,
-    current: Vec<E>,
+    entries: Vec<E>,
+    sizes: Vec<usize>,
+    opened: usize,
 }
 
 impl<E> Model for Journal<E> {
-    ghost use Rattle.std.specs.Prelude.{◌-◌, vec_len, vec_capacity};
-    ghost use Rattle.amr_tables.specs.Records.{Records, records_code};
+    ghost use Rattle.std.specs.Prelude.{◌-◌, ◌≡◌, ◌≤◌, drop, length, sum, vec_len, vec_capacity};
+    ghost use Rattle.amr_tables.specs.Records.{Records, records_code, records_of};
 
     ghost Value = { Records E };
 
     ghost coded = { records_code E.code };
 
     ghost view = { λ journal. record {
-      closed = journal.records.items;
-      current = journal.current.items;
-      entry_room = vec_capacity journal.current - vec_len journal.current;
-      record_room = vec_capacity journal.records - vec_len journal.records;
+      closed = records_of journal.sizes.items journal.entries.items;
+      current = drop journal.opened journal.entries.items;
+      entry_room = vec_capacity journal.entries - vec_len journal.entries;
+      record_room = vec_capacity journal.sizes - vec_len journal.sizes;
     } };
+
+    ghost invariant = { λ journal.
+        (journal.opened ≡ sum journal.sizes.items) × (journal.opened ≤ length journal.entries.items) };
 }
 
 impl<E> Journal<E> {
@@ -57,9 +43,9 @@ impl<E> Journal<E> {
         ensures current { result.current ≡ [] }
     {
         Journal {
-            alloc,
-            records: Vec::new(alloc),
-            current: Vec::new(alloc),
+            entries: Vec::new(alloc),
+            sizes: Vec::new(alloc),
+            opened: 0,
         }
     }
 
@@ -70,8 +56,8 @@ impl<E> Journal<E> {
         ensures entries { OnOk result (n ≤ self.new.entry_room) }
         ensures records { OnOk result (0 < self.new.record_room) }
     {
-        self.records.reserve(1)?;
-        self.current.reserve(n)
+        self.sizes.reserve(1)?;
+        self.entries.reserve(n)
     }
 
     /// Makes room for one more entry in the open record.
@@ -81,7 +67,7 @@ impl<E> Journal<E> {
         ensures entries { OnOk result (0 < self.new.entry_room) }
         ensures records { self.new.record_room ≡ self.old.record_room }
     {
-        self.current.reserve(1)
+        self.entries.reserve(1)
     }
 
     /// Adds an entry to the open record. It takes no memory.
@@ -92,7 +78,7 @@ impl<E> Journal<E> {
         ensures entries { self.new.entry_room + 1 ≡ self.old.entry_room }
         ensures records { self.new.record_room ≡ self.old.record_room }
     {
-        self.current.push_reserved(entry);
+        self.entries.push_reserved(entry);
     }
 
     /// Closes the open record and opens an empty one. It takes no memory.
@@ -101,8 +87,8 @@ impl<E> Journal<E> {
         ensures closed { self.new.closed ≡ self.old.closed ++ self.old.current ∷ [] }
         ensures current { self.new.current ≡ [] }
     {
-        let entries = mem::replace(&mut self.current, Vec::new(self.alloc));
-        self.records.push_reserved(Record { entries });
+        self.sizes.push_reserved(self.entries.len() - self.opened);
+        self.opened = self.entries.len();
     }
 
     /// Removes the last entry of the open record, and returns it.
@@ -112,7 +98,7 @@ impl<E> Journal<E> {
         ensures current { self.old.current ≡ self.new.current ++ result ∷ [] }
         ensures records { self.new.record_room ≡ self.old.record_room }
     {
-        match self.current.pop() {
+        match self.entries.pop() {
             Some(entry) => entry,
             None => unreachable!(),
         }
@@ -126,11 +112,8 @@ impl<E> Journal<E> {
         requires empty { self.old.current ≡ [] }
         ensures { self.old.closed ≡ self.new.closed ++ self.new.current ∷ [] }
     {
-        match self.records.pop() {
-            Some(record) => {
-                let Record { entries } = record;
-                self.current = entries;
-            }
+        match self.sizes.pop() {
+            Some(size) => self.opened -= size,
             None => unreachable!(),
         }
     }
@@ -142,21 +125,23 @@ impl<E> Journal<E> {
         ensures closed { self.new.closed ≡ [] }
         ensures current { self.new.current ≡ self.old.current }
     {
-        self.records.clear();
+        remove_first(&mut self.entries, self.opened);
+        self.sizes.clear();
+        self.opened = 0;
     }
 
     /// Returns whether the open record is empty.
     pub fn is_current_empty(&self) -> bool
         ensures { result ≡ (length self.now.current == 0) }
     {
-        self.current.is_empty()
+        self.opened == self.entries.len()
     }
 
     /// Returns the number of closed records.
     pub fn len(&self) -> usize
         ensures { result ≡ length self.now.closed }
     {
-        self.records.len()
+        self.sizes.len()
     }
 
     /// Returns the number of entries of the closed record number `index`, from 0.
@@ -164,7 +149,22 @@ impl<E> Journal<E> {
         requires { index < length self.now.closed }
         ensures { option_map length (slice_get self.now.closed index) ≡ Some result }
     {
-        let record = &self.records[index];
-        record.entries.len()
+        self.sizes[index]
+    }
+}
+
+/// Removes the first `count` entries. It takes no memory, and keeps the room of all entries.
+fn remove_first<E>(entries: &mut Vec<E>, count: usize)
+where
+    E: Drop,
+    requires { count ≤ length entries.old.items }
+    ensures { entries.new.items ≡ drop count entries.old.items }
+{
+    if count == entries.len() {
+        entries.clear();
+    } else {
+        let left = entries.len() - count;
+        entries.rotate_left(count);
+        entries.truncate(left);
     }
 }
