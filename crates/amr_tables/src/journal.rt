@@ -8,8 +8,8 @@ use std::alloc::{AllocError, Global};
 use std::marker::Model;
 
 /// A journal of records. Contracts see the closed records, the open one, and the room that is
-/// reserved. All records lie one after another in one vector, so that an event takes no memory of
-/// its own: the closed ones by their sizes, and from `opened` on the open one.
+/// reserved. All records lie one after another in `entries`, so that an event needs no vector of
+/// its own: `sizes` has the sizes of the closed ones, and the open one begins at `opened`.
 #[derive(Drop)]
 pub struct Journal<E> {
     entries: Vec<E>,
@@ -33,11 +33,13 @@ impl<E> Model for Journal<E> {
     } };
 
     ghost invariant = { λ journal.
-        (journal.opened ≡ sum journal.sizes.items) × (journal.opened ≤ length journal.entries.items) };
+        (journal.opened ≡ sum journal.sizes.items)
+        × (journal.opened ≤ length journal.entries.items) };
 }
 
 impl<E> Journal<E> {
     /// Builds an empty journal.
+    #[tactic(auto, unfolding(crate::specs::Records::records_of))]
     pub fn new(alloc: Global) -> Self
         ensures closed { result.closed ≡ [] }
         ensures current { result.current ≡ [] }
@@ -71,6 +73,7 @@ impl<E> Journal<E> {
     }
 
     /// Adds an entry to the open record. It takes no memory.
+    #[tactic(auto, using(crate::proofs::Closing::records_before))]
     pub fn push(&mut self, entry: E)
         requires { 0 < self.old.entry_room }
         ensures closed { self.new.closed ≡ self.old.closed }
@@ -82,6 +85,7 @@ impl<E> Journal<E> {
     }
 
     /// Closes the open record and opens an empty one. It takes no memory.
+    #[tactic(auto, using(crate::proofs::Closing::closed_last))]
     pub fn close(&mut self)
         requires { 0 < self.old.record_room }
         ensures closed { self.new.closed ≡ self.old.closed ++ self.old.current ∷ [] }
@@ -92,6 +96,7 @@ impl<E> Journal<E> {
     }
 
     /// Removes the last entry of the open record, and returns it.
+    #[tactic(auto, using(crate::proofs::Closing::records_before_last))]
     pub fn pop(&mut self) -> E
         requires { 0 < length self.old.current }
         ensures closed { self.new.closed ≡ self.old.closed }
@@ -105,6 +110,7 @@ impl<E> Journal<E> {
     }
 
     /// Opens the last closed record again, in place of the empty open one.
+    #[tactic(auto, using(crate::proofs::Closing::count_of_records, crate::proofs::Closing::reopened_last))]
     pub fn reopen(&mut self)
     where
         E: Drop,
@@ -119,6 +125,7 @@ impl<E> Journal<E> {
     }
 
     /// Drops all closed records.
+    #[tactic(auto, unfolding(crate::specs::Records::records_of))]
     pub fn forget(&mut self)
     where
         E: Drop,
@@ -138,6 +145,7 @@ impl<E> Journal<E> {
     }
 
     /// Returns the number of closed records.
+    #[tactic(auto, using(crate::proofs::Closing::count_of_records))]
     pub fn len(&self) -> usize
         ensures { result ≡ length self.now.closed }
     {
@@ -145,6 +153,7 @@ impl<E> Journal<E> {
     }
 
     /// Returns the number of entries of the closed record number `index`, from 0.
+    #[tactic(auto, using(crate::proofs::Closing::count_of_records, crate::proofs::Closing::size_of_record))]
     pub fn record_len(&self, index: usize) -> usize
         requires { index < length self.now.closed }
         ensures { option_map length (slice_get self.now.closed index) ≡ Some result }
