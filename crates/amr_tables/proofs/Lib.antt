@@ -8,3 +8,4 @@ pub mod Lowness
 pub mod Ascending
 pub mod Queueing
 pub mod Opening
+pub mod Closing
