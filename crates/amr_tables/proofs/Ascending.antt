@@ -1,5 +1,5 @@
 -- A list in ascending order, around one of its items.
-use Rattle.std.proofs.Common.{◌≡◌, Bool, true, false, not, ◌||◌, List, [], ◌∷◌, ◌++◌, refl, sym, ap, ◌∙◌, subst, true≢false, append-nil}
+use Rattle.std.proofs.Common.{◌≡◌, ◌<◌, length, arith, Bool, true, false, not, ◌||◌, List, [], ◌∷◌, ◌++◌, refl, sym, ap, ◌∙◌, subst, true≢false, append-nil}
 use Rattle.std.specs.List.{AllByRecursion, list_any, filter}
 use Rattle.std.specs.List.Sorted.{IsStrictlySortedBy}
 use Rattle.std.specs.declared.cmp.Ordering.{Ordering}
@@ -10,7 +10,7 @@ use Rattle.std.specs.BTreeSet.{insert_key}
 use Rattle.std.proofs.lemmas.List.Elements.{filter-append}
 use Rattle.std.proofs.lemmas.List.Folds.{list_any-append}
 use Rattle.amr_tables.specs.InParts.{IsInParts, items_of}
-use Rattle.amr_tables.specs.Queued.{has, without}
+use Rattle.amr_tables.specs.Queued.{has, without, rest_of, is_first}
 
 module _ {D : Type 0} where
   all_map : (P Q : D → Type 0) → ((y : D) → P y → Q y) → (l : List D) → AllByRecursion P l → AllByRecursion Q l
@@ -42,6 +42,11 @@ module _ {D : Type 0} where
   all_stay p [] a = refl
   all_stay p (y ∷ l) a = rw a.0 (ap (λ z. y ∷ z) (all_stay p l a.1))
 
+  -- the first item is in the left side, if that has any
+  pub rest_in_left : {all : List D} (l : List D) (x : D) (r : List D) → 0 < length l → all ≡ l ++ x ∷ r → rest_of all ≡ rest_of l ++ x ∷ r
+  rest_in_left [] x r some is = absurd (omega (arith, some))
+  rest_in_left (y ∷ l) x r some is = ap rest_of is
+
 or_false : (a : Bool) → (a || false) ≡ a
 or_false true = refl
 or_false false = refl
@@ -60,6 +65,11 @@ above_of Less e h = absurd (true≢false e)
 above_of Equal e h = absurd (true≢false h)
 above_of Greater e h = refl
 
+equal_of : (o : Ordering) → is_eq o ≡ true → o ≡ Equal
+equal_of Less e = absurd (true≢false (sym e))
+equal_of Equal e = refl
+equal_of Greater e = absurd (true≢false (sym e))
+
 pub less_of : (o : Ordering) → is_lt o ≡ true → o ≡ Less
 less_of Less e = refl
 less_of Equal e = absurd (true≢false (sym e))
@@ -75,6 +85,11 @@ module _ {D : Type 0} (R : D → D → Ordering) where
   unfolding IsStrictlySortedBy
   sorted_right [] x r s = s.1
   sorted_right (y ∷ l) x r s = sorted_right l x r s.1
+
+  pub sorted_rest : (l : List D) → IsStrictlySortedBy R l → IsStrictlySortedBy R (rest_of l)
+  unfolding IsStrictlySortedBy
+  sorted_rest [] s = s
+  sorted_rest (x ∷ l) s = s.1
 
   left_below : (l : List D) (x : D) (r : List D) → IsStrictlySortedBy R (l ++ x ∷ r) → AllByRecursion (λ y. R y x ≡ Less) l
   unfolding IsStrictlySortedBy
@@ -180,6 +195,10 @@ module _ {D : Type 0} (R : D → D → Ordering) where
       -- what isn't below x and isn't in the list is above x
       pub is_above : has R tree k ≡ false → is_lt (R k x) ≡ false → R k x ≡ Greater
       is_above absent e = above_of (R k x) e (not_tied (has R l k) _ _ (sym split_any ∙ absent))
+
+    pub without_first : (l : List D) (k : D) → IsStrictlySortedBy R l → is_first R l k ≡ true → without R l k ≡ rest_of l
+    without_first [] k s e = absurd (true≢false (sym e))
+    without_first (x ∷ l) k s e = without_middle (x ∷ l) [] x l k refl s (equal_of (R k x) e)
 
   module _ {P : Type 0} (Q : D → P → Ordering) (parts : IsInParts R Q) (tree l : List D) (x : D) (r : List D) (p : P) (is : tree ≡ l ++ x ∷ r) (sorted : IsStrictlySortedBy R tree) where
     in_order : IsStrictlySortedBy R (l ++ x ∷ r)

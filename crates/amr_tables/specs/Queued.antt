@@ -21,6 +21,11 @@ queued_code {D} d =
 abbrev pub values_of : {X : Type 0} → List (Bor X) → List X
 values_of = map (λ x. x.now)
 
+-- the list without its first item
+abbrev pub rest_of : {D : Type 0} → List D → List D
+rest_of [] = []
+rest_of (_ ∷ dues) = dues
+
 -- 1 if there is a value, and 0 if there is none
 abbrev pub count_of : {X : Type 0} → Option X → ℕ
 count_of None = 0
@@ -30,6 +35,11 @@ module _ {D : Type 0} (cmp : D → D → Ordering) where
   -- whether the item, or one that compares equal to it, is in the list
   abbrev pub has : List D → D → Bool
   has dues due = list_any (eq_by_cmp cmp due) dues
+
+  -- whether the item compares equal to the first of the list
+  abbrev pub is_first : List D → D → Bool
+  is_first [] due = false
+  is_first (first ∷ _) due = eq_by_cmp cmp due first
 
   -- the list in order; one is kept of those that compare equal
   abbrev pub in_order : List D → List D

@@ -6,7 +6,7 @@ ghost use Rattle.std.specs.List.Sorted.{IsStrictlySortedBy};
 ghost use Rattle.std.specs.Option.{option_copied};
 ghost use Rattle.std.specs.BTreeSet.{insert_key};
 ghost use Rattle.amr_tables.specs.InParts.{items_of};
-ghost use Rattle.amr_tables.specs.Queued.{values_of, has, without, IsLeast, HasMore, HasLess};
+ghost use Rattle.amr_tables.specs.Queued.{values_of, has, without, rest_of, is_first, IsLeast, HasMore, HasLess};
 
 use crate::parts::InParts;
 use crate::tree::{self, Node, Tree};
@@ -101,6 +101,28 @@ impl<D: Ord + Drop> Queue<D> {
             }
             None => unreachable!(),
         }
+    }
+
+    /// Returns whether an item is the first.
+    pub fn is_first(&self, due: &D) -> bool
+        ensures { result ≡ is_first D.cmp self.now.dues due.now }
+    {
+        let Some(first) = self.tree.first() else {
+            return false;
+        };
+        due.cmp(first).is_eq()
+    }
+
+    /// Removes the first item and adds another. It takes no memory.
+    pub fn replace_first(&mut self, mut due: D)
+        requires some { 0 < length self.old.dues }
+        requires absent { has D.cmp (rest_of self.old.dues) due ≡ false }
+        ensures dues { self.new.dues ≡ insert_key D.cmp (rest_of self.old.dues) due }
+        ensures sorted { IsStrictlySortedBy D.cmp self.new.dues }
+        ensures room { self.new.room ≡ self.old.room }
+        ensures len { length self.new.dues ≡ length self.old.dues }
+    {
+        let _has_changed = tree::replace_first(&mut self.tree, &mut due);
     }
 
     /// Removes an item, and returns whether it was in the queue. It takes no memory.

@@ -1,14 +1,14 @@
 //! A balanced tree of sorted items. Adding and removing an item takes a number of steps that grows
 //! with the logarithm of the length. Calls nest as deep as the tree is high, at most about twice
 //! that logarithm. `queue.rt` is its only caller.
-ghost use Rattle.std.specs.Prelude.{◌≡◌, ◌==◌, not, ◌+◌, ◌^◌, ◌<◌, ◌≤◌, [], ◌∷◌, ◌++◌, length, max, OnOk, MatchOption, is_some, slice_get, false};
+ghost use Rattle.std.specs.Prelude.{◌≡◌, ◌==◌, not, ◌+◌, ◌^◌, ◌<◌, ◌≤◌, [], ◌∷◌, ◌++◌, length, max, OnOk, MatchOption, is_some, slice_get, false, IfSome};
 ghost use Rattle.std.specs.List.Sorted.{IsStrictlySortedBy};
 ghost use Rattle.std.specs.Option.{option_copied};
 ghost use Rattle.std.specs.BTreeSet.{insert_key};
 ghost use Rattle.amr_tables.specs.Balanced.{root_view, sides_of, IsBalancedRoot, IsNearlyBalanced, HasRightHeight, DifferByAtMost, IsHeightOf, IsLow};
 ghost use Rattle.amr_tables.specs.InParts.{items_of};
 ghost use Rattle.amr_tables.specs.Parted.{AreEmpty, IsFirstNodeOf, IsLeaf, IsAbsent, IsPut};
-ghost use Rattle.amr_tables.specs.Queued.{values_of, has, without, count_of};
+ghost use Rattle.amr_tables.specs.Queued.{values_of, has, without, rest_of, count_of};
 
 use crate::parts::InParts;
 use std::alloc::AllocError;
@@ -318,9 +318,7 @@ fn rebalance_if<D: Drop>(root: &mut Option<Box<Node<D>>>, has_changed: bool) -> 
     ensures changed { result ≡ not ((root_view root.new).1 == (root_view root.old).1) }
 {
     if has_changed {
-        let before = stored_height(root);
-        rebalance(root);
-        return stored_height(root) != before;
+        return rebalance_noting(root);
     }
     let Some(node) = root else { unreachable!() };
     let Node::Fork {
@@ -334,6 +332,41 @@ fn rebalance_if<D: Drop>(root: &mut Option<Box<Node<D>>>, has_changed: bool) -> 
     };
     prove!(*height == left.height().max(right.height()) + 1);
     false
+}
+
+/// Restores the balance and the stored height of a tree after one of its sides has changed, as
+/// `rebalance` does. Returns whether the height of the tree has changed.
+#[inline]
+fn rebalance_noting<D: Drop>(root: &mut Option<Box<Node<D>>>) -> bool
+    requires { IsNearlyBalanced root.old }
+    ensures list { (root_view root.new).0 ≡ (root_view root.old).0 }
+    ensures height { IsHeightOf (sides_of root.old).0 (sides_of root.old).1 (root_view root.new).1 }
+    ensures balanced { IsBalancedRoot root.new }
+    ensures changed { result ≡ not ((root_view root.new).1 == (root_view root.old).1) }
+{
+    let Some(node) = root else { unreachable!() };
+    let Node::Fork {
+        left,
+        height,
+        right,
+        ..
+    } = &mut **node
+    else {
+        unreachable!()
+    };
+    let before = *height;
+    let (left_height, right_height) = (left.height(), right.height());
+    if right_height <= left_height + 1 && left_height <= right_height + 1 {
+        let after = left_height.max(right_height) + 1;
+        *height = after;
+        return after != before;
+    }
+    if left_height > right_height {
+        lift_left(root);
+    } else {
+        lift_right(root);
+    }
+    stored_height(root) != before
 }
 
 /// Returns the height that the root of a tree stores.
@@ -407,20 +440,29 @@ fn put_leaf<D: Ord + Drop>(tree: &mut Tree<D>, leaf: Box<Node<D>>) -> bool
     }
 }
 
-/// Removes the first item of a tree, in its node. Returns `None` for an empty tree.
+/// Removes the first item of a tree, in its node, which has no sides then. Returns `None` for an
+/// empty tree.
 fn take_first_node<D: Drop>(tree: &mut Tree<D>) -> Option<Box<Node<D>>>
     requires fits { length tree.old.0 < 2 ^ 64 }
-    ensures { MatchOption result (AreEmpty tree.old tree.new) (IsFirstNodeOf tree.old tree.new) }
+    ensures parts { MatchOption result (AreEmpty tree.old tree.new)
+        (IsFirstNodeOf tree.old tree.new) }
+    ensures leaf { IfSome result (λ node. IsLeaf node.value) }
 {
     match &mut tree.root {
         None => None,
         Some(node) => match &mut **node {
             Node::Spare => unreachable!(),
-            Node::Fork { left, right, .. } => {
+            Node::Fork {
+                left,
+                height,
+                right,
+                ..
+            } => {
                 let before = left.height();
                 match take_first_node(left) {
                     None => {
                         let rest = mem::replace(right, Tree::new());
+                        *height = 1;
                         let node = tree.root.take();
                         *tree = rest;
                         node
@@ -434,6 +476,65 @@ fn take_first_node<D: Drop>(tree: &mut Tree<D>) -> Option<Box<Node<D>>>
             }
         },
     }
+}
+
+/// Removes the first item of a tree and adds another, in order. It takes no memory: the new item
+/// gets the first one's node, and `item` becomes the first one. Returns whether the height of the
+/// tree has changed. If both places are in the left side, it leaves the rest as it is.
+pub(crate) fn replace_first<D: Ord + Drop>(tree: &mut Tree<D>, item: &mut D) -> bool
+    requires sorted { IsStrictlySortedBy D.cmp tree.old.0 }
+    requires some { 0 < length tree.old.0 }
+    requires absent { has D.cmp (rest_of tree.old.0) item.old ≡ false }
+    requires fits { length tree.old.0 < 2 ^ 64 }
+    ensures list { tree.new.0 ≡ insert_key D.cmp (rest_of tree.old.0) item.old }
+    ensures first { tree.old.0 ≡ item.new ∷ rest_of tree.old.0 }
+    ensures len { length tree.new.0 ≡ length tree.old.0 }
+    ensures height { DifferByAtMost 1 tree.old.1 tree.new.1 }
+    ensures changed { result ≡ not (tree.new.1 == tree.old.1) }
+{
+    match &mut tree.root {
+        None => unreachable!(),
+        Some(node) => match &mut **node {
+            Node::Spare => unreachable!(),
+            Node::Fork {
+                left,
+                item: other,
+                ..
+            } => {
+                if left.height() > 0 && (*item).cmp(other).is_lt() {
+                    let has_changed = replace_first(left, item);
+                    rebalance_if(&mut tree.root, has_changed)
+                } else {
+                    move_first(tree, item)
+                }
+            }
+        },
+    }
+}
+
+/// Removes the first item of a tree and adds another in its node, as `replace_first` does. It walks
+/// from the root twice.
+fn move_first<D: Ord + Drop>(tree: &mut Tree<D>, item: &mut D) -> bool
+    requires sorted { IsStrictlySortedBy D.cmp tree.old.0 }
+    requires some { 0 < length tree.old.0 }
+    requires absent { has D.cmp (rest_of tree.old.0) item.old ≡ false }
+    requires fits { length tree.old.0 < 2 ^ 64 }
+    ensures list { tree.new.0 ≡ insert_key D.cmp (rest_of tree.old.0) item.old }
+    ensures first { tree.old.0 ≡ item.new ∷ rest_of tree.old.0 }
+    ensures len { length tree.new.0 ≡ length tree.old.0 }
+    ensures height { DifferByAtMost 1 tree.old.1 tree.new.1 }
+    ensures changed { result ≡ not (tree.new.1 == tree.old.1) }
+{
+    let before = tree.height();
+    let Some(mut node) = take_first_node(tree) else {
+        unreachable!()
+    };
+    let Node::Fork { item: place, .. } = &mut *node else {
+        unreachable!()
+    };
+    mem::swap(place, item);
+    put_leaf(tree, node);
+    tree.height() != before
 }
 
 /// Joins two trees, one after the other.

@@ -8,7 +8,7 @@ use Rattle.amr_tables.proofs.tree.take.Goals as goal
 
 pub returns-in_ok-memory-in-Some-clause-list : goal.returns-in_ok-memory-in-Some-clause-list
 returns-in_ok-memory-in-Some-clause-list g c =
-    let taken = first_in _ _ c.in_ok-memory-in-Some.memory.value c.in_ok-memory-in-Some.ensures in
+    let taken = first_in _ _ c.in_ok-memory-in-Some.memory.value c.in_ok-memory-in-Some.ensures.parts in
     let first = c.in-Some.first.now in
     let item = taken.0 in
     let found : Some first ≡ Some item = c.in-Some.ensures ∙ ap (λ l. slice_get l 0) taken.1 in
