@@ -1,10 +1,13 @@
-//! The texts of a label set with their sort key, by which label sets are compared. `Labels` shares
-//! one of these between its clones.
+//! The texts of a label set with their sort key, by which label sets are compared, and their text as
+//! an object, which is printed. `Labels` shares one of these between its clones.
 ghost use Rattle.std.specs.Prelude.{◌≡◌, ◌++◌, false, true, string_bytes, IfOk, IfSome, IfNone, OnOk};
+ghost use Rattle.std.specs.Option.{option_copied};
 ghost use Rattle.amr_labels.specs.Labels.{label_set_cmp};
 ghost use Rattle.amr_labels.specs.SortKey.{key_of_text, key_of_label, sort_key, has_zero, label_has_zero, has_zeros};
 ghost use Rattle.amr_labels.specs.Spread.{label_set_spread};
+ghost use Rattle.amr_labels.specs.ObjectText.{plain_object};
 
+use crate::object_text::object_text;
 use crate::text::{Text, spread_of};
 use crate::text_map::TextMap;
 use std::alloc::{AllocError, Global};
@@ -21,15 +24,19 @@ pub(crate) struct KeyedTexts {
     key: Option<String>,
     /// A number made of the sort key, by which tables spread label sets out.
     spread: usize,
+    /// All names and values as an object, or `None` if one of them can't stand between quotes as it
+    /// is.
+    printed: Option<String>,
 }
 
 impl Model for KeyedTexts {
-    ghost use Rattle.std.specs.Prelude.{◌≡◌, List, ℕ, IfSome, false, string_bytes};
+    ghost use Rattle.std.specs.Prelude.{◌≡◌, List, ℕ, IfSome, IfNone, true, false, string_bytes};
     ghost use Rattle.std.specs.Coded.{coded_ℕ, coded_list};
     ghost use Rattle.amr_labels.specs.Map as map;
     ghost use Rattle.amr_labels.specs.Labels.{text_cmp};
     ghost use Rattle.amr_labels.specs.SortKey.{sort_key, has_zeros};
     ghost use Rattle.amr_labels.specs.Spread.{label_set_spread};
+    ghost use Rattle.amr_labels.specs.ObjectText.{are_plain, object_text};
 
     ghost Value = { map.Map text_cmp (List ℕ) };
 
@@ -40,11 +47,14 @@ impl Model for KeyedTexts {
     ghost invariant = { λ keyed. IfSome keyed.key (λ key.
         (string_bytes key ≡ sort_key (map.entries keyed.texts))
         × (has_zeros (map.entries keyed.texts) ≡ false))
-        × (keyed.spread ≡ label_set_spread keyed.texts) };
+        × (keyed.spread ≡ label_set_spread keyed.texts)
+        × IfSome keyed.printed (λ text. (string_bytes text ≡ object_text (map.entries keyed.texts))
+        × (are_plain (map.entries keyed.texts) ≡ true))
+        × IfNone keyed.printed (are_plain (map.entries keyed.texts) ≡ false) };
 }
 
 impl KeyedTexts {
-    /// Works out the sort key of the texts.
+    /// Works out the sort key of the texts, and their text as an object.
     #[tactic(auto, unfolding(crate::specs::Spread::label_set_spread))]
     pub(crate) fn new(alloc: Global, texts: TextMap) -> Result<KeyedTexts, AllocError>
         ensures { IfOk result (λ keyed. keyed ≡ texts) }
@@ -54,7 +64,13 @@ impl KeyedTexts {
             Some(key) => spread_of(key.as_str()),
             None => 0,
         };
-        Ok(KeyedTexts { texts, key, spread })
+        let printed = object_text(alloc, texts.entries())?;
+        Ok(KeyedTexts {
+            texts,
+            key,
+            spread,
+            printed,
+        })
     }
 
     /// Returns a number made of the texts.
@@ -62,6 +78,17 @@ impl KeyedTexts {
         ensures { result ≡ label_set_spread self.now }
     {
         self.spread
+    }
+
+    /// Returns the text of the names and values as an object, if they can stand between quotes as
+    /// they are.
+    pub(crate) fn printed(&self) -> Option<&str>
+        ensures { option_copied result ≡ plain_object self.now }
+    {
+        match &self.printed {
+            Some(text) => Some(text.as_str()),
+            None => None,
+        }
     }
 
     /// Returns the texts.

@@ -9,6 +9,7 @@ ghost use Rattle.std.specs.Ordering.{as_partial_cmp, eq_by_cmp};
 ghost use Rattle.amr_labels.specs.Map as map;
 ghost use Rattle.amr_labels.specs.Labels.{text_cmp, value_of, label_set_cmp, label_set_cmp_total, labels_of_pairs, IsLabelSet};
 ghost use Rattle.amr_labels.specs.Spread.{label_set_spread};
+ghost use Rattle.amr_labels.specs.ObjectText.{plain_object};
 
 use crate::keyed_texts::KeyedTexts;
 use crate::shared::Shared;
@@ -118,6 +119,14 @@ impl Labels {
         ensures { result ≡ label_set_spread self.now }
     {
         self.shared.get().spread()
+    }
+
+    /// Returns the text of the labels as an object, `{"name":"value"}`, in the order of the names.
+    /// Returns `None` if a name or a value can't stand between quotes as it is.
+    pub fn printed(&self) -> Option<&str>
+        ensures { option_copied result ≡ plain_object self.now }
+    {
+        self.shared.get().printed()
     }
 
     /// Returns an equal label set. It shares the texts.

@@ -59,7 +59,10 @@ pub(crate) fn push_labels(
     ensures { OnOk result (string_bytes out.new
         ≡ string_bytes out.old ++ compact_text (labels_data labels.now)) }
 {
-    push_texts(out, alloc, labels.entries())
+    match labels.printed() {
+        Some(text) => out.push_str(text),
+        None => push_texts(out, alloc, labels.entries()),
+    }
 }
 
 /// Appends a comma if there is something before.
