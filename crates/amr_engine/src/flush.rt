@@ -14,7 +14,7 @@ ghost use Rattle.amr_state.specs.Kept.{GrownBy, undone};
 ghost use Rattle.amr_engine.specs.Flush.{let_through, firing_of, resolved_of, labels_of, log_key_of, notified_firing, notified_resolved, notifications_of, notify_all, set_timer, drop_member, drop_resolved, run_pipeline, flush};
 ghost use Rattle.amr_engine.specs.Weight.{turns, flush_weight};
 
-use crate::stages::taken_away;
+use crate::stages::taken_away_learning;
 use amr_config::Config;
 use amr_labels::{LabelMap, Labels, Listing};
 use amr_rules::{LogEntry, labels_of, needs_update};
@@ -128,8 +128,7 @@ pub(crate) fn let_through(
     let mut through = Vec::with_capacity(store.alloc(), members.len())?;
     learn_silences(store, at, members)?;
     for (labels, alert) in members {
-        store.learn_sources(labels)?;
-        if taken_away(store, at, route, labels)?.is_none() {
+        if taken_away_learning(store, at, route, labels)?.is_none() {
             through.push((labels.clone()?, alert.clone()?))?;
         }
     }

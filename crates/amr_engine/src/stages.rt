@@ -2,12 +2,14 @@
 //! flush notifies of no member that one of them mutes, and `explain` names the first that does.
 ghost use Rattle.std.specs.Prelude.{◌≡◌, IfOk};
 ghost use Rattle.amr_rules.specs.Muting.{inhibition_from};
-ghost use Rattle.amr_engine.specs.Stages.{taken_away};
+ghost use Rattle.amr_stated.specs.RuleMatches.{rule_matches};
+ghost use Rattle.amr_engine.specs.Stages.{taken_away, taken_away_later};
 
 use crate::explain::Finding;
 use amr_labels::Labels;
 use amr_rules::inhibited_by_matched;
 use amr_state::Store;
+use amr_stated::RuleMatch;
 use amr_time::Moment;
 use std::alloc::AllocError;
 
@@ -22,11 +24,43 @@ pub(crate) fn taken_away(
 ) -> Result<Option<Finding>, AllocError>
     ensures { IfOk result (λ found. found ≡ taken_away store.now.state at route labels.now) }
 {
-    let alloc = store.alloc();
-    let config = store.config();
-    if let Some((rule, source)) = inhibition(store, at, labels)? {
-        return Ok(Some(Finding::Inhibited { rule, source }));
+    match inhibition(store, at, labels)? {
+        Some((rule, source)) => Ok(Some(Finding::Inhibited { rule, source })),
+        None => taken_away_later(store, at, route, labels),
     }
+}
+
+/// Returns what `taken_away` returns. It learns first which label sets can be sources of the rules
+/// that have these labels as a target, and looks up only once which rules these are.
+#[tactic(auto, unfolding(crate::specs::Stages::taken_away))]
+pub(crate) fn taken_away_learning(
+    store: &mut Store,
+    at: Moment,
+    route: usize,
+    labels: &Labels,
+) -> Result<Option<Finding>, AllocError>
+    ensures found { IfOk result (λ found. found
+        ≡ taken_away store.old.state at route labels.now) }
+    ensures same { store.new ≡ store.old }
+{
+    match inhibition_learning(store, at, labels)? {
+        Some((rule, source)) => Ok(Some(Finding::Inhibited { rule, source })),
+        None => taken_away_later(store, at, route, labels),
+    }
+}
+
+/// Returns the first stage after inhibition that mutes an alert with these labels on a route.
+#[tactic(auto, unfolding(crate::specs::Stages::taken_away_later))]
+fn taken_away_later(
+    store: &Store,
+    at: Moment,
+    route: usize,
+    labels: &Labels,
+) -> Result<Option<Finding>, AllocError>
+    ensures { IfOk result (λ found. found
+        ≡ taken_away_later store.now.state at route labels.now) }
+{
+    let config = store.config();
     if !config.is_active_at(route, at) {
         return Ok(Some(Finding::OutsideActive));
     }
@@ -53,10 +87,43 @@ fn inhibition(
         return Ok(None);
     }
     let matched = store.rule_matches(labels)?;
+    inhibition_by(store, at, matched.get().as_slice(), labels)
+}
+
+/// Returns what `inhibition` returns. It learns first which label sets can be sources of the rules
+/// that have these labels as a target.
+fn inhibition_learning(
+    store: &mut Store,
+    at: Moment,
+    labels: &Labels,
+) -> Result<Option<(usize, Labels)>, AllocError>
+    ensures found { IfOk result (λ found. found ≡ inhibition_from 0 at labels.now
+        store.old.state.alerts store.old.state.config.rules) }
+    ensures same { store.new ≡ store.old }
+{
+    if store.config().rules().is_empty() {
+        return Ok(None);
+    }
+    let matched = store.rule_matches(labels)?;
+    store.learn_sources_matched(matched.get().as_slice())?;
+    inhibition_by(store, at, matched.get().as_slice(), labels)
+}
+
+/// Returns what `inhibition` returns, given which sides of each rule the labels are on.
+fn inhibition_by(
+    store: &Store,
+    at: Moment,
+    matched: &[RuleMatch],
+    labels: &Labels,
+) -> Result<Option<(usize, Labels)>, AllocError>
+    requires { matched.now ≡ rule_matches labels.now store.now.state.config.rules }
+    ensures { IfOk result (λ found. found ≡ inhibition_from 0 at labels.now
+        store.now.state.alerts store.now.state.config.rules) }
+{
     inhibited_by_matched(
         store.alloc(),
         store.config().rules(),
-        matched.get().as_slice(),
+        matched,
         store.alerts(),
         at,
         labels,

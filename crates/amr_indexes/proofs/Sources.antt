@@ -1,34 +1,32 @@
 -- What the sides of inhibition rules list, and how they take in label sets.
-use Rattle.std.proofs.Common.{◌≡◌, ◌+◌, ◌<◌, ◌≤◌, Bool, true, false, cond, not, ◌||◌, ◌&&◌, T, List, [], ◌∷◌, ◌++◌, Option, Some, None, Vec, map, length, take, refl, sym, ap, subst, ◌∙◌, IsTrue, is_some, arith}
-use Rattle.std.specs.Prelude.{option_map}
-use Rattle.std.specs.declared.alloc.Global.{Global}
+use Rattle.std.proofs.Common.{◌≡◌, ◌+◌, ◌<◌, ◌≤◌, Bool, true, false, cond, ◌||◌, ◌&&◌, T, List, [], ◌∷◌, ◌++◌, Option, Some, None, ◌↔◌, map, length, take, refl, sym, ap, ◌∙◌, IsTrue, is_some, arith}
+use Rattle.std.specs.Prelude.{Result, Ok, Err, OnOk, OnErr, option_map, unwrap_or}
 use Rattle.std.proofs.Math.ListN.{get_or}
-use Rattle.std.specs.List.{filter, filter_map, cons_option, AllByRecursion}
-use Rattle.std.specs.List.Sorted.{IsStrictlySortedBy}
+use Rattle.std.specs.List.{cons_option}
 use Rattle.std.specs.declared.cmp.Ordering.{Ordering}
 use Rattle.std.specs.declared.cmp.Ordering.TheVariants.{Less, Equal, Greater}
 use Rattle.std.specs.Ordering.{eq_by_cmp, is_eq, is_lt, ordering_then}
 use Rattle.std.specs.Cmp.{eq_by_cmp_equiv, tied_itself}
-use Rattle.std.specs.Cmp.Lexicographic.{slice_cmp, lists_total, nat_list_cmp_total}
+use Rattle.std.specs.Cmp.Lexicographic.{slice_cmp, lists_total}
 use Rattle.std.specs.FinMap.{find, is_sorted, slice_cmp-IsAntisymmetric}
 use Rattle.std.specs.FinMap.Entries.{below_all, find-where_key, is_sorted-where_key, same_entries}
-use Rattle.std.proofs.lemmas.Bool.{true≢false, and_parts}
+use Rattle.std.proofs.lemmas.Bool.{true≢false}
 use Rattle.std.proofs.lemmas.List.{take-append-le, take_all, length-append}
 use Rattle.std.proofs.lemmas.List.Folds.{list_any_more}
 use Rattle.std.proofs.lemmas.Map.Views.{tells_apart}
-use Rattle.amr_labels.specs.Map.{get, entries, get-entries, entries-sorted}
+use Rattle.amr_labels.specs.Map.{get, set, insert, empty, entries, get-empty, get-insert, get-set, get-entries, entries-sorted}
+use Rattle.amr_labels.specs.Set.{Set, contains, items}
 use Rattle.amr_labels.specs.Labels.{Text, text_cmp, text_cmp-IsAntisymmetric, LabelSet, label_set_cmp, label_set_cmp_total, label_set_cmp-IsAntisymmetric, value_of}
-use Rattle.amr_matchers.specs.Matchers.{all_hold, matcher_cmp, matcher_cmp-IsAntisymmetric}
+use Rattle.amr_matchers.specs.Matchers.{Matcher, all_hold, matcher_cmp, matcher_cmp_total, matcher_cmp-IsAntisymmetric}
 use Rattle.amr_stated.specs.declared.rule.InhibitRule.{InhibitRule}
 use Rattle.amr_rules.specs.declared.alert.Alert.{Alert}
 use Rattle.amr_rules.specs.Muting.{Alerts, agree_on, sources_of}
-use Rattle.amr_tables.specs.InParts.{items_of}
-use Rattle.amr_tables.specs.Queued.{has, HasLess, HasMore}
-use Rattle.amr_tables.proofs.Queueing.{sorted_none}
+use Rattle.amr_tables.specs.Numbered.{shown}
+use Rattle.amr_tables.specs.Queued.{has}
 use Rattle.amr_indexes.specs.declared.rule_source.SourceSide.{SourceSide}
-use Rattle.amr_indexes.specs.declared.rule_source.RuleSource.{RuleSource}
 use Rattle.amr_indexes.specs.declared.rule_source.KnownSide.{KnownSide}
-use Rattle.amr_indexes.specs.RuleSources.{values_cmp, source_cmp, source_cmp_total, label_values, is_source, ListsSide, IsSideOf, IsPut, ListsAgreeing}
+use Rattle.amr_indexes.specs.LabelValues.{values_cmp, values_cmp_total, values_cmp-IsAntisymmetric, label_values}
+use Rattle.amr_indexes.specs.RuleSources.{ByValues, is_in, is_under, is_source, ListsSide, IsSideOf, IsPut, IsListedToo, ListsSame, ListsAgreeing, stored_of}
 
 eq_then : (a b : Ordering) → is_eq (ordering_then a b) ≡ (is_eq a && is_eq b)
 eq_then Less b = refl
@@ -40,12 +38,68 @@ equal_of Less e = absurd (true≢false (sym e))
 equal_of Equal e = refl
 equal_of Greater e = absurd (true≢false (sym e))
 
-less_after : (w v : Ordering) → w ≡ Equal → ordering_then w v ≡ Less → v ≡ Less
-less_after w v tie e = sym (ap (λ o. ordering_then o v) tie) ∙ e
-
 both : (a b : Bool) → T a → T b → T (a && b)
 both true b p q = q
 both false b p q = absurd p
+
+parts : (a b : Bool) → T (a && b) → T a × T b
+parts true b h = (tt, h)
+parts false b h = absurd h
+
+-- ---- a label set is listed under values
+
+twice : {A : Type 0} (b : Bool) (x y z : A) → cond b x (cond b y z) ≡ cond b x z
+twice true x y z = refl
+twice false x y z = refl
+
+some_or : (b : Bool) (x : Option (Unit {0})) → is_some (cond b (Some tt) x) ≡ (b || is_some x)
+some_or true x = refl
+some_or false x = refl
+
+in_or_empty : (found : Option (Set label_set_cmp)) (other : LabelSet) → contains (unwrap_or found empty) other ≡ is_in found other
+in_or_empty None other = ap is_some (get-empty label_set_cmp other)
+in_or_empty (Some listed) other = refl
+
+module _ (old gone changed : ByValues) (values : List Text) (listed : Set label_set_cmp)
+    (takes : shown values_cmp gone ≡ set (shown values_cmp old) values None) (puts : shown values_cmp changed ≡ set (shown values_cmp gone) values (Some listed)) where
+  replaced : (under : List Text) → get (shown values_cmp changed) under ≡ cond (eq_by_cmp values_cmp under values) (Some listed) (get (shown values_cmp old) under)
+  replaced under =
+      ap (λ m. get m under) puts ∙ get-set values_cmp_total (shown values_cmp gone) values (Some listed) under
+      ∙ ap (λ m. cond (eq_by_cmp values_cmp under values) (Some listed) (get m under)) takes
+      ∙ ap (cond (eq_by_cmp values_cmp under values) (Some listed)) (get-set values_cmp_total (shown values_cmp old) values None under)
+      ∙ twice (eq_by_cmp values_cmp under values) (Some listed) None (get (shown values_cmp old) under)
+
+  module _ (was : Set label_set_cmp) (were : was ≡ unwrap_or (get (shown values_cmp old) values) empty) where
+    was_under : (under : List Text) (other : LabelSet) → eq_by_cmp values_cmp under values ≡ true → contains was other ≡ is_under old under other
+    was_under under other same =
+        ap (λ m. contains m other) were ∙ in_or_empty (get (shown values_cmp old) values) other
+        ∙ ap (λ v. is_under old v other) (sym (tells_apart values_cmp-IsAntisymmetric under values same))
+
+    one_more : (labels : LabelSet) → listed ≡ insert was labels tt → (under : List Text) (other : LabelSet) (same : Bool) → eq_by_cmp values_cmp under values ≡ same
+        → is_in (cond same (Some listed) (get (shown values_cmp old) under)) other ≡ ((same && eq_by_cmp label_set_cmp other labels) || is_under old under other)
+    one_more labels grown under other true same =
+        ap (λ m. contains m other) grown ∙ ap is_some (get-insert label_set_cmp_total was labels tt other)
+        ∙ some_or (eq_by_cmp label_set_cmp other labels) (get was other) ∙ ap (λ b. eq_by_cmp label_set_cmp other labels || b) (was_under under other same)
+    one_more labels grown under other false same = refl
+
+    no_more : listed ≡ was → (under : List Text) (other : LabelSet) (same : Bool) → eq_by_cmp values_cmp under values ≡ same
+        → is_in (cond same (Some listed) (get (shown values_cmp old) under)) other ≡ is_under old under other
+    no_more kept under other true same = ap (λ m. contains m other) kept ∙ was_under under other same
+    no_more kept under other false same = refl
+
+    -- the set under the values takes in a label set
+    pub listed_too : {A E : Type 0} (r : Result A E) (labels : LabelSet) → OnOk r (listed ≡ insert was labels tt) → OnOk r (IsListedToo values labels old changed)
+    listed_too (Ok _) labels grown = λ under other. ap (λ found. is_in found other) (replaced under) ∙ one_more labels grown under other (eq_by_cmp values_cmp under values) refl
+    listed_too (Err _) labels grown = tt
+
+    -- or it stays as it was
+    pub listed_same : {A E : Type 0} (r : Result A E) → OnErr r (listed ≡ was) → OnErr r (ListsSame old changed)
+    listed_same (Ok _) kept = tt
+    listed_same (Err _) kept = λ under other. ap (λ found. is_in found other) (replaced under) ∙ no_more kept under other (eq_by_cmp values_cmp under values) refl
+
+-- a place for values lists nothing more
+pub same_shown : (old changed : ByValues) → shown values_cmp changed ≡ shown values_cmp old → ListsSame old changed
+same_shown old changed same = λ under other. ap (λ m. is_in (get m under) other) same
 
 -- ---- a label set is taken in
 
@@ -77,25 +131,30 @@ put_is side labels q values h false e =
 
 -- a side that takes in the next label set lists those of one label set more
 pub side_seen : (arrived : List LabelSet) (old put new : KnownSide) (labels : LabelSet) → ListsSide arrived old → old.seen < length arrived → labels ≡ get_or arrived old.seen labels
-    → IsPut labels old put → IsStrictlySortedBy source_cmp put.sources.dues → put.side ≡ old.side → new.side ≡ put.side → new.seen ≡ old.seen + 1 → new.sources.dues ≡ put.sources.dues → ListsSide arrived new
-side_seen arrived old put new labels is lt at puts sorted side side_too seen dues = record {
+    → IsPut labels old put → put.side ≡ old.side → new.side ≡ put.side → new.seen ≡ old.seen + 1 → new.sources ≡ put.sources → ListsSide arrived new
+side_seen arrived old put new labels is lt at puts side side_too seen sources = record {
   within = omega (arith, lt, seen);
-  sorted = subst (IsStrictlySortedBy source_cmp) (sym dues) sorted;
-  exact = λ s.
-      ap (λ (l : List RuleSource). has source_cmp l s) dues ∙ puts s
-      ∙ ap (λ b. (all_hold old.side.source labels && (eq_by_cmp values_cmp s.values.items (label_values old.side.equal.items labels) && eq_by_cmp label_set_cmp s.labels labels)) || b) (is.exact s)
-      ∙ put_is old.side labels s.labels s.values.items (has label_set_cmp (take old.seen arrived) s.labels) (eq_by_cmp label_set_cmp s.labels labels) refl
-      ∙ ap (λ x. (has label_set_cmp (take old.seen arrived) s.labels || eq_by_cmp label_set_cmp s.labels x) && is_source old.side s.labels s.values.items) at
-      ∙ ap (λ b. b && is_source old.side s.labels s.values.items) (sym (list_any_more (eq_by_cmp label_set_cmp s.labels) arrived old.seen labels lt))
-      ∙ (λ i. has label_set_cmp (take (sym seen i) arrived) s.labels && is_source (sym (side_too ∙ side) i) s.labels s.values.items);
+  exact = λ values q.
+      ap (λ (l : ByValues). is_under l values q) sources ∙ puts values q
+      ∙ ap (λ b. (all_hold old.side.source labels && (eq_by_cmp values_cmp values (label_values old.side.equal.items labels) && eq_by_cmp label_set_cmp q labels)) || b) (is.exact values q)
+      ∙ put_is old.side labels q values (has label_set_cmp (take old.seen arrived) q) (eq_by_cmp label_set_cmp q labels) refl
+      ∙ ap (λ x. (has label_set_cmp (take old.seen arrived) q || eq_by_cmp label_set_cmp q x) && is_source old.side q values) at
+      ∙ ap (λ b. b && is_source old.side q values) (sym (list_any_more (eq_by_cmp label_set_cmp q) arrived old.seen labels lt))
+      ∙ (λ i. has label_set_cmp (take (sym seen i) arrived) q && is_source (sym (side_too ∙ side) i) q values);
+}
+
+-- a side at which nothing changed but that label sets were listed in vain
+pub side_same : (arrived : List LabelSet) (old new : KnownSide) → ListsSide arrived old → ListsSame old.sources new.sources → new.side ≡ old.side → new.seen ≡ old.seen → ListsSide arrived new
+side_same arrived old new is same side seen = record {
+  within = omega (arith, is.within, seen);
+  exact = λ values q. same values q ∙ is.exact values q ∙ (λ i. has label_set_cmp (take (sym seen i) arrived) q && is_source (sym side i) q values);
 }
 
 -- a side of which nothing is known yet
-pub side_new : (arrived : List LabelSet) (known : KnownSide) → known.seen ≡ 0 → known.sources.dues ≡ [] → ListsSide arrived known
-side_new arrived known seen dues = record {
+pub side_new : (arrived : List LabelSet) (known : KnownSide) → known.seen ≡ 0 → shown values_cmp known.sources ≡ empty → ListsSide arrived known
+side_new arrived known seen none = record {
   within = omega (arith, seen);
-  sorted = subst (IsStrictlySortedBy source_cmp) (sym dues) (sorted_none source_cmp);
-  exact = λ s. ap (λ (l : List RuleSource). has source_cmp l s) dues ∙ (λ i. has label_set_cmp (take (sym seen i) arrived) s.labels && is_source known.side s.labels s.values.items);
+  exact = λ values q. ap (λ m. is_in (get m values) q) none ∙ ap (λ found. is_in found q) (get-empty values_cmp values) ∙ (λ i. has label_set_cmp (take (sym seen i) arrived) q && is_source known.side q values);
 }
 
 -- one more label set arrives
@@ -104,9 +163,20 @@ side_kept arrived labels known is =
     let longer : length (arrived ++ labels ∷ []) ≡ length arrived + 1 = length-append arrived (labels ∷ []) in
     record {
       within = omega (arith, is.within, longer);
-      sorted = is.sorted;
-      exact = λ s. is.exact s ∙ ap (λ l. has label_set_cmp l s.labels && is_source known.side s.labels s.values.items) (sym (take-append-le known.seen arrived (labels ∷ []) is.within));
+      exact = λ values q. is.exact values q ∙ ap (λ l. has label_set_cmp l q && is_source known.side q values) (sym (take-append-le known.seen arrived (labels ∷ []) is.within));
     }
+
+-- a label set that matches the side is put at it
+pub is_put : (old changed : KnownSide) (labels : LabelSet) (values : List Text) → all_hold old.side.source labels ≡ true → values ≡ label_values old.side.equal.items labels → IsListedToo values labels old.sources changed.sources
+    → IsPut labels old changed
+is_put old changed labels values matches are too under other =
+    too under other
+    ∙ (λ i. ((sym matches i) && (eq_by_cmp values_cmp under (are i) && eq_by_cmp label_set_cmp other labels)) || is_under old.sources under other)
+
+pub put_if_listed : {A E : Type 0} (r : Result A E) (old changed : KnownSide) (labels : LabelSet) (values : List Text) → all_hold old.side.source labels ≡ true → values ≡ label_values old.side.equal.items labels
+    → OnOk r (IsListedToo values labels old.sources changed.sources) → OnOk r (IsPut labels old changed)
+put_if_listed (Ok _) old changed labels values matches are too = is_put old changed labels values matches are too
+put_if_listed (Err _) old changed labels values matches are too = tt
 
 -- ---- what a side lists under values
 
@@ -116,87 +186,41 @@ agrees_by_values (name ∷ names) a b =
     eq_then (text_cmp (value_of a name) (value_of b name)) (values_cmp (label_values names a) (label_values names b))
     ∙ ap (λ x. eq_by_cmp text_cmp (value_of a name) (value_of b name) && x) (agrees_by_values names a b)
 
-abbrev labels_of : List RuleSource → List LabelSet
-labels_of = map (λ s. s.labels)
-
-module _ (part : Vec Text Global) where
-  abbrev is_part : RuleSource → Bool
-  is_part s = is_eq (values_cmp s.values.items part.items)
-
-  abbrev at : LabelSet → RuleSource
-  at q = record { values = part; labels = q }
-
-  labels_below : (x y : RuleSource) → is_part x ≡ true → is_part y ≡ true → source_cmp x y ≡ Less → label_set_cmp x.labels y.labels ≡ Less
-  labels_below x y hx hy e =
-      let o = lists_total nat_list_cmp_total in
-      let tie : values_cmp x.values.items y.values.items ≡ Equal = o.congr x.values.items part.items y.values.items (equal_of _ hx) ∙ equal_of _ ((eq_by_cmp_equiv o).symm part.items y.values.items ∙ hy) in
-      less_after _ _ tie e
-
-  part_below : (x : RuleSource) → is_part x ≡ true → (l : List RuleSource) → AllByRecursion (λ y. source_cmp x y ≡ Less) l → AllByRecursion (λ y. label_set_cmp x.labels y ≡ Less) (labels_of (filter is_part l))
-  part_below x hx [] a = tt
-  part_below x hx (y ∷ l) a =
-      elim (is_part y) as (λ b. is_part y ≡ b → AllByRecursion (λ y. label_set_cmp x.labels y ≡ Less) (labels_of (cond b (y ∷ filter is_part l) (filter is_part l)))) [
-        | true ↦ λ hy. (labels_below x y hx hy a.0, part_below x hx l a.1)
-        | false ↦ λ _. part_below x hx l a.1
-      ] refl
-
-  part_sorted : (l : List RuleSource) → IsStrictlySortedBy source_cmp l → IsStrictlySortedBy label_set_cmp (labels_of (filter is_part l))
-  unfolding IsStrictlySortedBy
-  part_sorted [] s = tt
-  part_sorted (x ∷ l) s =
-      elim (is_part x) as (λ b. is_part x ≡ b → IsStrictlySortedBy label_set_cmp (labels_of (cond b (x ∷ filter is_part l) (filter is_part l)))) [
-        | true ↦ λ hx. (part_below x hx l s.0, part_sorted l s.1)
-        | false ↦ λ _. part_sorted l s.1
-      ] refl
-
-  kept_or : (b : Bool) (q : LabelSet) (y : RuleSource) (l : List RuleSource) → has label_set_cmp (labels_of (cond b (y ∷ l) l)) q ≡ ((b && eq_by_cmp label_set_cmp q y.labels) || has label_set_cmp (labels_of l) q)
-  kept_or true q y l = refl
-  kept_or false q y l = refl
-
-  part_has : (l : List RuleSource) (q : LabelSet) → has label_set_cmp (labels_of (filter is_part l)) q ≡ has source_cmp l (at q)
-  part_has [] q = refl
-  part_has (y ∷ l) q =
-      let o = lists_total nat_list_cmp_total in
-      kept_or (is_part y) q y (filter is_part l)
-      ∙ (λ i. ((eq_by_cmp_equiv o).symm y.values.items part.items i && eq_by_cmp label_set_cmp q y.labels) || part_has l q i)
-      ∙ ap (λ b. b || has source_cmp l (at q)) (sym (eq_then (values_cmp part.items y.values.items) (label_set_cmp q y.labels)))
-
 -- a side that has seen all label sets lists those that agree with the target under its values
-pub side_agreeing : (arrived : List LabelSet) (known : KnownSide) (side : SourceSide) (rule : InhibitRule) (target : LabelSet) (part : Vec Text Global) (found : List RuleSource) → ListsSide arrived known → IsSideOf known side
-    → side.source ≡ rule.source → side.equal.items ≡ rule.equal → length arrived ≤ known.seen → part.items ≡ label_values rule.equal target
-    → found ≡ items_of (λ (s : RuleSource) (values : Vec Text Global). values_cmp s.values.items values.items) known.sources.dues part → ListsAgreeing rule target arrived found
-side_agreeing arrived known side rule target part found is of source equal seen values items = record {
-  sorted = subst (λ l. IsStrictlySortedBy label_set_cmp (labels_of l)) (sym items) (part_sorted part known.sources.dues is.sorted);
-  exact = λ q.
-      let o = lists_total nat_list_cmp_total in
-      ap (λ l. has label_set_cmp (labels_of l) q) items ∙ part_has part known.sources.dues q ∙ is.exact (at part q)
-      ∙ ap (λ l. has label_set_cmp l q && is_source known.side q part.items) (take_all known.seen arrived seen)
-      ∙ (λ i. has label_set_cmp arrived q && (all_hold ((of.source ∙ source) i) q && eq_by_cmp values_cmp (values i) (label_values ((of.equal ∙ equal) i) q)))
-      ∙ ap (λ b. has label_set_cmp arrived q && (all_hold rule.source q && b)) ((eq_by_cmp_equiv o).symm (label_values rule.equal target) (label_values rule.equal q) ∙ agrees_by_values rule.equal q target);
-}
+pub side_agreeing : (arrived : List LabelSet) (known : KnownSide) (rule : InhibitRule) (target : LabelSet) (values : List Text) (found : Option (Set label_set_cmp)) → ListsSide arrived known → IsSideOf known.side rule
+    → length arrived ≤ known.seen → values ≡ label_values rule.equal target → found ≡ get (shown values_cmp known.sources) values → ListsAgreeing rule target arrived found
+side_agreeing arrived known rule target values found is of seen are lists = λ q.
+    let o = values_cmp_total in
+    ap (λ f. is_in f q) lists ∙ is.exact values q
+    ∙ ap (λ l. has label_set_cmp l q && is_source known.side q values) (take_all known.seen arrived seen)
+    ∙ (λ i. has label_set_cmp arrived q && (all_hold (of.source i) q && eq_by_cmp values_cmp (are i) (label_values (of.equal i) q)))
+    ∙ ap (λ b. has label_set_cmp arrived q && (all_hold rule.source q && b)) ((eq_by_cmp_equiv o).symm (label_values rule.equal target) (label_values rule.equal q) ∙ agrees_by_values rule.equal q target)
 
 -- ---- the stored alerts of listed label sets
 
 module _ (m : Alerts) where
-  abbrev pub got : RuleSource → Option (LabelSet × Alert)
-  got s = option_map (λ alert. (s.labels, alert)) (get m s.labels)
+  abbrev firsts : List (LabelSet × Unit {0}) → List LabelSet
+  firsts = map (λ entry. entry.0)
 
-  below_got : (x y : LabelSet) (alert : Option Alert) (rest : List (LabelSet × Alert)) → label_set_cmp x y ≡ Less → T (below_all label_set_cmp x rest) → T (below_all label_set_cmp x (cons_option (option_map (λ a. (y, a)) alert) rest))
+  below_got : (x y : LabelSet) (alert : Option Alert) (rest : List (LabelSet × Alert)) → T (is_lt (label_set_cmp x y)) → T (below_all label_set_cmp x rest) → T (below_all label_set_cmp x (cons_option (option_map (λ a. (y, a)) alert) rest))
   below_got x y None rest e h = h
-  below_got x y (Some a) rest e h = both _ _ (subst (λ w. T (is_lt w)) (sym e) tt) h
+  below_got x y (Some a) rest e h = both _ _ e h
 
-  all_below : (x : LabelSet) (l : List RuleSource) → AllByRecursion (λ y. label_set_cmp x y ≡ Less) (labels_of l) → T (below_all label_set_cmp x (filter_map got l))
+  all_below : (x : LabelSet) (l : List (LabelSet × Unit {0})) → T (below_all label_set_cmp x l) → T (below_all label_set_cmp x (stored_of m (firsts l)))
   all_below x [] a = tt
-  all_below x (y ∷ l) a = below_got x y.labels (get m y.labels) (filter_map got l) a.0 (all_below x l a.1)
+  all_below x (y ∷ l) a =
+      let p = parts (is_lt (label_set_cmp x y.0)) (below_all label_set_cmp x l) a in
+      below_got x y.0 (get m y.0) (stored_of m (firsts l)) p.0 (all_below x l p.1)
 
   sorted_one : (x : LabelSet) (alert : Option Alert) (rest : List (LabelSet × Alert)) → T (below_all label_set_cmp x rest) → T (is_sorted label_set_cmp rest) → T (is_sorted label_set_cmp (cons_option (option_map (λ a. (x, a)) alert) rest))
   sorted_one x None rest b s = s
   sorted_one x (Some a) rest b s = both _ _ b s
 
-  sorted_got : (l : List RuleSource) → IsStrictlySortedBy label_set_cmp (labels_of l) → T (is_sorted label_set_cmp (filter_map got l))
-  unfolding IsStrictlySortedBy
+  sorted_got : (l : List (LabelSet × Unit {0})) → T (is_sorted label_set_cmp l) → T (is_sorted label_set_cmp (stored_of m (firsts l)))
   sorted_got [] s = tt
-  sorted_got (x ∷ l) s = sorted_one x.labels (get m x.labels) (filter_map got l) (all_below x.labels l s.0) (sorted_got l s.1)
+  sorted_got (x ∷ l) s =
+      let p = parts (below_all label_set_cmp x.0 l) (is_sorted label_set_cmp l) s in
+      sorted_one x.0 (get m x.0) (stored_of m (firsts l)) (all_below x.0 l p.0) (sorted_got l p.1)
 
   none_either : (b : Bool) (x : Option Alert) → x ≡ None → cond b x None ≡ None
   none_either true x e = e
@@ -212,51 +236,62 @@ module _ (m : Alerts) where
       ap (λ b. cond b (Some a) (find label_set_cmp q rest)) e ∙ sym at ∙ ap (get m) (sym (tells_apart label_set_cmp-IsAntisymmetric q x e))
   find_one q x (Some a) rest false listed at e h = ap (λ b. cond b (Some a) (find label_set_cmp q rest)) e ∙ h
 
-  find_got : (q : LabelSet) (l : List RuleSource) → find label_set_cmp q (filter_map got l) ≡ cond (has label_set_cmp (labels_of l) q) (get m q) None
+  some_found : (same : Bool) (x : Unit {0}) (rest : Option (Unit {0})) → is_some (cond same (Some x) rest) ≡ (same || is_some rest)
+  some_found true x rest = refl
+  some_found false x rest = refl
+
+  find_got : (q : LabelSet) (l : List (LabelSet × Unit {0})) → find label_set_cmp q (stored_of m (firsts l)) ≡ cond (is_some (find label_set_cmp q l)) (get m q) None
   find_got q [] = refl
-  find_got q (x ∷ l) = find_one q x.labels (get m x.labels) (filter_map got l) (eq_by_cmp label_set_cmp q x.labels) (has label_set_cmp (labels_of l) q) refl refl (find_got q l)
+  find_got q (x ∷ l) =
+      find_one q x.0 (get m x.0) (stored_of m (firsts l)) (eq_by_cmp label_set_cmp q x.0) (is_some (find label_set_cmp q l)) refl refl (find_got q l)
+      ∙ ap (λ b. cond b (get m q) None) (sym (some_found (eq_by_cmp label_set_cmp q x.0) x.1 (find label_set_cmp q l)))
 
   kept_alike : (arrived test : Bool) (found : Option Alert) → (is_some found ≡ true → arrived ≡ true) → cond (arrived && test) found None ≡ cond test found None
   kept_alike arrived test None h = none_either (arrived && test) None refl ∙ sym (none_either test None refl)
   kept_alike arrived test (Some a) h = ap (λ b. cond (b && test) (Some a) None) (h refl)
 
+  abbrev pub members : Option (Set label_set_cmp) → List LabelSet
+  members None = []
+  members (Some listed) = items listed
+
+  sorted_members : (found : Option (Set label_set_cmp)) → T (is_sorted label_set_cmp (stored_of m (members found)))
+  sorted_members None = tt
+  sorted_members (Some listed) = sorted_got (entries listed) (entries-sorted listed)
+
+  find_member : (q : LabelSet) (found : Option (Set label_set_cmp)) → find label_set_cmp q (stored_of m (members found)) ≡ cond (is_in found q) (get m q) None
+  find_member q None = refl
+  find_member q (Some listed) = find_got q (entries listed) ∙ ap (λ x. cond (is_some x) (get m q) None) (sym (get-entries listed q))
+
   -- the stored alerts of the listed label sets are the rule's sources
-  pub sources_are : (rule : InhibitRule) (target : LabelSet) (arrived : List LabelSet) (found : List RuleSource) → ListsAgreeing rule target arrived found
-      → ((q : LabelSet) → IsTrue (is_some (get m q)) → IsTrue (has label_set_cmp arrived q)) → filter_map got found ≡ sources_of rule target m
+  pub sources_are : (rule : InhibitRule) (target : LabelSet) (arrived : List LabelSet) (found : Option (Set label_set_cmp)) → ListsAgreeing rule target arrived found
+      → ((q : LabelSet) → IsTrue (is_some (get m q)) → IsTrue (has label_set_cmp arrived q)) → stored_of m (members found) ≡ sources_of rule target m
   sources_are rule target arrived found is stored =
       let test : LabelSet → Bool = λ q. all_hold rule.source q && agree_on rule.equal q target in
-      same_entries label_set_cmp label_set_cmp_total label_set_cmp-IsAntisymmetric (filter_map got found) _ (sorted_got found is.sorted) (is_sorted-where_key label_set_cmp test (entries m) (entries-sorted m)) (λ q.
-      find_got q found ∙ ap (λ b. cond b (get m q) None) (is.exact q) ∙ kept_alike (has label_set_cmp arrived q) (test q) (get m q) (stored q)
+      same_entries label_set_cmp label_set_cmp_total label_set_cmp-IsAntisymmetric (stored_of m (members found)) _ (sorted_members found) (is_sorted-where_key label_set_cmp test (entries m) (entries-sorted m)) (λ q.
+      find_member q found ∙ ap (λ b. cond b (get m q) None) (is q) ∙ kept_alike (has label_set_cmp arrived q) (test q) (get m q) (stored q)
       ∙ ap (λ x. cond (test q) x None) (get-entries m q)
       ∙ sym (find-where_key label_set_cmp test q (λ x e. ap test (sym (label_set_cmp-IsAntisymmetric q x e))) (entries m)))
 
 -- ---- sides that compare as equal
 
-pub same_side : (a b : SourceSide) → (eq_by_cmp (slice_cmp matcher_cmp) a.source b.source && eq_by_cmp values_cmp a.equal.items b.equal.items) ≡ true → (a.source ≡ b.source) × (a.equal.items ≡ b.equal.items)
-same_side a b e =
-    let parts = and_parts (eq_by_cmp (slice_cmp matcher_cmp) a.source b.source) (eq_by_cmp values_cmp a.equal.items b.equal.items) e in
-    (slice_cmp-IsAntisymmetric matcher_cmp-IsAntisymmetric a.source b.source (equal_of _ parts.0), slice_cmp-IsAntisymmetric text_cmp-IsAntisymmetric a.equal.items b.equal.items (equal_of _ parts.1))
+same_sources : (a b : List Matcher) → eq_by_cmp (slice_cmp matcher_cmp) a b ≡ true → a ≡ b
+same_sources a b e = slice_cmp-IsAntisymmetric matcher_cmp-IsAntisymmetric a b (equal_of _ e)
 
--- ---- a label set is put at a side
+same_names : (a b : List Text) → eq_by_cmp (slice_cmp text_cmp) a b ≡ true → a ≡ b
+same_names a b e = slice_cmp-IsAntisymmetric text_cmp-IsAntisymmetric a b (equal_of _ e)
 
-pub gone : (dues less : List RuleSource) (s : RuleSource) → HasLess source_cmp dues s less → has source_cmp less s ≡ false
-gone dues less s members = members s ∙ ap (λ w. not (is_eq w) && has source_cmp dues s) (tied_itself source_cmp_total s)
+source_equal : (side : SourceSide) (rule : InhibitRule) → IsSideOf side rule → eq_by_cmp (slice_cmp matcher_cmp) side.source rule.source ≡ true
+source_equal side rule of = ap (λ l. eq_by_cmp (slice_cmp matcher_cmp) l rule.source) of.source ∙ ap is_eq (tied_itself (lists_total matcher_cmp_total) rule.source)
 
-either : (b h : Bool) → (b || (not b && h)) ≡ (b || h)
-either true h = refl
-either false h = refl
+names_equal : (side : SourceSide) (rule : InhibitRule) → IsSideOf side rule → eq_by_cmp (slice_cmp text_cmp) side.equal.items rule.equal ≡ true
+names_equal side rule of = ap (λ l. eq_by_cmp (slice_cmp text_cmp) l rule.equal) of.equal ∙ ap is_eq (tied_itself values_cmp_total rule.equal)
 
-pub put_lists : (old kept less more : List RuleSource) (p s : RuleSource) → kept ≡ old → HasLess source_cmp kept p less → HasMore source_cmp less p more → has source_cmp more s ≡ (eq_by_cmp source_cmp s p || has source_cmp old s)
-put_lists old kept less more p s same fewer grown =
-    grown s ∙ ap (λ b. eq_by_cmp source_cmp s p || b) (fewer s) ∙ either (eq_by_cmp source_cmp s p) (has source_cmp kept s)
-    ∙ ap (λ (l : List RuleSource). eq_by_cmp source_cmp s p || has source_cmp l s) same
+module _ (side : SourceSide) (rule : InhibitRule) (source : Bool) (asked : source ≡ eq_by_cmp (slice_cmp matcher_cmp) side.source rule.source) where
+  -- a side with other source matchers isn't the rule's
+  pub other_source : source ≡ false → IsTrue source ↔ IsSideOf side rule
+  other_source other = (λ h. absurd (true≢false (sym h ∙ other)), λ of. absurd (true≢false (sym (source_equal side rule of) ∙ sym asked ∙ other)))
 
-pub is_put : (side : SourceSide) (old kept less more : List RuleSource) (labels : LabelSet) (p s : RuleSource) → all_hold side.source labels ≡ true → p.values.items ≡ label_values side.equal.items labels → p.labels ≡ labels
-    → kept ≡ old → HasLess source_cmp kept p less → HasMore source_cmp less p more
-    → has source_cmp more s ≡ ((all_hold side.source labels && (eq_by_cmp values_cmp s.values.items (label_values side.equal.items labels) && eq_by_cmp label_set_cmp s.labels labels)) || has source_cmp old s)
-is_put side old kept less more labels p s matches values own same fewer grown =
-    put_lists old kept less more p s same fewer grown
-    ∙ ap (λ b. b || has source_cmp old s)
-    (eq_then (values_cmp s.values.items p.values.items) (label_set_cmp s.labels p.labels)
-    ∙ (λ i. eq_by_cmp values_cmp s.values.items (values i) && eq_by_cmp label_set_cmp s.labels (own i))
-    ∙ ap (λ b. b && (eq_by_cmp values_cmp s.values.items (label_values side.equal.items labels) && eq_by_cmp label_set_cmp s.labels labels)) (sym matches))
+  -- and one with the rule's is so if its names in `equal` are the rule's
+  pub by_names : (names : Bool) → names ≡ eq_by_cmp (slice_cmp text_cmp) side.equal.items rule.equal → source ≡ true → IsTrue names ↔ IsSideOf side rule
+  by_names names compared same =
+      (λ h. record { source = same_sources side.source rule.source (sym asked ∙ same); equal = same_names side.equal.items rule.equal (sym compared ∙ h) }, λ of. compared ∙ names_equal side rule of)

@@ -1,2 +1,3 @@
+pub mod LabelValues
 pub mod RuleSources
 pub mod SilencesKnown

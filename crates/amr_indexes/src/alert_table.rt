@@ -8,10 +8,11 @@ ghost use Rattle.amr_labels.specs.Labels.{label_set_cmp};
 ghost use Rattle.amr_labels.specs.Map as map;
 ghost use Rattle.amr_tables.specs.Numbered.{shown, has_place, entry_of, Enters, GrowsBy, KeepsPlaces, SamePlaces, SameEntered, NoneEntered, IsUnchanged, HasPlaces, places_for};
 ghost use Rattle.amr_rules.specs.Muting.{has_value};
-ghost use Rattle.amr_indexes.specs.RuleSources.{AllArrived};
+ghost use Rattle.amr_indexes.specs.RuleSources.{AllArrived, pairs_of, stored_of};
+ghost use Rattle.amr_labels.specs.Set as set;
 
 use crate::rule_source::RuleSources;
-use amr_labels::{Labels, Text};
+use amr_labels::{LabelMap, Labels, Text};
 use amr_rules::{Alert, AlertStore};
 use amr_stated::InhibitRule;
 use amr_tables::{Entries, Journal, Keyed, change};
@@ -210,20 +211,37 @@ impl AlertStore for AlertTable {
     fn sources(
         &self,
         alloc: Global,
+        place: usize,
         rule: &InhibitRule,
         target: &Labels,
     ) -> Result<Option<Vec<(&Labels, &Alert)>>, AllocError> {
-        let Some(sources) = self.sources.agreeing(rule, target)? else {
+        let known = self.sources.agreeing(place, rule, target)?;
+        let Some(listed) = known else {
             return Ok(None);
         };
-        let mut found = Vec::new(alloc);
-        for source in sources {
-            if let Some(alert) = self.alerts.get(&source.labels) {
-                found.push((&source.labels, alert))?;
-            }
+        match listed {
+            None => Ok(Some(Vec::new(alloc))),
+            Some(listed) => Ok(Some(stored_of(alloc, &self.alerts, listed)?)),
         }
-        Ok(Some(found))
     }
+}
+
+/// Lists those of the label sets under which alerts are stored, with the alerts.
+fn stored_of<'a>(
+    alloc: Global,
+    alerts: &'a Keyed<Labels, Alert>,
+    listed: &'a LabelMap<()>,
+) -> Result<Vec<(&'a Labels, &'a Alert)>, AllocError>
+    ensures { IfOk result (λ found. pairs_of found.items
+        ≡ stored_of (shown label_set_cmp alerts.now) (set.items listed.now)) }
+{
+    let mut found = Vec::new(alloc);
+    for (labels, _) in listed.iter() {
+        if let Some(alert) = alerts.get(labels) {
+            found.push((labels, alert))?;
+        }
+    }
+    Ok(found)
 }
 
 /// Returns whether a label has a value, an absent label being empty.

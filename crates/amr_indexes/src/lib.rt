@@ -5,6 +5,7 @@
 
 mod alert_table;
 mod known_periods;
+mod label_values;
 mod rule_source;
 mod silence_table;
 

@@ -1,18 +1,16 @@
 //! The label sets that can be the sources of inhibition rules. `alert_table.rt` keeps them, so that
 //! inhibition looks only at the alerts that match a rule's source matchers and agree with the
 //! target on the labels in `equal`. Which of them mutes the target is decided in `amr_rules`.
-ghost use Rattle.std.specs.Prelude.{◌≡◌, ◌<◌, ◌+◌, ◌++◌, ◌∷◌, [], length, IfOk, IfSome, OnOk, OnErr};
-ghost use Rattle.std.specs.List.Sorted.{IsStrictlySortedBy};
-ghost use Rattle.amr_labels.specs.Labels.{value_of};
-ghost use Rattle.amr_tables.specs.Queued.{values_of};
-ghost use Rattle.amr_indexes.specs.RuleSources.{source_cmp, label_values, ListsSide, ListsAgreeing, IsSideOf, IsPut};
+ghost use Rattle.std.specs.Prelude.{◌≡◌, ◌<◌, ◌+◌, ◌++◌, ◌∷◌, ◌↔◌, [], length, IsTrue, IfOk, IfSome, OnOk, OnErr};
+ghost use Rattle.std.specs.Option.{option_copied};
+ghost use Rattle.amr_indexes.specs.RuleSources.{ListsSide, ListsAgreeing, IsSideOf, IsPut, IsListedToo, ListsSame};
 
-use amr_labels::{Labels, Text};
+use crate::label_values::LabelValues;
+use amr_labels::{LabelMap, Labels, Text};
 use amr_matchers::{Answers, Matchers};
 use amr_stated::InhibitRule;
-use amr_tables::{InParts, Queue};
+use amr_tables::Keyed;
 use std::alloc::{AllocError, Global};
-use std::cmp::Ordering;
 use std::collections::BTreeMap;
 use std::marker::Model;
 
@@ -26,34 +24,20 @@ pub(crate) struct SourceSide {
     pub equal: Vec<Text>,
 }
 
-/// A label set that matches a side, with its values of the labels in `equal`.
-#[derive(PartialEq, Eq, PartialOrd, Ord, Drop)]
-pub(crate) struct RuleSource {
-    pub values: Vec<Text>,
-    pub labels: Labels,
-}
-
-/// What is known of a side: of the first `seen` label sets, those that match it.
+/// What is known of a side: of the first `seen` label sets, those that match it, under their values
+/// of the labels in `equal`.
 #[derive(Drop)]
 pub(crate) struct KnownSide {
     pub side: SourceSide,
     pub seen: usize,
-    pub sources: Queue<RuleSource>,
+    pub sources: Keyed<LabelValues, LabelMap<()>>,
 }
 
-/// The label sets that share their values of the labels in `equal` are a part of a side.
-impl InParts for RuleSource {
-    ghost use Rattle.amr_indexes.specs.RuleSources.{values_cmp, source_in_parts};
-
-    type Part = Vec<Text>;
-
-    ghost part_cmp = { λ source values. values_cmp source.values.items values.items };
-
-    ghost in_parts = { source_in_parts };
-
-    fn part_cmp(&self, values: &Vec<Text>) -> Ordering {
-        self.values.cmp(values)
-    }
+/// A side that was learned: the number of its `KnownSide`, and how many label sets had come then.
+#[derive(Clone, Copy)]
+struct LearnedSide {
+    number: usize,
+    seen: usize,
 }
 
 /// Label sets in the order in which they came, with the source sides that are known of them. A side
@@ -66,9 +50,9 @@ pub(crate) struct RuleSources {
     arrived: Vec<Labels>,
     numbers: BTreeMap<SourceSide, usize>,
     sides: Vec<KnownSide>,
-    /// How many label sets had come when each rule's side was learned in this event, by the rule's
-    /// place in the configuration; 0 if it wasn't. It saves look-ups, and no answer depends on it.
-    learned: Vec<usize>,
+    /// The side of each rule that was learned in this event, by the rule's place in the
+    /// configuration. It saves look-ups, and no answer depends on it.
+    learned: Vec<Option<LearnedSide>>,
 }
 
 impl Model for RuleSources {
@@ -119,26 +103,27 @@ impl RuleSources {
         self.arrived.as_slice()
     }
 
-    /// Lists the label sets that match a rule's source matchers and agree with a target on the
-    /// labels in `equal`, in their order. Returns `None` if the rule's side isn't known, or not of
-    /// all label sets.
+    /// Returns the label sets that match a rule's source matchers and agree with a target on the
+    /// labels in `equal`; if none does, the second option may be `None`. Returns `None` if the
+    /// rule's side isn't known, or not of all label sets.
     pub(crate) fn agreeing(
         &self,
+        place: usize,
         rule: &InhibitRule,
         target: &Labels,
-    ) -> Result<Option<Vec<&RuleSource>>, AllocError>
+    ) -> Result<Option<Option<&LabelMap<()>>>, AllocError>
         ensures { IfOk result (λ known. IfSome known (λ found.
-            ListsAgreeing rule.now target.now self.now (values_of found.items))) }
+            ListsAgreeing rule.now target.now self.now (option_copied found))) }
     {
-        let side = side_of(self.alloc, rule)?;
-        let Some(known) = self.known(&side) else {
+        let side = self.known(place, rule)?;
+        let Some(known) = side else {
             return Ok(None);
         };
         if known.seen < self.arrived.len() {
             return Ok(None);
         }
-        let values = label_values(self.alloc, rule.equal.as_slice(), target)?;
-        Ok(Some(known.sources.part(&values)?))
+        let values = LabelValues::of(self.alloc, rule.equal.as_slice(), target)?;
+        Ok(Some(known.sources.get(&values)))
     }
 
     /// Takes in all label sets at the source side of the rule at a place of the configuration, so
@@ -149,8 +134,8 @@ impl RuleSources {
         if self.has_learned(place) {
             return Ok(());
         }
-        self.learn_afresh(rule)?;
-        self.note_learned(place)
+        let number = self.learn_afresh(rule)?;
+        self.note_learned(place, number)
     }
 
     /// Forgets which rules were learned, since other rules may be at their places from now on.
@@ -163,26 +148,27 @@ impl RuleSources {
     /// Returns whether the rule at a place was learned, and no label set came since.
     fn has_learned(&self, place: usize) -> bool {
         match self.learned.get(place) {
-            None => false,
-            Some(seen) => *seen == self.arrived.len() && *seen > 0,
+            Some(Some(learned)) => learned.seen == self.arrived.len(),
+            _ => false,
         }
     }
 
-    /// Notes that the rule at a place is learned.
-    fn note_learned(&mut self, place: usize) -> Result<(), AllocError>
+    /// Notes that the side with this number is that of the rule at a place, and is learned.
+    fn note_learned(&mut self, place: usize, number: usize) -> Result<(), AllocError>
         ensures { self.new ≡ self.old }
     {
         if self.learned.len() <= place {
-            self.learned.resize(place.saturating_add(1), 0)?;
+            self.learned.resize(place.saturating_add(1), None)?;
         }
+        let seen = self.arrived.len();
         if let Some(learned) = self.learned.get_mut(place) {
-            *learned = self.arrived.len();
+            *learned = Some(LearnedSide { number, seen });
         }
         Ok(())
     }
 
-    /// Takes in all label sets at a rule's source side.
-    fn learn_afresh(&mut self, rule: &InhibitRule) -> Result<(), AllocError>
+    /// Takes in all label sets at a rule's source side, and returns the side's number.
+    fn learn_afresh(&mut self, rule: &InhibitRule) -> Result<usize, AllocError>
         ensures { self.new ≡ self.old }
     {
         let number = self.number_of(rule)?;
@@ -194,20 +180,37 @@ impl RuleSources {
                 self.arrived.as_slice(),
             )?;
         }
-        Ok(())
+        Ok(number)
     }
 
-    /// Returns what is known of a side.
-    fn known(&self, side: &SourceSide) -> Option<&KnownSide>
-        ensures side { IfSome result (λ known. IsSideOf known.now side.now) }
+    /// Returns what is known of the side of the rule at a place. If the rule was learned in this
+    /// event, its side isn't looked for.
+    fn known(&self, place: usize, rule: &InhibitRule) -> Result<Option<&KnownSide>, AllocError>
+        ensures side { IfOk result (λ found. IfSome found (λ known.
+            IsSideOf known.now.side rule.now)) }
+        ensures lists { IfOk result (λ found. IfSome found (λ known.
+            ListsSide self.now known.now)) }
+    {
+        if let Some(Some(learned)) = self.learned.get(place) {
+            return Ok(self.known_at(learned.number, rule));
+        }
+        let side = side_of(self.alloc, rule)?;
+        match self.numbers.get(&side) {
+            None => Ok(None),
+            Some(number) => Ok(self.known_at(*number, rule)),
+        }
+    }
+
+    /// Returns what is known of the side with a number, if it is the rule's.
+    fn known_at(&self, number: usize, rule: &InhibitRule) -> Option<&KnownSide>
+        ensures side { IfSome result (λ known. IsSideOf known.now.side rule.now) }
         ensures lists { IfSome result (λ known. ListsSide self.now known.now) }
     {
-        let number = *self.numbers.get(side)?;
         if number >= self.sides.len() {
             return None;
         }
         let known = &self.sides[number];
-        if known.side == *side {
+        if is_side_of(&known.side, rule) {
             Some(known)
         } else {
             None
@@ -247,12 +250,19 @@ impl RuleSources {
         let known = KnownSide {
             side: side_of(self.alloc, rule)?,
             seen: 0,
-            sources: Queue::new(self.alloc),
+            sources: Keyed::new(self.alloc),
         };
         self.sides.push(known)?;
         self.numbers.insert(side, number)?;
         Ok(number)
     }
+}
+
+/// Returns whether a side is the source side of a rule.
+fn is_side_of(side: &SourceSide, rule: &InhibitRule) -> bool
+    ensures { IsTrue result ↔ IsSideOf side.now rule.now }
+{
+    side.source == rule.source && side.equal.as_slice() == rule.equal.as_slice()
 }
 
 /// Returns the source side of a rule.
@@ -268,27 +278,6 @@ fn side_of(alloc: Global, rule: &InhibitRule) -> Result<SourceSide, AllocError>
         source: rule.source.clone()?,
         equal,
     })
-}
-
-/// Returns the values of these labels in a label set, an absent label being empty.
-fn label_values(alloc: Global, names: &[Text], labels: &Labels) -> Result<Vec<Text>, AllocError>
-    ensures { IfOk result (λ values. values.items ≡ label_values names.now labels.now) }
-{
-    let mut values = Vec::new(alloc);
-    for name in names {
-        values.push(label_value(alloc, name, labels)?)?;
-    }
-    Ok(values)
-}
-
-/// Returns the value of a label in a label set, an absent label being empty.
-fn label_value(alloc: Global, name: &Text, labels: &Labels) -> Result<Text, AllocError>
-    ensures { IfOk result (λ value. value ≡ value_of labels.now name.now) }
-{
-    match labels.get(name.as_str()) {
-        Some(value) => value.clone(),
-        None => Text::from_str(alloc, ""),
-    }
 }
 
 /// Takes in at a side those of the label sets that it hasn't seen. If memory runs out, it has seen
@@ -333,22 +322,34 @@ fn see(
     known: &mut KnownSide,
     labels: &Labels,
 ) -> Result<(), AllocError>
-    requires { IsStrictlySortedBy source_cmp known.old.sources.dues }
     ensures side { known.new.side ≡ known.old.side }
     ensures seen { known.new.seen ≡ known.old.seen }
     ensures listed { OnOk result (IsPut labels.now known.old known.new) }
-    ensures sorted { IsStrictlySortedBy source_cmp known.new.sources.dues }
-    ensures err { OnErr result (known.new.sources.dues ≡ known.old.sources.dues) }
+    ensures err { OnErr result (ListsSame known.old.sources known.new.sources) }
 {
     if !known.side.source.matches_all_remembered(answers, labels)? {
         return Ok(());
     }
-    let source = RuleSource {
-        values: label_values(alloc, known.side.equal.as_slice(), labels)?,
-        labels: labels.clone()?,
-    };
-    known.sources.reserve(1)?;
-    known.sources.take(&source);
-    known.sources.put(source);
-    Ok(())
+    let values = LabelValues::of(alloc, known.side.equal.as_slice(), labels)?;
+    list_under(alloc, &mut known.sources, &values, labels)
+}
+
+/// Lists a label set under values, too.
+fn list_under(
+    alloc: Global,
+    sources: &mut Keyed<LabelValues, LabelMap<()>>,
+    values: &LabelValues,
+    labels: &Labels,
+) -> Result<(), AllocError>
+    ensures ok { OnOk result (IsListedToo values.now labels.now sources.old sources.new) }
+    ensures err { OnErr result (ListsSame sources.old sources.new) }
+{
+    let labels = labels.clone()?;
+    sources.make_place(values.clone()?)?;
+    let mut listed = sources
+        .displace(values, None)
+        .unwrap_or(LabelMap::new(alloc));
+    let inserted = listed.insert(labels, ());
+    drop(sources.displace(values, Some(listed)));
+    inserted
 }

@@ -38,10 +38,12 @@ pub trait AlertStore {
 
     /// Lists the stored alerts that match the rule's source matchers and agree with a target on the
     /// labels in `equal`, with their labels and in the order of the labels. Returns `None` if the
-    /// store doesn't keep track of them.
+    /// store doesn't keep track of them. The rule's place in the configuration, from 0, helps a
+    /// store to find what it knows of the rule; no answer depends on it.
     fn sources(
         &self,
         alloc: Global,
+        place: usize,
         rule: &InhibitRule,
         target: &Labels,
     ) -> Result<Option<Vec<(&Labels, &Alert)>>, AllocError>

@@ -75,7 +75,15 @@ pub fn inhibited_by_matched<A: AlertStore>(
         → is_inhibited config (A.alerts alerts.now) now target.now ≡ is_some found) }
 {
     for (place, rule) in rules.iter().enumerate() {
-        if let Some(source) = inhibitor_by(alloc, now, target, alerts, rule, matched[place])? {
+        if let Some(source) = inhibitor_by(
+            alloc,
+            now,
+            target,
+            alerts,
+            place,
+            rule,
+            matched[place],
+        )? {
             return Ok(Some((place, source.clone()?)));
         }
     }
@@ -161,19 +169,20 @@ fn rarest_label<'a, A: AlertStore>(
     rarest
 }
 
-/// Lists the stored alerts that may mute a target by a rule: the rule's sources that agree with the
-/// target, if the store keeps track of them. If it doesn't, those that share with the target one of
+/// Lists the stored alerts that may mute a target by the rule at a place of the configuration: the
+/// rule's sources that agree with the target, if the store keeps track of them. If it doesn't, those that share with the target one of
 /// the labels in `equal` are listed, since a source has to agree on all of them.
 fn possible_sources<'a, A: AlertStore>(
     alloc: Global,
     target: &Labels,
     alerts: &'a A,
+    place: usize,
     rule: &InhibitRule,
 ) -> Result<Vec<(&'a Labels, &'a Alert)>, AllocError>
     ensures { IfOk result (λ found. ListsSources rule.now target.now (A.alerts alerts.now)
         (map deref_pair found.items)) }
 {
-    if let Some(found) = alerts.sources(alloc, rule, target)? {
+    if let Some(found) = alerts.sources(alloc, place, rule, target)? {
         return Ok(found);
     }
     match rarest_label(rule.equal.as_slice(), target, alerts) {
@@ -182,13 +191,15 @@ fn possible_sources<'a, A: AlertStore>(
     }
 }
 
-/// Returns the least label set of a stored alert that mutes a target by a rule. `side` says which
-/// sides of the rule the target is on, so no matcher is asked for the target.
+/// Returns the least label set of a stored alert that mutes a target by the rule at a place of the
+/// configuration. `side` says which sides of the rule the target is on, so no matcher is asked for
+/// the target.
 fn inhibitor_by<'a, A: AlertStore>(
     alloc: Global,
     now: Moment,
     target: &Labels,
     alerts: &'a A,
+    place: usize,
     rule: &InhibitRule,
     side: RuleMatch,
 ) -> Result<Option<&'a Labels>, AllocError>
@@ -199,7 +210,7 @@ fn inhibitor_by<'a, A: AlertStore>(
     if !side.is_target {
         return Ok(None);
     }
-    let stored = possible_sources(alloc, target, alerts, rule)?;
+    let stored = possible_sources(alloc, target, alerts, place, rule)?;
     first_source(alloc, now, target, side.is_source, &stored, rule)
 }
 

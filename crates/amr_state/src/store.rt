@@ -256,10 +256,17 @@ impl Store {
             return Ok(());
         }
         let matched = self.tables.roster.rule_matches(labels)?;
-        self.tables.timetable.learn_sources(
-            self.tables.roster.config().rules(),
-            matched.get().as_slice(),
-        )
+        self.learn_sources_matched(matched.get().as_slice())
+    }
+
+    /// Works out which label sets can be sources of the inhibition rules that have a label set as a
+    /// target, given which sides of each rule it is on. `learn_sources` looks these up first.
+    pub fn learn_sources_matched(&mut self, matched: &[RuleMatch]) -> Result<(), AllocError>
+        ensures same { self.new ≡ self.old }
+    {
+        self.tables
+            .timetable
+            .learn_sources(self.tables.roster.config().rules(), matched)
     }
 
     /// Returns the members of all groups, by route and labels.

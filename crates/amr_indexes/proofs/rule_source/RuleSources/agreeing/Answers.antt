@@ -1,6 +1,6 @@
 use Rattle.std.proofs.Common.{◌≡◌, ◌≤◌, length, arith, sym, ap, ◌∙◌}
-use Rattle.amr_tables.specs.Queued.{values_of}
-use Rattle.amr_indexes.specs.RuleSources.{label_values}
+use Rattle.std.specs.Option.{option_copied}
+use Rattle.amr_indexes.specs.LabelValues.{label_values}
 use Rattle.amr_indexes.proofs.Sources.{side_agreeing}
 use Rattle.amr_indexes.proofs.rule_source.RuleSources.agreeing.Goals as goal
 
@@ -11,5 +11,7 @@ returns c =
     let target = c.args.target.now in
     let same : length arrived ≡ length c.self.inside.arrived.items = ap length (sym c.self.view_is) in
     let seen : length arrived ≤ c.in-Some.known.now.seen = omega (arith, same, c.if-known-len.false, c.len.ensures) in
-    side_agreeing arrived c.in-Some.known.now c.in_ok-side.side rule target c.in_ok-values.values (values_of c.in_ok-part.field-0.items) c.in-Some.ensures.lists c.in-Some.ensures.side
-    c.in_ok-side.ensures.source c.in_ok-side.ensures.equal seen (c.in_ok-values.ensures ∙ ap (λ names. label_values names target) c.as_slice.ensures) c.in_ok-part.ensures
+    let lists = rw c.in-Some.is at c.in_ok-side.ensures.lists in
+    let is = rw c.in-Some.is at c.in_ok-side.ensures.side in
+    side_agreeing arrived c.in-Some.known.now rule target c.in_ok-values.values (option_copied c.get.result) lists is
+    seen (c.in_ok-values.ensures ∙ ap (λ names. label_values names target) c.as_slice.ensures) c.get.ensures
