@@ -6,6 +6,7 @@ pub mod Cascade
 pub mod Endings
 pub mod Preparing
 pub mod Partitions
+pub mod Belonging
 pub mod Settling
 pub mod Copied
 pub mod Growing

@@ -1,14 +1,17 @@
--- Notifying an integration of members that are already split into firing and resolved ones.
-use Rattle.std.specs.Prelude.{◌≡◌, Bool, ◌++◌, if◌then◌else◌}
+-- Notifying an integration of members that are already split into firing and resolved ones, and
+-- dropping members of a group that is known.
+use Rattle.std.specs.Prelude.{◌≡◌, ◌++◌, if◌then◌else◌}
+use Rattle.std.specs.List.{All}
 use Rattle.amr_labels.specs.Map.{get, insert}
 use Rattle.amr_time.specs.Time.{Moment}
+use Rattle.amr_stated.specs.Config.{Config}
 use Rattle.amr_stated.specs.declared.receiver.Integration.{Integration}
 use Rattle.amr_config.specs.Routing.{repeat_interval_of}
-use Rattle.amr_rules.specs.Dedup.{needs_update}
 use Rattle.amr_rules.specs.declared.dedup.LogEntry.{LogEntry}
 use Rattle.amr_state.specs.declared.notification.LogKey.{LogKey}
 use Rattle.amr_state.specs.declared.route_labels.RouteLabels.{RouteLabels}
-use Rattle.amr_state.specs.State.{State}
+use Rattle.amr_state.specs.State.{State, on_route, group_key}
+use Rattle.amr_state.specs.Logged.{is_due}
 use Rattle.amr_engine.specs.declared.flush.Partition.{Partition}
 use Rattle.amr_engine.specs.Flush.{Members, firing_of, resolved_of, labels_of, log_key_of, notifications_of}
 
@@ -23,19 +26,21 @@ pub record IsPartition (at : Moment) (members : Members) (partition : Partition)
 abbrev pub entry_of : Moment → Partition → LogEntry
 entry_of at partition = record { time = at; firing = partition.firing_labels; resolved = partition.resolved_labels }
 
--- the dedup check
-abbrev pub is_entry_due : State → Moment → RouteLabels → LogKey → Partition → Integration → Bool
-is_entry_due s at group key partition integration =
-    needs_update (get s.log key) partition.firing_labels partition.resolved_labels integration.send_resolved at (repeat_interval_of s.config group.route)
+-- an integration gets this log entry, and its notification about these members, if the dedup
+-- check says so
+abbrev pub notified_with : RouteLabels → Members → Members → LogEntry → State → Integration → State
+notified_with group firing resolved entry s integration =
+    let key : LogKey = log_key_of s.config group integration in
+    if is_due (get s.log key) entry integration.send_resolved (repeat_interval_of s.config group.route)
+    then record s {
+      log = insert s.log key entry;
+      notes = s.notes ++ notifications_of entry.time group key integration.send_resolved firing resolved;
+    } else s
 
-abbrev pub record_for : Moment → RouteLabels → LogKey → Partition → Bool → State → State
-record_for at group key partition send_resolved s = record s {
-  log = insert s.log key (entry_of at partition);
-  notes = s.notes ++ notifications_of at group key send_resolved partition.firing.items partition.resolved.items;
-}
-
--- an integration gets a new log entry, and its notification, if the dedup check says so
+-- an integration gets the log entry and the notification of all members
 abbrev pub notified_by : Moment → RouteLabels → Partition → State → Integration → State
-notified_by at group partition s integration =
-    if is_entry_due s at group (log_key_of s.config group integration) partition integration
-    then record_for at group (log_key_of s.config group integration) partition integration.send_resolved s else s
+notified_by at group partition = notified_with group partition.firing.items partition.resolved.items (entry_of at partition)
+
+-- the group is that of each member
+abbrev pub IsGroupOf : Config → RouteLabels → Members → Type 0
+IsGroupOf config group members = All (λ member. group ≡ group_key config (on_route group.route member.0)) members

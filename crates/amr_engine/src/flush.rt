@@ -17,7 +17,7 @@ ghost use Rattle.amr_engine.specs.Weight.{turns, flush_weight};
 use crate::stages::taken_away_learning;
 use amr_config::Config;
 use amr_labels::{LabelMap, Labels, Listing};
-use amr_rules::{LogEntry, labels_of, needs_update};
+use amr_rules::{LogEntry, labels_of};
 use amr_state::{
     FiringAlert, GroupTimer, LogKey, Member, Notification, ResolvedAlert, RouteLabels, Store,
 };
@@ -35,7 +35,7 @@ struct Partition {
     resolved_labels: LabelMap<()>,
 }
 
-ghost use Rattle.amr_engine.specs.Partition.{IsPartition, entry_of, is_entry_due, record_for, notified_by};
+ghost use Rattle.amr_engine.specs.Partition.{IsPartition, IsGroupOf, entry_of, notified_by, notified_with};
 
 /// Flushes a group at a moment: sets its timer, notifies, and drops its resolved members. `members`
 /// are the group's members, and `through` are those that no stage mutes.
@@ -98,7 +98,8 @@ fn run_pipeline(
     members: &[Member],
     through: &[Member],
 ) -> Result<(), AllocError>
-    requires { through.now ≡ let_through store.old.state at group.now.route members.now }
+    requires through { through.now ≡ let_through store.old.state at group.now.route members.now }
+    requires group { IsGroupOf store.old.state.config group.now members.now }
     ensures ok { OnOk result (store.new.state
         ≡ run_pipeline at group.now members.now store.old.state) }
     ensures kept { undone store.new ≡ undone store.old }
@@ -175,7 +176,7 @@ fn notify_all(
         return Ok(());
     }
     let partition = partition_of(store.alloc(), at, through)?;
-    notify_each(store, at, group, &partition)
+    notify_each(store, at, group, partition)
 }
 
 /// Splits members into firing and resolved ones.
@@ -221,22 +222,52 @@ fn resolved_of(alloc: Global, at: Moment, members: &[Member]) -> Result<Vec<Memb
 }
 
 /// Runs the dedup check for each integration of the group's receiver, in order, and notifies those
-/// that are due.
+/// that are due. The last one gets the label sets themselves, and the others get copies.
 fn notify_each(
     store: &mut Store,
     at: Moment,
     group: &RouteLabels,
-    partition: &Partition,
+    partition: Partition,
 ) -> Result<(), AllocError>
     ensures ok { OnOk result (store.new.state
-        ≡ fold (notified_by at group.now partition.now) store.old.state
+        ≡ fold (notified_by at group.now partition) store.old.state
         (integrations_of store.old.state.config group.now.route)) }
     ensures kept { undone store.new ≡ undone store.old }
     ensures grown { GrownBy (2 * turns store.old.state group.now) store.old store.new }
 {
     let config = store.config().clone()?;
-    for integration in config.integrations(group.route) {
-        notify(store, at, group, partition, integration)?;
+    let Some((last, others)) = config.integrations(group.route).split_last() else {
+        return Ok(());
+    };
+    notify_others(store, at, group, &partition, others)?;
+    let entry = LogEntry {
+        time: at,
+        firing: partition.firing_labels,
+        resolved: partition.resolved_labels,
+    };
+    let firing = partition.firing.as_slice();
+    let resolved = partition.resolved.as_slice();
+    notify(store, group, firing, resolved, entry, last)
+}
+
+/// Runs the dedup check for each of these integrations, in order, and notifies those that are due.
+fn notify_others(
+    store: &mut Store,
+    at: Moment,
+    group: &RouteLabels,
+    partition: &Partition,
+    others: &[Integration],
+) -> Result<(), AllocError>
+    ensures ok { OnOk result (store.new.state
+        ≡ fold (notified_by at group.now partition.now) store.old.state others.now) }
+    ensures kept { undone store.new ≡ undone store.old }
+    ensures grown { GrownBy (2 * length others.now) store.old store.new }
+{
+    let firing = partition.firing.as_slice();
+    let resolved = partition.resolved.as_slice();
+    for integration in others {
+        let entry = log_entry(at, partition)?;
+        notify(store, group, firing, resolved, entry, integration)?;
     }
     Ok(())
 }
@@ -245,19 +276,32 @@ fn notify_each(
 /// if they are due.
 fn notify(
     store: &mut Store,
-    at: Moment,
     group: &RouteLabels,
-    partition: &Partition,
+    firing: &[Member],
+    resolved: &[Member],
+    entry: LogEntry,
     integration: &Integration,
 ) -> Result<(), AllocError>
     ensures ok { OnOk result (store.new.state
-        ≡ notified_by at group.now partition.now store.old.state integration.now) }
+        ≡ notified_with group.now firing.now resolved.now entry store.old.state integration.now) }
     ensures kept { undone store.new ≡ undone store.old }
     ensures grown { GrownBy 2 store.old store.new }
 {
+    let at = entry.time;
     let key = log_key(store.alloc(), store.config(), group, integration)?;
-    if is_entry_due(store, at, group, &key, partition, integration) {
-        record_notification(store, at, group, &key, partition, integration)?;
+    let send_resolved = integration.send_resolved;
+    let repeat_interval = store.config().repeat_interval(group.route);
+    if store.write_log_if_due(&key, entry, send_resolved, repeat_interval)? {
+        let notification = notification_of(
+            store.alloc(),
+            at,
+            group,
+            key,
+            send_resolved,
+            firing,
+            resolved,
+        )?;
+        append(store, notification)?;
     }
     Ok(())
 }
@@ -280,53 +324,6 @@ pub(crate) fn log_key(
     })
 }
 
-/// Returns whether the dedup check says that a new log entry is due for an integration. The rule is
-/// `needs_update` of `amr_rules`, which `quiet.rt` calls too, to know until when a flush would
-/// notify nobody.
-fn is_entry_due(
-    store: &Store,
-    at: Moment,
-    group: &RouteLabels,
-    key: &LogKey,
-    partition: &Partition,
-    integration: &Integration,
-) -> bool
-    ensures { result
-        ≡ is_entry_due store.now.state at group.now key.now partition.now integration.now }
-{
-    needs_update(
-        store.log().get(key),
-        &partition.firing_labels,
-        &partition.resolved_labels,
-        integration.send_resolved,
-        at,
-        store.config().repeat_interval(group.route),
-    )
-}
-
-/// Writes the notification-log entry and appends the notification, if there is one. The entry is
-/// also written if only resolved alerts are left and the integration doesn't send them.
-fn record_notification(
-    store: &mut Store,
-    at: Moment,
-    group: &RouteLabels,
-    key: &LogKey,
-    partition: &Partition,
-    integration: &Integration,
-) -> Result<(), AllocError>
-    ensures ok { OnOk result (store.new.state
-        ≡ record_for at group.now key.now partition.now integration.now.send_resolved
-        store.old.state) }
-    ensures kept { undone store.new ≡ undone store.old }
-    ensures grown { GrownBy 2 store.old store.new }
-{
-    let entry = log_entry(at, partition)?;
-    let send_resolved = integration.send_resolved;
-    let notification = notification_of(store.alloc(), at, group, key, send_resolved, partition)?;
-    store.write_log(key, entry)?;
-    append(store, notification)
-}
-
 /// Returns the log entry for a notification about these members.
 fn log_entry(at: Moment, partition: &Partition) -> Result<LogEntry, AllocError>
     ensures { IfOk result (λ entry. entry ≡ entry_of at partition.now) }
@@ -344,27 +341,27 @@ fn notification_of(
     alloc: Global,
     at: Moment,
     group: &RouteLabels,
-    key: &LogKey,
+    key: LogKey,
     send_resolved: bool,
-    partition: &Partition,
+    firing: &[Member],
+    resolved: &[Member],
 ) -> Result<Option<Notification>, AllocError>
     ensures { IfOk result (λ notification. option_to_list notification
-        ≡ notifications_of at group.now key.now send_resolved partition.now.firing.items
-        partition.now.resolved.items) }
+        ≡ notifications_of at group.now key send_resolved firing.now resolved.now) }
 {
-    if partition.firing.is_empty() && !send_resolved {
+    if firing.is_empty() && !send_resolved {
         return Ok(None);
     }
     let resolved = if send_resolved {
-        notified_resolved(alloc, partition.resolved.as_slice())?
+        notified_resolved(alloc, resolved)?
     } else {
         Listing::new(alloc)
     };
     Ok(Some(Notification {
         at,
         route: group.route,
-        key: key.clone()?,
-        firing: notified_firing(alloc, partition.firing.as_slice())?,
+        key,
+        firing: notified_firing(alloc, firing)?,
         resolved,
     }))
 }
@@ -425,6 +422,7 @@ fn drop_resolved(
     group: &RouteLabels,
     members: &[Member],
 ) -> Result<(), AllocError>
+    requires { IsGroupOf store.old.state.config group.now members.now }
     ensures ok { OnOk result (store.new.state
         ≡ drop_resolved at group.now members.now store.old.state) }
     ensures kept { undone store.new ≡ undone store.old }
@@ -444,6 +442,7 @@ fn drop_each_resolved(
     group: &RouteLabels,
     members: &[Member],
 ) -> Result<(), AllocError>
+    requires { IsGroupOf store.old.state.config group.now members.now }
     ensures ok { OnOk result (store.new.state
         ≡ fold (drop_member group.now) store.old.state (resolved_of at members.now)) }
     ensures kept { undone store.new ≡ undone store.old }
@@ -455,7 +454,7 @@ fn drop_each_resolved(
                 route: group.route,
                 labels: labels.clone()?,
             };
-            store.remove_copy(&route_labels)?;
+            store.remove_member(group, &route_labels)?;
         }
     }
     Ok(())

@@ -9,3 +9,4 @@ pub mod Seen
 pub mod Records
 pub mod Fitting
 pub mod Kept
+pub mod Logged

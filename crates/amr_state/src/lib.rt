@@ -5,6 +5,7 @@
 
 mod displaced;
 mod due;
+mod logging;
 mod members;
 mod membership;
 mod notification;

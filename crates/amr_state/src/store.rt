@@ -2,7 +2,7 @@
 //! `Store`, which enters what each change displaces into the open record, so that an event can be
 //! undone. It decides nothing about alerts, groups or silences.
 ghost use Rattle.std.specs.Prelude.{◌≡◌, ◌≤◌, ◌<◌, ◌+◌, ◌++◌, ◌∷◌, ◌==◌, [], Option, Some, None, length, OnOk, IfOk};
-ghost use Rattle.std.specs.Prelude.{is_some, option_map, slice_get};
+ghost use Rattle.std.specs.Prelude.{if◌then◌else◌, is_some, option_map, slice_get};
 ghost use Rattle.std.specs.Ordering.{nat_cmp};
 ghost use Rattle.amr_labels.specs.Labels.{label_set_cmp};
 ghost use Rattle.amr_config.specs.Groups.{groups_of};
@@ -15,11 +15,13 @@ ghost use Rattle.amr_time.specs.Time.{latest_read};
 ghost use Rattle.amr_rules.specs.Muting.{is_silenced, silencer_of};
 ghost use Rattle.amr_state.specs.State.{start, members, group_key, route_labels_cmp, log_key_cmp};
 ghost use Rattle.amr_state.specs.Dues.{due_cmp, dues};
+ghost use Rattle.amr_state.specs.Logged.{is_due};
 ghost use Rattle.amr_state.specs.Kept.{GrownBy, undone};
 ghost use Rattle.amr_state.specs.Rostered.{labels_of_members};
 
 use crate::displaced::{BoxedRouter, Displaced};
 use crate::due::Due;
+use crate::logging::{is_due, write_found};
 use crate::members::Member;
 use crate::notification::{GroupTimer, LogKey, Notification};
 use crate::placing::group_key;
@@ -33,8 +35,8 @@ use amr_labels::{Labels, Listing, Shared};
 use amr_posts::SilenceId;
 use amr_rules::{Alert, LogEntry, Silence};
 use amr_stated::RuleMatch;
-use amr_tables::{Journal, Keyed, Queue, change};
-use amr_time::Moment;
+use amr_tables::{Journal, Keyed, Queue};
+use amr_time::{Moment, Span};
 use std::alloc::{AllocError, Global};
 use std::marker::Model;
 
@@ -417,6 +419,23 @@ impl Store {
         self.set_placement(&group, route_labels, None)
     }
 
+    /// Removes a member from its group, which the caller names. It is faster than `remove_copy`, which
+    /// works the group out.
+    pub fn remove_member(
+        &mut self,
+        group: &RouteLabels,
+        route_labels: &RouteLabels,
+    ) -> Result<(), AllocError>
+        requires { group.now ≡ group_key self.old.state.config route_labels.now }
+        ensures ok { OnOk result (self.new.state
+            ≡ record self.old.state
+            { placements = map.remove self.old.state.placements route_labels.now }) }
+        ensures kept { undone self.new ≡ undone self.old }
+        ensures grown { GrownBy 1 self.old self.new }
+    {
+        self.set_placement(group, route_labels, None)
+    }
+
     /// Sets a group timer, and adds the group if it is new.
     pub fn set_timer(&mut self, group: &RouteLabels, timer: GroupTimer) -> Result<(), AllocError>
         ensures ok { OnOk result (self.new.state
@@ -461,18 +480,32 @@ impl Store {
         self.change_config(config)
     }
 
-    /// Sets an entry of the notification log.
-    pub fn write_log(&mut self, key: &LogKey, entry: LogEntry) -> Result<(), AllocError>
-        ensures ok { OnOk result (self.new.state
-            ≡ record self.old.state { log = map.insert self.old.state.log key.now entry }) }
+    /// Sets an entry of the notification log if the dedup check says that it is due. Returns whether
+    /// it is. It looks for the former entry once.
+    pub fn write_log_if_due(
+        &mut self,
+        key: &LogKey,
+        entry: LogEntry,
+        send_resolved: bool,
+        repeat_interval: Span,
+    ) -> Result<bool, AllocError>
+        ensures due { IfOk result (λ due. due
+            ≡ is_due (map.get self.old.state.log key.now) entry send_resolved repeat_interval) }
+        ensures ok { IfOk result (λ due. self.new.state ≡ (if due
+            then record self.old.state { log = map.insert self.old.state.log key.now entry }
+            else self.old.state)) }
         ensures kept { undone self.new ≡ undone self.old }
         ensures grown { GrownBy 1 self.old self.new }
     {
-        let entry = change(&mut self.tables.log, &mut self.journal, key, Some(entry))?;
-        if let Some((key, was)) = entry {
+        let (number, former) = self.tables.log.look_up_number(key);
+        if !is_due(former, &entry, send_resolved, repeat_interval) {
+            return Ok(false);
+        }
+        let displaced = write_found(&mut self.tables.log, &mut self.journal, key, number, entry)?;
+        if let Some((key, was)) = displaced {
             self.journal.push(Displaced::WasLogged(key, was));
         }
-        Ok(())
+        Ok(true)
     }
 
     /// Appends a notification.
