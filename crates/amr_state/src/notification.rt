@@ -158,7 +158,6 @@ impl Key for LogKey {
             .wrapping_add(integration)
             .wrapping_mul(0x9e37_79b9_7f4a_7c15)
             .wrapping_add(self.group.spread())
->>>>>>> h3
     }
 }
 
