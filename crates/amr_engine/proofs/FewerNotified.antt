@@ -1,20 +1,17 @@
 -- Who was notified of some members needn't be notified of fewer.
-use Rattle.std.specs.Prelude.{◌≡◌, Bool, true, false, not, ◌&&◌, ◌||◌, List, [], ◌∷◌, Option, Some, None, map, cond, length, nat_eq, nat_lt, ◌+◌}
+use Rattle.std.specs.Prelude.{◌≡◌, Bool, true, false, not, ◌&&◌, ◌||◌, List, [], ◌∷◌, Option, Some, None, map, cond, nat_lt, ◌+◌}
 use Rattle.std.specs.List.{list_all, filter}
-use Rattle.std.specs.declared.cmp.Ordering.TheVariants.{Less, Equal, Greater}
-use Rattle.std.specs.FinMap.{put}
-use Rattle.std.specs.FinMap.Entries.{by_order}
-use Rattle.std.proofs.Common.{refl, sym, ap, ◌∙◌, arith}
-use Rattle.std.proofs.lemmas.Bool.Decides.{nat_tests}
-use Rattle.amr_labels.specs.Map.{get, entries, empty, entries-insert}
-use Rattle.amr_labels.specs.Set.{is_subset, is_empty, contains, from_list}
-use Rattle.amr_labels.specs.Labels.{LabelSet, label_set_cmp, label_set_cmp_total, label_set_cmp-IsAntisymmetric}
+use Rattle.std.proofs.Common.{refl, sym, ap, ◌∙◌}
+use Rattle.amr_labels.specs.Map.{get}
+use Rattle.amr_labels.specs.Set.{is_subset, is_empty, contains}
+use Rattle.amr_labels.specs.Labels.{LabelSet}
 use Rattle.amr_time.specs.Time.{Moment, Span}
 use Rattle.amr_stated.specs.declared.receiver.Integration.{Integration}
 use Rattle.amr_config.specs.Routing.{integrations_of, repeat_interval_of}
 use Rattle.amr_rules.specs.declared.alert.Alert.{Alert}
 use Rattle.amr_rules.specs.declared.dedup.LogEntry.{LogEntry}
 use Rattle.amr_rules.specs.Dedup.{LabelSets, needs_update}
+use Rattle.amr_rules.proofs.Subsets.{all_in, some_listed}
 use Rattle.amr_state.specs.declared.route_labels.RouteLabels.{RouteLabels}
 use Rattle.amr_state.specs.State.{State}
 use Rattle.amr_engine.specs.Flush.{Members, labels_of, log_key_of}
@@ -30,38 +27,6 @@ is_no false e = refl
 
 -- ---- a set of fewer members
 
-again : (a b : Bool) → (a && b) ≡ (a && (a && b))
-again true b = refl
-again false b = refl
-
-swapped : (a b c : Bool) → (a && (b && c)) ≡ (b && (a && c))
-swapped true true c = refl
-swapped true false c = refl
-swapped false true c = refl
-swapped false false c = refl
-
-module _ (f : LabelSet → Bool) (k : LabelSet) where
-  all_put : (es : List (LabelSet × Unit {0})) → list_all f (map (λ e. e.0) (put label_set_cmp k tt es)) ≡ (f k && list_all f (map (λ e. e.0) es))
-  all_put [] = refl
-  all_put (e ∷ es) =
-      let rest : Bool = list_all f (map (λ e. e.0) es) in
-      elim (label_set_cmp k e.0) as (λ r. label_set_cmp k e.0 ≡ r
-      → list_all f (map (λ e. e.0) (by_order r ((k, tt) ∷ e ∷ es) ((e.0, tt) ∷ es) (e ∷ put label_set_cmp k tt es))) ≡ (f k && (f e.0 && rest))) [
-        | Less ↦ λ is. refl
-        | Equal ↦ λ is. again (f e.0) rest ∙ ap (λ (l : LabelSet). f l && (f e.0 && rest)) (sym (label_set_cmp-IsAntisymmetric k e.0 is))
-        | Greater ↦ λ is. ap (λ b. f e.0 && b) (all_put es) ∙ swapped (f e.0) (f k) rest
-      ] refl
-
-none_put : (f : LabelSet → Bool) → list_all f (map (λ e. e.0) (entries (empty {X = Unit {0}} {R = label_set_cmp}))) ≡ true
-unfolding entries empty
-none_put f = refl
-
-all_in : (f : LabelSet → Bool) (ks : List LabelSet) → list_all f (map (λ e. e.0) (entries (from_list {R = label_set_cmp} ks))) ≡ list_all f ks
-all_in f [] = none_put f
-all_in f (k ∷ ks) =
-    ap (λ es. list_all f (map (λ e. e.0) es)) (entries-insert label_set_cmp_total (from_list ks) k tt)
-    ∙ all_put f k (entries (from_list {R = label_set_cmp} ks)) ∙ ap (λ b. f k && b) (all_in f ks)
-
 all_kept : (f : LabelSet → Bool) (p : LabelSet × Alert → Bool) (ms : Members) → list_all f (map (λ member. member.0) ms) ≡ true → list_all f (map (λ member. member.0) (filter p ms)) ≡ true
 all_kept f p [] all = refl
 all_kept f p (m ∷ ms) all =
@@ -76,20 +41,8 @@ fewer p ms found all =
     all_in (contains found) (map (λ member. member.0) (filter p ms))
     ∙ all_kept (contains found) p ms (sym (all_in (contains found) (map (λ member. member.0) ms)) ∙ all)
 
-filled : (e : LabelSet × Unit {0}) (es : List (LabelSet × Unit {0})) → nat_eq (length (e ∷ es)) 0 ≡ false
-filled e es = grind (arith, nat_tests)
-
-some_put : (k : LabelSet) (es : List (LabelSet × Unit {0})) → nat_eq (length (put label_set_cmp k tt es)) 0 ≡ false
-some_put k [] = filled (k, tt) []
-some_put k (e ∷ es) =
-    elim (label_set_cmp k e.0) as (λ r. nat_eq (length (by_order r ((k, tt) ∷ e ∷ es) ((e.0, tt) ∷ es) (e ∷ put label_set_cmp k tt es))) 0 ≡ false) [
-      | Less ↦ filled (k, tt) (e ∷ es)
-      | Equal ↦ filled (e.0, tt) es
-      | Greater ↦ filled e (put label_set_cmp k tt es)
-    ]
-
 some_labels : (m : LabelSet × Alert) (ms : Members) → is_empty (labels_of (m ∷ ms)) ≡ false
-some_labels m ms = ap (λ es. nat_eq (length es) 0) (entries-insert label_set_cmp_total (labels_of ms) m.0 tt) ∙ some_put m.0 (entries (labels_of ms))
+some_labels m ms = some_listed m.0 (map (λ member. member.0) ms)
 
 -- ---- the dedup check
 

@@ -17,8 +17,8 @@ ghost use Rattle.amr_engine.specs.Weight.{flush_weight};
 
 use crate::flush::{flush, let_through, log_key, reset_timer};
 use amr_config::Config;
-use amr_labels::{LabelMap, Labels, Listing};
-use amr_rules::{labels_of, needs_update};
+use amr_labels::{Labels, Listing};
+use amr_rules::is_due_while_firing;
 use amr_state::{Member, RouteLabels, Store, members_of};
 use amr_stated::Integration;
 use amr_tables::Keyed;
@@ -599,8 +599,8 @@ fn each_notified_until(
 }
 
 /// Returns the first moment at which an integration that was notified that these members fire is
-/// notified of them again. Returns `None` if it may have to be notified now, or never was. It makes
-/// no set of the members' labels if the entry has fewer, as after the post of a new alert.
+/// notified of them again. Returns `None` if it may have to be notified now, or never was. It
+/// compares no labels if the entry has fewer, as after the post of a new alert.
 fn repeat_of(
     store: &Store,
     at: Moment,
@@ -620,10 +620,7 @@ fn repeat_of(
         return Ok(None);
     }
     let interval = store.config().repeat_interval(group.route);
-    let firing = labels_of(store.alloc(), through)?;
-    let none = LabelMap::new(store.alloc());
-    let send_resolved = integration.send_resolved;
-    if needs_update(Some(entry), &firing, &none, send_resolved, at, interval) {
+    if is_due_while_firing(entry, through, at, interval) {
         return Ok(None);
     }
     Ok(Some(entry.time.nanoseconds() + u128::from(interval.nanoseconds()) + 1))

@@ -1,8 +1,10 @@
 //! The notification log's dedup check, after `needsUpdate` in Alertmanager's notify package:
 //! whether an integration is notified of a group. A flush calls `needs_update` for each
 //! integration.
-ghost use Rattle.std.specs.Prelude.{◌≡◌, ◌+◌, nat_lt, IfOk, map};
+ghost use Rattle.std.specs.Prelude.{◌≡◌, ◌+◌, nat_lt, IfOk, IfSome, map, Some, Bool, true};
+ghost use Rattle.std.specs.List.{list_all};
 ghost use Rattle.std.specs.Option.{option_map};
+ghost use Rattle.amr_labels.specs.Map.{empty};
 ghost use Rattle.amr_labels.specs.Set as set;
 
 use crate::alert::Alert;
@@ -82,6 +84,51 @@ fn differs(
     }
     send_resolved && !is_subset(resolved, &entry.resolved)
         || is_before(entry.time, repeat_interval, now)
+}
+
+/// Returns whether a new entry is due, given the last one, while these alerts fire and none is
+/// resolved. It answers as `needs_update` does for the set of their labels, which it doesn't make.
+pub fn is_due_while_firing(
+    entry: &LogEntry,
+    firing: &[(Labels, Alert)],
+    now: Moment,
+    repeat_interval: Span,
+) -> bool
+    ensures { (send_resolved : Bool) → result ≡ needs_update (Some entry.now)
+        (set.from_list (map (λ alert. alert.0) firing.now)) empty send_resolved now
+        repeat_interval }
+{
+    if firing.is_empty() {
+        return !entry.firing.is_empty();
+    }
+    !has_each(&entry.firing, firing) || is_before(entry.time, repeat_interval, now)
+}
+
+/// Returns whether the labels of each of these alerts are in a set. Alerts in the order of a set
+/// that has their labels alone take one comparison each.
+fn has_each(fired: &LabelMap<()>, alerts: &[(Labels, Alert)]) -> bool
+    ensures { result ≡ list_all (set.contains fired.now) (map (λ alert. alert.0) alerts.now) }
+{
+    let mut items = fired.iter();
+    for (labels, _) in alerts {
+        if !has(fired, labels, items.next()) {
+            return false;
+        }
+    }
+    true
+}
+
+/// Returns whether labels are in a set. It looks for them only if they aren't this item of it.
+fn has(fired: &LabelMap<()>, labels: &Labels, item: Option<(&Labels, &())>) -> bool
+    requires { IfSome item (λ item. set.contains fired.now item.0.now ≡ true) }
+    ensures { result ≡ set.contains fired.now labels.now }
+{
+    if let Some((next, _)) = item {
+        if labels == next {
+            return true;
+        }
+    }
+    fired.get(labels).is_some()
 }
 
 /// Returns whether a moment plus a span is strictly before now.
