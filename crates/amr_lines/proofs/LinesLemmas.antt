@@ -5,6 +5,7 @@ pub mod ObjectMembers
 pub mod Tokens
 pub mod Plain
 pub mod Pushed
+pub mod PlainObjects
 pub mod MomentTexts
 pub mod NotificationTexts
 pub mod ListedTokens

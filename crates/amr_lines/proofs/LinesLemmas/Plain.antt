@@ -6,7 +6,7 @@ use Rattle.json.specs.Print.{escape}
 use Rattle.json.specs.Run.{is_plain}
 use Rattle.json.proofs.Printed.Plain.{escape_on_plain}
 
-both : (a b : Bool) → (a && b) ≡ true → (a ≡ true) × (b ≡ true)
+pub both : (a b : Bool) → (a && b) ≡ true → (a ≡ true) × (b ≡ true)
 both true b e = (refl, e)
 both false b e = absurd (cc)
 

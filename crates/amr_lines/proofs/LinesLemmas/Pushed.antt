@@ -53,10 +53,10 @@ closed before start out end bracket all close rest begun kept none made =
 pub texts_text : (es : List (Text × Text)) → T (is_sorted text_cmp es) → compact_text (texts_data es) ≡ 123 ∷ members_text false (in_order es)
 texts_text es h = ap (λ ms. compact_text (object ms)) (fold_in_order es h)
 
-abbrev member_text : Text × Text → List ℕ
+abbrev pub member_text : Text × Text → List ℕ
 member_text e = quoted e.0 ++ 58 ∷ quoted e.1
 
-first_member : (later : Bool) (e : Text × Text) (es : List (Text × Text)) → members_text later (in_order (e ∷ es)) ≡ (comma_if later ++ member_text e) ++ members_text true (in_order es)
+pub first_member : (later : Bool) (e : Text × Text) (es : List (Text × Text)) → members_text later (in_order (e ∷ es)) ≡ (comma_if later ++ member_text e) ++ members_text true (in_order es)
 unfolding in_order
 first_member later e es =
     ap (λ l. comma_if later ++ l) (sym (append_assoc (quoted e.0) (58 ∷ quoted e.1) (members_text true (in_order es))))

@@ -50,7 +50,7 @@ fn push_member(
     push_string(out, alloc, text)
 }
 
-/// Appends a label set.
+/// Appends a label set. One that needs no escape has its text already.
 pub(crate) fn push_labels(
     out: &mut String,
     alloc: Global,
