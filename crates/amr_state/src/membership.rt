@@ -4,7 +4,7 @@ ghost use Rattle.std.specs.Prelude.{◌≡◌};
 
 use crate::route_labels::RouteLabels;
 use amr_labels::Labels;
-use amr_tables::InParts;
+use amr_tables::{InParts, Key};
 use std::cmp::Ordering;
 
 /// A label set in a group. Memberships are ordered by group, then by labels.
@@ -15,20 +15,30 @@ pub struct Membership {
     pub labels: Labels,
 }
 
-/// The memberships of one group are a part of the index.
-impl InParts for Membership {
-    ghost use Rattle.amr_labels.specs.Labels.{label_set_cmp};
-    ghost use Rattle.amr_tables.specs.InParts.{IsInParts-by_first};
-    ghost use Rattle.amr_state.specs.declared.membership.Membership.{Membership};
-    ghost use Rattle.amr_state.specs.State.{route_labels_cmp, route_labels_cmp_total};
+/// A membership in the index. The spread of its group comes first in the order. It differs for most
+/// groups, so that few of them are compared by their labels.
+#[derive(PartialEq, Eq, PartialOrd, Ord, Drop)]
+pub(crate) struct IndexedMember {
+    /// The number that tables spread the group by.
+    pub(crate) spread: usize,
+    pub(crate) membership: Membership,
+    /// The number of the member's place in the table of members.
+    pub(crate) place: usize,
+}
+
+/// The members of one group are a part of the index.
+impl InParts for IndexedMember {
+    ghost use Rattle.amr_state.specs.Rostered.{group_part_cmp, group_parts};
 
     type Part = RouteLabels;
 
-    ghost part_cmp = { λ member group. route_labels_cmp member.group group };
+    ghost part_cmp = { group_part_cmp };
 
-    ghost in_parts = { IsInParts-by_first route_labels_cmp_total (λ (member : Membership). member.group) (λ a b. label_set_cmp a.labels b.labels) };
+    ghost in_parts = { group_parts };
 
     fn part_cmp(&self, part: &RouteLabels) -> Ordering {
-        self.group.cmp(part)
+        self.spread
+            .cmp(&part.spread())
+            .then_with(|| self.membership.group.cmp(part))
     }
 }

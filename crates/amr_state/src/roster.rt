@@ -1,27 +1,27 @@
 //! The configuration in force with the members of all groups, and an index of the members by group.
 //! `Store` changes it. The group of a member depends on the configuration, so both are kept
 //! together.
-ghost use Rattle.std.specs.Prelude.{◌≡◌, ◌<◌, ◌+◌, ◌++◌, [], IsTrue, is_some, option_map, length, OnOk, OnErr, IfOk};
+ghost use Rattle.std.specs.Prelude.{Some, ◌≡◌, ◌<◌, ◌+◌, ◌++◌, [], IsTrue, is_some, option_map, length, OnOk, OnErr, IfOk};
 ghost use Rattle.std.specs.Option.{option_copied};
 ghost use Rattle.amr_labels.specs.Map as map;
 ghost use Rattle.amr_config.specs.Groups.{groups_of};
 ghost use Rattle.amr_stated.specs.RuleMatches.{rule_matches};
-ghost use Rattle.amr_tables.specs.Numbered.{shown, has_place, Enters, KeepsPlaces, SamePlaces, SameEntered, NoneEntered, IsUnchanged};
-ghost use Rattle.std.specs.List.{filter_map, cons_option};
+ghost use Rattle.amr_tables.specs.Numbered.{shown, has_place, number_of, places_for, Enters, GrowsBy, KeepsPlaces, SamePlaces, SameEntered, NoneEntered, IsUnchanged};
+ghost use Rattle.std.specs.List.{All, filter_map, cons_option};
 ghost use Rattle.amr_tables.specs.Queued.{values_of};
 ghost use Rattle.amr_state.specs.State.{member_on_route, route_labels_cmp, group_key};
-ghost use Rattle.amr_state.specs.Rostered.{in_group, member_entry_of, members_among, labels_of_members, labels_of_memberships, with_alert, enrolled, CanEnrol};
+ghost use Rattle.amr_state.specs.Rostered.{in_group, member_entry_of, members_among, labels_of_members, labels_of_indexed, with_alert, indexed_as, IsPlacedAt, KeepsNumbers, enrolled, CanEnrol};
 
 use crate::displaced::BoxedRouter;
 use crate::members::Member;
-use crate::membership::Membership;
+use crate::membership::{IndexedMember, Membership};
 use crate::route_labels::RouteLabels;
-use crate::timetable::{make_room, put_back};
+use crate::timetable::{change_found, make_room, put_back};
 use amr_config::{Config, RouteGroup, Router};
 use amr_labels::{Labels, Listing, Shared};
 use amr_rules::Alert;
 use amr_stated::RuleMatch;
-use amr_tables::{Journal, Keyed, Queue, change};
+use amr_tables::{Journal, Key, Keyed, Queue};
 use std::alloc::{AllocError, Global};
 use std::marker::Model;
 
@@ -32,7 +32,7 @@ pub(crate) struct Roster {
     alloc: Global,
     config: Router,
     placements: Keyed<RouteLabels, Alert>,
-    index: Queue<Membership>,
+    index: Queue<IndexedMember>,
 }
 
 impl Model for Roster {
@@ -167,12 +167,19 @@ impl Roster {
             labels: route_labels.labels.clone()?,
         };
         let group = group.clone()?;
-        let (is_there, former) = self.placements.look_up(route_labels);
+        let (number, former) = self.placements.look_up_number(route_labels);
         let was = is_member(former);
-        make_room(&mut self.index, is_there, 1)?;
+        make_room(&mut self.index, number.is_some(), 1)?;
+        let place = ensure_place(&mut self.placements, route_labels, number)?;
         let is = alert.is_some();
-        let entry = change(&mut self.placements, journal, route_labels, alert)?;
-        enrol(&mut self.index, member, was, is);
+        let entry = change_found(
+            &mut self.placements,
+            journal,
+            route_labels,
+            Some(place),
+            alert,
+        )?;
+        enrol(&mut self.index, indexed(member, place), was, is);
         Ok(member_entry(group, entry))
     }
 
@@ -191,14 +198,16 @@ impl Roster {
             route: member.group.route,
             labels: member.labels,
         };
-        let was = is_placed(&self.placements, &route_labels);
+        let (number, former) = self.placements.look_up_number(&route_labels);
+        let was = is_member(former);
+        let Some(place) = number else { unreachable!() };
         let is = alert.is_some();
         put_back(&mut self.placements, &route_labels, alert);
         let member = Membership {
             group: member.group,
             labels: route_labels.labels,
         };
-        enrol(&mut self.index, member, was, is);
+        enrol(&mut self.index, indexed(member, place), was, is);
     }
 
     /// Replaces the configuration, while no group has members, and returns the one before. The new
@@ -214,23 +223,24 @@ impl Roster {
     }
 }
 
-/// Returns copies of the labels of memberships.
-fn labels_of(alloc: Global, members: &[&Membership]) -> Result<Listing<Labels>, AllocError>
-    ensures { IfOk result (λ found. found ≡ labels_of_memberships (values_of members.now)) }
+/// Returns copies of the labels of members.
+fn labels_of(alloc: Global, members: &[&IndexedMember]) -> Result<Listing<Labels>, AllocError>
+    ensures { IfOk result (λ found. found ≡ labels_of_indexed (values_of members.now)) }
 {
     let mut found = Listing::new(alloc);
     for member in members {
-        found.push(member.labels.clone()?)?;
+        found.push(member.membership.labels.clone()?)?;
     }
     Ok(found)
 }
 
-/// Returns copies of the labels and alerts of memberships.
+/// Returns copies of the labels and alerts of members. Each member has the number of its place.
 fn with_alerts(
     alloc: Global,
     placements: &Keyed<RouteLabels, Alert>,
-    members: &[&Membership],
+    members: &[&IndexedMember],
 ) -> Result<Vec<Member>, AllocError>
+    requires { All (IsPlacedAt placements.now) (values_of members.now) }
     ensures { IfOk result (λ found. found.items
         ≡ filter_map (with_alert (shown route_labels_cmp placements.now)) (values_of members.now)) }
 {
@@ -241,21 +251,19 @@ fn with_alerts(
     Ok(found)
 }
 
-/// Appends a copy of a member's labels and alert, if it has an alert.
+/// Appends a copy of a member's labels and alert, if it has an alert. It finds the alert by the
+/// number of its place, and compares no keys.
 fn push_member(
     found: &mut Vec<Member>,
     placements: &Keyed<RouteLabels, Alert>,
-    member: &Membership,
+    member: &IndexedMember,
 ) -> Result<(), AllocError>
+    requires { IsPlacedAt placements.now member.now }
     ensures { OnOk result (found.new.items ≡ found.old.items ++
         cons_option (with_alert (shown route_labels_cmp placements.now) member.now) []) }
 {
-    let route_labels = RouteLabels {
-        route: member.group.route,
-        labels: member.labels.clone()?,
-    };
-    if let Some(alert) = placements.get(&route_labels) {
-        found.push((route_labels.labels, alert.clone()?))?;
+    if let Some(alert) = placements.at(member.place) {
+        found.push((member.membership.labels.clone()?, alert.clone()?))?;
     }
     Ok(())
 }
@@ -275,11 +283,42 @@ fn member_entry(
     Some((member, alert))
 }
 
-/// Returns whether this label set is a member on this route.
-fn is_placed(placements: &Keyed<RouteLabels, Alert>, route_labels: &RouteLabels) -> bool
-    ensures { result ≡ is_some (map.get (shown route_labels_cmp placements.now) route_labels.now) }
+/// Returns the number of the place of a label set on a route, given the number that it has, if there
+/// is one. It makes the place if need be.
+fn ensure_place(
+    placements: &mut Keyed<RouteLabels, Alert>,
+    route_labels: &RouteLabels,
+    number: Option<usize>,
+) -> Result<usize, AllocError>
+    requires { number ≡ number_of route_labels_cmp placements.old route_labels.now }
+    ensures place { IfOk result (λ place.
+        number_of route_labels_cmp placements.new route_labels.now ≡ Some place) }
+    ensures numbers { KeepsNumbers placements.old placements.new }
+    ensures shown { shown route_labels_cmp placements.new ≡ shown route_labels_cmp placements.old }
+    ensures entered { SameEntered route_labels_cmp placements.old placements.new }
+    ensures keys { GrowsBy route_labels_cmp
+        (places_for route_labels_cmp placements.old route_labels.now)
+        placements.old placements.new }
 {
-    is_member(placements.get(route_labels))
+    match number {
+        Some(number) => Ok(number),
+        None => {
+            let number = placements.next_number();
+            placements.make_place(route_labels.clone()?)?;
+            Ok(number)
+        }
+    }
+}
+
+/// Returns the entry of the index for a member whose place has this number.
+fn indexed(membership: Membership, place: usize) -> IndexedMember
+    ensures { result ≡ indexed_as membership place }
+{
+    IndexedMember {
+        spread: membership.group.spread(),
+        membership,
+        place,
+    }
 }
 
 /// Returns whether there is an alert.
@@ -294,7 +333,7 @@ fn is_member(alert: Option<&Alert>) -> bool
 
 /// Adds the member to the index if it is new, or removes it if it is gone. `was` and `is` say
 /// whether it was and is a member. It takes no memory.
-fn enrol(index: &mut Queue<Membership>, member: Membership, was: bool, is: bool)
+fn enrol(index: &mut Queue<IndexedMember>, member: IndexedMember, was: bool, is: bool)
     requires { CanEnrol index.old.dues index.old.room member was is }
     ensures dues { index.new.dues ≡ enrolled index.old.dues member was is }
     ensures all { index.new.room + length index.new.dues ≡ index.old.room + length index.old.dues }

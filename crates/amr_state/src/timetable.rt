@@ -236,39 +236,39 @@ fn learn_sides(
     Ok(())
 }
 
-/// Sets or removes a group timer, as `change` does, of a group that has this number, if it has one.
-/// It doesn't look for the group again.
-fn change_found<E>(
-    timers: &mut Keyed<RouteLabels, GroupTimer>,
+/// Sets or removes the value of a key that has this number, if it has one, as `change` of
+/// `amr_tables` does. It doesn't look for the key again.
+pub(crate) fn change_found<V: Drop, E>(
+    table: &mut Keyed<RouteLabels, V>,
     journal: &mut Journal<E>,
-    group: &RouteLabels,
+    key: &RouteLabels,
     number: Option<usize>,
-    timer: Option<GroupTimer>,
-) -> Result<Option<(RouteLabels, Option<GroupTimer>)>, AllocError>
-    requires { number ≡ number_of route_labels_cmp timers.old group.now }
+    value: Option<V>,
+) -> Result<Option<(RouteLabels, Option<V>)>, AllocError>
+    requires { number ≡ number_of route_labels_cmp table.old key.now }
     ensures entry { IfOk result (λ entry. entry
-        ≡ entry_of route_labels_cmp timers.old group.now) }
-    ensures shown { OnOk result (shown route_labels_cmp timers.new ≡
-        map.set (shown route_labels_cmp timers.old) group.now timer) }
-    ensures entered { OnOk result (Enters route_labels_cmp timers.old timers.new group.now) }
-    ensures made { OnOk result (IsTrue (has_place route_labels_cmp timers.new group.now)) }
-    ensures err { OnErr result (IsUnchanged route_labels_cmp timers.old timers.new) }
+        ≡ entry_of route_labels_cmp table.old key.now) }
+    ensures shown { OnOk result (shown route_labels_cmp table.new ≡
+        map.set (shown route_labels_cmp table.old) key.now value) }
+    ensures entered { OnOk result (Enters route_labels_cmp table.old table.new key.now) }
+    ensures made { OnOk result (IsTrue (has_place route_labels_cmp table.new key.now)) }
+    ensures err { OnErr result (IsUnchanged route_labels_cmp table.old table.new) }
     ensures keys { GrowsBy route_labels_cmp
-        (places_for route_labels_cmp timers.old group.now) timers.old timers.new }
-    ensures enough { OnOk result (HasPlaces route_labels_cmp timers.new) }
-    ensures places { KeepsPlaces route_labels_cmp timers.old timers.new }
-    ensures no_new { IsTrue (has_place route_labels_cmp timers.old group.now)
-        → SamePlaces route_labels_cmp timers.old timers.new }
-    ensures numbers { IsTrue (has_place route_labels_cmp timers.old group.now)
-        → timers.new.numbers ≡ timers.old.numbers }
+        (places_for route_labels_cmp table.old key.now) table.old table.new }
+    ensures enough { OnOk result (HasPlaces route_labels_cmp table.new) }
+    ensures places { KeepsPlaces route_labels_cmp table.old table.new }
+    ensures no_new { IsTrue (has_place route_labels_cmp table.old key.now)
+        → SamePlaces route_labels_cmp table.old table.new }
+    ensures numbers { IsTrue (has_place route_labels_cmp table.old key.now)
+        → table.new.numbers ≡ table.old.numbers }
     ensures room { IfOk result (λ entry. IsTrue (is_some entry) → 0 < journal.new.entry_room) }
     ensures closed { journal.new.closed ≡ journal.old.closed }
     ensures current { journal.new.current ≡ journal.old.current }
     ensures record_room { journal.new.record_room ≡ journal.old.record_room }
 {
     journal.reserve_entry()?;
-    let copy = group.clone()?;
-    let (was, was_entered) = exchange_placed(timers, group, number, timer)?;
+    let copy = key.clone()?;
+    let (was, was_entered) = exchange_placed(table, key, number, value)?;
     if was_entered {
         return Ok(None);
     }

@@ -9,11 +9,11 @@ pub returns-then-was_entered-clause-entry : goal.returns-then-was_entered-clause
 unfolding entry_of
 returns-then-was_entered-clause-entry g c =
     let yes = sym c.in_ok-was.ensures.was_entered ∙ c.if-was_entered.true in
-    sym (ap (λ b. if b then None else Some (c.args.group.now, map.get (shown route_labels_cmp c.args.timers.now) c.args.group.now)) yes)
+    sym (ap (λ b. if b then None else Some (c.args.key.now, map.get (shown route_labels_cmp c.args.table.now) c.args.key.now)) yes)
 
 pub returns-clause-entry : goal.returns-clause-entry
 unfolding entry_of
 returns-clause-entry g c =
     let no = sym c.in_ok-was.ensures.was_entered ∙ c.if-was_entered.false in
     (λ i. Some (c.in_ok-copy.ensures.cases i, c.in_ok-was.ensures.answer i))
-    ∙ sym (ap (λ b. if b then None else Some (c.args.group.now, map.get (shown route_labels_cmp c.args.timers.now) c.args.group.now)) no)
+    ∙ sym (ap (λ b. if b then None else Some (c.args.key.now, map.get (shown route_labels_cmp c.args.table.now) c.args.key.now)) no)

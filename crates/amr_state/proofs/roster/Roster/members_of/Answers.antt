@@ -5,7 +5,7 @@ use Rattle.amr_tables.specs.Numbered.{shown}
 use Rattle.amr_tables.specs.Queued.{values_of}
 use Rattle.amr_state.specs.State.{route_labels_cmp}
 use Rattle.amr_state.specs.Rostered.{Rostered, members_among}
-use Rattle.amr_state.proofs.Rostering.{members_found}
+use Rattle.amr_state.proofs.Rostering.{members_found, placed_found}
 use Rattle.amr_state.proofs.roster.Roster.members_of.Goals as goal
 
 pub returns : goal.returns
@@ -15,3 +15,8 @@ returns c =
     (members_found r.config r.placements r.index c.args.group.now (values_of c.as_slice.result.now) c.self.invariant (ap values_of c.as_slice.ensures.value ∙ c.in_ok-members.ensures)
     ∙ ap (λ (t : Rostered). members_among t.config (shown route_labels_cmp t.placements) c.args.group.now) c.self.view_is)
     c.with_alerts.ensures
+
+pub with_alerts-requires : goal.with_alerts-requires
+with_alerts-requires c =
+    let r = c.self.inside in
+    placed_found r.config r.placements r.index c.args.group.now (values_of c.as_slice.result.now) c.self.invariant (ap values_of c.as_slice.ensures.value ∙ c.in_ok-members.ensures)
