@@ -76,17 +76,7 @@ pub(crate) fn reset_timer(
     ensures grown { GrownBy 1 store.old store.new }
 {
     let interval = store.config().group_interval(group.route);
-    match store.timers().get(group).copied() {
-        None => Ok(()),
-        Some(timer) => {
-            let reset = GroupTimer {
-                next_flush: at.plus(interval),
-                flushed: true,
-                ..timer
-            };
-            store.set_timer(group, reset)
-        }
-    }
+    store.reset_timer(group, at.plus(interval))
 }
 
 /// Notifies of the members that nothing mutes, then drops the resolved members from the group. Does

@@ -6,3 +6,4 @@ pub mod Undoing
 pub mod Fitting
 pub mod Soundness
 pub mod Emptied
+pub mod Flushed

@@ -13,7 +13,7 @@ ghost use Rattle.amr_tables.specs.Numbered.{shown};
 ghost use Rattle.amr_tables.specs.Queued.{in_order};
 ghost use Rattle.amr_time.specs.Time.{latest_read};
 ghost use Rattle.amr_rules.specs.Muting.{is_silenced, silencer_of};
-ghost use Rattle.amr_state.specs.State.{start, members, group_key, route_labels_cmp, log_key_cmp};
+ghost use Rattle.amr_state.specs.State.{start, members, group_key, timers_after_flush, route_labels_cmp, log_key_cmp};
 ghost use Rattle.amr_state.specs.Dues.{due_cmp, dues};
 ghost use Rattle.amr_state.specs.Logged.{is_due};
 ghost use Rattle.amr_state.specs.Kept.{GrownBy, undone};
@@ -444,6 +444,37 @@ impl Store {
         ensures grown { GrownBy 1 self.old self.new }
     {
         self.change_timer(group, Some(timer))
+    }
+
+    /// Sets the next flush of a group and marks the group as flushed. Does nothing if there is no
+    /// such group. It looks for the group once.
+    pub fn reset_timer(&mut self, group: &RouteLabels, next: Moment) -> Result<(), AllocError>
+        ensures ok { OnOk result (self.new.state
+            ≡ record self.old.state
+            { timers = timers_after_flush next group.now self.old.state.timers }) }
+        ensures kept { undone self.new ≡ undone self.old }
+        ensures grown { GrownBy 1 self.old self.new }
+    {
+        let (number, former) = self.tables.timetable.timers().look_up_number(group);
+        let Some(former) = former.copied() else {
+            return Ok(());
+        };
+        let timer = GroupTimer {
+            next_flush: next,
+            flushed: true,
+            ..former
+        };
+        let Some(number) = number else {
+            return self.set_timer(group, timer);
+        };
+        let entry = self
+            .tables
+            .timetable
+            .change_flush(&mut self.journal, group, number, former, timer)?;
+        if let Some((group, was)) = entry {
+            self.journal.push(Displaced::WasTimer(group, was));
+        }
+        Ok(())
     }
 
     /// Removes a group with its timer.

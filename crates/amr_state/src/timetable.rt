@@ -177,6 +177,45 @@ impl Timetable {
         Ok(entry)
     }
 
+    /// Sets the timer of a group that has this number, from a timer with the same removal. Returns
+    /// the entry that the open record needs, and leaves room for it there. It doesn't look for the
+    /// group again.
+    pub(crate) fn change_flush<E>(
+        &mut self,
+        journal: &mut Journal<E>,
+        group: &RouteLabels,
+        number: usize,
+        former: GroupTimer,
+        timer: GroupTimer,
+    ) -> Result<Option<(TimedGroup, Option<GroupTimer>)>, AllocError>
+        requires number { number_of route_labels_cmp self.old.timers group.now ≡ Some number }
+        requires former { map.get (shown route_labels_cmp self.old.timers) group.now ≡ Some former }
+        requires removal { timer.empty_since ≡ former.empty_since }
+        ensures entry { IfOk result (λ entry. entry
+            ≡ entry_of route_labels_cmp self.old.timers group.now) }
+        ensures shown { OnOk result (shown route_labels_cmp self.new.timers ≡
+            map.set (shown route_labels_cmp self.old.timers) group.now (Some timer)) }
+        ensures entered { OnOk result
+            (Enters route_labels_cmp self.old.timers self.new.timers group.now) }
+        ensures made { OnOk result (IsTrue (has_place route_labels_cmp self.new.timers group.now)) }
+        ensures err { OnErr result (IsUnchanged route_labels_cmp self.old.timers self.new.timers) }
+        ensures places { KeepsPlaces route_labels_cmp self.old.timers self.new.timers }
+        ensures alerts { self.new.alerts ≡ self.old.alerts }
+        ensures room { IfOk result (λ entry. IsTrue (is_some entry) → 0 < journal.new.entry_room) }
+        ensures closed { journal.new.closed ≡ journal.old.closed }
+        ensures current { journal.new.current ≡ journal.old.current }
+        ensures record_room { journal.new.record_room ≡ journal.old.record_room }
+    {
+        let copy = group.clone()?;
+        let is_entered = self.timers.is_entered_at(number);
+        let entry = entry_for(journal, group, is_entered, former)?;
+        let old = timer_moments(&former);
+        let new = timer_moments(&timer);
+        let _was = self.timers.exchange_at(number, Some(timer));
+        move_group_flush(&mut self.queue, copy, old, new);
+        Ok(entry)
+    }
+
     /// Restores a stored alert, or its absence. It takes no memory.
     pub(crate) fn put_back_alert(&mut self, labels: Labels, alert: Option<Alert>)
         requires { IsTrue (has_place label_set_cmp self.old.alerts labels) }
@@ -275,6 +314,28 @@ pub(crate) fn change_found<V: Drop, E>(
     Ok(Some((copy, was)))
 }
 
+/// Returns the entry that the open record needs for a change of a group's timer, and leaves room for
+/// it there. Returns `None` if the place of the group is entered already, and copies nothing then.
+fn entry_for<E>(
+    journal: &mut Journal<E>,
+    group: &RouteLabels,
+    is_entered: bool,
+    former: GroupTimer,
+) -> Result<Option<(TimedGroup, Option<GroupTimer>)>, AllocError>
+    ensures entry { IfOk result (λ entry. entry
+        ≡ (if is_entered then None else Some (group.now, Some former))) }
+    ensures room { IfOk result (λ entry. IsTrue (is_some entry) → 0 < journal.new.entry_room) }
+    ensures closed { journal.new.closed ≡ journal.old.closed }
+    ensures current { journal.new.current ≡ journal.old.current }
+    ensures record_room { journal.new.record_room ≡ journal.old.record_room }
+{
+    if is_entered {
+        return Ok(None);
+    }
+    journal.reserve_entry()?;
+    Ok(Some((TimedGroup::of(group)?, Some(former))))
+}
+
 /// Restores the value of a key that has a place, or its absence, and drops the present value. It
 /// takes no memory.
 pub(crate) fn put_back<K: Key + Drop, V: Drop>(table: &mut Keyed<K, V>, key: &K, value: Option<V>)
@@ -369,6 +430,27 @@ fn move_due(queue: &mut Queue<Due>, mut due: Due, old: Option<u128>, new: Option
             put_due(queue, due, new);
         }
     }
+}
+
+/// Moves the flush of a group in the queue, while its removal stays. It takes no memory.
+fn move_group_flush(
+    queue: &mut Queue<Due>,
+    group: RouteLabels,
+    old: GroupMoments,
+    new: GroupMoments,
+)
+    requires moves { CanMoveGroup queue.old.dues queue.old.room group old new }
+    requires stays { new.removal ≡ old.removal }
+    ensures dues { queue.new.dues ≡ group_moved queue.old.dues group old new }
+    ensures all { queue.new.room + length queue.new.dues ≡ queue.old.room + length queue.old.dues }
+{
+    let flush = Due {
+        moment: 0,
+        kind: Kind::GroupFlush,
+        route: group.route,
+        labels: group.labels,
+    };
+    move_due(queue, flush, old.flush, new.flush);
 }
 
 /// Adds a timer to the queue at a moment, if one is given. It takes no memory.
