@@ -1,3 +1,4 @@
 pub mod LabelValues
 pub mod RuleSources
 pub mod SilencesKnown
+pub mod ValueMarks
