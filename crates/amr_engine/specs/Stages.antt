@@ -26,13 +26,10 @@ by_mute_time s at route = if is_muted_at s.config route at then Some TimeMuted e
 abbrev pub by_silence : State → Moment → LabelSet → Option Finding
 by_silence s at labels = option_map Silenced (silencer_of at labels s.silences)
 
--- the first stage after inhibition that mutes an alert with these labels on the route
-abbrev pub taken_away_later : State → Moment → ℕ → LabelSet → Option Finding
-taken_away_later s at route labels =
-    option_or (by_active_time s at route)
-    (option_or (by_mute_time s at route)
-    (by_silence s at labels))
-
 -- the first stage that mutes an alert with these labels on the route
 unfoldable pub taken_away : State → Moment → ℕ → LabelSet → Option Finding
-taken_away s at route labels = option_or (by_inhibition s at labels) (taken_away_later s at route labels)
+taken_away s at route labels =
+    option_or (by_inhibition s at labels)
+    (option_or (by_active_time s at route)
+    (option_or (by_mute_time s at route)
+    (by_silence s at labels)))

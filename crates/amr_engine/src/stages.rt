@@ -3,7 +3,7 @@
 ghost use Rattle.std.specs.Prelude.{◌≡◌, IfOk};
 ghost use Rattle.amr_rules.specs.Muting.{inhibition_from};
 ghost use Rattle.amr_stated.specs.RuleMatches.{rule_matches};
-ghost use Rattle.amr_engine.specs.Stages.{taken_away, taken_away_later};
+ghost use Rattle.amr_engine.specs.Stages.{taken_away};
 
 use crate::explain::Finding;
 use amr_labels::Labels;
@@ -15,7 +15,6 @@ use std::alloc::AllocError;
 
 /// Returns the first stage that mutes an alert with these labels on a route: inhibition, active
 /// time intervals, mute time intervals, silences. Returns `None` if none does.
-#[tactic(auto, unfolding(crate::specs::Stages::taken_away))]
 pub(crate) fn taken_away(
     store: &Store,
     at: Moment,
@@ -24,15 +23,12 @@ pub(crate) fn taken_away(
 ) -> Result<Option<Finding>, AllocError>
     ensures { IfOk result (λ found. found ≡ taken_away store.now.state at route labels.now) }
 {
-    match inhibition(store, at, labels)? {
-        Some((rule, source)) => Ok(Some(Finding::Inhibited { rule, source })),
-        None => taken_away_later(store, at, route, labels),
-    }
+    let inhibited = inhibition(store, at, labels)?;
+    first_stage(store, at, route, labels, inhibited)
 }
 
 /// Returns what `taken_away` returns. It learns first which label sets can be sources of the rules
-/// that have these labels as a target, and looks up only once which rules these are.
-#[tactic(auto, unfolding(crate::specs::Stages::taken_away))]
+/// that have these labels as a target, so it looks up only once which rules these are.
 pub(crate) fn taken_away_learning(
     store: &mut Store,
     at: Moment,
@@ -43,24 +39,28 @@ pub(crate) fn taken_away_learning(
         ≡ taken_away store.old.state at route labels.now) }
     ensures same { store.new ≡ store.old }
 {
-    match inhibition_learning(store, at, labels)? {
-        Some((rule, source)) => Ok(Some(Finding::Inhibited { rule, source })),
-        None => taken_away_later(store, at, route, labels),
-    }
+    let inhibited = inhibition_learning(store, at, labels)?;
+    first_stage(store, at, route, labels, inhibited)
 }
 
-/// Returns the first stage after inhibition that mutes an alert with these labels on a route.
-#[tactic(auto, unfolding(crate::specs::Stages::taken_away_later))]
-fn taken_away_later(
+/// Returns the first stage that mutes an alert with these labels on a route, given the inhibition
+/// rule that does, with its source.
+#[tactic(auto, unfolding(crate::specs::Stages::taken_away))]
+fn first_stage(
     store: &Store,
     at: Moment,
     route: usize,
     labels: &Labels,
+    inhibited: Option<(usize, Labels)>,
 ) -> Result<Option<Finding>, AllocError>
-    ensures { IfOk result (λ found. found
-        ≡ taken_away_later store.now.state at route labels.now) }
+    requires { inhibited ≡ inhibition_from 0 at labels.now store.now.state.alerts
+        store.now.state.config.rules }
+    ensures { IfOk result (λ found. found ≡ taken_away store.now.state at route labels.now) }
 {
     let config = store.config();
+    if let Some((rule, source)) = inhibited {
+        return Ok(Some(Finding::Inhibited { rule, source }));
+    }
     if !config.is_active_at(route, at) {
         return Ok(Some(Finding::OutsideActive));
     }
@@ -74,7 +74,7 @@ fn taken_away_later(
 }
 
 /// Returns the inhibition rule that mutes an alert with these labels, and the labels of the alert
-/// by which it does. Without rules it looks nothing up.
+/// by which it does.
 fn inhibition(
     store: &Store,
     at: Moment,
@@ -83,15 +83,12 @@ fn inhibition(
     ensures { IfOk result (λ found. found ≡ inhibition_from 0 at labels.now
         store.now.state.alerts store.now.state.config.rules) }
 {
-    if store.config().rules().is_empty() {
-        return Ok(None);
-    }
     let matched = store.rule_matches(labels)?;
     inhibition_by(store, at, matched.get().as_slice(), labels)
 }
 
 /// Returns what `inhibition` returns. It learns first which label sets can be sources of the rules
-/// that have these labels as a target.
+/// that have these labels as a target. Without rules it looks nothing up.
 fn inhibition_learning(
     store: &mut Store,
     at: Moment,
