@@ -1,14 +1,16 @@
 -- What is known of a label set after it has taken in that a silence changed.
-use Rattle.std.proofs.Common.{◌≡◌, ◌≤◌, ◌<◌, ◌+◌, ℕ, Bool, true, false, not, ◌&&◌, ◌||◌, cond, T, List, [], ◌∷◌, ◌++◌, length, get_or, map, Option, Some, None, nat_le, nat_lt, arith, refl, sym, ap, subst, ◌∙◌}
-use Rattle.std.specs.Prelude.{◌==◌}
+use Rattle.std.proofs.Common.{◌≡◌, ◌≤◌, ◌<◌, ◌+◌, ◌-◌, zero, suc, drop, ℕ, Bool, true, false, not, ◌&&◌, ◌||◌, cond, T, List, [], ◌∷◌, ◌++◌, length, get_or, map, Option, Some, None, nat_le, nat_lt, arith, refl, sym, ap, subst, ◌∙◌}
+use Rattle.std.specs.Prelude.{◌==◌, bit_or, if◌then◌else◌}
 use Rattle.std.specs.declared.cmp.Ordering.{Ordering}
 use Rattle.std.specs.declared.cmp.Ordering.TheVariants.{Less, Equal, Greater}
-use Rattle.std.specs.List.{filter}
+use Rattle.std.specs.List.{filter, prefix_len}
 use Rattle.std.specs.Ordering.{is_eq, is_lt, nat_cmp, eq_by_cmp, ordering_reverse}
 use Rattle.std.specs.Cmp.{nat_cmp_total, tied_itself}
 use Rattle.std.specs.FinMap.{find, is_sorted, nat_cmp-IsAntisymmetric}
 use Rattle.std.specs.FinMap.Entries.{below_all}
 use Rattle.std.proofs.lemmas.Bool.Decides.{nat_tests}
+use Rattle.std.proofs.lemmas.List.{length-map, length-drop, get_or-drop, get_or_default}
+use Rattle.std.proofs.lemmas.List.Sums.{prefix_len-le-length, prefix_len_passes}
 use Rattle.std.proofs.lemmas.List.Elements.{filter-append}
 use Rattle.amr_labels.specs.Map.{entries, get, entries-sorted, get-entries}
 use Rattle.amr_labels.specs.Labels.{LabelSet}
@@ -20,8 +22,11 @@ use Rattle.amr_rules.specs.declared.silence_period.SilencePeriod.{SilencePeriod}
 use Rattle.amr_rules.specs.Silences.{Silences}
 use Rattle.amr_rules.specs.SilencePeriods.{may_silence, period_of, silence_periods}
 use Rattle.amr_indexes.specs.declared.known_periods.KnownPeriods.{KnownPeriods}
-use Rattle.amr_indexes.specs.SilencesKnown.{lists, picked, PicksNone, is_below, is_above, ends_after, without, with_period, noted, period_from, IsKnown}
-use Rattle.amr_indexes.proofs.SilencesKnown.{filters_swap}
+use Rattle.amr_indexes.specs.declared.silence_change.SilenceChange.{SilenceChange}
+use Rattle.amr_indexes.specs.ValueMarks.{value_marks, required_marks}
+use Rattle.amr_indexes.specs.SilencesKnown.{lists, picked, PicksNone, is_below, is_above, ends_after, without, with_period, noted, period_from, change_of, may_concern, is_idle, next_concern, passed_by, changed_ids, AreNoted, IsKnown}
+use Rattle.amr_indexes.proofs.SilencesKnown.{filters_swap, id_at}
+use Rattle.amr_indexes.proofs.ValueMarks.{matching_marked}
 
 -- ---- two tests, one after the other
 
@@ -222,27 +227,161 @@ seen_or_later seen i le apart = grind (arith, nat_tests)
 is_seen : (seen i : ℕ) → (seen == i) ≡ true → seen ≡ i
 is_seen seen i same = grind (arith, nat_tests)
 
+-- a test that picks no silence that changed later picks but for this one none that changed
+later_picks : (changes : List ℕ) (seen id : ℕ) (test : ℕ → Bool) → id ≡ get_or changes seen 0 → PicksNone test changes (seen + 1) → PicksNone (but_one test id) changes seen
+later_picks changes seen id test is_id none = λ i le lt.
+    elim (seen == i) as (λ b. (seen == i) ≡ b → but_one test id (get_or changes i 0) ≡ false) [
+      | true ↦ λ same.
+          let own : id ≡ get_or changes i 0 = is_id ∙ ap (λ (n : ℕ). get_or changes n 0) (is_seen seen i same) in
+          ap (λ (n : ℕ). but_one test id n) (sym own) ∙ ap (λ (o : Ordering). test id && not (is_eq o)) (tied_itself nat_cmp_total id) ∙ and_false (test id)
+      | false ↦ λ apart. ap (λ (b : Bool). b && not (eq_by_cmp nat_cmp id (get_or changes i 0))) (none i (seen_or_later seen i le apart) lt)
+    ] refl
+
 -- the next change of a silence is taken in
-pub taken_in : (silences : Silences) (changes : List ℕ) (found : KnownPeriods) (id : ℕ) (after : KnownPeriods) → IsKnown silences changes found → found.seen < length changes
+taken_in : (silences : Silences) (changes : List ℕ) (found : KnownPeriods) (id : ℕ) (after : KnownPeriods) → IsKnown silences changes found → found.seen < length changes
     → id ≡ get_or changes found.seen 0
     → after ≡ record found { seen = found.seen + 1; periods = noted id (period_from found.from found.labels id (get silences id)) found.periods }
     → IsKnown silences changes after
 taken_in silences changes found id after known more is_id is =
     let q : Option SilencePeriod = period_from found.from found.labels id (get silences id) in
     let present : List SilencePeriod = silence_periods found.from found.labels silences in
-    let later : (test : ℕ → Bool) → PicksNone test changes (found.seen + 1) → PicksNone (but_one test id) changes found.seen = λ test none i le lt.
-    elim (found.seen == i) as (λ b. (found.seen == i) ≡ b → but_one test id (get_or changes i 0) ≡ false) [
-      | true ↦ λ same.
-          let own : id ≡ get_or changes i 0 = is_id ∙ ap (λ (n : ℕ). get_or changes n 0) (is_seen found.seen i same) in
-          ap (λ (n : ℕ). but_one test id n) (sym own) ∙ ap (λ (o : Ordering). test id && not (is_eq o)) (tied_itself nat_cmp_total id) ∙ and_false (test id)
-      | false ↦ λ apart. ap (λ (b : Bool). b && not (eq_by_cmp nat_cmp id (get_or changes i 0))) (none i (seen_or_later found.seen i le apart) lt)
-    ] refl in
     subst (λ (k : KnownPeriods). IsKnown silences changes k) (sym is) (record {
       seen = omega arith;
+      marks = known.marks;
       others = λ test none.
-          noted_alike test id q found.periods present (own_id found.from found.labels id (get silences id)) (known.others (but_one test id) (later test none))
+          noted_alike test id q found.periods present (own_id found.from found.labels id (get silences id)) (known.others (but_one test id) (later_picks changes found.seen id test is_id none))
           ∙ ap (picked test) (has_own found.from found.labels id silences);
     })
+
+-- ---- a change of a silence that can't mute the labels
+
+ended : (from ends : ℕ) → nat_lt from ends ≡ false → (not (nat_le ends from) && true) ≡ false
+ended from ends over = grind (arith, nat_tests)
+
+not_both : (from ends : ℕ) (hold marked : Bool) → (hold ≡ true → marked ≡ true) → (marked && nat_lt from ends) ≡ false → (not (nat_le ends from) && hold) ≡ false
+not_both from ends false marked h e = and_false (not (nat_le ends from))
+not_both from ends true marked h e =
+    ended from ends (ap (λ (b : Bool). b && nat_lt from ends) (sym (h refl)) ∙ e)
+
+equals_same : (a b : ℕ) → a ≡ b → (a == b) ≡ true
+equals_same a b same = grind (arith, nat_tests)
+
+-- it has no period that isn't over
+no_period : (from : Moment) (labels : LabelSet) (marks id : ℕ) (found : Option Silence) → marks ≡ value_marks labels → may_concern from marks (change_of id found) ≡ false
+    → period_from from labels id found ≡ None
+no_period from labels marks id None marked passed = refl
+no_period from labels marks id (Some silence) marked passed =
+    let asked : all_hold silence.matchers labels ≡ true → (bit_or marks (required_marks silence.matchers) == marks) ≡ true = λ all.
+    equals_same _ _ (ap (λ (n : ℕ). bit_or n (required_marks silence.matchers)) marked ∙ matching_marked labels silence.matchers all ∙ sym marked) in
+    ap (λ (b : Bool). cond b (Some (period_of (id, silence))) None)
+    (not_both from silence.ends_at (all_hold silence.matchers labels) (bit_or marks (required_marks silence.matchers) == marks) asked passed)
+
+and_true : (b : Bool) → (b && true) ≡ b
+and_true true = refl
+and_true false = refl
+
+but_none : (test : ℕ → Bool) (id : ℕ) (periods : List SilencePeriod) → test id ≡ false → picked (but_one test id) periods ≡ picked test periods
+but_none test id periods unpicked = filter_same (λ (p : SilencePeriod). but_one test id p.id) (λ (p : SilencePeriod). test p.id) (λ p.
+    elim (nat_cmp id p.id) as (λ o. nat_cmp id p.id ≡ o → (test p.id && not (is_eq o)) ≡ test p.id) [
+      | Less ↦ λ is. and_true (test p.id)
+      | Equal ↦ λ is.
+          let other : test p.id ≡ false = ap test (sym (nat_cmp-IsAntisymmetric id p.id is)) ∙ unpicked in
+          and_false (test p.id) ∙ sym other
+      | Greater ↦ λ is. and_true (test p.id)
+    ] refl) periods
+
+-- its period is left out, whether it changed again later or not
+passed_over : (silences : Silences) (changes : List SilenceChange) (found : KnownPeriods) (change : SilenceChange) (after : KnownPeriods) → AreNoted silences changes
+    → IsKnown silences (changed_ids changes) found → found.seen < length changes → get_or changes found.seen change ≡ change → may_concern found.from found.marks change ≡ false
+    → after ≡ record found { seen = found.seen + 1; periods = without change.id found.periods }
+    → IsKnown silences (changed_ids changes) after
+passed_over silences changes found change after noted_so known more is_change passed is =
+    let id : ℕ = change.id in
+    let present : List SilencePeriod = silence_periods found.from found.labels silences in
+    let count : length (changed_ids changes) ≡ length changes = length-map changes (λ (c : SilenceChange). c.id) in
+    let is_id : id ≡ get_or (changed_ids changes) found.seen 0 = sym (id_at changes found.seen change more is_change) in
+    let left_present : (test : ℕ → Bool) → PicksNone test (changed_ids changes) (found.seen + 1) → picked test (without id present) ≡ picked test present = λ test none.
+    elim (test id) as (λ b. test id ≡ b → picked test (without id present) ≡ picked test present) [
+      | true ↦ λ picks.
+          let own : change ≡ change_of id (get silences id) = noted_so.latest found.seen change test more is_change picks none in
+          let over : period_from found.from found.labels id (get silences id) ≡ None =
+          no_period found.from found.labels found.marks id (get silences id) known.marks (ap (may_concern found.from found.marks) (sym own) ∙ passed) in
+          ap (λ (q : Option SilencePeriod). picked test (noted id q present)) (sym over) ∙ ap (picked test) (has_own found.from found.labels id silences)
+      | false ↦ λ unpicked. picked_without test id present ∙ but_none test id present unpicked
+    ] refl in
+    subst (λ (k : KnownPeriods). IsKnown silences (changed_ids changes) k) (sym is) (record {
+      seen = omega arith;
+      marks = known.marks;
+      others = λ test none.
+          picked_without test id found.periods ∙ known.others (but_one test id) (later_picks (changed_ids changes) found.seen id test is_id none)
+          ∙ sym (picked_without test id present) ∙ left_present test none;
+    })
+
+-- where there are no periods, all changes before the next that may concern the labels are passed over
+no_periods : {X : Type 0} (xs : List X) → (length xs == 0) ≡ true → xs ≡ []
+no_periods [] e = refl
+no_periods (x ∷ xs) e =
+    let long : length (x ∷ xs) ≡ 0 = is_seen (length (x ∷ xs)) 0 e in
+    absurd (omega arith)
+
+is_passed : (b : Bool) → not b ≡ true → b ≡ false
+is_passed true e = sym e
+is_passed false e = refl
+
+passed_some : (silences : Silences) (changes : List SilenceChange) (found : KnownPeriods) (n : ℕ) → AreNoted silences changes → IsKnown silences (changed_ids changes) found → found.periods ≡ []
+    → n ≤ prefix_len (is_idle found.from found.marks) (drop found.seen changes) → IsKnown silences (changed_ids changes) (record found { seen = found.seen + n })
+passed_some silences changes found zero noted_so known none le =
+    let same : found.seen ≡ found.seen + 0 = omega arith in
+    subst (λ (seen : ℕ). IsKnown silences (changed_ids changes) (record found { seen = seen })) same known
+passed_some silences changes found (suc n) noted_so known none le =
+    let idle : SilenceChange → Bool = is_idle found.from found.marks in
+    let left : List SilenceChange = drop found.seen changes in
+    let at_most : prefix_len idle left ≤ length left = prefix_len-le-length idle left in
+    let count : length left ≡ length changes - found.seen = length-drop found.seen changes in
+    let before : n < prefix_len idle left = omega arith in
+    let more : found.seen + n < length changes = omega arith in
+    let change : SilenceChange = get_or changes (found.seen + n) (change_of 0 None) in
+    let is : get_or changes (found.seen + n) change ≡ change = get_or_default changes (found.seen + n) change (change_of 0 None) more in
+    let passes : idle change ≡ true = ap idle (sym (get_or-drop found.seen changes n (change_of 0 None))) ∙ prefix_len_passes idle left n (change_of 0 None) before in
+    let kept : found.periods ≡ without change.id found.periods = none ∙ sym (ap (without change.id) none) in
+    let step : found.seen + suc n ≡ found.seen + n + 1 = omega arith in
+    passed_over silences changes (record found { seen = found.seen + n }) change (record found { seen = found.seen + suc n }) noted_so
+    (passed_some silences changes found n noted_so known none (omega arith)) more is (is_passed (may_concern found.from found.marks change) passes) (λ i. record found { seen = step i; periods = kept i })
+
+pub passed_on : (changes : List SilenceChange) (found : KnownPeriods) → found.seen ≤ (passed_by changes found).seen
+passed_on changes found =
+    elim (length found.periods == 0) as (λ b. found.seen ≤ cond b (next_concern found.from found.marks changes found.seen) found.seen) [
+      | true ↦ omega arith
+      | false ↦ omega arith
+    ]
+
+pub all_passed : (silences : Silences) (changes : List SilenceChange) (found after : KnownPeriods) → AreNoted silences changes → IsKnown silences (changed_ids changes) found
+    → after ≡ passed_by changes found → IsKnown silences (changed_ids changes) after
+all_passed silences changes found after noted_so known is =
+    subst (λ (k : KnownPeriods). IsKnown silences (changed_ids changes) k) (sym is)
+    (elim (length found.periods == 0) as (λ b. (length found.periods == 0) ≡ b
+    → IsKnown silences (changed_ids changes) (record found { seen = cond b (next_concern found.from found.marks changes found.seen) found.seen })) [
+      | true ↦ λ empty. passed_some silences changes found (prefix_len (is_idle found.from found.marks) (drop found.seen changes)) noted_so known (no_periods found.periods empty) (omega arith)
+      | false ↦ λ some. known
+    ] refl)
+
+-- the next change is taken in, or passed over
+pub caught_up : (silences : Silences) (changes : List SilenceChange) (found : KnownPeriods) (change : SilenceChange) (after : KnownPeriods) → AreNoted silences changes
+    → IsKnown silences (changed_ids changes) found → found.seen < length changes → get_or changes found.seen change ≡ change
+    → after ≡ record found {
+      seen = found.seen + 1;
+      periods = if may_concern found.from found.marks change then noted change.id (period_from found.from found.labels change.id (get silences change.id)) found.periods
+          else without change.id found.periods;
+    } → IsKnown silences (changed_ids changes) after
+caught_up silences changes found change after noted_so known more is_change is =
+    let count : length (changed_ids changes) ≡ length changes = length-map changes (λ (c : SilenceChange). c.id) in
+    let within : found.seen < length (changed_ids changes) = omega arith in
+    let taken : List SilencePeriod = noted change.id (period_from found.from found.labels change.id (get silences change.id)) found.periods in
+    elim (may_concern found.from found.marks change) as (λ b. may_concern found.from found.marks change ≡ b
+    → after ≡ record found { seen = found.seen + 1; periods = cond b taken (without change.id found.periods) } → IsKnown silences (changed_ids changes) after) [
+      | true ↦ λ may is. taken_in silences (changed_ids changes) found change.id after known within (sym (id_at changes found.seen change more is_change)) is
+      | false ↦ λ passed is. passed_over silences changes found change after noted_so known more is_change passed is
+    ] refl is
 
 -- ---- what has ended is left out
 
@@ -264,6 +403,7 @@ left_out silences changes found after at known le is =
     filters_alike (λ (p : SilencePeriod). test p.id) (ends_after at) (ends_after at) (λ (p : SilencePeriod). test p.id) (λ p. and_turned (ends_after at p) (test p.id)) periods in
     subst (λ (k : KnownPeriods). IsKnown silences changes k) (sym is) (record {
       seen = known.seen;
+      marks = known.marks;
       others = λ test none.
           swap test found.periods ∙ ap (filter (ends_after at)) (known.others test none) ∙ sym (swap test (silence_periods found.from found.labels silences))
           ∙ ap (picked test) (later_periods at found.from found.labels silences le);

@@ -2,3 +2,4 @@ pub mod Arriving
 pub mod Sources
 pub mod SilencesKnown
 pub mod CaughtUp
+pub mod ValueMarks

@@ -1,2 +1,3 @@
 pub mod RuleSources
 pub mod SilencesKnown
+pub mod ValueMarks

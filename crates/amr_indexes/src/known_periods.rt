@@ -9,6 +9,7 @@ ghost use Rattle.amr_matchers.specs.Matchers.{all_hold};
 ghost use Rattle.amr_tables.specs.Numbered.{shown};
 ghost use Rattle.amr_rules.specs.SilencePeriods.{period_of};
 
+use crate::silence_change::SilenceChange;
 use amr_labels::{Labels, Listing};
 use amr_matchers::Answers;
 use amr_posts::SilenceId;
@@ -21,6 +22,8 @@ use std::alloc::{AllocError, Global};
 #[derive(Drop)]
 pub(crate) struct KnownPeriods {
     pub(crate) labels: Labels,
+    /// The marks of their values.
+    pub(crate) marks: u64,
     /// The moment from which on the periods are complete. Silences that were expired by then are
     /// left out.
     pub(crate) from: Moment,
@@ -29,7 +32,7 @@ pub(crate) struct KnownPeriods {
     pub(crate) periods: Listing<SilencePeriod>,
 }
 
-ghost use Rattle.amr_indexes.specs.SilencesKnown.{lists, is_below, is_above, ends_after, without, with_period, noted, period_from, IsKnown};
+ghost use Rattle.amr_indexes.specs.SilencesKnown.{lists, is_below, is_above, ends_after, without, with_period, noted, period_from, changed_ids, may_concern, next_concern, passed_by, AreNoted, IsKnown};
 
 impl KnownPeriods {
     /// Takes in the changes of silences that it hasn't seen, so that the periods are those of the
@@ -40,12 +43,13 @@ impl KnownPeriods {
         alloc: Global,
         answers: &mut Answers,
         silences: &Keyed<SilenceId, Silence>,
-        changes: &[SilenceId],
+        changes: &[SilenceChange],
         at: Moment,
     ) -> Result<(), AllocError>
         requires before { self.old.from ≤ at }
-        requires known { IsKnown (shown nat_cmp silences.now) changes.now self.old }
-        ensures known { IsKnown (shown nat_cmp silences.now) changes.now self.new }
+        requires noted { AreNoted (shown nat_cmp silences.now) changes.now }
+        requires known { IsKnown (shown nat_cmp silences.now) (changed_ids changes.now) self.old }
+        ensures known { IsKnown (shown nat_cmp silences.now) (changed_ids changes.now) self.new }
         ensures seen { OnOk result (self.new.seen ≡ length changes.now) }
         ensures labels { self.new.labels ≡ self.old.labels }
         ensures from { self.new.from ≤ at }
@@ -54,11 +58,42 @@ impl KnownPeriods {
             return Ok(());
         }
         self.leave_out_ended(alloc, at)?;
-        for place in self.seen..changes.len() {
+        for _turn in self.seen..changes.len() {
+            self.pass_over(changes);
+            if self.seen >= changes.len() {
+                return Ok(());
+            }
+            let place = self.seen;
             self.take_in(alloc, answers, silences, &changes[place])?;
             self.seen = place + 1;
         }
         Ok(())
+    }
+
+    /// Passes over the changes before the next one that may concern the labels. If there are
+    /// periods, it passes over none, since any change may end one.
+    fn pass_over(&mut self, changes: &[SilenceChange])
+        requires { self.old.seen ≤ length changes.now }
+        ensures { self.new ≡ passed_by changes.now self.old }
+    {
+        if self.periods.is_empty() {
+            self.seen = self.next_concern(changes);
+        }
+    }
+
+    /// Returns the place of the next change that may concern the labels, or the number of changes
+    /// if none does.
+    fn next_concern(&self, changes: &[SilenceChange]) -> usize
+        requires { self.now.seen ≤ length changes.now }
+        ensures { result ≡ next_concern self.now.from self.now.marks changes.now self.now.seen }
+    {
+        let (from, marks) = (self.from, self.marks);
+        for place in self.seen..changes.len() {
+            if changes[place].may_concern(from, marks) {
+                return place;
+            }
+        }
+        changes.len()
     }
 
     /// Leaves out the periods that have ended by a moment, and is complete from then on.
@@ -76,8 +111,33 @@ impl KnownPeriods {
         Ok(())
     }
 
-    /// Takes in that a silence changed. It asks the matchers of a silence only if it hasn't ended.
+    /// Takes in that a silence changed. It looks for the silence only if that may mute the labels.
     fn take_in(
+        &mut self,
+        alloc: Global,
+        answers: &mut Answers,
+        silences: &Keyed<SilenceId, Silence>,
+        change: &SilenceChange,
+    ) -> Result<(), AllocError>
+        ensures noted { OnOk result (self.new ≡ record self.old {
+          periods = if may_concern self.old.from self.old.marks change.now
+              then noted change.now.id
+              (period_from self.old.from self.old.labels change.now.id
+              (get (shown nat_cmp silences.now) change.now.id))
+              self.old.periods
+              else without change.now.id self.old.periods;
+        }) }
+        ensures err { OnErr result (self.new ≡ self.old) }
+    {
+        if change.may_concern(self.from, self.marks) {
+            self.ask_present(alloc, answers, silences, &change.id)
+        } else {
+            self.leave_out(alloc, &change.id)
+        }
+    }
+
+    /// Takes in the period of the silence with this id, if it hasn't ended and matches the labels.
+    fn ask_present(
         &mut self,
         alloc: Global,
         answers: &mut Answers,

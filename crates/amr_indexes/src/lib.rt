@@ -6,7 +6,9 @@
 mod alert_table;
 mod known_periods;
 mod rule_source;
+mod silence_change;
 mod silence_table;
+mod value_marks;
 
 pub use alert_table::AlertTable;
 pub use silence_table::SilenceTable;

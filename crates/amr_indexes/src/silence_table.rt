@@ -9,6 +9,8 @@ ghost use Rattle.amr_rules.specs.Silences.{Silences};
 ghost use Rattle.amr_tables.specs.Numbered.{shown, has_place, entry_of, Enters, GrowsBy, KeepsPlaces, SamePlaces, SameEntered, NoneEntered, IsUnchanged, HasPlaces, places_for};
 
 use crate::known_periods::KnownPeriods;
+use crate::silence_change::SilenceChange;
+use crate::value_marks::value_marks;
 use amr_labels::{Labels, Listing};
 use amr_matchers::Answers;
 use amr_posts::SilenceId;
@@ -49,8 +51,8 @@ pub struct SilenceTable {
     known: Vec<KnownPeriods>,
     /// Their places in that list.
     places: Keyed<Labels, usize>,
-    /// The ids of the silences that changed since the table began to remember, the latest last.
-    changes: Vec<SilenceId>,
+    /// The changes of silences since the table began to remember, the latest last.
+    changes: Vec<SilenceChange>,
     /// The number of label sets, in the order of arrival, that the silences were asked ahead for.
     asked_ahead: usize,
     /// The silences that are left to ask, if they were listed since the last change.
@@ -65,7 +67,7 @@ pub(crate) struct Unexpired {
     pub(crate) listed: Vec<(SilenceId, Silence)>,
 }
 
-ghost use Rattle.amr_indexes.specs.SilencesKnown.{IsKnown, AreKnown, AreUnexpired, SameOthers};
+ghost use Rattle.amr_indexes.specs.SilencesKnown.{IsKnown, AreKnown, AreNoted, AreUnexpired, SameOthers, change_of, changed_ids};
 
 impl Model for SilenceTable {
     ghost use Rattle.std.specs.Prelude.{ℕ};
@@ -74,7 +76,7 @@ impl Model for SilenceTable {
     ghost use Rattle.amr_rules.specs.declared.silence.Silence.{Silence};
     ghost use Rattle.std.specs.Ordering.{nat_cmp};
     ghost use Rattle.amr_tables.specs.Numbered.{Numbered, shown};
-    ghost use Rattle.amr_indexes.specs.SilencesKnown.{AreKnown, AreUnexpired};
+    ghost use Rattle.amr_indexes.specs.SilencesKnown.{AreKnown, AreNoted, AreUnexpired, changed_ids};
 
     ghost Value = { Numbered ℕ Silence };
 
@@ -82,8 +84,10 @@ impl Model for SilenceTable {
 
     ghost view = { λ t. t.silences };
 
-    ghost invariant = { λ t. AreKnown (shown nat_cmp t.silences) t.changes.items t.known.items
-        × AreUnexpired (shown nat_cmp t.silences) t.unexpired };
+    ghost invariant = { λ t.
+        AreKnown (shown nat_cmp t.silences) (changed_ids t.changes.items) t.known.items
+        × AreUnexpired (shown nat_cmp t.silences) t.unexpired
+        × AreNoted (shown nat_cmp t.silences) t.changes.items };
 }
 
 impl SilenceTable {
@@ -309,6 +313,7 @@ impl SilenceTable {
     {
         let known = KnownPeriods {
             labels: labels.clone()?,
+            marks: value_marks(labels),
             from: at,
             seen: self.changes.as_slice().len(),
             periods,
@@ -371,6 +376,8 @@ impl SilenceTable {
         self.unexpired = None;
         // Room for this change and for its undoing. Without room everything known is forgotten.
         drop(self.changes.reserve(2));
+        let noted = SilenceChange::new(id, silence.as_ref());
+        let entry = change(&mut self.silences, journal, id, silence)?;
         let asked = &mut self.asked_ahead;
         note_change(
             self.alloc,
@@ -378,9 +385,9 @@ impl SilenceTable {
             &mut self.places,
             &mut self.changes,
             asked,
-            id,
+            noted,
         );
-        change(&mut self.silences, journal, id, silence)
+        Ok(entry)
     }
 
     /// Restores the silence with this id, or its absence, and drops the present one. It takes no
@@ -394,6 +401,7 @@ impl SilenceTable {
         ensures enough { HasPlaces nat_cmp self.new }
     {
         self.unexpired = None;
+        let noted = SilenceChange::new(id, silence.as_ref());
         let asked = &mut self.asked_ahead;
         note_change(
             self.alloc,
@@ -401,7 +409,7 @@ impl SilenceTable {
             &mut self.places,
             &mut self.changes,
             asked,
-            id,
+            noted,
         );
         drop(self.silences.displace(id, silence));
     }
@@ -413,16 +421,20 @@ fn note_change(
     alloc: Global,
     known: &mut Vec<KnownPeriods>,
     places: &mut Keyed<Labels, usize>,
-    changes: &mut Vec<SilenceId>,
+    changes: &mut Vec<SilenceChange>,
     asked_ahead: &mut usize,
-    id: &SilenceId,
+    noted: SilenceChange,
 )
-    ensures { (before after : Silences) → AreKnown before changes.old.items known.old.items
-        → SameOthers id.now before after → AreKnown after changes.new.items known.new.items }
+    ensures known { (before after : Silences) → SameOthers noted.id before after
+        → AreKnown before (changed_ids changes.old.items) known.old.items
+        → AreKnown after (changed_ids changes.new.items) known.new.items }
+    ensures noted { (before after : Silences) → SameOthers noted.id before after
+        → noted ≡ change_of noted.id (map.get after noted.id)
+        → AreNoted before changes.old.items → AreNoted after changes.new.items }
 {
     let count = changes.len();
     if count < MOST_CHANGES && count < changes.capacity() {
-        changes.push_reserved(*id);
+        changes.push_reserved(noted);
     } else {
         known.clear();
         *places = Keyed::new(alloc);
