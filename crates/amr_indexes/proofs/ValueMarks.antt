@@ -1,23 +1,20 @@
 -- Matchers that match a label set ask for no mark that its values don't have.
-use Rattle.std.proofs.Common.{◌≡◌, ◌<◌, ℕ, Bool, true, false, ◌&&◌, cond, List, [], ◌∷◌, Option, Some, None, max, arith, refl, sym, ap, subst, ◌∙◌}
+use Rattle.std.proofs.Common.{◌≡◌, ℕ, Bool, true, false, ◌&&◌, cond, List, [], ◌∷◌, Option, Some, max, arith, refl, sym, ap, subst, ◌∙◌}
 use Rattle.std.specs.Prelude.{fold, bit_or}
 use Rattle.std.specs.Int.{bit_at}
 use Rattle.std.specs.Int.Bits.{or_self, or_zero_l}
 use Rattle.std.proofs.lemmas.Bool.Decides.{nat_tests}
 use Rattle.std.proofs.lemmas.Nat.{or_comm}
 use Rattle.std.proofs.lemmas.Nat.Bits.{bit_at_or, same_from_bits}
-use Rattle.std.specs.declared.cmp.Ordering.{Ordering}
 use Rattle.std.specs.declared.cmp.Ordering.TheVariants.{Less, Equal as Same, Greater}
-use Rattle.std.specs.List.{list_all}
 use Rattle.std.specs.Option.{unwrap_or}
 use Rattle.std.specs.Ordering.{is_eq, eq_by_cmp}
 use Rattle.std.specs.FinMap.{find}
-use Rattle.amr_labels.specs.Map.{entries, get, get-entries}
+use Rattle.amr_labels.specs.Map.{entries, get-entries}
 use Rattle.amr_labels.specs.Labels.{Text, LabelSet, text_cmp, text_cmp-IsAntisymmetric, is_empty, value_of}
-use Rattle.amr_matchers.specs.declared.Operator.{Operator}
 use Rattle.amr_matchers.specs.declared.Operator.TheVariants.{Equal, NotEqual, Matches, NotMatches}
 use Rattle.amr_matchers.specs.Matchers.{Matcher, compares, holds, all_hold}
-use Rattle.amr_indexes.specs.ValueMarks.{value_mark, marks_among, value_marks, mark_asked, required_mark, required_marks}
+use Rattle.amr_indexes.specs.ValueMarks.{value_mark, value_marks, mark_asked, required_mark, required_marks}
 
 max_assoc : (a b c : ℕ) → max (max a b) c ≡ max a (max b c)
 max_assoc a b c = grind (arith, nat_tests)

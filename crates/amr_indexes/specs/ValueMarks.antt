@@ -1,5 +1,5 @@
 -- Marks of label values, by which most label sets are told apart from those that a silence matches.
-use Rattle.std.specs.Prelude.{ℕ, Bool, false, ◌*◌, ◌/◌, ◌%◌, ◌^◌, ◌&&◌, not, List, fold, bit_or, if◌then◌else◌}
+use Rattle.std.specs.Prelude.{ℕ, ◌*◌, ◌/◌, ◌%◌, ◌^◌, List, fold, bit_or, if◌then◌else◌}
 use Rattle.amr_labels.specs.Map.{entries}
 use Rattle.amr_labels.specs.Labels.{Text, LabelSet, is_empty}
 use Rattle.amr_labels.specs.Spread.{text_spread}
