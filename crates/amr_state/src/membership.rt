@@ -37,8 +37,9 @@ impl InParts for IndexedMember {
     ghost in_parts = { group_parts };
 
     fn part_cmp(&self, part: &RouteLabels) -> Ordering {
-        self.spread
-            .cmp(&part.spread())
-            .then_with(|| self.membership.group.cmp(part))
+        match self.spread.cmp(&part.spread()) {
+            Ordering::Equal => self.membership.group.cmp(part),
+            order => order,
+        }
     }
 }

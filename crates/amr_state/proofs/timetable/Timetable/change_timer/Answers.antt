@@ -18,7 +18,7 @@ move_group-requires g c =
     let n = places_for route_labels_cmp t.timers c.args.group.now in
     let room : t.queue.room + 2 * n ≤ c.make_room.new.queue.room =
     subst (λ m. t.queue.room + m ≤ c.make_room.new.queue.room) (ap (λ b. cond b 0 2) (c.is_some.ensures ∙ ap is_some c.look_up_number-number.ensures.number) ∙ twice_as_many (has_place route_labels_cmp t.timers c.args.group.now)) c.in_ok-make_room.ensures.room in
-    group_may_move t.alerts t.timers c.change_found.new.timers t.queue c.make_room.new.queue c.self.invariant c.in_ok-copy.copy c.args.group.now c.args.timer c.moments_of-old.result c.group_moments-new.result n
+    group_may_move t.alerts t.timers c.change_found.new.table t.queue c.make_room.new.queue c.self.invariant c.in_ok-copy.copy c.args.group.now c.args.timer c.moments_of-old.result c.group_moments-new.result n
     c.in_ok-copy.ensures (c.moments_of-old.ensures ∙ ap group_moments c.look_up_number-number.ensures.value) c.group_moments-new.ensures c.in_ok-entry.ensures.shown c.change_found.ensures.keys.1 c.in_ok-entry.ensures.enough c.make_room.ensures.dues room
 
 pub invariant_of-self-2 : goal.invariant_of-self-2
@@ -28,7 +28,7 @@ invariant_of-self-2 g c =
     let n = places_for route_labels_cmp t.timers c.args.group.now in
     let room : t.queue.room + 2 * n ≤ c.make_room.new.queue.room =
     subst (λ m. t.queue.room + m ≤ c.make_room.new.queue.room) (ap (λ b. cond b 0 2) (c.is_some.ensures ∙ ap is_some c.look_up_number-number.ensures.number) ∙ twice_as_many (has_place route_labels_cmp t.timers c.args.group.now)) c.in_ok-make_room.ensures.room in
-    group_timed t.alerts t.timers c.change_found.new.timers t.queue c.make_room.new.queue c.self.invariant c.in_ok-copy.copy c.args.group.now c.args.timer c.moments_of-old.result c.group_moments-new.result n
+    group_timed t.alerts t.timers c.change_found.new.table t.queue c.make_room.new.queue c.self.invariant c.in_ok-copy.copy c.args.group.now c.args.timer c.moments_of-old.result c.group_moments-new.result n
     c.in_ok-copy.ensures (c.moments_of-old.ensures ∙ ap group_moments c.look_up_number-number.ensures.value) c.group_moments-new.ensures c.in_ok-entry.ensures.shown c.change_found.ensures.keys.1 c.in_ok-entry.ensures.enough c.make_room.ensures.dues room
     c.move_group.new.queue c.move_group.ensures.dues c.move_group.ensures.all
 
@@ -44,4 +44,4 @@ invariant_of-self-in_err-entry g c =
     let n = places_for route_labels_cmp t.timers c.args.group.now in
     let room : t.queue.room + 2 * n ≤ c.make_room.new.queue.room =
     subst (λ m. t.queue.room + m ≤ c.make_room.new.queue.room) (ap (λ b. cond b 0 2) (c.is_some.ensures ∙ ap is_some c.look_up_number-number.ensures.number) ∙ twice_as_many (has_place route_labels_cmp t.timers c.args.group.now)) c.in_ok-make_room.ensures.room in
-    group_kept t.alerts t.timers c.change_found.new.timers t.queue c.make_room.new.queue c.self.invariant n c.in_err-entry.ensures.err.0 c.change_found.ensures.keys c.make_room.ensures.dues room
+    group_kept t.alerts t.timers c.change_found.new.table t.queue c.make_room.new.queue c.self.invariant n c.in_err-entry.ensures.err.0 c.change_found.ensures.keys c.make_room.ensures.dues room
