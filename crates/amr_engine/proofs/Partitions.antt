@@ -3,26 +3,22 @@ use Rattle.std.specs.Prelude.{◌≡◌, Bool, true, false, not, ◌&&◌, List,
 use Rattle.std.specs.Result.{OnOk}
 use Rattle.std.specs.List.{fold, list_all}
 use Rattle.std.proofs.Common.{refl, sym, ap, ◌∙◌}
-use Rattle.std.proofs.lemmas.List.Sums.{fold-append}
 use Rattle.amr_labels.specs.Map.{get, insert}
 use Rattle.amr_rules.specs.Dedup.{LabelSets, needs_update}
 use Rattle.amr_labels.specs.Labels.{LabelSet}
-use Rattle.amr_time.specs.Time.{Moment, Span}
+use Rattle.amr_time.specs.Time.{Moment}
 use Rattle.amr_stated.specs.declared.receiver.Integration.{Integration}
 use Rattle.amr_config.specs.Routing.{integrations_of, repeat_interval_of}
 use Rattle.amr_rules.specs.declared.alert.Alert.{Alert}
-use Rattle.amr_rules.specs.declared.dedup.LogEntry.{LogEntry}
 use Rattle.amr_rules.specs.Alerts.{is_resolved_at}
 use Rattle.amr_state.specs.declared.notification.LogKey.{LogKey}
-use Rattle.amr_state.specs.declared.notification.Notification.{Notification}
 use Rattle.amr_state.specs.declared.route_labels.RouteLabels.{RouteLabels}
 use Rattle.amr_state.specs.State.{State}
-use Rattle.amr_state.specs.Logged.{is_due}
 use Rattle.amr_engine.specs.declared.flush.Partition.{Partition}
 use Rattle.amr_engine.specs.Stages.{taken_away}
 use Rattle.amr_engine.specs.Quiet.{with_timer_reset}
 use Rattle.amr_engine.specs.Flush.{Members, let_through, firing_of, resolved_of, log_key_of, notifications_of, notify, notify_all, set_timer, mark_if_empty, drop_member, drop_resolved}
-use Rattle.amr_engine.specs.Partition.{IsPartition, notified_by, notified_with, entry_of}
+use Rattle.amr_engine.specs.Partition.{IsPartition, notified_by}
 
 -- what follows for the value of a result
 pub on_ok : {T E : Type 0} (r : Result T E) (P Q : Type 0) → (P → Q) → OnOk r P → OnOk r Q
@@ -53,42 +49,6 @@ pub notified_all : (at : Moment) (group : RouteLabels) (members : Members) (part
 notified_all at group [] partition s some is = absurd (cc)
 notified_all at group (member ∷ members) partition s some is =
     fold_same (notified_by at group partition) (notify at group (member ∷ members)) (notified at group (member ∷ members) partition is) s (integrations_of s.config group.route)
-
--- what an integration's turn leads to, with its key and its repeat interval
-abbrev turn_with : State → RouteLabels → Members → Members → LogEntry → Bool → LogKey → Span → State
-turn_with s group firing resolved entry send_resolved key repeat_interval =
-    if is_due (get s.log key) entry send_resolved repeat_interval
-    then record s { log = insert s.log key entry; notes = s.notes ++ notifications_of entry.time group key send_resolved firing resolved } else s
-
-module _ (s logged : State) (group : RouteLabels) (firing resolved : Members) (entry : LogEntry) (integration : Integration) (key : LogKey) (repeat_interval : Span)
-    (key_is : key ≡ log_key_of s.config group integration) (interval_is : repeat_interval ≡ repeat_interval_of s.config group.route) where
-  turned : turn_with s group firing resolved entry integration.send_resolved key repeat_interval ≡ notified_with group firing resolved entry s integration
-  turned = λ i. turn_with s group firing resolved entry integration.send_resolved (key_is i) (interval_is i)
-
-  -- the log entry, and then the notification
-  pub noted : (notes : List Notification) → is_due (get s.log key) entry integration.send_resolved repeat_interval ≡ true
-      → logged ≡ record s { log = insert s.log key entry }
-      → notes ≡ notifications_of entry.time group key integration.send_resolved firing resolved
-      → record logged { notes = logged.notes ++ notes } ≡ notified_with group firing resolved entry s integration
-  noted notes due is noted_is =
-      let noted : List Notification = notifications_of entry.time group key integration.send_resolved firing resolved in
-      (λ i. record (is i) { notes = (is i).notes ++ noted_is i })
-      ∙ sym (ap (λ b. if b then record s { log = insert s.log key entry; notes = s.notes ++ noted } else s) due)
-      ∙ turned
-
-  -- nothing changes if no entry is due
-  pub not_noted : is_due (get s.log key) entry integration.send_resolved repeat_interval ≡ false → logged ≡ s → logged ≡ notified_with group firing resolved entry s integration
-  not_noted due is =
-      let noted : List Notification = notifications_of entry.time group key integration.send_resolved firing resolved in
-      is ∙ sym (ap (λ b. if b then record s { log = insert s.log key entry; notes = s.notes ++ noted } else s) due) ∙ turned
-
--- the fold of no items, and the last item of a fold
-pub fold_none : {A X : Type 0} (f : A → X → A) (a : A) (xs : List X) → length xs ≡ 0 → a ≡ fold f a xs
-fold_none f a [] none = refl
-fold_none f a (x ∷ xs) none = absurd (cc)
-
-pub fold_last : {A X : Type 0} (f : A → X → A) (a : A) (others xs : List X) (last : X) → xs ≡ others ++ last ∷ [] → fold f a xs ≡ f (fold f a others) last
-fold_last f a others xs last is = ap (fold f a) is ∙ fold-append f a others (last ∷ [])
 
 abbrev emptied : Moment → RouteLabels → State → State
 emptied at group = set_timer group (λ timer. record timer { empty_since = Some at })

@@ -6,7 +6,7 @@ ghost use Rattle.std.specs.Prelude.{◌≡◌, ◌≤◌, ◌+◌, ◌*◌, ◌+
 ghost use Rattle.std.specs.List.{fold, list_all};
 ghost use Rattle.std.specs.Option.{option_to_list};
 ghost use Rattle.amr_labels.specs.Map.{get};
-ghost use Rattle.amr_config.specs.Routing.{group_interval_of, repeat_interval_of, integrations_of};
+ghost use Rattle.amr_config.specs.Routing.{group_interval_of, integrations_of};
 ghost use Rattle.amr_time.specs.Time.{latest_read};
 ghost use Rattle.amr_rules.specs.Alerts.{is_resolved_at};
 ghost use Rattle.amr_state.specs.State as state;
