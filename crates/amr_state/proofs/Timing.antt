@@ -1,5 +1,5 @@
 -- What is due of alerts and groups, and how it moves as one of them changes.
-use Rattle.std.proofs.Common.{◌≡◌, ◌≤◌, ◌+◌, ◌*◌, ℕ, suc, Bool, true, false, cond, not, ◌||◌, ◌&&◌, T, List, [], ◌∷◌, ◌++◌, Option, Some, None, map, length, length-append, refl, sym, ap, subst, ◌∙◌, arith}
+use Rattle.std.proofs.Common.{◌≡◌, ◌≤◌, ◌<◌, ◌+◌, ◌*◌, ℕ, suc, Bool, true, false, cond, not, ◌||◌, ◌&&◌, T, List, [], ◌∷◌, ◌++◌, Option, Some, None, map, length, length-append, refl, sym, ap, subst, ◌∙◌, arith}
 use Rattle.std.specs.Prelude.{option_map, IfSome}
 use Rattle.std.specs.Option.{option_map_or}
 use Rattle.std.specs.List.{filter_map, cons_option}
@@ -20,7 +20,8 @@ use Rattle.amr_rules.specs.declared.alert.Alert.{Alert}
 use Rattle.amr_rules.specs.Muting.{Alerts}
 use Rattle.amr_time.specs.Time.{Moment, second, next_multiple_of}
 use Rattle.amr_tables.specs.Numbered.{Numbered, shown, HasPlaces}
-use Rattle.amr_tables.specs.Queued.{Queued, has, in_order, count_of}
+use Rattle.amr_tables.specs.Queued.{Queued, has, in_order, rest_of, is_first, count_of}
+use Rattle.amr_tables.proofs.Ascending.{without_first}
 use Rattle.amr_tables.proofs.Queueing.{sorted_inserted, sorted_in_order, sorted_without, has_inserted, has_in_order, has_without, same_from_members}
 use Rattle.amr_state.specs.declared.notification.GroupTimer.{GroupTimer}
 use Rattle.amr_state.specs.declared.route_labels.RouteLabels.{RouteLabels}
@@ -177,6 +178,14 @@ stays l p (Some m) sorted there =
     same_from_members due_cmp due_cmp_total due_cmp-IsAntisymmetric _ _ sorted (sorted_put (taken_at l p (Some m)) p (Some m) (sorted_taken l p (Some m) sorted)) (λ d.
     kept (is_at d.moment (Some m) && is_same d p) (has due_cmp l d) (λ e. ap (has due_cmp l) (tells_apart due_cmp-IsAntisymmetric d (due_at p m) (split_at d p m ∙ e)) ∙ there)
     ∙ ap (λ b. (is_at d.moment (Some m) && is_same d p) || b) (sym (has_taken l p (Some m) d)) ∙ sym (has_put (taken_at l p (Some m)) p (Some m) d))
+
+-- a due that is the first leaves the others as it is taken
+pub first_taken : (l : List Due) (p : Due) (m : Moment) → IsStrictlySortedBy due_cmp l → is_first due_cmp l (due_at p m) ≡ true → taken_at l p (Some m) ≡ rest_of l
+first_taken l p m sorted first = without_first due_cmp due_cmp_total l (due_at p m) sorted first
+
+pub some_are_due : (l : List Due) (p : Due) → is_first due_cmp l p ≡ true → 0 < length l
+some_are_due [] p first = absurd (true≢false (sym first))
+some_are_due (d ∷ l) p first = omega arith
 
 is_there : (l : List Due) (p : Due) (old : Option Moment) → IsDueAt l p old → IfSome old (λ moment. has due_cmp l (due_at p moment) ≡ true)
 is_there l p None was = tt

@@ -432,6 +432,24 @@ fn move_due(queue: &mut Queue<Due>, mut due: Due, old: Option<u128>, new: Option
     }
 }
 
+/// Moves a flush in the queue, as `move_due` does. It is faster if the flush is the first timer, as
+/// when it fires.
+fn move_flush(queue: &mut Queue<Due>, mut due: Due, old: Option<u128>, new: Option<u128>)
+    requires { CanMove queue.old.dues queue.old.room due old new }
+    ensures dues { queue.new.dues ≡ moved queue.old.dues due old new }
+    ensures all { queue.new.room + length queue.new.dues ≡ queue.old.room + length queue.old.dues }
+{
+    if let (Some(before), Some(after)) = (old, new) {
+        due.moment = before;
+        if queue.is_first(&due) {
+            due.moment = after;
+            queue.replace_first(due);
+            return;
+        }
+    }
+    move_due(queue, due, old, new);
+}
+
 /// Moves the flush of a group in the queue, while its removal stays. It takes no memory.
 fn move_group_flush(
     queue: &mut Queue<Due>,
@@ -450,7 +468,7 @@ fn move_group_flush(
         route: group.route,
         labels: group.labels,
     };
-    move_due(queue, flush, old.flush, new.flush);
+    move_flush(queue, flush, old.flush, new.flush);
 }
 
 /// Adds a timer to the queue at a moment, if one is given. It takes no memory.
