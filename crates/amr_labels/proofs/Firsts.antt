@@ -1,6 +1,7 @@
 -- The first pair under a name, if one name after the other is tested for equality.
 use Rattle.std.proofs.Common.{◌≡◌, ℕ, ◌+◌, ◌<◌, true, false, cond, List, Some, nat_eq, length, get_or, drop, refl, sym, subst, ap, ◌∙◌}
 use Rattle.std.proofs.lemmas.Bool.{true≢false}
+use Rattle.std.proofs.lemmas.Cmp.{eq_by_cmp_equiv}
 use Rattle.std.proofs.lemmas.List.{drop_more}
 use Rattle.std.proofs.lemmas.Map.Views.{tells_apart}
 use Rattle.std.specs.Cmp.{tied_itself}
@@ -18,6 +19,14 @@ unequal_texts a b e =
     elim (eq_by_cmp text_cmp b a) as (λ r. eq_by_cmp text_cmp b a ≡ r → r ≡ false) [
       | true ↦ λ t. absurd (true≢false (sym ((bytes_decides a b).1 (sym (tells_apart text_cmp-IsAntisymmetric b a t))) ∙ e))
       | false ↦ λ t. refl
+    ] refl
+
+-- a test for equality answers as the order does
+pub same_texts : (a b : Text) → pointwise nat_eq a b ≡ eq_by_cmp text_cmp a b
+same_texts a b =
+    elim (pointwise nat_eq a b) as (λ r. pointwise nat_eq a b ≡ r → r ≡ eq_by_cmp text_cmp a b) [
+      | true ↦ λ e. sym (equal_texts a b e) ∙ (eq_by_cmp_equiv nat_list_cmp_total).symm b a
+      | false ↦ λ e. sym (unequal_texts a b e) ∙ (eq_by_cmp_equiv nat_list_cmp_total).symm b a
     ] refl
 
 module _ {X : Type 0} (name : Text) (pairs : List (Text × X)) (i : ℕ) (d : Text × X) (within : i < length pairs) where

@@ -2,6 +2,7 @@
 //! an object, which is printed. `Labels` shares one of these between its clones.
 ghost use Rattle.std.specs.Prelude.{◌≡◌, ◌++◌, false, true, string_bytes, IfOk, IfSome, IfNone, OnOk};
 ghost use Rattle.std.specs.Option.{option_copied};
+ghost use Rattle.std.specs.Ordering.{eq_by_cmp};
 ghost use Rattle.amr_labels.specs.Labels.{label_set_cmp};
 ghost use Rattle.amr_labels.specs.SortKey.{key_of_text, key_of_label, sort_key, has_zero, label_has_zero, has_zeros};
 ghost use Rattle.amr_labels.specs.Spread.{label_set_spread};
@@ -105,6 +106,16 @@ impl KeyedTexts {
         match (&self.key, &other.key) {
             (Some(key), Some(other_key)) => key.as_str().cmp(other_key.as_str()),
             _ => self.texts.entries().cmp(other.texts.entries()),
+        }
+    }
+
+    /// Returns whether the texts are equal. Equal sort keys have the same bytes.
+    pub(crate) fn is_equal(&self, other: &KeyedTexts) -> bool
+        ensures { result ≡ eq_by_cmp label_set_cmp self.now other.now }
+    {
+        match (&self.key, &other.key) {
+            (Some(key), Some(other_key)) => key.as_str() == other_key.as_str(),
+            _ => self.texts.entries().cmp(other.texts.entries()) == Ordering::Equal,
         }
     }
 }

@@ -161,7 +161,7 @@ impl PartialEq for Labels {
     ghost laws = { Prim.search (comparing, rules, label_set_cmp_total) };
 
     fn eq(&self, other: &Labels) -> bool {
-        self.cmp(other) == Ordering::Equal
+        self.shared.get().is_equal(other.shared.get())
     }
 }
 

@@ -72,7 +72,7 @@ impl PartialEq for Text {
     ghost laws = { Prim.search (comparing, rules) };
 
     fn eq(&self, other: &Text) -> bool {
-        self.cmp(other) == Ordering::Equal
+        self.as_str() == other.as_str()
     }
 }
 

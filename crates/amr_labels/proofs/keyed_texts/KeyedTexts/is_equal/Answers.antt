@@ -1,0 +1,25 @@
+use Rattle.std.proofs.Common.{◌≡◌, ◌∙◌, ap, false, string_bytes, subst}
+use Rattle.std.specs.Prelude.{IfSome}
+use Rattle.std.specs.Ordering.{eq_by_cmp, is_eq}
+use Rattle.amr_labels.specs.Labels.{text_cmp, label_set_cmp}
+use Rattle.amr_labels.specs.Map.{entries}
+use Rattle.amr_labels.specs.SortKey.{sort_key, has_zeros}
+use Rattle.amr_labels.proofs.Firsts.{same_texts}
+use Rattle.amr_labels.proofs.SortKeys.{by_sort_key}
+use Rattle.amr_labels.proofs.keyed_texts.KeyedTexts.is_equal.Goals as goal
+
+-- both keys are those of the texts, by the invariant
+pub returns-in-Some-Some : goal.returns-in-Some-Some
+returns-in-Some-Some c =
+    let mine = subst (λ found. IfSome found (λ key.
+    (string_bytes key ≡ sort_key (entries c.self.inside.texts)) × (has_zeros (entries c.self.inside.texts) ≡ false)))
+    c.in-Some-Some.is-0 c.self.invariant.0 in
+    let others = subst (λ found. IfSome found (λ key.
+    (string_bytes key ≡ sort_key (entries c.other.inside.texts)) × (has_zeros (entries c.other.inside.texts) ≡ false)))
+    c.in-Some-Some.is-1 c.other.invariant.0 in
+    c.eq.ensures
+    ∙ same_texts c.as_str.result.now c.as_str-in-Some-Some.result.now
+    ∙ (λ i. eq_by_cmp text_cmp (c.as_str.ensures.value i) (c.as_str-in-Some-Some.ensures.value i))
+    ∙ (λ i. eq_by_cmp text_cmp (mine.0 i) (others.0 i))
+    ∙ ap is_eq (by_sort_key (entries c.self.inside.texts) (entries c.other.inside.texts) mine.1 others.1)
+    ∙ (λ i. eq_by_cmp label_set_cmp (c.self.view_is i) (c.other.view_is i))
