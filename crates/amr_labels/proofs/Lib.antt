@@ -1,5 +1,6 @@
 pub mod Ascending
 pub mod Firsts
+pub mod Marks
 pub mod Pairs
 pub mod Proper
 pub mod Searches

@@ -1,11 +1,12 @@
 //! The texts of a label set with their sort key, by which label sets are compared, and their text as
 //! an object, which is printed. `Labels` shares one of these between its clones.
-ghost use Rattle.std.specs.Prelude.{◌≡◌, ◌++◌, false, true, string_bytes, IfOk, IfSome, IfNone, OnOk};
+ghost use Rattle.std.specs.Prelude.{◌≡◌, ◌++◌, get_or, false, true, string_bytes, IfOk, IfSome, IfNone, OnOk};
 ghost use Rattle.std.specs.Option.{option_copied};
 ghost use Rattle.std.specs.Ordering.{eq_by_cmp};
-ghost use Rattle.amr_labels.specs.Labels.{label_set_cmp};
+ghost use Rattle.amr_labels.specs.Labels.{text_cmp, label_set_cmp};
 ghost use Rattle.amr_labels.specs.SortKey.{key_of_text, key_of_label, sort_key, has_zero, label_has_zero, has_zeros};
 ghost use Rattle.amr_labels.specs.Spread.{label_set_spread};
+ghost use Rattle.amr_labels.specs.Mark.{text_mark, headed};
 ghost use Rattle.amr_labels.specs.ObjectText.{plain_object};
 
 use crate::object_text::object_text;
@@ -23,6 +24,9 @@ pub(crate) struct KeyedTexts {
     /// itself. Most label sets differ only in their last labels, so comparing one text is much
     /// faster than following the texts one by one.
     key: Option<String>,
+    /// A number made of the head of the sort key, or 0 if there is none. If two of them differ, the
+    /// sort key with the lesser one is the lesser, so many comparisons don't need the keys.
+    mark: u64,
     /// A number made of the sort key, by which tables spread label sets out.
     spread: usize,
     /// All names and values as an object, or `None` if one of them can't stand between quotes as it
@@ -37,6 +41,7 @@ impl Model for KeyedTexts {
     ghost use Rattle.amr_labels.specs.Labels.{text_cmp};
     ghost use Rattle.amr_labels.specs.SortKey.{sort_key, has_zeros};
     ghost use Rattle.amr_labels.specs.Spread.{label_set_spread};
+    ghost use Rattle.amr_labels.specs.Mark.{text_mark};
     ghost use Rattle.amr_labels.specs.ObjectText.{are_plain, object_text};
 
     ghost Value = { map.Map text_cmp (List ℕ) };
@@ -51,7 +56,8 @@ impl Model for KeyedTexts {
         × (keyed.spread ≡ label_set_spread keyed.texts)
         × IfSome keyed.printed (λ text. (string_bytes text ≡ object_text (map.entries keyed.texts))
         × (are_plain (map.entries keyed.texts) ≡ true))
-        × IfNone keyed.printed (are_plain (map.entries keyed.texts) ≡ false) };
+        × IfNone keyed.printed (are_plain (map.entries keyed.texts) ≡ false)
+        × IfSome keyed.key (λ key. keyed.mark ≡ text_mark (string_bytes key)) };
 }
 
 impl KeyedTexts {
@@ -65,10 +71,15 @@ impl KeyedTexts {
             Some(key) => spread_of(key.as_str()),
             None => 0,
         };
+        let mark = match &key {
+            Some(key) => mark_of(key.as_str()),
+            None => 0,
+        };
         let printed = object_text(alloc, texts.entries())?;
         Ok(KeyedTexts {
             texts,
             key,
+            mark,
             spread,
             printed,
         })
@@ -104,7 +115,9 @@ impl KeyedTexts {
         ensures { result ≡ label_set_cmp self.now other.now }
     {
         match (&self.key, &other.key) {
-            (Some(key), Some(other_key)) => key.as_str().cmp(other_key.as_str()),
+            (Some(key), Some(other_key)) => {
+                keys_cmp(self.mark, key.as_str(), other.mark, other_key.as_str())
+            }
             _ => self.texts.entries().cmp(other.texts.entries()),
         }
     }
@@ -180,4 +193,53 @@ fn push_text(key: &mut String, text: &Text) -> Result<(), AllocError>
 {
     key.push_str(text.as_str())?;
     key.push('\0')
+}
+
+/// Compares sort keys, given their marks.
+fn keys_cmp(mark: u64, key: &str, other_mark: u64, other_key: &str) -> Ordering
+    requires own { mark ≡ text_mark key.now }
+    requires other { other_mark ≡ text_mark other_key.now }
+    ensures { result ≡ text_cmp key.now other_key.now }
+{
+    if mark == other_mark {
+        key.cmp(other_key)
+    } else {
+        mark.cmp(&other_mark)
+    }
+}
+
+/// Returns the mark of a sort key.
+fn mark_of(key: &str) -> u64
+    ensures { result ≡ text_mark key.now }
+{
+    let usual_name = "alertname\0";
+    match key.as_bytes().strip_prefix(usual_name.as_bytes()) {
+        Some(rest) => headed(1, rest),
+        None if key < usual_name => 0,
+        None => headed(2, &[]),
+    }
+}
+
+/// Returns the number whose bytes are this one and the first seven of a text, with zeros after its
+/// end.
+fn headed(first: u8, text: &[u8]) -> u64
+    ensures { result ≡ headed 7 first text.now }
+{
+    u64::from_be_bytes([
+        first,
+        byte_at(text, 0),
+        byte_at(text, 1),
+        byte_at(text, 2),
+        byte_at(text, 3),
+        byte_at(text, 4),
+        byte_at(text, 5),
+        byte_at(text, 6),
+    ])
+}
+
+/// Returns the byte at a place, or 0 if the text ends before it.
+fn byte_at(text: &[u8], place: usize) -> u8
+    ensures { result ≡ get_or text.now place 0 }
+{
+    text.get(place).copied().unwrap_or(0)
 }

@@ -17,7 +17,7 @@ returns-in-Some-Some c =
     let others = subst (λ found. IfSome found (λ key.
     (string_bytes key ≡ sort_key (entries c.other.inside.texts)) × (has_zeros (entries c.other.inside.texts) ≡ false)))
     c.in-Some-Some.is-1 c.other.invariant.0 in
-    c.cmp.ensures
+    c.keys_cmp.ensures
     ∙ (λ i. slice_cmp nat_cmp (c.as_str.ensures.value i) (c.as_str-in-Some-Some.ensures.value i))
     ∙ (λ i. slice_cmp nat_cmp (mine.0 i) (others.0 i))
     ∙ by_sort_key (entries c.self.inside.texts) (entries c.other.inside.texts) mine.1 others.1
