@@ -1,7 +1,7 @@
 //! A balanced tree of sorted items. Adding and removing an item takes a number of steps that grows
 //! with the logarithm of the length. Calls nest as deep as the tree is high, at most about twice
 //! that logarithm. `queue.rt` is its only caller.
-ghost use Rattle.std.specs.Prelude.{◌≡◌, ◌==◌, not, ◌+◌, ◌^◌, ◌<◌, ◌≤◌, [], ◌∷◌, ◌++◌, length, max, OnOk, MatchOption, is_some, slice_get, false, IfSome};
+ghost use Rattle.std.specs.Prelude.{◌≡◌, ◌==◌, not, ◌+◌, ◌^◌, ◌<◌, ◌≤◌, [], ◌∷◌, ◌++◌, length, max, OnOk, MatchOption, is_some, slice_get, true, false, IfSome};
 ghost use Rattle.std.specs.List.Sorted.{IsStrictlySortedBy};
 ghost use Rattle.std.specs.Option.{option_copied};
 ghost use Rattle.std.specs.BTreeSet.{insert_key};
@@ -78,6 +78,15 @@ impl<D: Drop> Tree<D> {
                 Node::Fork { height, .. } => *height,
             },
         }
+    }
+
+    /// Returns whether the tree has no item.
+    #[inline]
+    fn is_empty(&self) -> bool
+        ensures empty { result ≡ true → self.now ≡ ([], 0) }
+        ensures some { result ≡ false → 0 < length self.now.0 }
+    {
+        self.root.is_none()
     }
 
     /// Returns the first item.
@@ -296,6 +305,7 @@ fn rebalance<D: Drop>(root: &mut Option<Box<Node<D>>>)
 
 /// Restores the balance and the stored height of a tree after a side of it has changed, whose
 /// height was `before` and is `after`. It writes nothing if these are equal.
+#[inline]
 fn rebalance_after<D: Drop>(root: &mut Option<Box<Node<D>>>, before: usize, after: usize)
     requires near { IsNearlyBalanced root.old }
     requires right { before ≡ after → HasRightHeight root.old }
@@ -309,6 +319,7 @@ fn rebalance_after<D: Drop>(root: &mut Option<Box<Node<D>>>, before: usize, afte
 /// Restores the balance and the stored height of a tree after a side of it has changed, if the
 /// height of that side has. Else it writes nothing. Returns whether the height of the tree has
 /// changed.
+#[inline]
 fn rebalance_if<D: Drop>(root: &mut Option<Box<Node<D>>>, has_changed: bool) -> bool
     requires near { IsNearlyBalanced root.old }
     requires right { has_changed ≡ false → HasRightHeight root.old }
@@ -336,7 +347,7 @@ fn rebalance_if<D: Drop>(root: &mut Option<Box<Node<D>>>, has_changed: bool) -> 
 
 /// Restores the balance and the stored height of a tree after one of its sides has changed, as
 /// `rebalance` does. Returns whether the height of the tree has changed.
-#[inline]
+#[inline(never)]
 fn rebalance_noting<D: Drop>(root: &mut Option<Box<Node<D>>>) -> bool
     requires { IsNearlyBalanced root.old }
     ensures list { (root_view root.new).0 ≡ (root_view root.old).0 }
@@ -442,14 +453,31 @@ fn put_leaf<D: Ord + Drop>(tree: &mut Tree<D>, leaf: Box<Node<D>>) -> bool
 
 /// Removes the first item of a tree, in its node, which has no sides then. Returns `None` for an
 /// empty tree.
+#[inline]
 fn take_first_node<D: Drop>(tree: &mut Tree<D>) -> Option<Box<Node<D>>>
     requires fits { length tree.old.0 < 2 ^ 64 }
     ensures parts { MatchOption result (AreEmpty tree.old tree.new)
         (IsFirstNodeOf tree.old tree.new) }
     ensures leaf { IfSome result (λ node. IsLeaf node.value) }
 {
+    if tree.is_empty() {
+        return None;
+    }
+    let (node, _has_changed) = take_first_of(tree);
+    Some(node)
+}
+
+/// Removes the first item of a tree, in its node, which has no sides then. Returns the node, and
+/// whether the height of the tree has changed.
+fn take_first_of<D: Drop>(tree: &mut Tree<D>) -> (Box<Node<D>>, bool)
+    requires some { 0 < length tree.old.0 }
+    requires fits { length tree.old.0 < 2 ^ 64 }
+    ensures parts { IsFirstNodeOf tree.old tree.new result.0 }
+    ensures leaf { IsLeaf result.0.value }
+    ensures changed { result.1 ≡ not (tree.new.1 == tree.old.1) }
+{
     match &mut tree.root {
-        None => None,
+        None => unreachable!(),
         Some(node) => match &mut **node {
             Node::Spare => unreachable!(),
             Node::Fork {
@@ -458,21 +486,17 @@ fn take_first_node<D: Drop>(tree: &mut Tree<D>) -> Option<Box<Node<D>>>
                 right,
                 ..
             } => {
-                let before = left.height();
-                match take_first_node(left) {
-                    None => {
-                        let rest = mem::replace(right, Tree::new());
-                        *height = 1;
-                        let node = tree.root.take();
-                        *tree = rest;
-                        node
-                    }
-                    Some(first) => {
-                        let after = left.height();
-                        rebalance_after(&mut tree.root, before, after);
-                        Some(first)
-                    }
+                if left.is_empty() {
+                    let rest = mem::replace(right, Tree::new());
+                    *height = 1;
+                    let Some(node) = tree.root.take() else {
+                        unreachable!()
+                    };
+                    *tree = rest;
+                    return (node, true);
                 }
+                let (first, has_changed) = take_first_of(left);
+                (first, rebalance_if(&mut tree.root, has_changed))
             }
         },
     }
