@@ -39,20 +39,20 @@ unfolding remainder
 remainder-set xs r v spread = ap (λ n. bit_and spread ((n + 2 ^ 64 - 1) % 2 ^ 64)) (length-set xs r v)
 
 -- a place and one, which doesn't go over the largest number
-some_guess : (place : ℕ) → (min (place + 1) (2 ^ 64 - 1) == 0) ≡ false
+some_guess : (place : ℕ) → (min (place + 1) (2 ^ 32 - 1) == 0) ≡ false
 some_guess place = grind arith
 
-pub noted_is : (xs : List ℕ) (spread place : ℕ) → is_free (slice_set xs (remainder xs spread) (min (place + 1) (2 ^ 64 - 1))) spread ≡ false
+pub noted_is : (xs : List ℕ) (spread place : ℕ) → is_free (slice_set xs (remainder xs spread) (min (place + 1) (2 ^ 32 - 1))) spread ≡ false
 unfolding is_free
 noted_is xs spread place =
-    let v = min (place + 1) (2 ^ 64 - 1) in
+    let v = min (place + 1) (2 ^ 32 - 1) in
     ap (is_zero_at (slice_set xs (remainder xs spread) v)) (remainder-set xs (remainder xs spread) v spread)
     ∙ set_itself xs (remainder xs spread) v (some_guess place)
 
-pub noted_stays : (xs : List ℕ) (r place other : ℕ) → is_free xs other ≡ false → is_free (slice_set xs r (min (place + 1) (2 ^ 64 - 1))) other ≡ false
+pub noted_stays : (xs : List ℕ) (r place other : ℕ) → is_free xs other ≡ false → is_free (slice_set xs r (min (place + 1) (2 ^ 32 - 1))) other ≡ false
 unfolding is_free
 noted_stays xs r place other h =
-    let v = min (place + 1) (2 ^ 64 - 1) in
+    let v = min (place + 1) (2 ^ 32 - 1) in
     ap (is_zero_at (slice_set xs r v)) (remainder-set xs r v other)
     ∙ set_any xs r (remainder xs other) v (some_guess place) h
 

@@ -10,11 +10,12 @@ use std::marker::Model;
 
 /// Guesses by remainders of keys' spreads. A key is noted at the remainder of its spread or, if
 /// another key is noted there, at that of its turned spread. A guess is a place and one, or zero if
-/// no key was noted. The number of guesses is zero or a power of two. Contracts see the guesses.
+/// no key was noted. It takes four bytes, and a place that doesn't fit is noted as the highest that
+/// does. The number of guesses is zero or a power of two. Contracts see the guesses.
 #[derive(Drop)]
 pub(crate) struct Hints {
     alloc: Global,
-    guesses: Vec<usize>,
+    guesses: Vec<u32>,
 }
 
 impl Model for Hints {
@@ -60,7 +61,7 @@ impl Hints {
     /// Returns the guess for a spread, or zero if no key was noted.
     fn noted(&self, spread: usize) -> usize {
         match self.guesses.get(self.remainder(spread)) {
-            Some(guess) => *guess,
+            Some(guess) => *guess as usize,
             None => 0,
         }
     }
@@ -81,10 +82,10 @@ impl Hints {
 
     /// Notes a place at a remainder.
     fn note_at(&mut self, remainder: usize, place: usize)
-        ensures { self.new ≡ slice_set self.old remainder (min (place + 1) (2 ^ 64 - 1)) }
+        ensures { self.new ≡ slice_set self.old remainder (min (place + 1) (2 ^ 32 - 1)) }
     {
         if let Some(guess) = self.guesses.get_mut(remainder) {
-            *guess = place.saturating_add(1);
+            *guess = place.saturating_add(1).min(u32::MAX as usize) as u32;
         }
     }
 
