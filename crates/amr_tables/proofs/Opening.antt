@@ -24,10 +24,6 @@ parts_of view good some fork =
       balanced = balanced.1;
     }
 
--- the height that its root stores
-pub stored_height : {D : Type 0} {l r : List D × ℕ} {root : Option (Box (Node D) Global)} {node : Box (Node D) Global} {x : D} {h : ℕ} → IsBalancedRoot root → root ≡ Some node → node.value ≡ Fork l x h r → h ≡ max l.1 r.1 + 1
-stored_height good some fork = (subst IsBalanced fork (subst IsBalancedRoot some good)).0
-
 -- the heights of its sides
 pub heights_of : {D : Type 0} {l r : List D × ℕ} {root : Option (Box (Node D) Global)} {node : Box (Node D) Global} {x : D} {h : ℕ} → root ≡ Some node → node.value ≡ Fork l x h r → sides_of root ≡ (l.1, r.1)
 heights_of some fork = ap sides_of some ∙ ap node_sides fork

@@ -1,7 +1,7 @@
 //! A balanced tree of sorted items. Adding and removing an item takes a number of steps that grows
 //! with the logarithm of the length. Calls nest as deep as the tree is high, at most about twice
 //! that logarithm. `queue.rt` is its only caller.
-ghost use Rattle.std.specs.Prelude.{◌≡◌, ◌==◌, not, ◌+◌, ◌^◌, ◌<◌, ◌≤◌, [], ◌∷◌, ◌++◌, length, max, OnOk, MatchOption, is_some, slice_get, true, false, IfSome};
+ghost use Rattle.std.specs.Prelude.{◌≡◌, ◌==◌, not, ◌+◌, ◌^◌, ◌<◌, ◌≤◌, [], ◌∷◌, ◌++◌, length, max, OnOk, MatchOption, None, is_some, slice_get, true, false, IfSome};
 ghost use Rattle.std.specs.List.Sorted.{IsStrictlySortedBy};
 ghost use Rattle.std.specs.Option.{option_copied};
 ghost use Rattle.std.specs.BTreeSet.{insert_key};
@@ -303,19 +303,6 @@ fn rebalance<D: Drop>(root: &mut Option<Box<Node<D>>>)
     }
 }
 
-/// Restores the balance and the stored height of a tree after a side of it has changed, whose
-/// height was `before` and is `after`. It writes nothing if these are equal.
-#[inline]
-fn rebalance_after<D: Drop>(root: &mut Option<Box<Node<D>>>, before: usize, after: usize)
-    requires near { IsNearlyBalanced root.old }
-    requires right { before ≡ after → HasRightHeight root.old }
-    ensures list { (root_view root.new).0 ≡ (root_view root.old).0 }
-    ensures height { IsHeightOf (sides_of root.old).0 (sides_of root.old).1 (root_view root.new).1 }
-    ensures balanced { IsBalancedRoot root.new }
-{
-    rebalance_if(root, before != after);
-}
-
 /// Restores the balance and the stored height of a tree after a side of it has changed, if the
 /// height of that side has. Else it writes nothing. Returns whether the height of the tree has
 /// changed.
@@ -602,52 +589,61 @@ pub(crate) fn take<D: Ord + Drop>(tree: &mut Tree<D>, item: &D) -> Option<Box<No
             *memory = Node::Spare;
             Some(memory)
         }
-        _ => take_anywhere(tree, item),
+        _ => {
+            let mut memory = None;
+            let _has_changed = take_anywhere(tree, item, &mut memory);
+            memory
+        }
     }
 }
 
-/// Removes an item from a tree, if it is there, and returns its memory.
-fn take_anywhere<D: Ord + Drop>(tree: &mut Tree<D>, item: &D) -> Option<Box<Node<D>>>
+/// Removes an item from a tree, if it is there, and puts its memory into `memory`. Returns whether
+/// the height of the tree has changed.
+fn take_anywhere<D: Ord + Drop>(
+    tree: &mut Tree<D>,
+    item: &D,
+    memory: &mut Option<Box<Node<D>>>,
+) -> bool
     requires sorted { IsStrictlySortedBy D.cmp tree.old.0 }
     requires fits { length tree.old.0 < 2 ^ 64 }
+    requires none { memory.old ≡ None }
     ensures list { tree.new.0 ≡ without D.cmp tree.old.0 item.now }
-    ensures found { is_some result ≡ has D.cmp tree.old.0 item.now }
-    ensures shorter { length tree.old.0 ≡ length tree.new.0 + count_of result }
+    ensures found { is_some memory.new ≡ has D.cmp tree.old.0 item.now }
+    ensures shorter { length tree.old.0 ≡ length tree.new.0 + count_of memory.new }
     ensures height { (tree.old.1 ≤ tree.new.1 + 1) × (tree.new.1 ≤ tree.old.1) }
+    ensures changed { result ≡ not (tree.new.1 == tree.old.1) }
 {
     match &mut tree.root {
-        None => None,
+        None => false,
         Some(node) => match &mut **node {
             Node::Spare => unreachable!(),
             Node::Fork {
                 left,
                 item: other,
+                height,
                 right,
-                ..
             } => match item.cmp(other) {
                 Ordering::Less => {
-                    let before = left.height();
-                    let memory = take_anywhere(left, item);
-                    let after = left.height();
-                    rebalance_after(&mut tree.root, before, after);
-                    memory
+                    let has_changed = take_anywhere(left, item, memory);
+                    rebalance_if(&mut tree.root, has_changed)
                 }
                 Ordering::Equal => {
-                    let mut memory = tree.root.take()?;
-                    match mem::replace(&mut *memory, Node::Spare) {
+                    let before = *height;
+                    let Some(mut taken) = tree.root.take() else {
+                        unreachable!()
+                    };
+                    match mem::replace(&mut *taken, Node::Spare) {
                         Node::Spare => unreachable!(),
                         Node::Fork { left, right, .. } => {
                             *tree = join(left, right);
-                            Some(memory)
+                            *memory = Some(taken);
+                            tree.height() != before
                         }
                     }
                 }
                 Ordering::Greater => {
-                    let before = right.height();
-                    let memory = take_anywhere(right, item);
-                    let after = right.height();
-                    rebalance_after(&mut tree.root, before, after);
-                    memory
+                    let has_changed = take_anywhere(right, item, memory);
+                    rebalance_if(&mut tree.root, has_changed)
                 }
             },
         },

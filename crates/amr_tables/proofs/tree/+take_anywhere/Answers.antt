@@ -2,11 +2,11 @@ use Rattle.std.proofs.Common.{◌≡◌, ◌+◌, ◌++◌, ◌∷◌, length, s
 use Rattle.std.specs.declared.cmp.Ordering.TheVariants.{Less, Equal, Greater}
 use Rattle.amr_tables.proofs.Ascending.{left_is_sorted, right_is_sorted, has_left, has_right, without_left, without_right, without_middle}
 use Rattle.amr_tables.proofs.Leaning.{length-fork, lower_left, lower_right}
-use Rattle.amr_tables.proofs.Opening.{parts_of, stored_height, same_others}
+use Rattle.amr_tables.proofs.Opening.{parts_of, same_others}
 use Rattle.amr_tables.proofs.tree.+take_anywhere.Goals as goal
 
-pub take_anywhere-memory-requires : goal.take_anywhere-memory-requires
-take_anywhere-memory-requires g t c κs within =
+pub take_anywhere-has_changed-requires : goal.take_anywhere-has_changed-requires
+take_anywhere-has_changed-requires g t c κs within =
     let n = c.in-Fork in
     let e = parts_of c.tree.view_is c.tree.invariant c.in-Some.is (sym c.deref_mut.ensures.value ∙ n.is) in
     let items : length c.args.tree.now.0 ≡ length n.left.0 + (length n.right.0 + 1) = omega (arith, ap length e.list, length-append n.left.0 (n.other ∷ n.right.0)) in (
@@ -15,13 +15,13 @@ take_anywhere-memory-requires g t c κs within =
         within,
         (
           left_is_sorted _ g.met.D.Ord.total _ n.left.0 n.other n.right.0 c.args.item.now e.list c.requires.sorted,
-          omega (arith, items, c.requires.fits),
+          (omega (arith, items, c.requires.fits), c.requires.none),
         ),
       ),
     )
 
-pub take_anywhere-memory-requires-in-Greater : goal.take_anywhere-memory-requires-in-Greater
-take_anywhere-memory-requires-in-Greater g t c κs within =
+pub take_anywhere-has_changed-requires-in-Greater : goal.take_anywhere-has_changed-requires-in-Greater
+take_anywhere-has_changed-requires-in-Greater g t c κs within =
     let n = c.in-Fork in
     let e = parts_of c.tree.view_is c.tree.invariant c.in-Some.is (sym c.deref_mut.ensures.value ∙ n.is) in
     let items : length c.args.tree.now.0 ≡ length n.left.0 + (length n.right.0 + 1) = omega (arith, ap length e.list, length-append n.left.0 (n.other ∷ n.right.0)) in (
@@ -30,56 +30,36 @@ take_anywhere-memory-requires-in-Greater g t c κs within =
         within,
         (
           right_is_sorted _ g.met.D.Ord.total _ n.left.0 n.other n.right.0 c.args.item.now e.list c.requires.sorted,
-          omega (arith, items, c.requires.fits),
+          (omega (arith, items, c.requires.fits), c.requires.none),
         ),
       ),
     )
 
-pub rebalance_after-requires-clause-near : goal.rebalance_after-requires-clause-near
-rebalance_after-requires-clause-near g t c =
+pub rebalance_if-requires-clause-near : goal.rebalance_if-requires-clause-near
+rebalance_if-requires-clause-near g t c =
     let n = c.in-Fork in
     let e = parts_of c.tree.view_is c.tree.invariant c.in-Some.is (sym c.deref_mut.ensures.value ∙ n.is) in
     let near = e.balanced in
-    let less = c.take_anywhere-memory.ensures.height in
+    let less = c.take_anywhere-has_changed.ensures.height in
     let items : length c.args.tree.now.0 ≡ length n.left.0 + (length n.right.0 + 1) = omega (arith, ap length e.list, length-append n.left.0 (n.other ∷ n.right.0)) in
-    ((omega arith, omega arith), omega (arith, items, c.requires.fits, c.take_anywhere-memory.ensures.shorter, length-append c.take_anywhere-memory.new.tree.0 (n.other ∷ n.right.0)))
+    ((omega arith, omega arith), omega (arith, items, c.requires.fits, c.take_anywhere-has_changed.ensures.shorter, length-append c.take_anywhere-has_changed.new.tree.0 (n.other ∷ n.right.0)))
 
-pub rebalance_after-requires-clause-right : goal.rebalance_after-requires-clause-right
-rebalance_after-requires-clause-right g t c = λ kept.
-    let n = c.in-Fork in
-    let e = parts_of c.tree.view_is c.tree.invariant c.in-Some.is (sym c.deref_mut.ensures.value ∙ n.is) in
-    let stored = stored_height c.tree.invariant c.in-Some.is (sym c.deref_mut.ensures.value ∙ n.is) in
-    let near = e.balanced in
-    let before = c.height-before.ensures.height in
-    let after = c.height-after.ensures.height in
-    (omega arith, (omega arith, omega arith))
-
-pub rebalance_after-requires-in-Greater-clause-near : goal.rebalance_after-requires-in-Greater-clause-near
-rebalance_after-requires-in-Greater-clause-near g t c =
+pub rebalance_if-requires-in-Greater-clause-near : goal.rebalance_if-requires-in-Greater-clause-near
+rebalance_if-requires-in-Greater-clause-near g t c =
     let n = c.in-Fork in
     let e = parts_of c.tree.view_is c.tree.invariant c.in-Some.is (sym c.deref_mut.ensures.value ∙ n.is) in
     let near = e.balanced in
-    let less = c.take_anywhere-memory-in-Greater.ensures.height in
+    let less = c.take_anywhere-has_changed-in-Greater.ensures.height in
     let items : length c.args.tree.now.0 ≡ length n.left.0 + (length n.right.0 + 1) = omega (arith, ap length e.list, length-append n.left.0 (n.other ∷ n.right.0)) in
-    ((omega arith, omega arith), omega (arith, items, c.requires.fits, c.take_anywhere-memory-in-Greater.ensures.shorter, length-append n.left.0 (n.other ∷ c.take_anywhere-memory-in-Greater.new.tree.0)))
-
-pub rebalance_after-requires-in-Greater-clause-right : goal.rebalance_after-requires-in-Greater-clause-right
-rebalance_after-requires-in-Greater-clause-right g t c = λ kept.
-    let n = c.in-Fork in
-    let e = parts_of c.tree.view_is c.tree.invariant c.in-Some.is (sym c.deref_mut.ensures.value ∙ n.is) in
-    let stored = stored_height c.tree.invariant c.in-Some.is (sym c.deref_mut.ensures.value ∙ n.is) in
-    let near = e.balanced in
-    let before = c.height-before-in-Greater.ensures.height in
-    let after = c.height-after-in-Greater.ensures.height in
-    (omega arith, (omega arith, omega arith))
+    ((omega arith, omega arith), omega (arith, items, c.requires.fits, c.take_anywhere-has_changed-in-Greater.ensures.shorter, length-append n.left.0 (n.other ∷ c.take_anywhere-has_changed-in-Greater.new.tree.0)))
 
 pub returns-in-Less-clause-list : goal.returns-in-Less-clause-list
 returns-in-Less-clause-list g t c =
     let n = c.in-Fork in
     let e = parts_of c.tree.view_is c.tree.invariant c.in-Some.is (sym c.deref_mut.ensures.value ∙ n.is) in
     let is : g.D.Ord.cmp c.args.item.now n.other ≡ Less = cc in
-    c.rebalance_after.ensures.list
-    ∙ ap (λ l. l ++ n.other ∷ n.right.0) c.take_anywhere-memory.ensures.list
+    c.rebalance_if.ensures.list
+    ∙ ap (λ l. l ++ n.other ∷ n.right.0) c.take_anywhere-has_changed.ensures.list
     ∙ sym (without_left _ g.met.D.Ord.total _ n.left.0 n.other n.right.0 c.args.item.now e.list c.requires.sorted is)
 
 pub returns-in-Less-clause-found : goal.returns-in-Less-clause-found
@@ -87,7 +67,7 @@ returns-in-Less-clause-found g t c =
     let n = c.in-Fork in
     let e = parts_of c.tree.view_is c.tree.invariant c.in-Some.is (sym c.deref_mut.ensures.value ∙ n.is) in
     let is : g.D.Ord.cmp c.args.item.now n.other ≡ Less = cc in
-    c.take_anywhere-memory.ensures.found
+    c.take_anywhere-has_changed.ensures.found
     ∙ sym (has_left _ g.met.D.Ord.total _ n.left.0 n.other n.right.0 c.args.item.now e.list c.requires.sorted is)
 
 pub returns-in-Less-clause-shorter : goal.returns-in-Less-clause-shorter
@@ -95,22 +75,22 @@ returns-in-Less-clause-shorter g t c =
     let n = c.in-Fork in
     let e = parts_of c.tree.view_is c.tree.invariant c.in-Some.is (sym c.deref_mut.ensures.value ∙ n.is) in
     let whole = length-fork n.left.0 n.other n.right.0 e.list in
-    let part = length-fork c.take_anywhere-memory.new.tree.0 n.other n.right.0 c.rebalance_after.ensures.list in
-    omega (arith, c.take_anywhere-memory.ensures.shorter, whole, part)
+    let part = length-fork c.take_anywhere-has_changed.new.tree.0 n.other n.right.0 c.rebalance_if.ensures.list in
+    omega (arith, c.take_anywhere-has_changed.ensures.shorter, whole, part)
 
 pub returns-in-Less-clause-height : goal.returns-in-Less-clause-height
 returns-in-Less-clause-height g t c =
     let n = c.in-Fork in
     let e = parts_of c.tree.view_is c.tree.invariant c.in-Some.is (sym c.deref_mut.ensures.value ∙ n.is) in
-    lower_left n.left.1 n.right.1 _ _ _ e.height e.balanced c.take_anywhere-memory.ensures.height c.rebalance_after.ensures.height
+    lower_left n.left.1 n.right.1 _ _ _ e.height e.balanced c.take_anywhere-has_changed.ensures.height c.rebalance_if.ensures.height
 
 pub returns-in-Greater-clause-list : goal.returns-in-Greater-clause-list
 returns-in-Greater-clause-list g t c =
     let n = c.in-Fork in
     let e = parts_of c.tree.view_is c.tree.invariant c.in-Some.is (sym c.deref_mut.ensures.value ∙ n.is) in
     let is : g.D.Ord.cmp c.args.item.now n.other ≡ Greater = cc in
-    c.rebalance_after-in-Greater.ensures.list
-    ∙ ap (λ r. n.left.0 ++ n.other ∷ r) c.take_anywhere-memory-in-Greater.ensures.list
+    c.rebalance_if-in-Greater.ensures.list
+    ∙ ap (λ r. n.left.0 ++ n.other ∷ r) c.take_anywhere-has_changed-in-Greater.ensures.list
     ∙ sym (without_right _ g.met.D.Ord.total _ n.left.0 n.other n.right.0 c.args.item.now e.list c.requires.sorted is)
 
 pub returns-in-Greater-clause-found : goal.returns-in-Greater-clause-found
@@ -118,7 +98,7 @@ returns-in-Greater-clause-found g t c =
     let n = c.in-Fork in
     let e = parts_of c.tree.view_is c.tree.invariant c.in-Some.is (sym c.deref_mut.ensures.value ∙ n.is) in
     let is : g.D.Ord.cmp c.args.item.now n.other ≡ Greater = cc in
-    c.take_anywhere-memory-in-Greater.ensures.found
+    c.take_anywhere-has_changed-in-Greater.ensures.found
     ∙ sym (has_right _ g.met.D.Ord.total _ n.left.0 n.other n.right.0 c.args.item.now e.list c.requires.sorted is)
 
 pub returns-in-Greater-clause-shorter : goal.returns-in-Greater-clause-shorter
@@ -126,14 +106,14 @@ returns-in-Greater-clause-shorter g t c =
     let n = c.in-Fork in
     let e = parts_of c.tree.view_is c.tree.invariant c.in-Some.is (sym c.deref_mut.ensures.value ∙ n.is) in
     let whole = length-fork n.left.0 n.other n.right.0 e.list in
-    let part = length-fork n.left.0 n.other c.take_anywhere-memory-in-Greater.new.tree.0 c.rebalance_after-in-Greater.ensures.list in
-    omega (arith, c.take_anywhere-memory-in-Greater.ensures.shorter, whole, part)
+    let part = length-fork n.left.0 n.other c.take_anywhere-has_changed-in-Greater.new.tree.0 c.rebalance_if-in-Greater.ensures.list in
+    omega (arith, c.take_anywhere-has_changed-in-Greater.ensures.shorter, whole, part)
 
 pub returns-in-Greater-clause-height : goal.returns-in-Greater-clause-height
 returns-in-Greater-clause-height g t c =
     let n = c.in-Fork in
     let e = parts_of c.tree.view_is c.tree.invariant c.in-Some.is (sym c.deref_mut.ensures.value ∙ n.is) in
-    lower_right n.left.1 n.right.1 _ _ _ e.height e.balanced c.take_anywhere-memory-in-Greater.ensures.height c.rebalance_after-in-Greater.ensures.height
+    lower_right n.left.1 n.right.1 _ _ _ e.height e.balanced c.take_anywhere-has_changed-in-Greater.ensures.height c.rebalance_if-in-Greater.ensures.height
 
 pub returns-in-Fork-replace-clause-list : goal.returns-in-Fork-replace-clause-list
 returns-in-Fork-replace-clause-list g t c =
@@ -142,5 +122,5 @@ returns-in-Fork-replace-clause-list g t c =
     let is : g.D.Ord.cmp c.args.item.now n.other ≡ Equal = cc in
     ap (λ t. t.0) c.join-in-Fork-replace.view_is
     ∙ c.join.ensures.list
-    ∙ same_others c.in-Some.node c.in_ok-memory-in-Equal.ensures.value (c.in-Fork-replace.ensures.value ∙ c.deref_mut-in-Equal.ensures.value)
+    ∙ same_others c.in-Some.node (sym c.in-Some-take.is ∙ c.take.ensures.value) (c.in-Fork-replace.ensures.value ∙ c.deref_mut-in-Equal.ensures.value)
     ∙ sym (without_middle _ g.met.D.Ord.total _ n.left.0 n.other n.right.0 c.args.item.now e.list c.requires.sorted is)
