@@ -1,8 +1,12 @@
 pub mod Alike
 pub mod Chosen
+pub mod Found
 pub mod Inherited
 pub mod Lines
+pub mod OwnPaths
+pub mod PathTexts
 pub mod Ranges
+pub mod Receivers
 pub mod Remembered
 pub mod RuleNames
 pub mod Settling

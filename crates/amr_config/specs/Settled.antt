@@ -10,6 +10,8 @@ use Rattle.amr_config.specs.declared.settings.Settings.{Settings}
 use Rattle.amr_config.specs.declared.config.Parts.{Parts}
 use Rattle.amr_stated.specs.declared.stated.Stated.{Stated}
 use Rattle.amr_stated.specs.Config.{Config}
+use Rattle.amr_config.specs.Paths.{AreOwn}
+use Rattle.amr_config.specs.Receivers.{AreReceivers}
 use Rattle.amr_config.specs.RuleNames.{AreNamesOf}
 use Rattle.amr_config.specs.Routing.{route_numbers, route_is, parent_of, inherited, group_wait_of, group_interval_of, repeat_interval_of, receiver_name_of, active_intervals_of, mute_intervals_of, path_of, sorted_matchers}
 
@@ -46,6 +48,8 @@ AreParentsFirst config = (n parent : ℕ) → parent_of config n ≡ Some parent
 pub record AreSettled (parts : Parts) : Type 0 where
   pub settings : parts.settings ≡ settled (config_of_parts parts)
   pub parents : AreParentsFirst (config_of_parts parts)
+  pub receivers : AreReceivers parts.stated.receivers parts.settings parts.receiver_places
+  pub own_paths : AreOwn parts.settings parts.own_paths
   pub rule_names : IfSome parts.rule_names (AreNamesOf parts.stated.rules)
 
 -- the receiver of a route, given its parent's settings, if it has a parent

@@ -2,18 +2,23 @@
 //! engine asks it for routing, grouping, timing and receivers. Its content is shared, so a clone is
 //! cheap.
 ghost use Rattle.std.specs.Prelude.{◌≡◌, ℕ, ◌<◌, ◌≤◌, length, IfOk, IfSome, MatchOption, map};
+ghost use Rattle.std.specs.Bool.{Decides};
 ghost use Rattle.std.specs.Option.{option_copied};
 ghost use Rattle.std.specs.Ordering.{eq_by_cmp};
 ghost use Rattle.std.specs.List.{find, list_any};
 ghost use Rattle.amr_labels.specs.Labels.{text_cmp};
-ghost use Rattle.amr_config.specs.Routing.{group_wait_of, group_interval_of, repeat_interval_of, receiver_name_of, integrations_of, path_of, group_of, grouped_by, is_within, is_active_at, is_muted_at};
+ghost use Rattle.amr_config.specs.Receivers.{receiver_at, receiver_named};
+ghost use Rattle.amr_config.specs.Routing.{group_wait_of, group_interval_of, repeat_interval_of, receiver_name_of, integrations_of, path_of, HasOwnPath, group_of, grouped_by, is_within, is_active_at, is_muted_at};
 ghost use Rattle.amr_config.specs.RuleNames.{kept_for};
 ghost use Rattle.amr_config.specs.Settled.{settings_of, stated_config, AreParentsFirst};
 
 use crate::inherit::inherit;
+use crate::own_paths::own_paths;
+use crate::receiver_places::receiver_places;
+use crate::route_path::RoutePath;
 use crate::rule_names::rule_names;
 use crate::settings::Settings;
-use amr_labels::{Exact, Labels, Listing, Shared, Text};
+use amr_labels::{Exact, Labels, Listing, Text};
 use amr_matchers::Matchers;
 use amr_stated::{Grouping, InhibitRule, Integration, NamedInterval, Receiver, Route, Stated};
 use amr_time::{Moment, Span};
@@ -28,6 +33,10 @@ use std::rc::Rc;
 pub(crate) struct Parts {
     pub(crate) stated: Stated,
     pub(crate) settings: Listing<Settings>,
+    /// For each route, the place of its receiver.
+    pub(crate) receiver_places: Listing<Option<usize>>,
+    /// For each route, whether no other route has its path.
+    pub(crate) own_paths: Listing<bool>,
     pub(crate) rule_names: Option<Listing<Text>>,
 }
 
@@ -73,9 +82,14 @@ impl Config {
     {
         let settings = inherit(alloc, &stated)?;
         let rule_names = rule_names(alloc, stated.rules.as_slice())?;
+        let receivers = stated.receivers.as_slice();
+        let receiver_places = receiver_places(alloc, receivers, settings.as_slice())?;
+        let own_paths = own_paths(alloc, settings.as_slice())?;
         let parts = Parts {
             stated,
             settings,
+            receiver_places,
+            own_paths,
             rule_names,
         };
         Ok(Config {
@@ -189,7 +203,7 @@ impl Config {
     /// Returns the matchers of each route from the root down to this one, each list sorted by name,
     /// value and operator. It is part of the notification log's key, so that two routes with the
     /// same receiver share entries only if their paths are equal.
-    pub fn path(&self, alloc: Global, route: usize) -> Result<Shared<Listing<Matchers>>, AllocError>
+    pub fn path(&self, alloc: Global, route: usize) -> Result<RoutePath, AllocError>
         ensures { IfOk result (λ path. path ≡ path_of self.now route) }
     {
         match self.settings_at(route) {
@@ -197,8 +211,19 @@ impl Config {
             None => {
                 let mut path = Listing::new(alloc);
                 path.push(Matchers::none(alloc)?)?;
-                Shared::new(alloc, path)
+                RoutePath::new(alloc, path)
             }
+        }
+    }
+
+    /// Returns whether no other route has the path of this one. Then no group of another route has a
+    /// key of this route's groups in the notification log.
+    pub fn has_own_path(&self, route: usize) -> bool
+        ensures { Decides result (HasOwnPath self.now route) }
+    {
+        match self.shared.own_paths.as_slice().get(route) {
+            Some(is_own) => *is_own,
+            None => false,
         }
     }
 
@@ -230,13 +255,20 @@ impl Config {
     pub fn integrations(&self, route: usize) -> &[Integration]
         ensures { result.now ≡ integrations_of self.now route }
     {
-        let name = match self.settings_at(route) {
-            Some(settings) => settings.receiver.as_str(),
-            None => "",
-        };
-        match self.receiver(name) {
+        match self.receiver_of(route) {
             Some(receiver) => receiver.integrations.as_slice(),
             None => &[],
+        }
+    }
+
+    /// Returns the route's receiver.
+    fn receiver_of(&self, route: usize) -> Option<&Receiver>
+        ensures { option_copied result
+            ≡ receiver_named self.now.receivers (receiver_name_of self.now route) }
+    {
+        match self.shared.receiver_places.as_slice().get(route) {
+            Some(place) => receiver_at(self.shared.stated.receivers.as_slice(), *place),
+            None => self.receiver(""),
         }
     }
 
@@ -307,6 +339,16 @@ fn interval_named<'a>(intervals: &'a [NamedInterval], name: &str) -> Option<&'a 
         }
     }
     None
+}
+
+/// Returns the receiver at a place, if there is one.
+fn receiver_at(receivers: &[Receiver], place: Option<usize>) -> Option<&Receiver>
+    ensures { option_copied result ≡ receiver_at receivers.now place }
+{
+    match place {
+        Some(place) => receivers.get(place),
+        None => None,
+    }
 }
 
 /// Returns the receiver with a name.

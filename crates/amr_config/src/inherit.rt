@@ -5,10 +5,10 @@ ghost use Rattle.std.specs.Prelude.{◌≡◌, IfOk, option_and_then, slice_get}
 ghost use Rattle.std.specs.Option.{option_copied};
 ghost use Rattle.amr_config.specs.Settled.{stated_config, settled, settled_under, receiver_under, grouping_under, path_under, AreParentsFirst};
 
+use crate::route_path::RoutePath;
 use crate::settings::Settings;
 use crate::sorted::sorted;
-use amr_labels::{Listing, Shared, Text};
-use amr_matchers::Matchers;
+use amr_labels::{Listing, Text};
 use amr_stated::{Grouping, Route, Stated};
 use amr_time::Span;
 use std::alloc::{AllocError, Global};
@@ -78,7 +78,7 @@ fn path_under(
     alloc: Global,
     route: &Route,
     above: Option<&Settings>,
-) -> Result<Shared<Listing<Matchers>>, AllocError>
+) -> Result<RoutePath, AllocError>
     ensures { IfOk result (λ path. path
         ≡ path_under route.now (option_copied above.entry)) }
 {
@@ -87,7 +87,7 @@ fn path_under(
         None => Listing::new(alloc),
     };
     path.push(sorted(alloc, &route.matchers)?)?;
-    Shared::new(alloc, path)
+    RoutePath::new(alloc, path)
 }
 
 /// Returns how a route groups alerts: its own `group_by`, or else its parent's.

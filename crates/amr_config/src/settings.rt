@@ -1,7 +1,8 @@
 //! The settings of a route, its own and inherited ones. `inherit.rt` makes them, once for each
 //! configuration.
 
-use amr_labels::{Listing, Shared, Text};
+use crate::route_path::RoutePath;
+use amr_labels::{Listing, Text};
 use amr_matchers::Matchers;
 use amr_stated::Grouping;
 use amr_time::Span;
@@ -29,6 +30,6 @@ pub struct Settings {
     /// The names of the route's own `mute_time_intervals`.
     pub mute_time_intervals: Listing<Text>,
     /// The sorted matchers of each route from the root down to this one. Each key of the
-    /// notification log has one of these paths, so they are shared.
-    pub path: Shared<Listing<Matchers>>,
+    /// notification log has one of these paths.
+    pub path: RoutePath,
 }

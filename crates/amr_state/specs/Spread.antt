@@ -1,9 +1,9 @@
 -- Numbers that tables spread the state's keys out by. Nothing but the speed of look-ups depends on
 -- which ones they are.
-use Rattle.std.specs.Prelude.{ℕ, ◌+◌, ◌-◌, ◌*◌, ◌/◌, ◌%◌, ◌^◌, List, length, fold, slice_get, unwrap_or}
+use Rattle.std.specs.Prelude.{ℕ, ◌+◌, ◌-◌, ◌*◌, ◌/◌, ◌%◌, ◌^◌, length, slice_get, unwrap_or}
 use Rattle.amr_labels.specs.Labels.{Text}
 use Rattle.amr_labels.specs.Spread.{label_set_spread}
-use Rattle.amr_matchers.specs.Matchers.{Matcher}
+use Rattle.amr_config.specs.Paths.{path_spread}
 use Rattle.amr_state.specs.declared.notification.LogKey.{LogKey}
 use Rattle.amr_state.specs.declared.route_labels.RouteLabels.{RouteLabels}
 
@@ -18,13 +18,6 @@ text_sample text =
     let first = (length text * 31 % 2 ^ 64 + byte_at text middle) % 2 ^ 64 in
     let second = (first * 31 % 2 ^ 64 + byte_at text (middle + 1)) % 2 ^ 64 in
     (second * 31 % 2 ^ 64 + byte_at text (length text - 1)) % 2 ^ 64
-
--- by the values of matchers
-unfoldable pub matchers_spread : List Matcher → ℕ
-matchers_spread matchers = fold (λ spread matcher. (spread * 31 % 2 ^ 64 + text_sample matcher.value) % 2 ^ 64) 0 matchers
-
-unfoldable pub path_spread : List (List Matcher) → ℕ
-path_spread path = fold (λ spread matchers. (spread * 31 % 2 ^ 64 + matchers_spread matchers) % 2 ^ 64) 0 path
 
 -- by the route and the integration, and by the group labels
 unfoldable pub log_key_spread : LogKey → ℕ

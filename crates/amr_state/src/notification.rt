@@ -4,10 +4,10 @@
 ghost use Rattle.std.specs.Prelude.{◌≡◌};
 ghost use Rattle.std.proofs.Common.{rules};
 ghost use Rattle.amr_state.specs.State.{log_key_cmp_integration, log_key_cmp_group};
-ghost use Rattle.amr_state.specs.Spread.{path_spread, matchers_spread, text_sample, byte_at};
+ghost use Rattle.amr_state.specs.Spread.{text_sample, byte_at};
 
-use amr_labels::{Exact, Labels, Listing, Shared, Text, TextMap};
-use amr_matchers::{Matcher, Matchers};
+use amr_config::RoutePath;
+use amr_labels::{Exact, Labels, Listing, Text, TextMap};
 use amr_tables::Key;
 use amr_time::Moment;
 use std::alloc::AllocError;
@@ -42,7 +42,7 @@ pub struct LogKey {
     /// The group labels.
     pub group: Labels,
     /// The sorted matchers of each route, from the root to the group's route.
-    pub path: Shared<Listing<Matchers>>,
+    pub path: RoutePath,
 }
 
 impl Clone for LogKey {
@@ -118,9 +118,9 @@ impl LogKey {
     fn cmp_group(&self, other: &LogKey) -> Ordering
         ensures { result ≡ log_key_cmp_group self.now other.now }
     {
-        self.group.cmp(&other.group).then_with(|| {
-            self.path.get().as_slice().cmp(other.path.get().as_slice())
-        })
+        self.group
+            .cmp(&other.group)
+            .then_with(|| self.path.cmp(&other.path))
     }
 }
 
@@ -154,40 +154,12 @@ impl Key for LogKey {
             .place
             .wrapping_add(self.kind.as_str().len().wrapping_mul(256))
             .wrapping_add(sample_of(self.receiver.as_str()));
-        spread_of_path(self.path.get().as_slice())
+        self.path
+            .spread()
             .wrapping_add(integration)
             .wrapping_mul(0x9e37_79b9_7f4a_7c15)
             .wrapping_add(self.group.spread())
     }
-}
-
-/// Returns a number that spreads paths out, by the values of their matchers. Many routes may differ
-/// in nothing else.
-#[tactic(auto, unfolding(crate::specs::Spread::path_spread))]
-fn spread_of_path(path: &[Matchers]) -> usize
-    ensures { result ≡ path_spread path.now }
-{
-    let mut spread: usize = 0;
-    for matchers in path {
-        spread = spread
-            .wrapping_mul(31)
-            .wrapping_add(spread_of_values(matchers.as_slice()));
-    }
-    spread
-}
-
-/// Returns a number that spreads matchers out, by their values.
-#[tactic(auto, unfolding(crate::specs::Spread::matchers_spread))]
-fn spread_of_values(matchers: &[Matcher]) -> usize
-    ensures { result ≡ matchers_spread matchers.now }
-{
-    let mut spread: usize = 0;
-    for matcher in matchers {
-        spread = spread
-            .wrapping_mul(31)
-            .wrapping_add(sample_of(matcher.value().as_str()));
-    }
-    spread
 }
 
 /// Returns a number that spreads texts out, by their length, the two bytes in the middle, and the

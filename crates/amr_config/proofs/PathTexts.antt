@@ -1,0 +1,100 @@
+-- Other paths have other texts.
+use Rattle.std.proofs.Common.{◌≡◌, ℕ, zero, suc, ◌+◌, ◌<◌, List, [], ◌∷◌, ◌++◌, length, get_or, map, take, refl, sym, ap, ◌∙◌, arith}
+use Rattle.std.specs.Prelude.{flat_map}
+use Rattle.std.proofs.lemmas.List.{append_assoc, map-append, take_more}
+use Rattle.amr_labels.specs.Labels.{Text}
+use Rattle.amr_matchers.specs.declared.Operator.{Operator}
+use Rattle.amr_matchers.specs.declared.Operator.TheVariants.{Equal, NotEqual, Matches, NotMatches}
+use Rattle.amr_matchers.specs.Matchers.{Matcher, operator_place}
+use Rattle.amr_config.specs.Paths.{Path, text_after_length, operator_mark, matcher_text, matchers_text, path_text}
+
+-- a text tells what it is written for, whatever follows it
+abbrev Tells : {X : Type 0} → (X → Text) → Type 0
+Tells {X} text = (x y : X) (r s : Text) → text x ++ r ≡ text y ++ s → (x ≡ y) × (r ≡ s)
+
+heads : (a b : ℕ) (r s : Text) → a ∷ r ≡ b ∷ s → a ≡ b
+heads a b r s e = cc
+
+tails : (a b : ℕ) (r s : Text) → a ∷ r ≡ b ∷ s → r ≡ s
+tails a b r s e = cc
+
+differ : (r s : Text) → 48 ∷ r ≡ 49 ∷ s → ⊥
+differ r s e = let h : ◌≡◌ {A = ℕ} 48 49 = heads 48 49 r s e in omega (arith, h)
+
+lengths_tell : (xs ys r s : Text) → map (λ (byte : ℕ). 49) xs ++ 48 ∷ r ≡ map (λ (byte : ℕ). 49) ys ++ 48 ∷ s → (length xs ≡ length ys) × (r ≡ s)
+lengths_tell [] [] r s e = (refl, tails 48 48 r s e)
+lengths_tell [] (y ∷ ys) r s e = absurd (differ _ _ e)
+lengths_tell (x ∷ xs) [] r s e = absurd (differ _ _ (sym e))
+lengths_tell (x ∷ xs) (y ∷ ys) r s e =
+    let rest = lengths_tell xs ys r s (tails 49 49 _ _ e) in
+    (ap (λ n. suc n) rest.0, rest.1)
+
+as_long_tell : (xs ys r s : Text) → length xs ≡ length ys → xs ++ r ≡ ys ++ s → (xs ≡ ys) × (r ≡ s)
+as_long_tell [] [] r s l e = (refl, e)
+as_long_tell [] (y ∷ ys) r s l e = absurd (omega (arith, l))
+as_long_tell (x ∷ xs) [] r s l e = absurd (omega (arith, l))
+as_long_tell (x ∷ xs) (y ∷ ys) r s l e =
+    let first = heads x y _ _ e in
+    let rest = as_long_tell xs ys r s (omega (arith, l)) (tails x y _ _ e) in
+    (λ i. first i ∷ rest.0 i, rest.1)
+
+text_tells : Tells text_after_length
+text_tells x y r s e =
+    let marks = lengths_tell x y (x ++ r) (y ++ s) (sym (append_assoc (map (λ (byte : ℕ). 49) x) (48 ∷ x) r) ∙ e ∙ append_assoc (map (λ (byte : ℕ). 49) y) (48 ∷ y) s) in
+    as_long_tell x y r s marks.0 marks.1
+
+operator_at : ℕ → Operator
+operator_at zero = Equal
+operator_at (suc zero) = NotEqual
+operator_at (suc (suc zero)) = Matches
+operator_at (suc (suc (suc n))) = NotMatches
+
+operator_at_its_place : (o : Operator) → operator_at (operator_place o) ≡ o
+unfolding operator_at
+operator_at_its_place Equal = refl
+operator_at_its_place NotEqual = refl
+operator_at_its_place Matches = refl
+operator_at_its_place NotMatches = refl
+
+same_operator : (o p : Operator) → 48 + operator_place o ≡ 48 + operator_place p → o ≡ p
+same_operator o p e =
+    let places : operator_place o ≡ operator_place p = omega (arith, e) in
+    sym (operator_at_its_place o) ∙ ap operator_at places ∙ operator_at_its_place p
+
+three : (a b c r : Text) → ((a ++ b) ++ c) ++ r ≡ a ++ (b ++ (c ++ r))
+three a b c r = append_assoc (a ++ b) c r ∙ append_assoc a b (c ++ r)
+
+matcher_tells : Tells matcher_text
+matcher_tells m n r s e =
+    let flat = sym (three (text_after_length m.name) (text_after_length m.value) (operator_mark m) r) ∙ e ∙ three (text_after_length n.name) (text_after_length n.value) (operator_mark n) s in
+    let name = text_tells m.name n.name _ _ flat in
+    let value = text_tells m.value n.value _ _ name.1 in
+    let operator = same_operator m.operator n.operator (heads _ _ _ _ value.1) in
+    (λ i. record { name = name.0 i; operator = operator i; value = value.0 i }, tails _ _ _ _ value.1)
+
+module _ {X : Type 0} (text : X → Text) (tells : Tells text) where
+  abbrev items : List X → Text
+  items xs = flat_map (λ x. 49 ∷ text x) xs
+
+  between : (a b r : Text) → ((a ++ b) ++ 48 ∷ []) ++ r ≡ a ++ ((b ++ 48 ∷ []) ++ r)
+  between a b r = ap (λ t. t ++ r) (append_assoc a b (48 ∷ [])) ∙ append_assoc a (b ++ 48 ∷ []) r
+
+  list_tells : Tells (λ (xs : List X). items xs ++ 48 ∷ [])
+  list_tells [] [] r s e = (refl, tails 48 48 r s e)
+  list_tells [] (y ∷ ys) r s e = absurd (differ _ _ e)
+  list_tells (x ∷ xs) [] r s e = absurd (differ _ _ (sym e))
+  list_tells (x ∷ xs) (y ∷ ys) r s e =
+      let flat = sym (between (text x) (items xs) r) ∙ tails 49 49 _ _ e ∙ between (text y) (items ys) s in
+      let first = tells x y _ _ flat in
+      let rest = list_tells xs ys r s first.1 in
+      (λ i. first.0 i ∷ rest.0 i, rest.1)
+
+pub same_path : (p q : Path) → path_text p ≡ path_text q → p ≡ q
+same_path p q e = (list_tells matchers_text (list_tells matcher_text matcher_tells) p q [] [] (ap (λ t. t ++ []) e)).0
+
+-- the mark for one more byte
+pub one_more_mark : (old so_far bytes : Text) (k : ℕ) → k < length bytes → so_far ≡ old ++ map (λ (byte : ℕ). 49) (take k bytes) → so_far ++ 49 ∷ [] ≡ old ++ map (λ (byte : ℕ). 49) (take (k + 1) bytes)
+one_more_mark old so_far bytes k within is =
+    let more : map (λ (byte : ℕ). 49) (take (k + 1) bytes) ≡ map (λ (byte : ℕ). 49) (take k bytes) ++ 49 ∷ [] =
+    ap (map (λ (byte : ℕ). 49)) (take_more bytes k 0 within) ∙ map-append (λ (byte : ℕ). 49) (take k bytes) (get_or bytes k 0 ∷ []) in
+    ap (λ t. t ++ 49 ∷ []) is ∙ append_assoc old (map (λ (byte : ℕ). 49) (take k bytes)) (49 ∷ []) ∙ sym (ap (λ t. old ++ t) more)

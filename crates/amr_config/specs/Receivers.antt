@@ -1,0 +1,25 @@
+-- Which receiver each route has.
+use Rattle.std.specs.Prelude.{◌≡◌, ℕ, List, Option, map, slice_get, option_and_then}
+use Rattle.std.specs.BTreeMap as tree
+use Rattle.std.specs.BTreeMap.{BTreeMap}
+use Rattle.std.specs.List.{find}
+use Rattle.std.specs.Ordering.{eq_by_cmp}
+use Rattle.amr_labels.specs.Labels.{Text, text_cmp}
+use Rattle.amr_stated.specs.declared.receiver.Receiver.{Receiver}
+use Rattle.amr_config.specs.declared.settings.Settings.{Settings}
+
+-- the first receiver with this name
+abbrev pub receiver_named : List Receiver → Text → Option Receiver
+receiver_named receivers name = find (λ receiver. eq_by_cmp text_cmp receiver.name name) receivers
+
+-- the receiver at this place, if there is one
+abbrev pub receiver_at : List Receiver → Option ℕ → Option Receiver
+receiver_at receivers place = option_and_then (slice_get receivers) place
+
+-- under each name is the place of the receiver with that name
+abbrev pub ArePlaces : List Receiver → BTreeMap Text ℕ → Type 0
+ArePlaces receivers places = (name : Text) → receiver_at receivers (tree.get text_cmp places name) ≡ receiver_named receivers name
+
+-- at these places are the receivers that the routes name
+abbrev pub AreReceivers : List Receiver → List Settings → List (Option ℕ) → Type 0
+AreReceivers receivers settings places = map (receiver_at receivers) places ≡ map (λ its. receiver_named receivers its.receiver) settings

@@ -1,0 +1,68 @@
+//! The text of a path. Each text is written after its length, and each list with a mark before each
+//! item and another at its end, so that other paths have other texts.
+ghost use Rattle.std.specs.Prelude.{◌≡◌, [], ◌∷◌, ◌++◌, ◌+◌, string_bytes, IfOk, OnOk};
+ghost use Rattle.amr_matchers.specs.Matchers.{operator_place};
+ghost use Rattle.amr_config.specs.Paths.{path_text, matchers_text, matcher_text, text_after_length};
+
+use amr_labels::Text;
+use amr_matchers::{Matcher, Matchers, Operator};
+use std::alloc::{AllocError, Global};
+
+/// Returns the text of a path.
+pub(crate) fn path_text(alloc: Global, path: &[Matchers]) -> Result<String, AllocError>
+    ensures { IfOk result (λ text. string_bytes text ≡ path_text path.now) }
+{
+    let mut text = String::new(alloc);
+    for matchers in path {
+        text.push('1')?;
+        push_matchers(&mut text, matchers.as_slice())?;
+    }
+    text.push('0')?;
+    Ok(text)
+}
+
+/// Appends the text of the matchers of a route.
+fn push_matchers(text: &mut String, matchers: &[Matcher]) -> Result<(), AllocError>
+    ensures { OnOk result (string_bytes text.new
+        ≡ string_bytes text.old ++ matchers_text matchers.now) }
+{
+    for matcher in matchers {
+        text.push('1')?;
+        push_matcher(text, matcher)?;
+    }
+    text.push('0')
+}
+
+/// Appends the text of a matcher.
+fn push_matcher(text: &mut String, matcher: &Matcher) -> Result<(), AllocError>
+    ensures { OnOk result (string_bytes text.new
+        ≡ string_bytes text.old ++ matcher_text matcher.now) }
+{
+    push_text(text, matcher.name())?;
+    push_text(text, matcher.value())?;
+    text.push_str(operator_mark(matcher.operator()))
+}
+
+/// Returns the mark of an operator.
+fn operator_mark(operator: Operator) -> &'static str
+    ensures { result.now ≡ (48 + operator_place operator) ∷ [] }
+{
+    match operator {
+        Operator::Equal => "0",
+        Operator::NotEqual => "1",
+        Operator::Matches => "2",
+        Operator::NotMatches => "3",
+    }
+}
+
+/// Appends a mark for each byte of a text, another mark, and the text.
+fn push_text(text: &mut String, appended: &Text) -> Result<(), AllocError>
+    ensures { OnOk result (string_bytes text.new
+        ≡ string_bytes text.old ++ text_after_length appended.now) }
+{
+    for _byte in appended.as_str().as_bytes() {
+        text.push('1')?;
+    }
+    text.push('0')?;
+    text.push_str(appended.as_str())
+}
