@@ -26,6 +26,15 @@ module _ {X : Type 0} where
   find-filter wanted kept h (x ∷ xs) =
       first_kept wanted kept x xs (wanted x) (kept x) refl refl (h x) (find-filter wanted kept h xs)
 
+  all_of_kept : (kept : X → Bool) (x : X) (xs : List X) (k : Bool) → kept x ≡ k → list_all kept (filter kept xs) ≡ true → list_all kept (cond k (x ∷ filter kept xs) (filter kept xs)) ≡ true
+  all_of_kept kept x xs true is all = ap (λ b. b && list_all kept (filter kept xs)) is ∙ all
+  all_of_kept kept x xs false is all = all
+
+  -- each of those that are kept passes the test
+  pub list_all-filter : (kept : X → Bool) (xs : List X) → list_all kept (filter kept xs) ≡ true
+  list_all-filter kept [] = refl
+  list_all-filter kept (x ∷ xs) = all_of_kept kept x xs (kept x) refl (list_all-filter kept xs)
+
 -- what holds of all holds of one of them
 holds_of_one : {X : Type 0} (test : X → Bool) (xs : List X) (x : X) → list_all test xs ≡ true → Contains xs x → test x ≡ true
 holds_of_one test xs x all one = All-contains (λ y. test y ≡ true) xs x (AllPass-from_list_all test xs all) one

@@ -2,6 +2,7 @@
 //! can name it. The stages of a flush call `inhibited_by_matched`, and the state's `SilenceTable`
 //! calls `silenced_by` for label sets that it hasn't been told of.
 ghost use Rattle.std.specs.Prelude.{◌≡◌, true, map, not, IfOk, IfSome, is_some};
+ghost use Rattle.std.specs.List.{list_all};
 ghost use Rattle.std.specs.Option.{option_copied};
 ghost use Rattle.std.specs.Ordering.{nat_cmp};
 ghost use Rattle.std.specs.Map.Iter.{deref_pair};
@@ -10,7 +11,7 @@ ghost use Rattle.amr_matchers.specs.Matchers.{all_hold};
 ghost use Rattle.amr_stated.specs.RuleMatches.{rule_match, rule_matches};
 ghost use Rattle.amr_tables.specs.Numbered.{shown};
 ghost use Rattle.amr_stated.specs.Config.{Config};
-ghost use Rattle.amr_rules.specs.Muting.{agree_on, first_source, has_some_label, SharesLabel, ListsSources, rule_mutes, inhibits, is_inhibited, inhibitor_by, inhibition_from, silences_labels, is_silenced, silencer_of};
+ghost use Rattle.amr_rules.specs.Muting.{agree_on, is_agreeing, first_source, has_some_label, SharesLabel, ListsSources, rule_mutes, inhibits, is_inhibited, inhibitor_by, inhibition_from, silences_labels, is_silenced, silencer_of};
 
 use crate::alert::Alert;
 use crate::alert_store::{AlertStore, has_value};
@@ -133,6 +134,31 @@ fn first_source<'a>(
     Ok(None)
 }
 
+/// Returns what `first_source` returns, given that each of these alerts matches the rule's source
+/// matchers and agrees with the target on the labels in `equal`. It asks neither again.
+fn first_agreeing<'a>(
+    alloc: Global,
+    now: Moment,
+    target: &Labels,
+    is_source: bool,
+    sources: &[(&'a Labels, &'a Alert)],
+    rule: &InhibitRule,
+) -> Result<Option<&'a Labels>, AllocError>
+    requires target { all_hold rule.now.target target.now ≡ true }
+    requires source { is_source ≡ all_hold rule.now.source target.now }
+    requires agreeing { list_all (λ source. is_agreeing rule.now target.now source.0)
+        (map deref_pair sources.now) ≡ true }
+    ensures { IfOk result (λ found. option_copied found
+        ≡ first_source now rule.now target.now (map deref_pair sources.now)) }
+{
+    for &(labels, alert) in sources {
+        if !alert.is_resolved_at(now) && mutes_agreeing(alloc, rule, labels, target, is_source)? {
+            return Ok(Some(labels));
+        }
+    }
+    Ok(None)
+}
+
 /// Returns the value of a label, unless it is empty.
 fn filled_value<'a>(labels: &'a Labels, name: &Text) -> Option<&'a Text>
     ensures value { IfSome result (λ value. value.now ≡ value_of labels.now name.now) }
@@ -169,22 +195,18 @@ fn rarest_label<'a, A: AlertStore>(
     rarest
 }
 
-/// Lists the stored alerts that may mute a target by the rule at a place of the configuration: the
-/// rule's sources that agree with the target, if the store keeps track of them. If it doesn't, those that share with the target one of
-/// the labels in `equal` are listed, since a source has to agree on all of them.
+/// Lists the stored alerts that share with a target one of the labels in `equal` of a rule, or all
+/// stored alerts if it has none of these labels. No other alert mutes the target by the rule, since
+/// a source has to agree on all of them.
 fn possible_sources<'a, A: AlertStore>(
     alloc: Global,
     target: &Labels,
     alerts: &'a A,
-    place: usize,
     rule: &InhibitRule,
 ) -> Result<Vec<(&'a Labels, &'a Alert)>, AllocError>
     ensures { IfOk result (λ found. ListsSources rule.now target.now (A.alerts alerts.now)
         (map deref_pair found.items)) }
 {
-    if let Some(found) = alerts.sources(alloc, place, rule, target)? {
-        return Ok(found);
-    }
     match rarest_label(rule.equal.as_slice(), target, alerts) {
         Some((name, value)) => alerts.with_pair(alloc, name, value),
         None => alerts.all(alloc),
@@ -210,7 +232,10 @@ fn inhibitor_by<'a, A: AlertStore>(
     if !side.is_target {
         return Ok(None);
     }
-    let stored = possible_sources(alloc, target, alerts, place, rule)?;
+    if let Some(sources) = alerts.sources(alloc, place, rule, target)? {
+        return first_agreeing(alloc, now, target, side.is_source, &sources, rule);
+    }
+    let stored = possible_sources(alloc, target, alerts, rule)?;
     first_source(alloc, now, target, side.is_source, &stored, rule)
 }
 
@@ -255,6 +280,23 @@ fn mutes_target(
     {
         return Ok(false);
     }
+    mutes_agreeing(alloc, rule, source, target, is_source)
+}
+
+/// Returns what `mutes_target` returns, given that the source matches the rule's source matchers
+/// and agrees with the target on the labels in `equal`.
+fn mutes_agreeing(
+    alloc: Global,
+    rule: &InhibitRule,
+    source: &Labels,
+    target: &Labels,
+    is_source: bool,
+) -> Result<bool, AllocError>
+    requires target { all_hold rule.now.target target.now ≡ true }
+    requires source { is_source ≡ all_hold rule.now.source target.now }
+    requires agreeing { is_agreeing rule.now target.now source.now ≡ true }
+    ensures { IfOk result (λ mutes. mutes ≡ rule_mutes rule.now source.now target.now) }
+{
     if !is_source {
         return Ok(true);
     }
