@@ -77,7 +77,7 @@ spent limit made at s next d now later bound so_far less some is grown =
 one_more : {X : Type 0} (f : X → ℕ) (xs : List X) (i : ℕ) (x : X) → i < length xs → x ≡ get_or xs i x → sum_by f (drop i xs) ≡ f x + sum_by f (drop (i + 1) xs)
 one_more f xs i x less is = sum_by-drop_more f xs i x less ∙ ap (λ y. f y + sum_by f (drop (i + 1) xs)) (sym is)
 
-pub fold_left : {X : Type 0} (f : State → X → State) (s : State) (xs : List X) (i : ℕ) (x : X) → i < length xs → x ≡ get_or xs i x → fold f s (drop i xs) ≡ fold f (f s x) (drop (i + 1) xs)
+pub fold_left : {A X : Type 0} (f : A → X → A) (s : A) (xs : List X) (i : ℕ) (x : X) → i < length xs → x ≡ get_or xs i x → fold f s (drop i xs) ≡ fold f (f s x) (drop (i + 1) xs)
 fold_left f s xs i x less is = at_drop_more (fold f s) xs i x less ∙ ap (λ y. fold f (f s y) (drop (i + 1) xs)) (sym is)
 
 -- one more alert is inserted into its groups

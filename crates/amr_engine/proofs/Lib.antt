@@ -13,6 +13,7 @@ pub mod Growing
 pub mod FewerNotified
 pub mod QuietLaws
 pub mod QuietStays
+pub mod NotifiedStays
 pub mod MovesNoted
 pub mod Remembering
 pub mod Forgetting

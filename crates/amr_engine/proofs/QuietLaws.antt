@@ -27,7 +27,7 @@ use Rattle.amr_state.specs.declared.notification.Notification.{Notification}
 use Rattle.amr_labels.specs.Set.{is_subset, is_empty}
 use Rattle.amr_engine.specs.declared.explain.Finding.TheVariants.{Inhibited, OutsideActive, TimeMuted, Silenced}
 use Rattle.amr_engine.proofs.FewerNotified.{both, is_no, fewer_notified}
-use Rattle.amr_engine.specs.Quiet.{is_outside, no_alert_ends, no_source_ends, no_silence_turns, IsStill, all_fire_until, is_untimed, no_repeat_before, is_notified, are_notified, with_timer_reset, IsQuietWith, IsQuiet}
+use Rattle.amr_engine.specs.Quiet.{is_outside, no_alert_ends, no_source_ends, no_silence_turns, IsStill, all_fire_until, is_untimed, no_repeat_before, is_notified, are_notified, with_timer_reset, IsAllNotified, IsQuietWith, IsQuiet}
 
 -- two tests find the same where they agree on each element
 found_same : {X : Type 0} (ok p q : X → Bool) → ((x : X) → ok x ≡ true → p x ≡ q x) → (xs : List X) → list_all ok xs ≡ true → find p xs ≡ find q xs
@@ -185,10 +185,10 @@ module _ (from until at : Moment) (not_before : from ≤ at) (before : at < unti
       ap (λ (ps : Members). drop_resolved at group (m ∷ ms) (notify_all at group ps s)) through
       ∙ ap (drop_resolved at group (m ∷ ms)) (notify_all_none s group (let_through s from group.route (m ∷ ms)) fire quiet.notified)
       ∙ drop_none s group m ms quiet.fire
-  pipeline_none s group (m ∷ ms) (inr told) =
+  pipeline_none s group (m ∷ ms) (inr notified) =
       let through : LabelSet × Alert → Bool = λ member. is_none (taken_away s at group.route member.0) in
-      ap (drop_resolved at group (m ∷ ms)) (notify_all_none s group (filter through (m ∷ ms)) (fire_kept through (m ∷ ms) told.fire) (fewer_notified s group from until through (m ∷ ms) told.notified))
-      ∙ drop_none s group m ms told.fire
+      ap (drop_resolved at group (m ∷ ms)) (notify_all_none s group (filter through (m ∷ ms)) (fire_kept through (m ∷ ms) notified.fire) (fewer_notified s group from until through (m ∷ ms) notified.notified))
+      ∙ drop_none s group m ms notified.fire
 
 -- ---- what keeps a group quiet
 
@@ -203,7 +203,7 @@ kept_with s moment timers notes group from until (m ∷ ms) (inl quiet) = inl (r
   untimed = quiet.untimed;
   notified = quiet.notified;
 })
-kept_with s moment timers notes group from until (m ∷ ms) (inr told) = inr (record { fire = told.fire; notified = told.notified })
+kept_with s moment timers notes group from until (m ∷ ms) (inr notified) = inr (record { fire = notified.fire; notified = notified.notified })
 
 -- quietness depends on neither the clock nor the group timers nor the notifications
 pub stays_quiet : (s : State) (moment : Moment) (timers : Map route_labels_cmp GroupTimer) (notes : List Notification) (group : RouteLabels) (from until : Moment)
@@ -218,3 +218,18 @@ unfolding flush IsQuiet
 quiet_flush s group from until at not_before before quiet =
     pipeline_none from until at not_before before (with_timer_reset at group s) group (members s group)
     (kept_with s s.moment (with_timer_reset at group s).timers s.notes group from until (members s group) quiet)
+
+-- a group whose members were all notified of is quiet, whatever mutes them
+pub quiet_if_notified : (s : State) (group : RouteLabels) (from until : Moment) (ms : Members) → IsAllNotified s group from until ms → IsQuietWith s group from until ms
+quiet_if_notified s group from until [] notified = tt
+quiet_if_notified s group from until (m ∷ ms) notified = inr notified
+
+pub notified_flush : (s : State) (group : RouteLabels) (from until at : Moment) → from ≤ at → at < until → IsAllNotified s group from until (members s group)
+    → flush at group s ≡ with_timer_reset at group s
+unfolding IsQuiet
+notified_flush s group from until at not_before before notified =
+    quiet_flush s group from until at not_before before (quiet_if_notified s group from until (members s group) notified)
+
+pub notified_quiet : (s : State) (group : RouteLabels) (from until : Moment) → IsAllNotified s group from until (members s group) → IsQuiet s group from until
+unfolding IsQuiet
+notified_quiet s group from until notified = quiet_if_notified s group from until (members s group) notified

@@ -1,5 +1,4 @@
--- What leaves a group quiet: the clock, group timers, notifications, and the flush of a group with
--- other labels.
+-- What leaves a group quiet: the clock, group timers, notifications, and the flush of another group.
 use Rattle.std.specs.Prelude.{◌≡◌, Bool, true, false, not, ◌&&◌, List, [], ◌∷◌, Some, if◌then◌else◌, cond, map}
 use Rattle.std.specs.List.{list_all, filter, fold}
 use Rattle.std.specs.declared.cmp.Ordering.{Ordering}
@@ -29,20 +28,20 @@ use Rattle.amr_engine.specs.Quiet.{with_timer_reset, no_repeat_before, is_notifi
 
 -- ---- states that are the same for other groups
 
-module _ (labels : LabelSet) where
-  pub leaves_all : (s : State) → LeavesOthers labels s s
+module _ (flushed : RouteLabels) where
+  pub leaves_all : (s : State) → LeavesOthers flushed s s
   leaves_all s = record { config = refl; alerts = refl; silences = refl; members = λ group other. refl; log = λ key other. refl }
 
-  pub leaves_then : (s t u : State) → LeavesOthers labels s t → LeavesOthers labels t u → LeavesOthers labels s u
+  pub leaves_then : (s t u : State) → LeavesOthers flushed s t → LeavesOthers flushed t u → LeavesOthers flushed s u
   leaves_then s t u a b = record {
     config = b.config ∙ a.config;
     alerts = b.alerts ∙ a.alerts;
     silences = b.silences ∙ a.silences;
     members = λ group other. b.members group other ∙ a.members group other;
-    log = λ key other. b.log key other ∙ a.log key other;
+    log = λ key other. b.log key (λ integration e. other integration (e ∙ ap (λ (c : Config). log_key_of c flushed integration) a.config)) ∙ a.log key other;
   }
 
-  leaves_fold : {A : Type 0} (f : State → A → State) → ((s : State) (a : A) → LeavesOthers labels s (f s a)) → (s : State) (items : List A) → LeavesOthers labels s (fold f s items)
+  leaves_fold : {A : Type 0} (f : State → A → State) → ((s : State) (a : A) → LeavesOthers flushed s (f s a)) → (s : State) (items : List A) → LeavesOthers flushed s (fold f s items)
   leaves_fold f step s [] = leaves_all s
   leaves_fold f step s (a ∷ rest) = leaves_then s (f s a) (fold f (f s a) rest) (step s a) (leaves_fold f step (f s a) rest)
 
@@ -50,14 +49,14 @@ module _ (labels : LabelSet) where
 abbrev mixed : State → State → State
 mixed s t = record s { moment = t.moment; placements = t.placements; timers = t.timers; log = t.log; notes = t.notes }
 
-mixed_is : (labels : LabelSet) (s t : State) → LeavesOthers labels s t → mixed s t ≡ t
-mixed_is labels s t same = sym (λ i. record t { config = same.config i; alerts = same.alerts i; silences = same.silences i })
+mixed_is : (flushed : RouteLabels) (s t : State) → LeavesOthers flushed s t → mixed s t ≡ t
+mixed_is flushed s t same = sym (λ i. record t { config = same.config i; alerts = same.alerts i; silences = same.silences i })
 
-module _ (s t : State) (group : RouteLabels) (from until : Moment) (log : (key : LogKey) → key.group ≡ group.labels → get t.log key ≡ get s.log key) where
+module _ (s t : State) (group : RouteLabels) (from until : Moment) (log : (integration : Integration) → get t.log (log_key_of s.config group integration) ≡ get s.log (log_key_of s.config group integration)) where
   notified_same : (firing : LabelSets) (integration : Integration) → is_notified (mixed s t) group from until firing integration ≡ is_notified s group from until firing integration
   notified_same firing integration = λ i.
-      not (needs_update (log (log_key_of s.config group integration) refl i) firing (labels_of []) integration.send_resolved from (repeat_interval_of s.config group.route))
-      && no_repeat_before until (repeat_interval_of s.config group.route) (log (log_key_of s.config group integration) refl i)
+      not (needs_update (log integration i) firing (labels_of []) integration.send_resolved from (repeat_interval_of s.config group.route))
+      && no_repeat_before until (repeat_interval_of s.config group.route) (log integration i)
 
   all_notified_same : (ms : Members) → are_notified (mixed s t) group from until ms ≡ are_notified s group from until ms
   all_notified_same [] = refl
@@ -72,24 +71,26 @@ module _ (s t : State) (group : RouteLabels) (from until : Moment) (log : (key :
     untimed = quiet.untimed;
     notified = all_notified_same (let_through s from group.route (m ∷ ms)) ∙ quiet.notified;
   })
-  quiet_with_same (m ∷ ms) (inr told) = inr (record { fire = told.fire; notified = all_notified_same (m ∷ ms) ∙ told.notified })
+  quiet_with_same (m ∷ ms) (inr notified) = inr (record { fire = notified.fire; notified = all_notified_same (m ∷ ms) ∙ notified.notified })
 
 -- a group with other labels that is quiet in the one state is quiet in the other
-pub quiet_left : (labels : LabelSet) (s t : State) → LeavesOthers labels s t → (group : RouteLabels) → (group.labels ≡ labels → ⊥) → (from until : Moment)
+pub quiet_left : (flushed : RouteLabels) (s t : State) → LeavesOthers flushed s t → (group : RouteLabels) → (group.labels ≡ flushed.labels → ⊥) → (from until : Moment)
     → IsQuiet s group from until → IsQuiet t group from until
 unfolding IsQuiet
-quiet_left labels s t same group other from until quiet =
-    let mix : IsQuietWith (mixed s t) group from until (members s group) =
-    quiet_with_same s t group from until (λ key of. same.log key (λ e. other (sym of ∙ e))) (members s group) quiet in
-    subst (λ (x : State × Members). IsQuietWith x.0 group from until x.1) (λ i. (mixed_is labels s t same i, sym (same.members group other) i)) mix
+quiet_left flushed s t same group other from until quiet =
+    let log : (integration : Integration) → get t.log (log_key_of s.config group integration) ≡ get s.log (log_key_of s.config group integration) =
+    (λ integration. same.log (log_key_of s.config group integration) (λ its e. other (ap (λ (k : LogKey). k.group) e))) in
+    let mix : IsQuietWith (mixed s t) group from until (members s group) = quiet_with_same s t group from until log (members s group) quiet in
+    subst (λ (x : State × Members). IsQuietWith x.0 group from until x.1)
+    (λ i. (mixed_is flushed s t same i, sym (same.members group (λ e. other (ap (λ (g : RouteLabels). g.labels) e))) i)) mix
 
-pub still_left : (labels : LabelSet) (s t : State) → LeavesOthers labels s t → (from until : Moment) → IsStill s from until → IsStill t from until
-still_left labels s t same from until still = record {
+pub still_left : (flushed : RouteLabels) (s t : State) → LeavesOthers flushed s t → (from until : Moment) → IsStill s from until → IsStill t from until
+still_left flushed s t same from until still = record {
   sources = (λ i. no_source_ends from until (same.config i).rules (same.alerts i)) ∙ still.sources;
   silences = ap (no_silence_turns from until) same.silences ∙ still.silences;
 }
 
--- ---- the flush of a group with other labels
+-- ---- the flush of another group
 
 pub equal : (r : Ordering) → is_eq r ≡ true → r ≡ Equal
 equal Less e = absurd (cc)
@@ -97,7 +98,7 @@ equal Equal e = refl
 equal Greater e = absurd (cc)
 
 -- different keys don't compare as equal
-apart : {K : Type 0} {R : K → K → Ordering} → IsAntisymmetric R → (a b : K) → (a ≡ b → ⊥) → eq_by_cmp R a b ≡ false
+pub apart : {K : Type 0} {R : K → K → Ordering} → IsAntisymmetric R → (a b : K) → (a ≡ b → ⊥) → eq_by_cmp R a b ≡ false
 apart {R = R} exact a b differ =
     elim (eq_by_cmp R a b) as (λ c. eq_by_cmp R a b ≡ c → c ≡ false) [
       | true ↦ λ e. absurd (differ (exact a b (equal (R a b) e)))
@@ -155,44 +156,44 @@ unfolding members
 members_belong s group = all_belong s.config group (entries s.placements)
 
 module _ (flushed : RouteLabels) where
-  timer_leaves : (change : GroupTimer → GroupTimer) (s : State) → LeavesOthers flushed.labels s (set_timer flushed change s)
+  timer_leaves : (change : GroupTimer → GroupTimer) (s : State) → LeavesOthers flushed s (set_timer flushed change s)
   unfolding members
   timer_leaves change s = record { config = refl; alerts = refl; silences = refl; members = λ group other. refl; log = λ key other. refl }
 
-  log_leaves : (s : State) (key : LogKey) → key.group ≡ flushed.labels → (entry : LogEntry) (notes : List Notification)
-      → LeavesOthers flushed.labels s (record s { log = insert s.log key entry; notes = notes })
+  log_leaves : (s : State) (key : LogKey) (integration : Integration) → key ≡ log_key_of s.config flushed integration → (entry : LogEntry) (notes : List Notification)
+      → LeavesOthers flushed s (record s { log = insert s.log key entry; notes = notes })
   unfolding members
-  log_leaves s key of entry notes = record {
+  log_leaves s key integration of entry notes = record {
     config = refl;
     alerts = refl;
     silences = refl;
     members = λ group other. refl;
     log = λ asked other.
         get-insert log_key_cmp_total s.log key entry asked
-        ∙ ap (λ b. cond b (Some entry) (get s.log asked)) (apart log_key_cmp-IsAntisymmetric asked key (λ e. other (ap (λ (k : LogKey). k.group) e ∙ of)));
+        ∙ ap (λ b. cond b (Some entry) (get s.log asked)) (apart log_key_cmp-IsAntisymmetric asked key (λ e. other integration (e ∙ of)));
   }
 
-  notify_leaves : (at : Moment) (ms : Members) (s : State) (integration : Integration) → LeavesOthers flushed.labels s (notify at flushed ms s integration)
+  notify_leaves : (at : Moment) (ms : Members) (s : State) (integration : Integration) → LeavesOthers flushed s (notify at flushed ms s integration)
   unfolding notify
   notify_leaves at ms s integration =
       elim (needs_update (get s.log (log_key_of s.config flushed integration)) (labels_of (firing_of at ms)) (labels_of (resolved_of at ms)) integration.send_resolved at (repeat_interval_of s.config flushed.route))
-      as (λ b. LeavesOthers flushed.labels s (if b then record_notification at flushed (log_key_of s.config flushed integration) integration.send_resolved ms s else s)) [
-        | true ↦ log_leaves s (log_key_of s.config flushed integration) refl _ _
-        | false ↦ leaves_all flushed.labels s
+      as (λ b. LeavesOthers flushed s (if b then record_notification at flushed (log_key_of s.config flushed integration) integration.send_resolved ms s else s)) [
+        | true ↦ log_leaves s (log_key_of s.config flushed integration) integration refl _ _
+        | false ↦ leaves_all flushed s
       ]
 
-  notify_all_leaves : (at : Moment) (ms : Members) (s : State) → LeavesOthers flushed.labels s (notify_all at flushed ms s)
-  notify_all_leaves at [] s = leaves_all flushed.labels s
-  notify_all_leaves at (m ∷ ms) s = leaves_fold flushed.labels (notify at flushed (m ∷ ms)) (notify_leaves at (m ∷ ms)) s (integrations_of s.config flushed.route)
+  notify_all_leaves : (at : Moment) (ms : Members) (s : State) → LeavesOthers flushed s (notify_all at flushed ms s)
+  notify_all_leaves at [] s = leaves_all flushed s
+  notify_all_leaves at (m ∷ ms) s = leaves_fold flushed (notify at flushed (m ∷ ms)) (notify_leaves at (m ∷ ms)) s (integrations_of s.config flushed.route)
 
-  -- a member of a group with other labels isn't one of the flushed group
-  stays_member : (config : Config) (group : RouteLabels) → (group.labels ≡ flushed.labels → ⊥) → (gone : RouteLabels) → group_key config gone ≡ flushed → (placement : RouteLabels × Alert)
+  -- a member of another group isn't one of the flushed group
+  stays_member : (config : Config) (group : RouteLabels) → (group ≡ flushed → ⊥) → (gone : RouteLabels) → group_key config gone ≡ flushed → (placement : RouteLabels × Alert)
       → eq_by_cmp route_labels_cmp (group_key config placement.0) group ≡ true → not (eq_by_cmp route_labels_cmp gone placement.0) ≡ true
   stays_member config group other gone of placement in_group =
       ap not (apart route_labels_cmp-IsAntisymmetric gone placement.0 (λ e.
-      other (ap (λ (x : RouteLabels). x.labels) (sym (route_labels_cmp-IsAntisymmetric (group_key config placement.0) group (equal _ in_group)) ∙ ap (group_key config) (sym e) ∙ of))))
+      other (sym (route_labels_cmp-IsAntisymmetric (group_key config placement.0) group (equal _ in_group)) ∙ ap (group_key config) (sym e) ∙ of)))
 
-  drop_member_leaves : (s : State) (member : LabelSet × Alert) → BelongsTo s.config flushed member → LeavesOthers flushed.labels s (drop_member flushed s member)
+  drop_member_leaves : (s : State) (member : LabelSet × Alert) → BelongsTo s.config flushed member → LeavesOthers flushed s (drop_member flushed s member)
   unfolding members remove
   drop_member_leaves s member of = record {
     config = refl;
@@ -205,33 +206,33 @@ module _ (flushed : RouteLabels) where
     log = λ key other. refl;
   }
 
-  drop_all_leaves : (s : State) (ms : Members) → AllBelong s.config flushed ms → LeavesOthers flushed.labels s (fold (drop_member flushed) s ms)
-  drop_all_leaves s [] of = leaves_all flushed.labels s
+  drop_all_leaves : (s : State) (ms : Members) → AllBelong s.config flushed ms → LeavesOthers flushed s (fold (drop_member flushed) s ms)
+  drop_all_leaves s [] of = leaves_all flushed s
   drop_all_leaves s (m ∷ ms) of =
-      leaves_then flushed.labels s (drop_member flushed s m) (fold (drop_member flushed) (drop_member flushed s m) ms) (drop_member_leaves s m of.0) (drop_all_leaves (drop_member flushed s m) ms of.1)
+      leaves_then flushed s (drop_member flushed s m) (fold (drop_member flushed) (drop_member flushed s m) ms) (drop_member_leaves s m of.0) (drop_all_leaves (drop_member flushed s m) ms of.1)
 
-  mark_leaves : (at : Moment) (ms : Members) (s : State) → LeavesOthers flushed.labels s (mark_if_empty at flushed ms s)
+  mark_leaves : (at : Moment) (ms : Members) (s : State) → LeavesOthers flushed s (mark_if_empty at flushed ms s)
   mark_leaves at [] s = timer_leaves (λ timer. record timer { empty_since = Some at }) s
-  mark_leaves at (m ∷ ms) s = leaves_all flushed.labels s
+  mark_leaves at (m ∷ ms) s = leaves_all flushed s
 
-  drop_leaves : (at : Moment) (ms : Members) (s : State) → AllBelong s.config flushed ms → LeavesOthers flushed.labels s (drop_resolved at flushed ms s)
+  drop_leaves : (at : Moment) (ms : Members) (s : State) → AllBelong s.config flushed ms → LeavesOthers flushed s (drop_resolved at flushed ms s)
   unfolding drop_resolved
   drop_leaves at ms s of =
-      leaves_then flushed.labels s (fold (drop_member flushed) s (resolved_of at ms)) (mark_if_empty at flushed (firing_of at ms) (fold (drop_member flushed) s (resolved_of at ms)))
+      leaves_then flushed s (fold (drop_member flushed) s (resolved_of at ms)) (mark_if_empty at flushed (firing_of at ms) (fold (drop_member flushed) s (resolved_of at ms)))
       (drop_all_leaves s (resolved_of at ms) (kept_belong s.config flushed (λ member. is_resolved_at at member.1) ms of))
       (mark_leaves at (firing_of at ms) (fold (drop_member flushed) s (resolved_of at ms)))
 
-  pipeline_leaves : (at : Moment) (ms : Members) (s : State) → AllBelong s.config flushed ms → LeavesOthers flushed.labels s (run_pipeline at flushed ms s)
-  pipeline_leaves at [] s of = leaves_all flushed.labels s
+  pipeline_leaves : (at : Moment) (ms : Members) (s : State) → AllBelong s.config flushed ms → LeavesOthers flushed s (run_pipeline at flushed ms s)
+  pipeline_leaves at [] s of = leaves_all flushed s
   pipeline_leaves at (m ∷ ms) s of =
       let through : Members = let_through s at flushed.route (m ∷ ms) in
-      let notified : LeavesOthers flushed.labels s (notify_all at flushed through s) = notify_all_leaves at through s in
-      leaves_then flushed.labels s (notify_all at flushed through s) (drop_resolved at flushed (m ∷ ms) (notify_all at flushed through s)) notified
+      let notified : LeavesOthers flushed s (notify_all at flushed through s) = notify_all_leaves at through s in
+      leaves_then flushed s (notify_all at flushed through s) (drop_resolved at flushed (m ∷ ms) (notify_all at flushed through s)) notified
       (drop_leaves at (m ∷ ms) (notify_all at flushed through s) (subst (λ (c : Config). AllBelong c flushed (m ∷ ms)) (sym notified.config) of))
 
-  -- the flush of a group leaves alone what flushes of groups with other labels depend on
-  pub flush_leaves : (at : Moment) (s : State) → LeavesOthers flushed.labels s (flush at flushed s)
+  -- the flush of a group leaves alone what flushes of other groups depend on
+  pub flush_leaves : (at : Moment) (s : State) → LeavesOthers flushed s (flush at flushed s)
   unfolding flush
   flush_leaves at s =
-      leaves_then flushed.labels s (with_timer_reset at flushed s) (run_pipeline at flushed (members s flushed) (with_timer_reset at flushed s))
+      leaves_then flushed s (with_timer_reset at flushed s) (run_pipeline at flushed (members s flushed) (with_timer_reset at flushed s))
       (timer_leaves _ s) (pipeline_leaves at (members s flushed) (with_timer_reset at flushed s) (members_belong s flushed))

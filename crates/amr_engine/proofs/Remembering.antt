@@ -1,7 +1,7 @@
 -- The memory of quiet groups, and what keeps it true of the state.
 use Rattle.std.specs.Prelude.{◌≡◌, ℕ, Bool, true, false, not, ◌&&◌, ◌||◌, List, [], ◌∷◌, ◌++◌, Option, Some, None, Result, Ok, Err, unwrap_or, option_map, cond, ◌≤◌, ◌<◌, ◌+◌, nat_le, nat_lt, ◌==◌, length}
 use Rattle.std.specs.Option.{option_or, is_none}
-use Rattle.std.specs.Result.{OnOk}
+use Rattle.std.specs.Result.{OnOk, IfOk}
 use Rattle.std.specs.List.{list_any, list_all, filter}
 use Rattle.std.specs.Ordering.{eq_by_cmp, is_eq}
 use Rattle.std.proofs.Common.{refl, sym, ap, ◌∙◌, subst, arith, get_or, drop, inl, inr}
@@ -22,30 +22,42 @@ use Rattle.amr_stated.specs.declared.rule.InhibitRule.{InhibitRule}
 use Rattle.amr_rules.specs.declared.alert.Alert.{Alert}
 use Rattle.amr_rules.specs.declared.silence.Silence.{Silence}
 use Rattle.amr_rules.specs.Muting.{Alerts, inhibition_from}
+use Rattle.amr_rules.specs.Silences.{Silences}
 use Rattle.amr_state.specs.declared.route_labels.RouteLabels.{RouteLabels}
 use Rattle.amr_state.specs.declared.notification.GroupTimer.{GroupTimer}
 use Rattle.amr_state.specs.declared.notification.Notification.{Notification}
 use Rattle.amr_state.specs.State.{State, on_route, route_labels_cmp, members}
 use Rattle.amr_engine.specs.declared.explain.Finding.TheVariants.{Inhibited}
 use Rattle.amr_engine.specs.Stages.{by_active_time, by_mute_time, by_silence, taken_away}
-use Rattle.amr_engine.specs.declared.quiet.Stretch.{Stretch}
+use Rattle.amr_engine.specs.declared.stretch.Stretch.{Stretch}
 use Rattle.amr_engine.specs.declared.quiet.QuietTime.{QuietTime}
 use Rattle.amr_engine.specs.declared.quiet.QuietGroups.{QuietGroups}
+use Rattle.amr_engine.specs.declared.notified.NotifiedGroups.{NotifiedGroups}
+use Rattle.amr_engine.specs.declared.prepare.Prepared.{Prepared}
+use Rattle.amr_engine.specs.Prepared.{performed}
+use Rattle.amr_engine.specs.Stretches.{covers}
+use Rattle.amr_engine.specs.Notified.{known, AreNotified}
 use Rattle.amr_engine.specs.Flush.{Members, let_through, labels_of, log_key_of, flush}
-use Rattle.amr_engine.specs.Quiet.{is_outside, no_alert_ends, no_source_ends, no_silence_turns, all_fire_until, is_untimed, no_repeat_before, is_notified, are_notified, with_timer_reset, IsStill, IsQuiet, IsQuietWith, LeavesOthers}
-use Rattle.amr_engine.specs.Remembered.{covers, Times, remembered, times_at, is_known, of_others, with_time, AreQuiet, IsStillIn, IsTrueOf}
+use Rattle.amr_engine.specs.Quiet.{is_outside, no_alert_ends, no_source_ends, no_silence_turns, all_fire_until, is_untimed, no_repeat_before, is_notified, are_notified, with_timer_reset, IsStill, IsQuiet, IsQuietWith, IsAllNotified, LeavesOthers}
+use Rattle.amr_engine.specs.Remembered.{Times, remembered, times_at, is_known, of_others, with_time, AreQuiet, IsStillIn, IsTrueOf}
 use Rattle.amr_engine.proofs.FewerNotified.{both}
 use Rattle.amr_engine.proofs.QuietLaws.{quiet_flush, stays_quiet}
+use Rattle.amr_engine.proofs.NotifiedStays.{nothing_notified, beside_notified}
 use Rattle.amr_engine.proofs.QuietStays.{equal, flush_leaves, quiet_left, still_left}
 
 -- ---- what is remembered
 
--- a memory of no group is true of each state
-pub nothing_known : (memory : QuietGroups) → remembered memory ≡ empty → memory.still ≡ None → (s : State) → IsTrueOf memory s
-nothing_known memory times still s = record {
+-- a memory of no group but notified ones
+pub only_notified : (memory : QuietGroups) → remembered memory ≡ empty → memory.still ≡ None → (s : State) → AreNotified s (known memory.notified) → IsTrueOf memory s
+only_notified memory times still s notified = record {
   quiet = λ labels. subst (AreQuiet s labels) (sym (ap (λ (m : Times). unwrap_or (get m labels) []) times ∙ ap (λ (o : Option (List QuietTime)). unwrap_or o []) (get-empty label_set_cmp labels))) tt;
   still = subst (IsStillIn s) (sym still) tt;
+  notified = notified;
 }
+
+-- a memory of no group is true of each state
+pub nothing_known : (memory : QuietGroups) → remembered memory ≡ empty → memory.still ≡ None → known memory.notified ≡ empty → (s : State) → IsTrueOf memory s
+nothing_known memory times still none s = only_notified memory times still s (nothing_notified s (known memory.notified) none)
 
 module _ (s : State) (group : RouteLabels) (at : Moment) where
   one_known : (time : QuietTime) → IsQuiet s (on_route time.route group.labels) time.stretch.from time.stretch.until
@@ -93,8 +105,8 @@ one_more_quiet s labels (t ∷ times) time quiet new_one = (quiet.0, one_more_qu
 
 -- a quiet group may be remembered
 pub learned : (s : State) (before after : QuietGroups) (group : RouteLabels) (stretch : Stretch) → remembered after ≡ with_time group stretch (remembered before) → after.still ≡ before.still
-    → IsTrueOf before s → IsQuiet s group stretch.from stretch.until → IsTrueOf after s
-learned s before after group stretch are still holds quiet =
+    → after.notified ≡ before.notified → IsTrueOf before s → IsQuiet s group stretch.from stretch.until → IsTrueOf after s
+learned s before after group stretch are still notified holds quiet =
     let times : List QuietTime = of_others group.route (times_at before group.labels) ++ record { route = group.route; stretch = stretch } ∷ [] in
     record {
       quiet = λ labels.
@@ -108,19 +120,20 @@ learned s before after group stretch are still holds quiet =
             | false ↦ λ e. holds.quiet labels
           ] refl);
       still = subst (IsStillIn s) (sym still) holds.still;
+      notified = subst (λ (groups : NotifiedGroups). AreNotified s (known groups)) (sym notified) holds.notified;
     }
 
 -- the same of a step that may run out of memory
 pub learned_if : {T E : Type 0} (r : Result T E) (before after : QuietGroups) (group : RouteLabels) (stretch : Stretch) → OnOk r (remembered after ≡ with_time group stretch (remembered before))
-    → after.still ≡ before.still → OnOk r ((s : State) → IsTrueOf before s → IsQuiet s group stretch.from stretch.until → IsTrueOf after s)
-learned_if (Ok x) before after group stretch are still = λ s holds quiet. learned s before after group stretch are still holds quiet
-learned_if (Err e) before after group stretch are still = tt
+    → after.still ≡ before.still → after.notified ≡ before.notified → OnOk r ((s : State) → IsTrueOf before s → IsQuiet s group stretch.from stretch.until → IsTrueOf after s)
+learned_if (Ok x) before after group stretch are still notified = λ s holds quiet. learned s before after group stretch are still notified holds quiet
+learned_if (Err e) before after group stretch are still notified = tt
 
-still_in_left : (labels : LabelSet) (s t : State) → LeavesOthers labels s t → (stretch : Option Stretch) → IsStillIn s stretch → IsStillIn t stretch
-still_in_left labels s t same None still = tt
-still_in_left labels s t same (Some stretch) still = still_left labels s t same stretch.from stretch.until still
+still_in_left : (flushed : RouteLabels) (s t : State) → LeavesOthers flushed s t → (stretch : Option Stretch) → IsStillIn s stretch → IsStillIn t stretch
+still_in_left flushed s t same None still = tt
+still_in_left flushed s t same (Some stretch) still = still_left flushed s t same stretch.from stretch.until still
 
-all_left : (labels flushed : LabelSet) (s t : State) → LeavesOthers flushed s t → (labels ≡ flushed → ⊥) → (times : List QuietTime) → AreQuiet s labels times → AreQuiet t labels times
+all_left : (labels : LabelSet) (flushed : RouteLabels) (s t : State) → LeavesOthers flushed s t → (labels ≡ flushed.labels → ⊥) → (times : List QuietTime) → AreQuiet s labels times → AreQuiet t labels times
 all_left labels flushed s t same other [] quiet = tt
 all_left labels flushed s t same other (time ∷ times) quiet =
     (quiet_left flushed s t same (on_route time.route labels) other time.stretch.from time.stretch.until quiet.0, all_left labels flushed s t same other times quiet.1)
@@ -130,17 +143,18 @@ differ a b other e = absurd (cc (other, ap is_eq (tied_itself label_set_cmp_tota
 
 -- after the flush of a group, what is remembered of groups with other labels still holds
 pub forgotten : (s : State) (memory left : QuietGroups) (group : RouteLabels) (at : Moment) → remembered left ≡ remove (remembered memory) group.labels → left.still ≡ memory.still
-    → IsTrueOf memory s → IsTrueOf left (flush at group s)
-forgotten s memory left group at are still holds = record {
+    → AreNotified (flush at group s) (known left.notified) → IsTrueOf memory s → IsTrueOf left (flush at group s)
+forgotten s memory left group at are still notified holds = record {
   quiet = λ labels.
       subst (λ (o : Option (List QuietTime)). AreQuiet (flush at group s) labels (unwrap_or o []))
       (sym (ap (λ (m : Times). get m labels) are ∙ get-remove label_set_cmp_total (remembered memory) group.labels labels))
       (elim (eq_by_cmp label_set_cmp labels group.labels) as (λ b. eq_by_cmp label_set_cmp labels group.labels ≡ b
       → AreQuiet (flush at group s) labels (unwrap_or (cond b None (get (remembered memory) labels)) [])) [
         | true ↦ λ e. tt
-        | false ↦ λ e. all_left labels group.labels s (flush at group s) (flush_leaves group at s) (differ labels group.labels e) (times_at memory labels) (holds.quiet labels)
+        | false ↦ λ e. all_left labels group s (flush at group s) (flush_leaves group at s) (differ labels group.labels e) (times_at memory labels) (holds.quiet labels)
       ] refl);
-  still = subst (IsStillIn (flush at group s)) (sym still) (still_in_left group.labels s (flush at group s) (flush_leaves group at s) memory.still holds.still);
+  still = subst (IsStillIn (flush at group s)) (sym still) (still_in_left group s (flush at group s) (flush_leaves group at s) memory.still holds.still);
+  notified = notified;
 }
 
 -- ---- the clock, group timers and notifications
@@ -160,6 +174,7 @@ module _ (s : State) (moment : Moment) (timers : Map route_labels_cmp GroupTimer
   stays_true memory holds = record {
     quiet = λ labels. all_stay labels (times_at memory labels) (holds.quiet labels);
     still = still_stays memory.still holds.still;
+    notified = beside_notified s moment s.alerts s.silences timers notes (known memory.notified) holds.notified;
   }
 
 -- ---- the removal of a stored alert
@@ -198,7 +213,7 @@ module _ (s : State) (alerts : Alerts) (none : s.config.rules ≡ []) where
     untimed = quiet.untimed;
     notified = notified_alike group from until (let_through (record s { alerts = alerts }) from group.route (m ∷ ms)) ∙ ap (are_notified s group from until) (through_alike from group.route (m ∷ ms)) ∙ quiet.notified;
   })
-  with_alike group from until (m ∷ ms) (inr told) = inr (record { fire = told.fire; notified = told.notified })
+  with_alike group from until (m ∷ ms) (inr notified) = inr (record { fire = notified.fire; notified = notified.notified })
 
   quiet_alike : (group : RouteLabels) (from until : Moment) → IsQuiet s group from until → IsQuiet (record s { alerts = alerts }) group from until
   unfolding IsQuiet members
@@ -217,21 +232,37 @@ module _ (s : State) (alerts : Alerts) (none : s.config.rules ≡ []) where
   true_alike memory holds = record {
     quiet = λ labels. all_alike labels (times_at memory labels) (holds.quiet labels);
     still = still_in_alike memory.still holds.still;
+    notified = beside_notified s s.moment alerts s.silences s.timers s.notes (known memory.notified) holds.notified;
   }
 
 -- ---- steps of the code
 
--- what holds anyway
-pub anyway : {T E : Type 0} (r : Result T E) (P : Type 0) → P → OnOk r P
-anyway (Ok x) P p = p
-anyway (Err e) P p = tt
+-- what follows from what holds if memory didn't run out
+pub then_holds : {T E : Type 0} {P Q : Type 0} (r : Result T E) → (P → Q) → OnOk r P → OnOk r Q
+then_holds (Ok x) f p = f p
+then_holds (Err e) f p = tt
+
+-- a memory that forgot what a prepared action may change, after the action
+pub performed_true : {T E : Type 0} (r : Result T E) (memory : QuietGroups) (prepared : Prepared) (s same after : State) → same ≡ s → IsTrueOf memory (performed prepared s)
+    → IfOk r (λ x. after ≡ performed prepared same) → OnOk r (IsTrueOf memory after)
+performed_true (Ok x) memory prepared s same after is holds done = subst (IsTrueOf memory) (sym (done ∙ ap (performed prepared) is)) holds
+performed_true (Err e) memory prepared s same after is holds done = tt
+
+-- notified groups stay so, whatever may mute their members
+pub unmuted : (s : State) (alerts : Alerts) (silences : Silences) (before after : QuietGroups) → remembered after ≡ empty → after.still ≡ None → after.notified ≡ before.notified
+    → IsTrueOf before s → IsTrueOf after (record s { alerts = alerts; silences = silences })
+unmuted s alerts silences before after times still same holds =
+    only_notified after times still (record s { alerts = alerts; silences = silences })
+    (subst (λ (groups : NotifiedGroups). AreNotified (record s { alerts = alerts; silences = silences }) (known groups)) (sym same)
+    (beside_notified s s.moment alerts silences s.timers s.notes (known before.notified) holds.notified))
 
 -- a memory that knows another stretch in which nothing changes that may mute an alert
-pub looked : (before after : QuietGroups) (stretch : Stretch) (s : State) → remembered after ≡ remembered before → after.still ≡ Some stretch → IsTrueOf before s
-    → IsStill s stretch.from stretch.until → IsTrueOf after s
-looked before after stretch s times still holds is = record {
+pub looked : (before after : QuietGroups) (stretch : Stretch) (s : State) → remembered after ≡ remembered before → after.still ≡ Some stretch
+    → after.notified ≡ before.notified → IsTrueOf before s → IsStill s stretch.from stretch.until → IsTrueOf after s
+looked before after stretch s times still notified holds is = record {
   quiet = λ labels. subst (λ (m : Times). AreQuiet s labels (unwrap_or (get m labels) [])) (sym times) (holds.quiet labels);
   still = subst (IsStillIn s) (sym still) is;
+  notified = subst (λ (groups : NotifiedGroups). AreNotified s (known groups)) (sym notified) holds.notified;
 }
 
 -- a group timer that is set leaves the memory true
@@ -298,16 +329,11 @@ pub is_settled : (s : State) (group : RouteLabels) (from until : Moment) (ms : M
 is_settled s group from until [] fire still untimed notified = tt
 is_settled s group from until (m ∷ ms) fire still untimed notified = inl (record { fire = fire; still = still; untimed = untimed; notified = notified })
 
-told_with : (s : State) (group : RouteLabels) (from until : Moment) (ms : Members) → all_fire_until until ms ≡ true → are_notified s group from until ms ≡ true → IsQuietWith s group from until ms
-told_with s group from until [] fire notified = tt
-told_with s group from until (m ∷ ms) fire notified = inr (record { fire = fire; notified = notified })
-
--- a group is quiet whose members all integrations were notified of
-pub found_told : (s : State) (group : RouteLabels) (from first end : Moment) (ms : Members) → ms ≡ members s group → all_fire_until first ms ≡ true → end ≤ first
-    → are_notified s group from end ms ≡ true → IsQuiet s group from end
-unfolding IsQuiet
-found_told s group from first end ms all fire within notified =
-    subst (IsQuietWith s group from end) all (told_with s group from end ms (fire_sooner first end within ms fire) notified)
+-- all integrations were notified of all members of a group for which that was found
+pub found_all_notified : (s : State) (group : RouteLabels) (from first end : Moment) (ms : Members) → ms ≡ members s group → all_fire_until first ms ≡ true → end ≤ first
+    → are_notified s group from end ms ≡ true → IsAllNotified s group from end (members s group)
+found_all_notified s group from first end ms all fire within notified =
+    subst (IsAllNotified s group from end) all (record { fire = fire_sooner first end within ms fire; notified = notified })
 
 -- a group is quiet that was found so
 pub found_quiet : (s : State) (group : RouteLabels) (from until first end : Moment) (ms through : Members) → ms ≡ members s group → through ≡ let_through s from group.route ms

@@ -5,7 +5,6 @@ use Rattle.amr_labels.specs.Map.{get, entries}
 use Rattle.amr_time.specs.Time.{Moment, Span}
 use Rattle.amr_stated.specs.declared.receiver.Integration.{Integration}
 use Rattle.amr_stated.specs.declared.rule.InhibitRule.{InhibitRule}
-use Rattle.amr_labels.specs.Labels.{LabelSet}
 use Rattle.amr_stated.specs.Config.{Config}
 use Rattle.amr_config.specs.Routing.{active_intervals_of, mute_intervals_of, group_interval_of, repeat_interval_of, integrations_of}
 use Rattle.amr_rules.specs.Muting.{Alerts}
@@ -80,23 +79,24 @@ pub record IsSettled (s : State) (group : RouteLabels) (from until : Moment) (me
 
 -- All members fire until the moment, all integrations were notified of them, and no repeated
 -- notification is due before. Whatever mutes some of them, nobody is to be notified.
-pub record IsTold (s : State) (group : RouteLabels) (from until : Moment) (members : Members) : Type 0 where
+pub record IsAllNotified (s : State) (group : RouteLabels) (from until : Moment) (members : Members) : Type 0 where
   pub fire : all_fire_until until members ≡ true
   pub notified : are_notified s group from until members ≡ true
 
 -- a group without members is quiet for ever
 abbrev pub IsQuietWith : State → RouteLabels → Moment → Moment → Members → Type 0
 IsQuietWith s group from until [] = Unit {0}
-IsQuietWith s group from until (member ∷ members) = IsSettled s group from until (member ∷ members) ⊎ IsTold s group from until (member ∷ members)
+IsQuietWith s group from until (member ∷ members) = IsSettled s group from until (member ∷ members) ⊎ IsAllNotified s group from until (member ∷ members)
 
 -- the group's flushes from one moment until another set the group timer and change nothing else
 unfoldable pub IsQuiet : State → RouteLabels → Moment → Moment → Type 0
 IsQuiet s group from until = IsQuietWith s group from until (members s group)
 
--- What flushes of groups with other labels than these depend on is the same in both states.
-pub record LeavesOthers (labels : LabelSet) (s t : State) : Type 0 where
+-- What flushes of other groups than this one depend on is the same in both states, but for log
+-- entries that they share with it.
+pub record LeavesOthers (flushed : RouteLabels) (s t : State) : Type 0 where
   pub config : t.config ≡ s.config
   pub alerts : t.alerts ≡ s.alerts
   pub silences : t.silences ≡ s.silences
-  pub members : (group : RouteLabels) → (group.labels ≡ labels → ⊥) → members t group ≡ members s group
-  pub log : (key : LogKey) → (key.group ≡ labels → ⊥) → get t.log key ≡ get s.log key
+  pub members : (group : RouteLabels) → (group ≡ flushed → ⊥) → members t group ≡ members s group
+  pub log : (key : LogKey) → ((integration : Integration) → key ≡ log_key_of s.config flushed integration → ⊥) → get t.log key ≡ get s.log key

@@ -1,5 +1,5 @@
 -- What the memory of quiet groups knows of a state.
-use Rattle.std.specs.Prelude.{ℕ, Bool, not, ◌&&◌, List, [], ◌∷◌, ◌++◌, Option, Some, None, unwrap_or, nat_le, nat_lt, ◌==◌}
+use Rattle.std.specs.Prelude.{ℕ, Bool, not, ◌&&◌, List, [], ◌∷◌, ◌++◌, Option, Some, None, unwrap_or, ◌==◌}
 use Rattle.std.specs.List.{list_any, filter}
 use Rattle.amr_labels.specs.Map.{Map, get, insert}
 use Rattle.amr_labels.specs.Labels.{LabelSet, label_set_cmp}
@@ -7,14 +7,12 @@ use Rattle.amr_tables.specs.Numbered.{shown}
 use Rattle.amr_time.specs.Time.{Moment}
 use Rattle.amr_state.specs.declared.route_labels.RouteLabels.{RouteLabels}
 use Rattle.amr_state.specs.State.{State, on_route}
-use Rattle.amr_engine.specs.declared.quiet.Stretch.{Stretch}
+use Rattle.amr_engine.specs.declared.stretch.Stretch.{Stretch}
 use Rattle.amr_engine.specs.declared.quiet.QuietTime.{QuietTime}
 use Rattle.amr_engine.specs.declared.quiet.QuietGroups.{QuietGroups}
 use Rattle.amr_engine.specs.Quiet.{IsQuiet, IsStill}
-
--- the moment is in the stretch, which its end isn't
-abbrev pub covers : Moment → Stretch → Bool
-covers at stretch = nat_le stretch.from at && nat_lt at stretch.until
+use Rattle.amr_engine.specs.Stretches.{covers}
+use Rattle.amr_engine.specs.Notified.{AreNotified, known}
 
 -- when groups are quiet, by their labels
 abbrev pub Times : Type 0
@@ -56,3 +54,4 @@ IsStillIn s (Some stretch) = IsStill s stretch.from stretch.until
 pub record IsTrueOf (memory : QuietGroups) (s : State) : Type 0 where
   pub quiet : (labels : LabelSet) → AreQuiet s labels (times_at memory labels)
   pub still : IsStillIn s memory.still
+  pub notified : AreNotified s (known memory.notified)

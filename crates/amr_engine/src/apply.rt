@@ -123,7 +123,7 @@ fn advance_to(
 }
 
 /// Performs a prepared action. Returns the positions of the alerts that it skips, from 1. The
-/// memory of quiet groups outlives only a tick, which changes nothing that it knows.
+/// memory of quiet groups first forgets what the action may change.
 fn perform(
     store: &mut Store,
     quiet_groups: &mut QuietGroups,
@@ -137,10 +137,7 @@ fn perform(
         store.old store.new) }
     ensures memory { OnOk result (IsTrueOf quiet_groups.new store.new.state) }
 {
-    if let Prepared::Tick = &prepared {
-        return Ok(Listing::new(store.alloc()));
-    }
-    quiet_groups.clear();
+    quiet_groups.forget_changed(store, &prepared)?;
     change(store, prepared)
 }
 

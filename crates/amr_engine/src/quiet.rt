@@ -3,22 +3,29 @@
 //! the state: it only knows what the state implies. The engine keeps it from one tick to the next,
 //! and clears it at each other event. Most quiet groups are those whose members all fire and were
 //! all notified of: then it doesn't matter what mutes them, and nobody is asked.
-ghost use Rattle.std.specs.Prelude.{◌≡◌, ◌≤◌, ◌<◌, ◌*◌, ◌==◌, ◌&&◌, true, OnOk, IfOk, IfSome};
-ghost use Rattle.std.specs.List.{list_any, list_all};
+ghost use Rattle.std.specs.Prelude.{◌≡◌, ◌≤◌, ◌<◌, ◌*◌, ◌==◌, ◌&&◌, true, None, OnOk, IfOk, IfSome};
+ghost use Rattle.std.specs.List.{fold, list_any, list_all};
 ghost use Rattle.amr_config.specs.Routing.{integrations_of};
 ghost use Rattle.amr_labels.specs.Map as map;
-ghost use Rattle.amr_time.specs.Time.{latest_read};
+ghost use Rattle.amr_time.specs.Time.{Moment as moment, latest_read};
 ghost use Rattle.amr_state.specs.State.{State};
 ghost use Rattle.amr_state.specs.State as state;
 ghost use Rattle.amr_state.specs.Kept.{GrownBy, undone};
 ghost use Rattle.amr_engine.specs.Flush.{let_through, labels_of, flush};
-ghost use Rattle.amr_engine.specs.Quiet.{is_outside, no_alert_ends, no_silence_turns, all_fire_until, is_untimed, is_notified, are_notified, with_timer_reset, IsStill, IsQuiet};
+ghost use Rattle.amr_engine.specs.Quiet.{is_outside, no_alert_ends, no_silence_turns, all_fire_until, is_untimed, is_notified, are_notified, with_timer_reset, IsStill, IsQuiet, IsAllNotified};
 ghost use Rattle.amr_engine.specs.Weight.{flush_weight};
+ghost use Rattle.amr_engine.specs.Stretches.{covers};
+ghost use Rattle.amr_engine.specs.Notified.{known};
+ghost use Rattle.amr_engine.specs.Events.{put};
+ghost use Rattle.amr_engine.specs.Prepared.{performed};
 
 use crate::flush::{flush, let_through, log_key, reset_timer};
+use crate::notified::NotifiedGroups;
+use crate::prepare::Prepared;
+use crate::stretch::{Stretch, covers};
 use amr_config::Config;
 use amr_labels::{Labels, Listing};
-use amr_rules::is_due_while_firing;
+use amr_rules::{Alert, is_due_while_firing};
 use amr_state::{Member, RouteLabels, Store, members_of};
 use amr_stated::Integration;
 use amr_tables::Keyed;
@@ -38,14 +45,6 @@ const MOST_PATIENCE: usize = 16;
 /// After all is forgotten, how many quiet groups are remembered only if they are flushed again
 /// before the event. Between posts that come one after the other, more would be of no use.
 const QUIET_BEFORE_LEARNING: usize = 1000;
-
-/// The moments from one until just before another, both in nanoseconds since 1970. The end may be
-/// after the last moment, so it isn't a `Moment`.
-#[derive(Clone, Copy)]
-struct Stretch {
-    from: u128,
-    until: u128,
-}
 
 /// When a group is quiet. The memory has the labels of the group.
 #[derive(Drop)]
@@ -75,9 +74,11 @@ pub(crate) struct QuietGroups {
     still: Option<Stretch>,
     /// The quiet groups, by their labels.
     times: Keyed<Labels, Listing<QuietTime>>,
+    /// The groups that were notified of all their members.
+    notified: NotifiedGroups,
 }
 
-ghost use Rattle.amr_engine.specs.Remembered.{covers, remembered, times_at, is_known, of_others, with_time, IsTrueOf};
+ghost use Rattle.amr_engine.specs.Remembered.{remembered, times_at, is_known, of_others, with_time, IsTrueOf};
 
 impl QuietGroups {
     /// Returns a memory of no group.
@@ -94,6 +95,7 @@ impl QuietGroups {
             moves_until: 0,
             still: None,
             times: Keyed::new(alloc),
+            notified: NotifiedGroups::new(alloc),
         }
     }
 
@@ -101,9 +103,66 @@ impl QuietGroups {
     pub(crate) fn clear(&mut self)
         ensures { (s : State) → IsTrueOf self.new s }
     {
+        self.forget_muting();
+        self.notified.clear();
+    }
+
+    /// Forgets all but the groups that were notified of all their members, for which it doesn't
+    /// matter what mutes those.
+    fn forget_muting(&mut self)
+        ensures times { remembered self.new ≡ map.empty }
+        ensures still { self.new.still ≡ None }
+        ensures notified { self.new.notified ≡ self.old.notified }
+    {
         self.found = 0;
         self.still = None;
         self.times = Keyed::new(self.alloc);
+    }
+
+    /// Forgets what a prepared action may change. A tick changes nothing that is remembered. A post
+    /// of alerts changes nothing for groups that were notified of all their members and that no
+    /// alert joins, and silences change nothing for any of those.
+    pub(crate) fn forget_changed(
+        &mut self,
+        store: &mut Store,
+        prepared: &Prepared,
+    ) -> Result<(), AllocError>
+        requires { IsTrueOf self.old store.old.state }
+        ensures memory { OnOk result
+            (IsTrueOf self.new (performed prepared.now store.old.state)) }
+        ensures same { store.new ≡ store.old }
+    {
+        match prepared {
+            Prepared::Tick => Ok(()),
+            Prepared::Put(sifted) => self.forget_joined(store, sifted.valid.as_slice()),
+            Prepared::Reload(_) => {
+                self.clear();
+                Ok(())
+            }
+            Prepared::Silence { .. } => {
+                self.forget_muting();
+                Ok(())
+            }
+            Prepared::Expire { .. } => {
+                self.forget_muting();
+                Ok(())
+            }
+        }
+    }
+
+    /// Forgets what the post of these alerts may change.
+    fn forget_joined(
+        &mut self,
+        store: &mut Store,
+        alerts: &[(Labels, Alert)],
+    ) -> Result<(), AllocError>
+        requires { IsTrueOf self.old store.old.state }
+        ensures memory { OnOk result
+            (IsTrueOf self.new (fold put store.old.state alerts.now)) }
+        ensures same { store.new ≡ store.old }
+    {
+        self.forget_muting();
+        self.notified.forget_all_joined(store, alerts)
     }
 
     /// Notes the moment of the event before which the next moves are made.
@@ -124,7 +183,7 @@ impl QuietGroups {
         if store.config().rules().is_empty() {
             return;
         }
-        self.clear();
+        self.forget_muting();
     }
 
     /// Flushes a group at a moment, as `flush` of `flush.rt` does. For a quiet group it only sets
@@ -146,6 +205,10 @@ impl QuietGroups {
         ensures grown { GrownBy (2 * flush_weight store.old.state group.now) store.old store.new }
         ensures memory { OnOk result (IsTrueOf self.new store.new.state) }
     {
+        if self.notified.is_known(at, group) {
+            reset_timer(store, at, group)?;
+            return Ok(true);
+        }
         if self.is_known(at, group) {
             self.has_saved = true;
             reset_timer(store, at, group)?;
@@ -203,7 +266,7 @@ impl QuietGroups {
             reset_timer(store, at, group)?;
             return Ok(true);
         }
-        self.forget(&group.labels);
+        self.forget_flushed(store, group);
         flush(store, at, group, members, through.as_slice())?;
         Ok(false)
     }
@@ -226,10 +289,32 @@ impl QuietGroups {
         match all_notified_until(store, at, group, members)? {
             None => Ok(false),
             Some(until) => {
-                self.note_quiet(store, at, group, until)?;
+                self.note_notified(store, at, group, until)?;
                 Ok(true)
             }
         }
+    }
+
+    /// Remembers that a group was notified of all its members from a moment until another. If no
+    /// other route has the path of its route, no other group changes its entries in the
+    /// notification log.
+    fn note_notified(
+        &mut self,
+        store: &Store,
+        at: Moment,
+        group: &RouteLabels,
+        until: u128,
+    ) -> Result<(), AllocError>
+        requires memory { IsTrueOf self.old store.now.state }
+        requires notified { IsAllNotified store.now.state group.now at until
+            (state.members store.now.state group.now) }
+        ensures { OnOk result (IsTrueOf self.new store.now.state) }
+    {
+        if !store.config().has_own_path(group.route) {
+            return self.note_quiet(store, at, group, until);
+        }
+        let from = at.nanoseconds();
+        self.notified.learn(group, Stretch { from, until })
     }
 
     /// Remembers that a group is quiet from a moment until another, if that is worth it.
@@ -381,6 +466,7 @@ impl QuietGroups {
         ensures times { OnOk result
             (remembered self.new ≡ with_time group.now stretch (remembered self.old)) }
         ensures still { self.new.still ≡ self.old.still }
+        ensures notified { self.new.notified ≡ self.old.notified }
     {
         let mut times = self.others(group)?;
         times.push(QuietTime {
@@ -403,10 +489,21 @@ impl QuietGroups {
         }
     }
 
+    /// Forgets what the flush of a group may change: the groups with the same labels, because they
+    /// may share entries of the notification log, and that it was notified of its members.
+    fn forget_flushed(&mut self, store: &Store, group: &RouteLabels)
+        requires { IsTrueOf self.old store.now.state }
+        ensures { (at : moment) → IsTrueOf self.new (flush at group.now store.now.state) }
+    {
+        self.forget(&group.labels);
+        self.notified.forget_flushed(store.config(), group);
+    }
+
     /// Forgets the groups with these labels.
     fn forget(&mut self, labels: &Labels)
         ensures times { remembered self.new ≡ map.remove (remembered self.old) labels.now }
         ensures still { self.new.still ≡ self.old.still }
+        ensures notified { self.new.notified ≡ self.old.notified }
     {
         if self.times.get(labels).is_some() {
             self.times.displace(labels, None);
@@ -422,13 +519,6 @@ fn next_patience(patience: usize, has_saved: bool) -> usize {
     } else {
         patience.saturating_mul(2).min(MOST_PATIENCE)
     }
-}
-
-/// Returns whether a moment is in a stretch.
-fn covers(at: Moment, stretch: Stretch) -> bool
-    ensures { result ≡ covers at stretch }
-{
-    stretch.from <= at.nanoseconds() && at.nanoseconds() < stretch.until
 }
 
 /// Returns whether one of these stretches is of the route and has the moment in it.
@@ -522,7 +612,8 @@ fn all_notified_until(
 ) -> Result<Option<u128>, AllocError>
     requires { members.now ≡ state.members store.now.state group.now }
     ensures { IfOk result (λ found. IfSome found
-        (λ end. (at < end) × IsQuiet store.now.state group.now at end)) }
+        (λ end. (at < end)
+        × IsAllNotified store.now.state group.now at end (state.members store.now.state group.now))) }
 {
     let until = first_end(members, u128::MAX);
     if until <= at.nanoseconds() {

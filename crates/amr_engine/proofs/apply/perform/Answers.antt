@@ -1,12 +1,18 @@
-use Rattle.amr_engine.specs.Remembered.{IsTrueOf}
-use Rattle.amr_engine.proofs.Remembering.{anyway}
+use Rattle.std.specs.Prelude.{IfOk, OnOk, ◌≡◌}
+use Rattle.std.proofs.Common.{ap, ◌∙◌, subst}
+use Rattle.amr_state.specs.Kept.{Kept, GrownBy, undone}
+use Rattle.amr_engine.specs.Prepared.{performed, entries_of}
+use Rattle.amr_engine.proofs.Remembering.{performed_true}
 use Rattle.amr_engine.proofs.apply.perform.Goals as goal
 
 pub returns : goal.returns
-returns c = record {
-  done = c.change.ensures.done;
-  skipped = c.change.ensures.skipped;
-  kept = c.change.ensures.kept;
-  grown = c.change.ensures.grown;
-  memory = anyway c.change.result (IsTrueOf c.clear.new.self c.change.new.store.state) (c.clear.ensures c.change.new.store.state);
-}
+returns c =
+    let same = c.forget_changed.ensures.same in
+    record {
+      done = subst (λ (before : Kept). IfOk c.change.result (λ skipped. c.change.new.store.state ≡ performed c.args.prepared before.state)) same c.change.ensures.done;
+      skipped = c.change.ensures.skipped;
+      kept = c.change.ensures.kept ∙ ap undone same;
+      grown = subst (λ (before : Kept). OnOk c.change.result (GrownBy (entries_of c.args.prepared before.state c.change.new.store.state) before c.change.new.store)) same c.change.ensures.grown;
+      memory = performed_true c.change.result c.forget_changed.new.self c.args.prepared c.args.store.now.state c.forget_changed.new.store.state c.change.new.store.state
+          (ap (λ (k : Kept). k.state) same) c.in_ok-forget_changed.ensures.memory c.change.ensures.done;
+    }

@@ -1,5 +1,5 @@
 use Rattle.amr_labels.specs.Map.{remove}
-use Rattle.amr_engine.proofs.Remembering.{no_rules, true_alike}
+use Rattle.amr_engine.proofs.Remembering.{no_rules, true_alike, unmuted}
 use Rattle.amr_engine.proofs.quiet.QuietGroups.alert_leaves.Goals as goal
 
 pub returns-then-is_empty : goal.returns-then-is_empty
@@ -9,4 +9,6 @@ returns-then-is_empty c =
     c.args.self.now c.requires
 
 pub returns : goal.returns
-returns c = c.clear.ensures _
+returns c =
+    let s = c.args.store.now.state in
+    unmuted s (remove s.alerts c.args.labels.now) s.silences c.args.self.now c.forget_muting.new.self c.forget_muting.ensures.times c.forget_muting.ensures.still c.forget_muting.ensures.notified c.requires

@@ -1,6 +1,6 @@
 use Rattle.std.proofs.Common.{sym, subst}
 use Rattle.amr_engine.specs.Remembered.{IsTrueOf}
-use Rattle.amr_engine.proofs.Remembering.{reset_true, forgotten}
+use Rattle.amr_engine.proofs.Remembering.{reset_true}
 use Rattle.amr_engine.proofs.quiet.QuietGroups.flush_unnotified.Goals as goal
 
 pub returns-then-branch-clause-memory : goal.returns-then-branch-clause-memory
@@ -9,6 +9,4 @@ returns-then-branch-clause-memory c =
     (reset_true c.let_through.new.store.state c.args.at c.args.group.now c.is_quiet.new.self c.in_ok-is_quiet.ensures.memory)
 
 pub returns-clause-memory : goal.returns-clause-memory
-returns-clause-memory c =
-    subst (IsTrueOf c.forget.new.self) (sym c.in_ok-flush.ensures.ok)
-    (forgotten c.let_through.new.store.state c.is_quiet.new.self c.forget.new.self c.args.group.now c.args.at c.forget.ensures.times c.forget.ensures.still c.in_ok-is_quiet.ensures.memory)
+returns-clause-memory c = subst (IsTrueOf c.forget_flushed.new.self) (sym c.in_ok-flush.ensures.ok) (c.forget_flushed.ensures c.args.at)
