@@ -231,7 +231,7 @@ impl Timetable {
         move_due(&mut self.queue, alert_due(labels), old, new);
     }
 
-    /// Restores a group timer, or its absence. It takes no memory.
+    /// Restores a group timer, or its absence. It looks for the group once and takes no memory.
     pub(crate) fn put_back_timer(&mut self, group: TimedGroup, timer: Option<GroupTimer>)
         requires { IsTrue (has_place route_labels_cmp self.old.timers group) }
         ensures shown { shown route_labels_cmp self.new.timers ≡
@@ -240,11 +240,11 @@ impl Timetable {
         ensures entered { SameEntered route_labels_cmp self.old.timers self.new.timers }
         ensures alerts { self.new.alerts ≡ self.old.alerts }
     {
-        let old = moments_at(&self.timers, group.route_labels());
         let new = group_moments(&timer);
         // The prover needs to see the type of moments here.
         let _start = Moment::START;
-        put_back(&mut self.timers, group.route_labels(), timer);
+        let former = self.timers.displace(group.route_labels(), timer);
+        let old = group_moments(&former);
         move_group(&mut self.queue, group, old, new);
     }
 }
@@ -510,13 +510,6 @@ fn move_group(queue: &mut Queue<Due>, group: TimedGroup, old: GroupMoments, new:
     if old.removal.is_some() || new.removal.is_some() {
         move_due(queue, removal, old.removal, new.removal);
     }
-}
-
-/// Returns when a group is flushed and removed, by the group timers.
-fn moments_at(timers: &Keyed<RouteLabels, GroupTimer>, group: &RouteLabels) -> GroupMoments
-    ensures { result ≡ group_moments (map.get (shown route_labels_cmp timers.now) group.now) }
-{
-    moments_of(timers.get(group))
 }
 
 /// Returns when a group with this timer is flushed and removed; never, without a timer.

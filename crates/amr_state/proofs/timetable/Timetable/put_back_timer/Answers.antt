@@ -9,22 +9,22 @@ use Rattle.amr_state.proofs.timetable.Timetable.put_back_timer.Goals as goal
 pub move_group-requires : goal.move_group-requires
 move_group-requires c =
     let t = c.self.inside in
-    let old = c.moments_at-old.ensures ∙ ap (λ g. group_moments (map.get (shown route_labels_cmp t.timers) g)) c.route_labels.ensures in
-    let shows = c.put_back.ensures.shown ∙ ap (λ g. map.set (shown route_labels_cmp t.timers) g c.args.timer) c.route_labels-2.ensures in
-    group_may_move t.alerts t.timers c.put_back.new.table t.queue t.queue c.self.invariant c.args.group c.args.group c.args.timer c.moments_at-old.result c.group_moments-new.result 0
-    refl old c.group_moments-new.ensures shows (omega (arith, ap length c.put_back.ensures.keys)) c.put_back.ensures.enough refl (omega arith)
+    let old = c.group_moments-old.ensures ∙ ap group_moments (c.displace-former.ensures.answer ∙ ap (map.get (shown route_labels_cmp t.timers)) c.route_labels.ensures) in
+    let shows = c.displace-former.ensures.shown ∙ ap (λ g. map.set (shown route_labels_cmp t.timers) g c.args.timer) c.route_labels.ensures in
+    group_may_move t.alerts t.timers c.displace-former.new.self t.queue t.queue c.self.invariant c.args.group c.args.group c.args.timer c.group_moments-old.result c.group_moments-new.result 0
+    refl old c.group_moments-new.ensures shows (omega (arith, ap length c.displace-former.ensures.keys)) c.displace-former.ensures.enough refl (omega arith)
 
 pub invariant_of-self : goal.invariant_of-self
 invariant_of-self c =
     let t = c.self.inside in
-    let old = c.moments_at-old.ensures ∙ ap (λ g. group_moments (map.get (shown route_labels_cmp t.timers) g)) c.route_labels.ensures in
-    let shows = c.put_back.ensures.shown ∙ ap (λ g. map.set (shown route_labels_cmp t.timers) g c.args.timer) c.route_labels-2.ensures in
-    group_timed t.alerts t.timers c.put_back.new.table t.queue t.queue c.self.invariant c.args.group c.args.group c.args.timer c.moments_at-old.result c.group_moments-new.result 0
-    refl old c.group_moments-new.ensures shows (omega (arith, ap length c.put_back.ensures.keys)) c.put_back.ensures.enough refl (omega arith)
+    let old = c.group_moments-old.ensures ∙ ap group_moments (c.displace-former.ensures.answer ∙ ap (map.get (shown route_labels_cmp t.timers)) c.route_labels.ensures) in
+    let shows = c.displace-former.ensures.shown ∙ ap (λ g. map.set (shown route_labels_cmp t.timers) g c.args.timer) c.route_labels.ensures in
+    group_timed t.alerts t.timers c.displace-former.new.self t.queue t.queue c.self.invariant c.args.group c.args.group c.args.timer c.group_moments-old.result c.group_moments-new.result 0
+    refl old c.group_moments-new.ensures shows (omega (arith, ap length c.displace-former.ensures.keys)) c.displace-former.ensures.enough refl (omega arith)
     c.move_group.new.queue c.move_group.ensures.dues c.move_group.ensures.all
 
 pub returns-clause-places : goal.returns-clause-places
-returns-clause-places c = λ other. c.put_back.ensures.places other ∙ ap (λ (t : Timed). has_place route_labels_cmp t.timers other) c.self.view_is
+returns-clause-places c = λ other. c.displace-former.ensures.places other ∙ ap (λ (t : Timed). has_place route_labels_cmp t.timers other) c.self.view_is
 
 pub returns-clause-entered : goal.returns-clause-entered
-returns-clause-entered c = λ other. c.put_back.ensures.entered other ∙ ap (λ (t : Timed). is_entered route_labels_cmp t.timers other) c.self.view_is
+returns-clause-entered c = λ other. c.displace-former.ensures.entered other ∙ ap (λ (t : Timed). is_entered route_labels_cmp t.timers other) c.self.view_is
