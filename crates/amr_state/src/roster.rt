@@ -16,12 +16,12 @@ use crate::displaced::BoxedRouter;
 use crate::members::Member;
 use crate::membership::{IndexedMember, Membership};
 use crate::route_labels::RouteLabels;
-use crate::timetable::{change_found, make_room, put_back};
+use crate::timetable::make_room;
 use amr_config::{Config, RouteGroup, Router};
 use amr_labels::{Labels, Listing, Shared};
 use amr_rules::Alert;
 use amr_stated::RuleMatch;
-use amr_tables::{Journal, Key, Keyed, Queue};
+use amr_tables::{Journal, Key, Keyed, Queue, change_found};
 use std::alloc::{AllocError, Global};
 use std::marker::Model;
 
@@ -183,7 +183,8 @@ impl Roster {
         Ok(member_entry(group, entry))
     }
 
-    /// Restores a member of its group, or its absence. It takes no memory.
+    /// Restores a member of its group, or its absence. It looks for the place once and takes no
+    /// memory.
     pub(crate) fn put_back_member(&mut self, member: Membership, alert: Option<Alert>)
         requires place { IsTrue
             (has_place route_labels_cmp self.old.placements (member_on_route member)) }
@@ -198,11 +199,10 @@ impl Roster {
             route: member.group.route,
             labels: member.labels,
         };
-        let (number, former) = self.placements.look_up_number(&route_labels);
-        let was = is_member(former);
+        let (number, _former) = self.placements.look_up_number(&route_labels);
         let Some(place) = number else { unreachable!() };
         let is = alert.is_some();
-        put_back(&mut self.placements, &route_labels, alert);
+        let was = self.placements.displace_at(place, alert).is_some();
         let member = Membership {
             group: member.group,
             labels: route_labels.labels,

@@ -5,7 +5,7 @@ ghost use Rattle.std.specs.Prelude.{None, Some, ◌≡◌, ◌≤◌, ◌<◌, �
 ghost use Rattle.std.specs.Option.{option_copied};
 ghost use Rattle.amr_labels.specs.Labels.{LabelSet, label_set_cmp};
 ghost use Rattle.amr_labels.specs.Map as map;
-ghost use Rattle.amr_tables.specs.Numbered.{shown, has_place, number_of, entry_of, places_for, Enters, GrowsBy, KeepsPlaces, SamePlaces, SameEntered, NoneEntered, IsUnchanged, HasPlaces};
+ghost use Rattle.amr_tables.specs.Numbered.{shown, has_place, number_of, entry_of, Enters, KeepsPlaces, SamePlaces, SameEntered, NoneEntered, IsUnchanged};
 ghost use Rattle.amr_tables.specs.Queued.{in_order, count_of};
 ghost use Rattle.amr_state.specs.State.{route_labels_cmp};
 ghost use Rattle.amr_state.specs.Dues.{due_cmp, dues_of};
@@ -18,7 +18,7 @@ use amr_indexes::AlertTable;
 use amr_labels::Labels;
 use amr_rules::Alert;
 use amr_stated::{InhibitRule, RuleMatch};
-use amr_tables::{Journal, Key, Keyed, Queue, exchange_placed};
+use amr_tables::{Journal, Keyed, Queue, change_found};
 use amr_time::Moment;
 use std::alloc::{AllocError, Global};
 use std::marker::Model;
@@ -275,45 +275,6 @@ fn learn_sides(
     Ok(())
 }
 
-/// Sets or removes the value of a key that has this number, if it has one, as `change` of
-/// `amr_tables` does. It doesn't look for the key again.
-pub(crate) fn change_found<V: Drop, E>(
-    table: &mut Keyed<RouteLabels, V>,
-    journal: &mut Journal<E>,
-    key: &RouteLabels,
-    number: Option<usize>,
-    value: Option<V>,
-) -> Result<Option<(RouteLabels, Option<V>)>, AllocError>
-    requires { number ≡ number_of route_labels_cmp table.old key.now }
-    ensures entry { IfOk result (λ entry. entry
-        ≡ entry_of route_labels_cmp table.old key.now) }
-    ensures shown { OnOk result (shown route_labels_cmp table.new ≡
-        map.set (shown route_labels_cmp table.old) key.now value) }
-    ensures entered { OnOk result (Enters route_labels_cmp table.old table.new key.now) }
-    ensures made { OnOk result (IsTrue (has_place route_labels_cmp table.new key.now)) }
-    ensures err { OnErr result (IsUnchanged route_labels_cmp table.old table.new) }
-    ensures keys { GrowsBy route_labels_cmp
-        (places_for route_labels_cmp table.old key.now) table.old table.new }
-    ensures enough { OnOk result (HasPlaces route_labels_cmp table.new) }
-    ensures places { KeepsPlaces route_labels_cmp table.old table.new }
-    ensures no_new { IsTrue (has_place route_labels_cmp table.old key.now)
-        → SamePlaces route_labels_cmp table.old table.new }
-    ensures numbers { IsTrue (has_place route_labels_cmp table.old key.now)
-        → table.new.numbers ≡ table.old.numbers }
-    ensures room { IfOk result (λ entry. IsTrue (is_some entry) → 0 < journal.new.entry_room) }
-    ensures closed { journal.new.closed ≡ journal.old.closed }
-    ensures current { journal.new.current ≡ journal.old.current }
-    ensures record_room { journal.new.record_room ≡ journal.old.record_room }
-{
-    journal.reserve_entry()?;
-    let copy = key.clone()?;
-    let (was, was_entered) = exchange_placed(table, key, number, value)?;
-    if was_entered {
-        return Ok(None);
-    }
-    Ok(Some((copy, was)))
-}
-
 /// Returns the entry that the open record needs for a change of a group's timer, and leaves room for
 /// it there. Returns `None` if the place of the group is entered already, and copies nothing then.
 fn entry_for<E>(
@@ -334,19 +295,6 @@ fn entry_for<E>(
     }
     journal.reserve_entry()?;
     Ok(Some((TimedGroup::of(group)?, Some(former))))
-}
-
-/// Restores the value of a key that has a place, or its absence, and drops the present value. It
-/// takes no memory.
-pub(crate) fn put_back<K: Key + Drop, V: Drop>(table: &mut Keyed<K, V>, key: &K, value: Option<V>)
-    requires { IsTrue (has_place K.cmp table.old key.now) }
-    ensures shown { shown K.cmp table.new ≡ map.set (shown K.cmp table.old) key.now value }
-    ensures places { SamePlaces K.cmp table.old table.new }
-    ensures entered { SameEntered K.cmp table.old table.new }
-    ensures keys { table.new.numbers ≡ table.old.numbers }
-    ensures enough { HasPlaces K.cmp table.new }
-{
-    drop(table.displace(key, value));
 }
 
 /// Makes room in a queue for `n` items of a new place. Does nothing if the place exists, since its

@@ -240,6 +240,20 @@ impl<K: Key + Drop, V: Drop> Keyed<K, V> {
         (self.slots.displace(number, value), was_entered)
     }
 
+    /// Sets or removes the value of the key with a number, and returns the former one. It marks no
+    /// place, compares no keys and takes no memory.
+    pub fn displace_at(&mut self, number: usize, value: Option<V>) -> Option<V>
+        requires { IsNumber K.cmp self.old number }
+        ensures answer { IsValueOf K.cmp self.old number result }
+        ensures shown { IsSetAt K.cmp self.old number value self.new }
+        ensures places { SamePlaces K.cmp self.old self.new }
+        ensures entered { SameEntered K.cmp self.old self.new }
+        ensures keys { self.new.numbers ≡ self.old.numbers }
+        ensures enough { HasPlaces K.cmp self.new }
+    {
+        self.slots.displace(number, value)
+    }
+
     /// Clears the marks of all places. It takes no memory.
     pub fn clear_entered(&mut self)
         ensures entered { NoneEntered K.cmp self.new }
@@ -278,9 +292,40 @@ pub fn change<K: Key + Drop, V: Drop, E>(
     ensures current { journal.new.current ≡ journal.old.current }
     ensures record_room { journal.new.record_room ≡ journal.old.record_room }
 {
+    let number = table.number_of(key);
+    change_found(table, journal, key, number, value)
+}
+
+/// Sets or removes the value of a key that has this number, if it has one, as `change` does. It
+/// doesn't look for the key again.
+pub fn change_found<K: Key + Drop, V: Drop, E>(
+    table: &mut Keyed<K, V>,
+    journal: &mut Journal<E>,
+    key: &K,
+    number: Option<usize>,
+    value: Option<V>,
+) -> Result<Option<(K, Option<V>)>, AllocError>
+    requires { number ≡ number_of K.cmp table.old key.now }
+    ensures entry { IfOk result (λ entry. entry ≡ entry_of K.cmp table.old key.now) }
+    ensures shown { OnOk result (shown K.cmp table.new
+        ≡ map.set (shown K.cmp table.old) key.now value) }
+    ensures entered { OnOk result (Enters K.cmp table.old table.new key.now) }
+    ensures made { OnOk result (IsTrue (has_place K.cmp table.new key.now)) }
+    ensures err { OnErr result (IsUnchanged K.cmp table.old table.new) }
+    ensures keys { GrowsBy K.cmp (places_for K.cmp table.old key.now) table.old table.new }
+    ensures enough { OnOk result (HasPlaces K.cmp table.new) }
+    ensures places { KeepsPlaces K.cmp table.old table.new }
+    ensures no_new { IsTrue (has_place K.cmp table.old key.now)
+        → SamePlaces K.cmp table.old table.new }
+    ensures numbers { IsTrue (has_place K.cmp table.old key.now)
+        → table.new.numbers ≡ table.old.numbers }
+    ensures room { IfOk result (λ entry. IsTrue (is_some entry) → 0 < journal.new.entry_room) }
+    ensures closed { journal.new.closed ≡ journal.old.closed }
+    ensures current { journal.new.current ≡ journal.old.current }
+    ensures record_room { journal.new.record_room ≡ journal.old.record_room }
+{
     journal.reserve_entry()?;
     let copy = key.clone()?;
-    let number = table.number_of(key);
     let (was, was_entered) = exchange_placed(table, key, number, value)?;
     if was_entered {
         return Ok(None);

@@ -17,7 +17,7 @@ mod tree;
 
 pub use entries::Entries;
 pub use journal::Journal;
-pub use keyed::{Key, Keyed, change, exchange_placed};
+pub use keyed::{Key, Keyed, change, change_found, exchange_placed};
 pub use marks::Marks;
 pub use parts::InParts;
 pub use queue::Queue;

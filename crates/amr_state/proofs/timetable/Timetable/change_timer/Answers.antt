@@ -1,5 +1,6 @@
-use Rattle.std.proofs.Common.{◌+◌, ◌*◌, ◌≤◌, IsTrue, is_some, cond, sym, ap, subst, ◌∙◌}
-use Rattle.amr_tables.specs.Numbered.{entry_of, has_place, places_for}
+use Rattle.std.proofs.Common.{◌+◌, ◌*◌, ◌≤◌, ◌||◌, IsTrue, is_some, cond, sym, ap, subst, ◌∙◌}
+use Rattle.std.specs.Ordering.{eq_by_cmp}
+use Rattle.amr_tables.specs.Numbered.{entry_of, has_place, is_entered, places_for}
 use Rattle.amr_state.specs.State.{route_labels_cmp}
 use Rattle.amr_state.specs.Timed.{Timed, group_moments}
 use Rattle.amr_state.proofs.Timing.{group_timed, group_may_move, group_kept, twice_as_many}
@@ -45,3 +46,8 @@ invariant_of-self-in_err-entry g c =
     let room : t.queue.room + 2 * n ≤ c.make_room.new.queue.room =
     subst (λ m. t.queue.room + m ≤ c.make_room.new.queue.room) (ap (λ b. cond b 0 2) (c.is_some.ensures ∙ ap is_some c.look_up_number-number.ensures.number) ∙ twice_as_many (has_place route_labels_cmp t.timers c.args.group.now)) c.in_ok-make_room.ensures.room in
     group_kept t.alerts t.timers c.change_found.new.table t.queue c.make_room.new.queue c.self.invariant n c.in_err-entry.ensures.err.0 c.change_found.ensures.keys c.make_room.ensures.dues room
+
+pub returns-clause-entered : goal.returns-clause-entered
+returns-clause-entered g c = λ other.
+    c.in_ok-entry.ensures.entered other
+    ∙ ap (λ (t : Timed). eq_by_cmp route_labels_cmp other c.args.group.now || is_entered route_labels_cmp t.timers other) c.self.view_is
