@@ -6,7 +6,7 @@ ghost use Rattle.std.specs.Prelude.{◌≡◌, ◌<◌, [], IsTrue, is_some, OnO
 ghost use Rattle.std.specs.Option.{option_copied};
 ghost use Rattle.amr_labels.specs.Labels.{label_set_cmp};
 ghost use Rattle.amr_labels.specs.Map as map;
-ghost use Rattle.amr_tables.specs.Numbered.{shown, has_place, entry_of, Enters, GrowsBy, KeepsPlaces, SamePlaces, SameEntered, NoneEntered, IsUnchanged, HasPlaces, places_for};
+ghost use Rattle.amr_tables.specs.Numbered.{shown, has_place, number_of, entry_of, Enters, GrowsBy, KeepsPlaces, SamePlaces, SameEntered, NoneEntered, IsUnchanged, HasPlaces, places_for};
 ghost use Rattle.amr_rules.specs.Muting.{has_value};
 ghost use Rattle.amr_indexes.specs.RuleSources.{AllArrived, pairs_of, stored_of};
 ghost use Rattle.amr_labels.specs.Set as set;
@@ -15,7 +15,7 @@ use crate::rule_source::RuleSources;
 use amr_labels::{LabelMap, Labels, Text};
 use amr_rules::{Alert, AlertStore};
 use amr_stated::InhibitRule;
-use amr_tables::{Entries, Journal, Keyed, change};
+use amr_tables::{Entries, Journal, Keyed, change, change_found};
 use std::alloc::{AllocError, Global};
 use std::cmp::Ordering;
 use std::marker::Model;
@@ -73,6 +73,16 @@ impl AlertTable {
             ≡ map.get (shown label_set_cmp self.now) labels.now }
     {
         self.alerts.look_up(labels)
+    }
+
+    /// Returns the number of this label set, if it has a place, and the alert with these labels. With
+    /// the number, `change_found` needn't look for the labels again.
+    pub fn look_up_number(&self, labels: &Labels) -> (Option<usize>, Option<&Alert>)
+        ensures number { result.0 ≡ number_of label_set_cmp self.now labels.now }
+        ensures alert { option_copied result.1
+            ≡ map.get (shown label_set_cmp self.now) labels.now }
+    {
+        self.alerts.look_up_number(labels)
     }
 
     /// Returns the alerts with their labels, in the order of the labels.
@@ -146,6 +156,37 @@ impl AlertTable {
         change(&mut self.alerts, journal, labels, alert)
     }
 
+    /// Sets or removes the alert with these labels, as `change` does, given the number of their
+    /// place, if they have one. It doesn't look for a place that they have again.
+    pub fn change_found<E>(
+        &mut self,
+        journal: &mut Journal<E>,
+        labels: &Labels,
+        number: Option<usize>,
+        alert: Option<Alert>,
+    ) -> Result<Option<(Labels, Option<Alert>)>, AllocError>
+        requires { number ≡ number_of label_set_cmp self.old labels.now }
+        ensures entry { IfOk result (λ entry. entry ≡ entry_of label_set_cmp self.old labels.now) }
+        ensures shown { OnOk result (shown label_set_cmp self.new
+            ≡ map.set (shown label_set_cmp self.old) labels.now alert) }
+        ensures entered { OnOk result (Enters label_set_cmp self.old self.new labels.now) }
+        ensures made { OnOk result (IsTrue (has_place label_set_cmp self.new labels.now)) }
+        ensures err { OnErr result (IsUnchanged label_set_cmp self.old self.new) }
+        ensures keys { GrowsBy label_set_cmp
+            (places_for label_set_cmp self.old labels.now) self.old self.new }
+        ensures enough { OnOk result (HasPlaces label_set_cmp self.new) }
+        ensures places { KeepsPlaces label_set_cmp self.old self.new }
+        ensures room { IfOk result (λ entry. IsTrue (is_some entry) → 0 < journal.new.entry_room) }
+        ensures closed { journal.new.closed ≡ journal.old.closed }
+        ensures current { journal.new.current ≡ journal.old.current }
+        ensures record_room { journal.new.record_room ≡ journal.old.record_room }
+    {
+        match number {
+            None => self.change(journal, labels, alert),
+            Some(_place) => change_found(&mut self.alerts, journal, labels, number, alert),
+        }
+    }
+
     /// Restores the alert with these labels, or its absence, and drops the present one. It takes no
     /// memory.
     pub fn put_back(&mut self, labels: &Labels, alert: Option<Alert>)
@@ -157,7 +198,22 @@ impl AlertTable {
         ensures keys { self.new.numbers ≡ self.old.numbers }
         ensures enough { HasPlaces label_set_cmp self.new }
     {
-        drop(self.alerts.displace(labels, alert));
+        drop(self.displace(labels, alert));
+    }
+
+    /// Sets or removes the alert with these labels, which have a place, and returns the former one.
+    /// It takes no memory.
+    pub fn displace(&mut self, labels: &Labels, alert: Option<Alert>) -> Option<Alert>
+        requires { IsTrue (has_place label_set_cmp self.old labels.now) }
+        ensures answer { result ≡ map.get (shown label_set_cmp self.old) labels.now }
+        ensures shown { shown label_set_cmp self.new
+            ≡ map.set (shown label_set_cmp self.old) labels.now alert }
+        ensures places { SamePlaces label_set_cmp self.old self.new }
+        ensures entered { SameEntered label_set_cmp self.old self.new }
+        ensures keys { self.new.numbers ≡ self.old.numbers }
+        ensures enough { HasPlaces label_set_cmp self.new }
+    {
+        self.alerts.displace(labels, alert)
     }
 
     /// Makes a place for this label set and adds it to the sources, unless it has one.

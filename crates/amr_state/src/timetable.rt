@@ -135,11 +135,11 @@ impl Timetable {
         ensures record_room { journal.new.record_room ≡ journal.old.record_room }
     {
         let due = alert_due(labels.clone()?);
-        let (is_there, stored) = self.alerts.look_up(labels);
+        let (number, stored) = self.alerts.look_up_number(labels);
         let old = moment_of(stored);
-        make_room(&mut self.queue, is_there, 1)?;
+        make_room(&mut self.queue, number.is_some(), 1)?;
         let new = alert_moment(&alert);
-        let entry = self.alerts.change(journal, labels, alert)?;
+        let entry = self.alerts.change_found(journal, labels, number, alert)?;
         move_due(&mut self.queue, due, old, new);
         Ok(entry)
     }
@@ -216,7 +216,7 @@ impl Timetable {
         Ok(entry)
     }
 
-    /// Restores a stored alert, or its absence. It takes no memory.
+    /// Restores a stored alert, or its absence. It looks for the labels once and takes no memory.
     pub(crate) fn put_back_alert(&mut self, labels: Labels, alert: Option<Alert>)
         requires { IsTrue (has_place label_set_cmp self.old.alerts labels) }
         ensures shown { shown label_set_cmp self.new.alerts ≡
@@ -225,9 +225,9 @@ impl Timetable {
         ensures entered { SameEntered label_set_cmp self.old.alerts self.new.alerts }
         ensures timers { self.new.timers ≡ self.old.timers }
     {
-        let old = moment_at(&self.alerts, &labels);
         let new = alert_moment(&alert);
-        self.alerts.put_back(&labels, alert);
+        let former = self.alerts.displace(&labels, alert);
+        let old = alert_moment(&former);
         move_due(&mut self.queue, alert_due(labels), old, new);
     }
 
@@ -315,14 +315,6 @@ pub(crate) fn make_room<D: Ord + Drop>(
         return Err(AllocError);
     };
     queue.reserve(room)
-}
-
-/// Returns when the stored alert with these labels is removed, in nanoseconds since 1970, or `None`
-/// if there is none.
-fn moment_at(alerts: &AlertTable, labels: &Labels) -> Option<u128>
-    ensures { result ≡ alert_moment (map.get (shown label_set_cmp alerts.now) labels.now) }
-{
-    moment_of(alerts.get(labels))
 }
 
 /// Returns when an alert is removed, in nanoseconds since 1970, or `None` without an alert.

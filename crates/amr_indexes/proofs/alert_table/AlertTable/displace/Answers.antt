@@ -3,7 +3,7 @@ use Rattle.amr_labels.specs.Labels.{LabelSet, label_set_cmp}
 use Rattle.amr_rules.specs.declared.alert.Alert.{Alert}
 use Rattle.amr_tables.specs.Numbered.{Numbered, has_place}
 use Rattle.amr_indexes.proofs.Arriving.{followed_set}
-use Rattle.amr_indexes.proofs.alert_table.AlertTable.put_back.Goals as goal
+use Rattle.amr_indexes.proofs.alert_table.AlertTable.displace.Goals as goal
 
 pub invariant_of-self : goal.invariant_of-self
 invariant_of-self c =
