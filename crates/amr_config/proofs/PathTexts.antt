@@ -1,12 +1,14 @@
 -- Other paths have other texts.
-use Rattle.std.proofs.Common.{◌≡◌, ℕ, zero, suc, ◌+◌, ◌<◌, List, [], ◌∷◌, ◌++◌, length, get_or, map, take, refl, sym, ap, ◌∙◌, arith}
+use Rattle.std.proofs.Common.{◌≡◌, ℕ, zero, suc, ◌+◌, ◌*◌, ◌%◌, ◌^◌, ◌<◌, List, [], ◌∷◌, ◌++◌, length, get_or, map, take, refl, sym, ap, ◌∙◌, arith}
 use Rattle.std.specs.Prelude.{flat_map}
-use Rattle.std.proofs.lemmas.List.{append_assoc, map-append, take_more}
+use Rattle.std.proofs.lemmas.Grind.{flat_map-append, fold-append}
+use Rattle.std.proofs.lemmas.List.{append_assoc, append-nil, map-append, take_more}
 use Rattle.amr_labels.specs.Labels.{Text}
+use Rattle.amr_labels.specs.Spread.{text_spread}
 use Rattle.amr_matchers.specs.declared.Operator.{Operator}
 use Rattle.amr_matchers.specs.declared.Operator.TheVariants.{Equal, NotEqual, Matches, NotMatches}
 use Rattle.amr_matchers.specs.Matchers.{Matcher, operator_place}
-use Rattle.amr_config.specs.Paths.{Path, text_after_length, operator_mark, matcher_text, matchers_text, path_text}
+use Rattle.amr_config.specs.Paths.{Path, text_after_length, operator_mark, matcher_text, matchers_text, path_text, path_spread}
 
 -- a text tells what it is written for, whatever follows it
 abbrev Tells : {X : Type 0} → (X → Text) → Type 0
@@ -90,7 +92,19 @@ module _ {X : Type 0} (text : X → Text) (tells : Tells text) where
       (λ i. first.0 i ∷ rest.0 i, rest.1)
 
 pub same_path : (p q : Path) → path_text p ≡ path_text q → p ≡ q
-same_path p q e = (list_tells matchers_text (list_tells matcher_text matcher_tells) p q [] [] (ap (λ t. t ++ []) e)).0
+same_path p q e = (list_tells matchers_text (list_tells matcher_text matcher_tells) p q [] [] (ap (λ t. (t ++ 48 ∷ []) ++ []) e)).0
+
+-- ---- the text and the spread of a path below another
+
+pub text_more : (path : Path) (own : List Matcher) (above own_text text : Text) → above ≡ path_text path → own_text ≡ matchers_text own → text ≡ above ++ 49 ∷ own_text → text ≡ path_text (path ++ own ∷ [])
+text_more path own above own_text text is_above is_own is =
+    is ∙ (λ i. is_above i ++ 49 ∷ is_own i) ∙ ap (λ rest. path_text path ++ rest) (sym (append-nil (49 ∷ matchers_text own))) ∙ sym (flat_map-append (λ (matchers : List Matcher). 49 ∷ matchers_text matchers) path (own ∷ []))
+
+pub spread_more : (path : Path) (own : List Matcher) (own_text : Text) (spread : ℕ) → own_text ≡ matchers_text own → spread ≡ (path_spread path * 31 % 2 ^ 64 + text_spread own_text) % 2 ^ 64 → spread ≡ path_spread (path ++ own ∷ [])
+unfolding path_spread
+spread_more path own own_text spread is_own is =
+    is ∙ ap (λ text. (path_spread path * 31 % 2 ^ 64 + text_spread text) % 2 ^ 64) is_own
+    ∙ sym (fold-append (λ (spread : ℕ) (matchers : List Matcher). (spread * 31 % 2 ^ 64 + text_spread (matchers_text matchers)) % 2 ^ 64) 0 path (own ∷ []))
 
 -- the mark for one more byte
 pub one_more_mark : (old so_far bytes : Text) (k : ℕ) → k < length bytes → so_far ≡ old ++ map (λ (byte : ℕ). 49) (take k bytes) → so_far ++ 49 ∷ [] ≡ old ++ map (λ (byte : ℕ). 49) (take (k + 1) bytes)

@@ -1,5 +1,5 @@
 -- Paths of routes: their order, their texts, and which of them are paths of one route alone.
-use Rattle.std.specs.Prelude.{◌≡◌, ℕ, ◌<◌, ◌+◌, Bool, false, List, [], ◌∷◌, ◌++◌, map, flat_map, length, get_or, Option, option_map, slice_get}
+use Rattle.std.specs.Prelude.{◌≡◌, ℕ, ◌<◌, ◌+◌, ◌*◌, ◌%◌, ◌^◌, Bool, false, List, [], ◌∷◌, ◌++◌, map, flat_map, fold, length, get_or, Option, option_map, slice_get}
 use Rattle.std.specs.Bool.{Decides}
 use Rattle.std.specs.declared.cmp.Ordering.{Ordering}
 use Rattle.std.specs.Cmp.{IsTotalOrder}
@@ -42,13 +42,13 @@ matcher_text matcher = text_after_length matcher.name ++ text_after_length match
 abbrev pub matchers_text : List Matcher → Text
 matchers_text matchers = flat_map (λ matcher. 49 ∷ matcher_text matcher) matchers ++ 48 ∷ []
 
--- a '1' before the matchers of each route, and a '0' at the end
+-- a '1' before the matchers of each route
 abbrev pub path_text : Path → Text
-path_text path = flat_map (λ matchers. 49 ∷ matchers_text matchers) path ++ 48 ∷ []
+path_text path = flat_map (λ matchers. 49 ∷ matchers_text matchers) path
 
--- the number that tables spread a path by
+-- the number that tables spread a path by, from the root down
 unfoldable pub path_spread : Path → ℕ
-path_spread path = text_spread (path_text path)
+path_spread path = fold (λ spread matchers. (spread * 31 % 2 ^ 64 + text_spread (matchers_text matchers)) % 2 ^ 64) 0 path
 
 -- ---- paths of one route alone
 

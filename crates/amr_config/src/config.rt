@@ -208,11 +208,7 @@ impl Config {
     {
         match self.settings_at(route) {
             Some(settings) => settings.path.clone(),
-            None => {
-                let mut path = Listing::new(alloc);
-                path.push(Matchers::none(alloc)?)?;
-                RoutePath::new(alloc, path)
-            }
+            None => RoutePath::root(alloc, Matchers::none(alloc)?),
         }
     }
 

@@ -82,12 +82,11 @@ fn path_under(
     ensures { IfOk result (λ path. path
         ≡ path_under route.now (option_copied above.entry)) }
 {
-    let mut path = match above {
-        Some(settings) => settings.path.get().clone()?,
-        None => Listing::new(alloc),
-    };
-    path.push(sorted(alloc, &route.matchers)?)?;
-    RoutePath::new(alloc, path)
+    let own = sorted(alloc, &route.matchers)?;
+    match above {
+        Some(settings) => settings.path.below(alloc, own),
+        None => RoutePath::root(alloc, own),
+    }
 }
 
 /// Returns how a route groups alerts: its own `group_by`, or else its parent's.

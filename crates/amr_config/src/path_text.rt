@@ -1,23 +1,20 @@
-//! The text of a path. Each text is written after its length, and each list with a mark before each
-//! item and another at its end, so that other paths have other texts.
+//! The texts of the matchers of routes, which make up the texts of paths. Each text is written after
+//! its length, and each list with a mark before each item and another at its end, so that other paths
+//! have other texts.
 ghost use Rattle.std.specs.Prelude.{◌≡◌, [], ◌∷◌, ◌++◌, ◌+◌, string_bytes, IfOk, OnOk};
 ghost use Rattle.amr_matchers.specs.Matchers.{operator_place};
-ghost use Rattle.amr_config.specs.Paths.{path_text, matchers_text, matcher_text, text_after_length};
+ghost use Rattle.amr_config.specs.Paths.{matchers_text, matcher_text, text_after_length};
 
 use amr_labels::Text;
-use amr_matchers::{Matcher, Matchers, Operator};
+use amr_matchers::{Matcher, Operator};
 use std::alloc::{AllocError, Global};
 
-/// Returns the text of a path.
-pub(crate) fn path_text(alloc: Global, path: &[Matchers]) -> Result<String, AllocError>
-    ensures { IfOk result (λ text. string_bytes text ≡ path_text path.now) }
+/// Returns the text of the matchers of a route.
+pub(crate) fn matchers_text(alloc: Global, matchers: &[Matcher]) -> Result<String, AllocError>
+    ensures { IfOk result (λ text. string_bytes text ≡ matchers_text matchers.now) }
 {
     let mut text = String::new(alloc);
-    for matchers in path {
-        text.push('1')?;
-        push_matchers(&mut text, matchers.as_slice())?;
-    }
-    text.push('0')?;
+    push_matchers(&mut text, matchers)?;
     Ok(text)
 }
 
