@@ -1,15 +1,23 @@
 -- Places of receivers by their names.
-use Rattle.std.proofs.Common.{◌≡◌, ℕ, ◌+◌, ◌<◌, cond, List, ◌∷◌, length, get_or, drop, Some, refl, sym, ap, ◌∙◌}
-use Rattle.std.specs.Prelude.{slice_get}
+use Rattle.std.proofs.Common.{◌≡◌, ℕ, ◌+◌, ◌<◌, cond, List, [], ◌∷◌, ◌++◌, length, get_or, take, drop, map, Option, None, Some, refl, sym, ap, ◌∙◌, arith, option_and_then}
+use Rattle.std.specs.Prelude.{slice_get, option_map}
+use Rattle.std.specs.Option.{option_map_or}
 use Rattle.std.specs.BTreeMap as tree
 use Rattle.std.specs.BTreeMap.{BTreeMap}
 use Rattle.std.specs.Ordering.{is_eq}
 use Rattle.std.specs.declared.cmp.Ordering.TheVariants.{Less, Equal, Greater}
-use Rattle.std.proofs.lemmas.List.{drop_more}
-use Rattle.std.proofs.lemmas.Option.{slice_get-get_or}
+use Rattle.std.proofs.lemmas.List.{drop_more, map_more, map-append, length-take-le, get_or-take}
+use Rattle.std.proofs.lemmas.Option.{slice_get-get_or, slice_get-map}
 use Rattle.amr_labels.specs.Labels.{Text, text_cmp}
 use Rattle.amr_stated.specs.declared.receiver.Receiver.{Receiver}
-use Rattle.amr_config.specs.Receivers.{receiver_named, receiver_at}
+use Rattle.amr_stated.specs.declared.route.Route.{Route}
+use Rattle.amr_stated.specs.Config.{Config}
+use Rattle.amr_config.specs.declared.settings.Settings.{Settings}
+use Rattle.amr_config.specs.Receivers.{receiver_named, receiver_at, ArePlaces, AreReceivers, receiver_parent, place_at, place_of}
+use Rattle.amr_config.specs.Routing.{receiver_name_of}
+use Rattle.amr_config.specs.Settled.{settings_of, settled, AreParentsFirst}
+use Rattle.amr_config.proofs.Inherited.{length-settled, get_or-settled}
+use Rattle.amr_config.proofs.Settling.{heir}
 
 module _ (receivers : List Receiver) where
   -- under each name is the place of the first of the last receivers with that name
@@ -29,3 +37,56 @@ module _ (receivers : List Receiver) where
         | Greater ↦ λ tie. ap (receiver_at receivers) (up.0 name ∙ ap (λ o. cond (is_eq o) (Some k) (tree.get text_cmp places name)) tie) ∙ are name
             ∙ sym (ap (λ rs. receiver_named rs name) rest ∙ ap (λ o. cond (is_eq o) (Some receiver) (receiver_named (drop from receivers) name)) tie)
       ] refl
+
+receiver_joined : (receivers : List Receiver) (o : Option (Option ℕ)) (r : Option Receiver) → option_map (receiver_at receivers) o ≡ Some r → receiver_at receivers (option_and_then (λ place. place) o) ≡ r
+receiver_joined receivers None r e = cc
+receiver_joined receivers (Some place) r e = cc
+
+receiver_by : (receivers : List Receiver) (known : BTreeMap Text ℕ) (places : List (Option ℕ)) (its : Settings) (o : Option ℕ) → ArePlaces receivers known
+    → ((parent : ℕ) → o ≡ Some parent → slice_get (map (receiver_at receivers) places) parent ≡ Some (receiver_named receivers its.receiver))
+    → receiver_at receivers (option_map_or (place_at places) o (tree.get text_cmp known its.receiver)) ≡ receiver_named receivers its.receiver
+receiver_by receivers known places its None are above = are its.receiver
+receiver_by receivers known places its (Some parent) are above =
+    receiver_joined receivers (slice_get places parent) (receiver_named receivers its.receiver) (sym (slice_get-map (receiver_at receivers) places parent) ∙ above parent refl)
+
+name_settled : (config : Config) (n : ℕ) → (settings_of config n).receiver ≡ receiver_name_of config n
+unfolding settings_of
+name_settled config n = refl
+
+pub as_many : (config : Config) (settings : List Settings) → settings ≡ settled config → length settings ≡ length config.routes
+as_many config settings e = ap length e ∙ length-settled config
+
+module _ (receivers : List Receiver) (config : Config) (settings : List Settings) (are_settled : settings ≡ settled config) (n : ℕ) (within : n < length config.routes) where
+  settled_at : (parent : ℕ) → parent < n → slice_get (take n settings) parent ≡ Some (settings_of config parent)
+  settled_at parent lt =
+      let long : length settings ≡ length config.routes = as_many config settings are_settled in
+      let taken : length (take n settings) ≡ n = length-take-le n settings (omega arith) in
+      slice_get-get_or (take n settings) parent (settings_of config parent) (omega arith)
+      ∙ ap (λ s. Some s) (get_or-take n settings parent (settings_of config parent) lt ∙ ap (λ ss. get_or ss parent (settings_of config parent)) are_settled ∙ get_or-settled config parent (settings_of config parent) (omega arith))
+
+  receiver_above : (places : List (Option ℕ)) (parent : ℕ) → AreReceivers receivers (take n settings) places → parent < n
+      → slice_get (map (receiver_at receivers) places) parent ≡ Some (receiver_named receivers (receiver_name_of config parent))
+  receiver_above places parent so_far lt =
+      ap (λ rs. slice_get rs parent) so_far
+      ∙ slice_get-map (λ (its : Settings). receiver_named receivers its.receiver) (take n settings) parent
+      ∙ ap (option_map (λ (its : Settings). receiver_named receivers its.receiver)) (settled_at parent lt)
+      ∙ ap (λ name. Some (receiver_named receivers name)) (name_settled config parent)
+
+  -- the places for the first routes, and for one more
+  pub receivers_more : (known : BTreeMap Text ℕ) (places more : List (Option ℕ)) (route : Route) (its : Settings) (place : Option ℕ) → AreParentsFirst config → ArePlaces receivers known
+      → route ≡ get_or config.routes n route → its ≡ get_or settings n its → AreReceivers receivers (take n settings) places
+      → place ≡ place_of known places route its → more ≡ places ++ place ∷ [] → AreReceivers receivers (take (n + 1) settings) more
+  receivers_more known places more route its place first are is its_is so_far pl mr =
+      let here : slice_get config.routes n ≡ Some route = slice_get-get_or config.routes n route within ∙ ap (λ r. Some r) (sym is) in
+      let long : length settings ≡ length config.routes = as_many config settings are_settled in
+      let name : its.receiver ≡ receiver_name_of config n =
+      ap (λ (s : Settings). s.receiver) (its_is ∙ ap (λ ss. get_or ss n its) are_settled ∙ get_or-settled config n its within) ∙ name_settled config n in
+      let new : receiver_at receivers place ≡ receiver_named receivers its.receiver =
+      ap (receiver_at receivers) pl
+      ∙ receiver_by receivers known places its (receiver_parent route) are
+      (λ parent e. receiver_above places parent so_far (heir config first n route here parent e).0
+      ∙ ap (λ t. Some (receiver_named receivers t)) ((heir config first n route here parent e).1 ∙ sym name)) in
+      ap (map (receiver_at receivers)) mr ∙ map-append (receiver_at receivers) places (place ∷ [])
+      ∙ ap (λ rs. rs ++ receiver_at receivers place ∷ []) so_far
+      ∙ ap (λ r. map (λ (s : Settings). receiver_named receivers s.receiver) (take n settings) ++ r ∷ []) (new ∙ ap (λ (s : Settings). receiver_named receivers s.receiver) its_is)
+      ∙ sym (map_more (λ (s : Settings). receiver_named receivers s.receiver) settings n its (omega arith))

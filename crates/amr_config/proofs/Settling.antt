@@ -6,10 +6,12 @@ use Rattle.std.proofs.lemmas.Option.{slice_get-get_or}
 use Rattle.std.proofs.lemmas.List.{reverse-append}
 use Rattle.std.proofs.lemmas.List.FromFn.{length-map-range_with_len, get_or-map-range_with_len, map-range_with_len_more}
 use Rattle.amr_time.specs.Time.{second, minute, hour}
+use Rattle.amr_labels.specs.Labels.{Text}
 use Rattle.amr_stated.specs.declared.route.Route.{Route}
 use Rattle.amr_config.specs.declared.settings.Settings.{Settings}
 use Rattle.amr_stated.specs.Config.{Config}
-use Rattle.amr_config.specs.Routing.{parent_of, line_of, first_stated, inherited, active_intervals_of, mute_intervals_of, path_of, sorted_matchers}
+use Rattle.amr_config.specs.Routing.{parent_of, line_of, first_stated, inherited, receiver_name_of, active_intervals_of, mute_intervals_of, path_of, sorted_matchers}
+use Rattle.amr_config.specs.Receivers.{receiver_parent}
 use Rattle.amr_config.specs.Settled.{settings_of, settled, settled_to, settled_under, AreParentsFirst}
 use Rattle.amr_config.proofs.Lines.{line_of-root, line_of-child}
 
@@ -62,6 +64,16 @@ module _ (config : Config) (first : AreParentsFirst config) (n : ℕ) (route : R
 
   own_parent : route.parent ≡ parent_of config n
   own_parent = sym (ap (λ o. option_map_or (λ (r : Route). r.parent) o None) here)
+
+  heir_by : (stated : Option Text) → route.receiver ≡ stated → (parent : ℕ) → option_map_or (λ name. None) stated route.parent ≡ Some parent → (parent < n) × (receiver_name_of config parent ≡ receiver_name_of config n)
+  heir_by None is parent e =
+      let up : parent_of config n ≡ Some parent = sym own_parent ∙ e in
+      (first n parent up, sym (ap (λ o. unwrap_or o []) (inherited_child (λ r. r.receiver) parent up ∙ ap (λ o. option_or o (inherited (λ r. r.receiver) config parent)) is)))
+  heir_by (Some name) is parent e = cc
+
+  -- a route that inherits its receiver comes after its parent and has its parent's
+  pub heir : (parent : ℕ) → receiver_parent route ≡ Some parent → (parent < n) × (receiver_name_of config parent ≡ receiver_name_of config n)
+  heir parent e = heir_by route.receiver refl parent e
 
   settings_root : parent_of config n ≡ None → settled_under route None ≡ settings_of config n
   unfolding settled_under settings_of

@@ -1,11 +1,13 @@
 -- Which receiver each route has.
-use Rattle.std.specs.Prelude.{◌≡◌, ℕ, List, Option, map, slice_get, option_and_then}
+use Rattle.std.specs.Prelude.{◌≡◌, ℕ, List, Option, None, map, slice_get, option_and_then}
 use Rattle.std.specs.BTreeMap as tree
 use Rattle.std.specs.BTreeMap.{BTreeMap}
 use Rattle.std.specs.List.{find}
+use Rattle.std.specs.Option.{option_map_or}
 use Rattle.std.specs.Ordering.{eq_by_cmp}
 use Rattle.amr_labels.specs.Labels.{Text, text_cmp}
 use Rattle.amr_stated.specs.declared.receiver.Receiver.{Receiver}
+use Rattle.amr_stated.specs.declared.route.Route.{Route}
 use Rattle.amr_config.specs.declared.settings.Settings.{Settings}
 
 -- the first receiver with this name
@@ -23,3 +25,15 @@ ArePlaces receivers places = (name : Text) → receiver_at receivers (tree.get t
 -- at these places are the receivers that the routes name
 abbrev pub AreReceivers : List Receiver → List Settings → List (Option ℕ) → Type 0
 AreReceivers receivers settings places = map (receiver_at receivers) places ≡ map (λ its. receiver_named receivers its.receiver) settings
+
+-- the parent from which a route inherits its receiver; none if it states one
+abbrev pub receiver_parent : Route → Option ℕ
+receiver_parent route = option_map_or (λ name. None) route.receiver route.parent
+
+-- the place of the receiver of the route with this number, if there is one
+abbrev pub place_at : List (Option ℕ) → ℕ → Option ℕ
+place_at places route = option_and_then (λ place. place) (slice_get places route)
+
+-- the place of a route's receiver, given those of the routes before it
+abbrev pub place_of : BTreeMap Text ℕ → List (Option ℕ) → Route → Settings → Option ℕ
+place_of known places route its = option_map_or (place_at places) (receiver_parent route) (tree.get text_cmp known its.receiver)
