@@ -1,5 +1,5 @@
 -- Paths of routes: their order, their texts, and which of them are paths of one route alone.
-use Rattle.std.specs.Prelude.{◌≡◌, ℕ, ◌<◌, ◌+◌, Bool, false, List, [], ◌∷◌, ◌++◌, map, flat_map, length, get_or, Option, option_map, slice_get}
+use Rattle.std.specs.Prelude.{◌≡◌, ℕ, ◌<◌, ◌≤◌, ◌+◌, Bool, false, List, [], ◌∷◌, ◌++◌, map, flat_map, length, get_or}
 use Rattle.std.specs.Bool.{Decides}
 use Rattle.std.specs.declared.cmp.Ordering.{Ordering}
 use Rattle.std.specs.Cmp.{IsTotalOrder}
@@ -8,7 +8,8 @@ use Rattle.std.specs.FinMap.{IsAntisymmetric, slice_cmp-IsAntisymmetric}
 use Rattle.amr_labels.specs.Labels.{Text}
 use Rattle.amr_labels.specs.Spread.{text_spread}
 use Rattle.amr_matchers.specs.Matchers.{Matcher, operator_place, matcher_cmp, matcher_cmp_total, matcher_cmp-IsAntisymmetric}
-use Rattle.amr_config.specs.declared.settings.Settings.{Settings}
+use Rattle.amr_stated.specs.Config.{Config}
+use Rattle.amr_config.specs.Routing.{path_of}
 
 -- the matchers of each route from the root down to one
 abbrev pub Path : Type 0
@@ -52,18 +53,39 @@ path_spread path = text_spread (path_text path)
 
 -- ---- paths of one route alone
 
-abbrev pub path_at : List Settings → ℕ → Option Path
-path_at settings n = option_map (λ its. its.path) (slice_get settings n)
+-- no route before this one has its path
+abbrev pub IsFirst : Config → ℕ → Type 0
+IsFirst config n = (other : ℕ) → other < n → path_of config other ≡ path_of config n → ⊥
+
+-- this is the first route with the path of route n
+pub record IsFirstLike (config : Config) (n first : ℕ) : Type 0 where
+  pub within : first ≤ n
+  pub same : path_of config first ≡ path_of config n
+  pub is_first : IsFirst config first
+
+-- what is said of each of the first routes is the first route with its path
+pub record AreFirsts (config : Config) (limit : ℕ) (firsts : List ℕ) : Type 0 where
+  pub each : (n : ℕ) → n < limit → IsFirstLike config n (get_or firsts n 0)
+  pub all : length firsts ≡ limit
 
 -- no other of the first routes has the path of this one
-abbrev pub IsOnly : List Settings → ℕ → ℕ → Type 0
-IsOnly settings limit n = (other : ℕ) → other < limit → path_at settings other ≡ path_at settings n → other ≡ n
-
--- what is said of each of the first routes is whether no other of them has its path
-pub record AreOwnTo (settings : List Settings) (limit : ℕ) (own : List Bool) : Type 0 where
-  pub each : (n : ℕ) → n < limit → Decides (get_or own n false) (IsOnly settings limit n)
-  pub all : length own ≡ limit
+abbrev pub IsOnly : Config → ℕ → ℕ → Type 0
+IsOnly config limit n = (other : ℕ) → other < limit → path_of config other ≡ path_of config n → other ≡ n
 
 -- what is said of each route is whether no other has its path
-abbrev pub AreOwn : List Settings → List Bool → Type 0
-AreOwn settings own = AreOwnTo settings (length settings) own
+pub record AreOwn (config : Config) (own : List Bool) : Type 0 where
+  pub each : (n : ℕ) → n < length config.routes → Decides (get_or own n false) (IsOnly config (length config.routes) n)
+  pub all : length own ≡ length config.routes
+
+-- each number is a place that has it, and no later than where it stands
+abbrev pub AreFirstPlaces : List ℕ → Type 0
+AreFirstPlaces numbers = (n : ℕ) → n < length numbers → (get_or numbers n 0 ≤ n) × (get_or numbers (get_or numbers n 0) 0 ≡ get_or numbers n 0)
+
+-- no other of the first places has the number of this one
+abbrev pub IsAlone : List ℕ → ℕ → ℕ → Type 0
+IsAlone numbers limit n = (other : ℕ) → other < limit → get_or numbers other 0 ≡ get_or numbers n 0 → other ≡ n
+
+-- what is said of each of the first places is whether no other of them has its number
+pub record AreAlone (numbers : List ℕ) (limit : ℕ) (alone : List Bool) : Type 0 where
+  pub each : (n : ℕ) → n < limit → Decides (get_or alone n false) (IsAlone numbers limit n)
+  pub all : length alone ≡ limit

@@ -84,7 +84,7 @@ impl Config {
         let rule_names = rule_names(alloc, stated.rules.as_slice())?;
         let receivers = stated.receivers.as_slice();
         let receiver_places = receiver_places(alloc, receivers, settings.as_slice())?;
-        let own_paths = own_paths(alloc, settings.as_slice())?;
+        let own_paths = own_paths(alloc, &stated)?;
         let parts = Parts {
             stated,
             settings,
