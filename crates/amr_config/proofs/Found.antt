@@ -9,9 +9,9 @@ use Rattle.amr_stated.specs.declared.receiver.Receiver.{Receiver}
 use Rattle.amr_stated.specs.declared.route.Route.{Route}
 use Rattle.amr_stated.specs.Config.{Config}
 use Rattle.amr_config.specs.declared.settings.Settings.{Settings}
-use Rattle.amr_config.specs.Paths.{path_at, IsOnly, AreOwn}
+use Rattle.amr_config.specs.Paths.{IsOnly, AreOwn}
 use Rattle.amr_config.specs.Receivers.{receiver_at, receiver_named, AreReceivers}
-use Rattle.amr_config.specs.Routing.{HasOwnPath, path_of, receiver_name_of}
+use Rattle.amr_config.specs.Routing.{HasOwnPath, receiver_name_of}
 use Rattle.amr_config.specs.Settled.{settings_of, settled}
 use Rattle.amr_config.proofs.Inherited.{length-settled, get_or-settled, inherited_past}
 use Rattle.amr_config.proofs.OwnPaths.{decides_too, decides_no}
@@ -25,33 +25,20 @@ module _ (config : Config) (settings : List Settings) (are_settled : settings �
       slice_get-get_or settings n (settings_of config n) (omega (arith, there, as_many))
       ∙ ap (λ s. Some s) (ap (λ ss. get_or ss n (settings_of config n)) are_settled ∙ get_or-settled config n (settings_of config n) there)
 
-  its_path : (n : ℕ) → n < length config.routes → path_at settings n ≡ Some (path_of config n)
-  unfolding settings_of
-  its_path n there = ap (option_map (λ (s : Settings). s.path)) (its_settings n there)
+module _ (config : Config) where
+  pub own_found : (own : List Bool) (n : ℕ) (r : Option (Bor Bool)) → AreOwn config own → IsItemAt own n r → MatchOption r (length config.routes ≤ n) (λ found. Decides found.now (HasOwnPath config n))
+  own_found own n None are h =
+      let past : length own ≤ n = h.3 in
+      omega (arith, are.all, past)
+  own_found own n (Some x) are h =
+      let within : n < length own = h.3.0 in
+      let there : n < length config.routes = omega (arith, are.all, within) in
+      decides_too (get_or own n false) x.now (h.4 (omega arith) false) (λ (only : IsOnly config (length config.routes) n). record { is_there = there; own = only }) (λ (has : HasOwnPath config n). has.own) (are.each n there)
 
-  has_own : (n : ℕ) → n < length config.routes → IsOnly settings (length settings) n → HasOwnPath config n
-  has_own n there only = record {
-    is_there = there;
-    own = λ other less same. only other (omega (arith, less, as_many)) (its_path other less ∙ ap (λ p. Some p) same ∙ sym (its_path n there));
-  }
-
-  is_only : (n : ℕ) → n < length config.routes → HasOwnPath config n → IsOnly settings (length settings) n
-  is_only n there has other less same =
-      let other_there : other < length config.routes = omega (arith, less, as_many) in
-      has.own other other_there (same_Some (path_of config other) (path_of config n) (sym (its_path other other_there) ∙ same ∙ its_path n there))
+  pub own_past : (n : ℕ) → length config.routes ≤ n → Decides false (HasOwnPath config n)
+  own_past n past = decides_no false refl (λ (has : HasOwnPath config n). omega (arith, has.is_there, past))
 
 module _ (config : Config) (settings : List Settings) where
-  pub own_found : (own : List Bool) (n : ℕ) (r : Option (Bor Bool)) → settings ≡ settled config → AreOwn settings own → IsItemAt own n r
-      → MatchOption r (length config.routes ≤ n) (λ found. Decides found.now (HasOwnPath config n))
-  own_found own n None e are h =
-      let past : length own ≤ n = h.3 in
-      omega (arith, as_many config settings e, are.all, past)
-  own_found own n (Some x) e are h =
-      let within : n < length own = h.3.0 in
-      let in_settings : n < length settings = omega (arith, are.all, within) in
-      let there : n < length config.routes = omega (arith, as_many config settings e, in_settings) in
-      decides_too (get_or own n false) x.now (h.4 (omega arith) false) (has_own config settings e n there) (is_only config settings e n there) (are.each n in_settings)
-
   pub receiver_found : (receivers : List Receiver) (places : List (Option ℕ)) (n : ℕ) (r : Option (Bor (Option ℕ))) → settings ≡ settled config → AreReceivers receivers settings places → IsItemAt places n r
       → MatchOption r (length config.routes ≤ n) (λ found. receiver_at receivers found.now ≡ receiver_named receivers (receiver_name_of config n))
   unfolding settings_of
@@ -67,9 +54,6 @@ module _ (config : Config) (settings : List Settings) where
       same_Some (receiver_at receivers x.now) (receiver_named receivers (receiver_name_of config n))
       (sym (slice_get-map (receiver_at receivers) places n ∙ ap (option_map (receiver_at receivers)) place)
       ∙ ap (λ rs. slice_get rs n) are ∙ slice_get-map f settings n ∙ ap (option_map f) (its_settings config settings e n there))
-
-pub own_past : (config : Config) (n : ℕ) → length config.routes ≤ n → Decides false (HasOwnPath config n)
-own_past config n past = decides_no false refl (λ (has : HasOwnPath config n). omega (arith, has.is_there, past))
 
 pub name_past : (config : Config) (n : ℕ) → length config.routes ≤ n → receiver_name_of config n ≡ []
 name_past config n past = ap (λ o. unwrap_or o []) (inherited_past (λ (route : Route). route.receiver) config n past)

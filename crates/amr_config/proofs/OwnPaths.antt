@@ -1,16 +1,29 @@
--- Which routes have a path that no other of the first routes has.
-use Rattle.std.proofs.Common.{◌≡◌, ℕ, ◌+◌, ◌<◌, Bool, true, false, cond, List, [], ◌∷◌, ◌++◌, get_or, set, Option, Some, None, MatchOption, refl, sym, ap, subst, ◌∙◌, ⊎_elim, arith}
+-- The first route with each path, and which places no other is like.
+use Rattle.std.proofs.Common.{◌≡◌, ℕ, zero, suc, ◌+◌, ◌<◌, ◌≤◌, Bool, true, false, cond, List, [], ◌∷◌, ◌++◌, length, get_or, set, map, Option, Some, None, MatchOption, option_and_then, refl, sym, ap, subst, ◌∙◌, ⊎_elim, arith}
+use Rattle.std.specs.Prelude.{IfSome}
 use Rattle.std.specs.Bool.{Decides}
 use Rattle.std.specs.BTreeMap as tree
 use Rattle.std.specs.BTreeMap.{BTreeMap}
+use Rattle.std.specs.Cmp.{IsTotalOrder, nat_cmp_total}
+use Rattle.std.specs.Cmp.Lexicographic.{slice_cmp, lists_total, options_total}
+use Rattle.std.specs.FinMap.{nat_cmp-IsAntisymmetric, slice_cmp-IsAntisymmetric}
+use Rattle.std.specs.List.{slice_get}
+use Rattle.std.specs.Option.{option_map_or, option_cmp}
+use Rattle.std.specs.Ordering.{is_eq, nat_cmp, ordering_then}
+use Rattle.std.specs.declared.cmp.Ordering.{Ordering}
 use Rattle.std.specs.declared.cmp.Ordering.TheVariants.{Less, Equal, Greater}
-use Rattle.std.specs.Ordering.{is_eq}
-use Rattle.std.proofs.lemmas.Bool.{cases_eq}
-use Rattle.std.proofs.lemmas.Cmp.{tied_itself}
-use Rattle.std.proofs.lemmas.List.{length-set, length_push, get_or_append_left, get_or_push, get_or-set_same, get_or-set_other}
-use Rattle.std.proofs.lemmas.Option.{none-some, same_Some, MatchOption-at_some, MatchOption-at_none}
-use Rattle.amr_config.specs.declared.settings.Settings.{Settings}
-use Rattle.amr_config.specs.Paths.{Path, path_cmp, path_cmp_total, path_cmp-IsAntisymmetric, path_at, IsOnly, AreOwnTo}
+use Rattle.std.proofs.lemmas.Bool.{cases_eq, cases_order}
+use Rattle.std.proofs.lemmas.Cmp.{tied_itself, on_total, then_total}
+use Rattle.std.proofs.lemmas.List.{length-map, length-reverse, length-set, length_push, get_or_append_left, get_or_push, get_or-set_same, get_or-set_other, same_from_push}
+use Rattle.std.proofs.lemmas.Map.Lookups.{exact_pairs}
+use Rattle.std.proofs.lemmas.Option.{none-some, slice_get-get_or, MatchOption-at_some, MatchOption-at_none}
+use Rattle.amr_matchers.specs.Matchers.{Matcher, matcher_cmp, matcher_cmp_total, matcher_cmp-IsAntisymmetric}
+use Rattle.amr_stated.specs.declared.route.Route.{Route}
+use Rattle.amr_stated.specs.Config.{Config}
+use Rattle.amr_config.specs.Paths.{Path, IsFirst, IsFirstLike, AreFirsts, IsOnly, AreOwn, AreFirstPlaces, IsAlone, AreAlone}
+use Rattle.amr_config.specs.Routing.{parent_of, line_within, line_of, path_of, sorted_matchers}
+use Rattle.amr_config.specs.Settled.{AreParentsFirst}
+use Rattle.amr_config.proofs.Settling.{path_root, path_child}
 
 pub decides_too : {P Q : Type 0} (r s : Bool) → s ≡ r → (P → Q) → (Q → P) → Decides r P → Decides s Q
 decides_too r s e there back d = (λ is. there (d.0 (sym e ∙ is)), λ q. e ∙ d.1 (back q))
@@ -21,99 +34,246 @@ decides_yes r e p = (λ is. p, λ p'. e)
 pub decides_no : {P : Type 0} (r : Bool) → r ≡ false → (P → ⊥) → Decides r P
 decides_no r e none = (λ is. let h : ◌≡◌ {A = Bool} false true = sym e ∙ is in absurd (cc), λ p. absurd (none p))
 
-module _ (settings : List Settings) where
+below : (n limit : ℕ) → n < limit + 1 → (n ≡ limit → ⊥) → n < limit
+below n limit within ne = omega (arith, within, ne)
+
+-- ---- keys of paths
+
+-- the first route with the parent's path, if there is a parent, and the sorted matchers
+abbrev pub PathKey : Type 0
+PathKey = Option ℕ × List Matcher
+
+abbrev pub path_key_cmp : PathKey → PathKey → Ordering
+path_key_cmp a b = ordering_then (option_cmp nat_cmp a.0 b.0) (slice_cmp matcher_cmp a.1 b.1)
+
+path_key_cmp_total : IsTotalOrder path_key_cmp
+path_key_cmp_total = then_total (on_total (λ (q : PathKey). q.0) (options_total nat_cmp_total)) (on_total (λ (q : PathKey). q.1) (lists_total matcher_cmp_total))
+
+options_alike : (p q : Option ℕ) → option_cmp nat_cmp p q ≡ Equal → p ≡ q
+options_alike None None e = refl
+options_alike None (Some b) e = let h : ◌≡◌ {A = Ordering} Less Equal = e in absurd (cc)
+options_alike (Some a) None e = let h : ◌≡◌ {A = Ordering} Greater Equal = e in absurd (cc)
+options_alike (Some a) (Some b) e = ap (λ n. Some n) (nat_cmp-IsAntisymmetric a b e)
+
+-- keys that compare as equal are the same
+keys_alike : (p q : PathKey) → path_key_cmp p q ≡ Equal → p ≡ q
+keys_alike = exact_pairs (option_cmp nat_cmp) (slice_cmp matcher_cmp) options_alike (slice_cmp-IsAntisymmetric matcher_cmp-IsAntisymmetric)
+
+-- ---- the first route with each path
+
+line_not_empty : (config : Config) (most n : ℕ) → 0 < length (line_within most config n)
+line_not_empty config zero n = omega arith
+line_not_empty config (suc most) n = omega arith
+
+path_not_empty : (config : Config) (n : ℕ) → path_of config n ≡ [] → ⊥
+unfolding path_of
+path_not_empty config n e =
+    let matchers : ℕ → List Matcher = λ m. option_map_or (λ (route : Route). sorted_matchers route.matchers) (slice_get config.routes m) [] in
+    omega (arith, line_not_empty config n n, sym (length-map (line_of config n) matchers) ∙ sym (length-reverse (map matchers (line_of config n))) ∙ ap length e)
+
+module _ (config : Config) where
+  abbrev path_of_key : PathKey → Path
+  path_of_key key = option_map_or (path_of config) key.0 [] ++ key.1 ∷ []
+
+  -- a key that a path may have
+  abbrev IsSound : PathKey → Type 0
+  IsSound key = IfSome key.0 (IsFirst config)
+
+  -- the key is that of route n
+  pub record IsKeyOf (n : ℕ) (key : PathKey) : Type 0 where
+    pub sound : IsSound key
+    pub path : path_of_key key ≡ path_of config n
+
+  -- this is the first route with the path of the key, and before the limit
+  pub record HasFirst (limit : ℕ) (key : PathKey) (first : ℕ) : Type 0 where
+    pub within : first < limit
+    pub same : path_of config first ≡ path_of_key key
+    pub is_first : IsFirst config first
+
+  abbrev IsUnseen : ℕ → PathKey → Type 0
+  IsUnseen limit key = (n : ℕ) → n < limit → path_of config n ≡ path_of_key key → ⊥
+
+  abbrev IsAnswered : ℕ → PathKey → Option ℕ → Type 0
+  IsAnswered limit key found = MatchOption found (IsUnseen limit key) (HasFirst limit key)
+
   -- the first of the first routes with each path is known
-  abbrev pub AreFirsts : ℕ → BTreeMap Path ℕ → Type 0
-  AreFirsts limit firsts =
-      (p : Path) → MatchOption (tree.get path_cmp firsts p) ((n : ℕ) → n < limit → path_at settings n ≡ Some p → ⊥) (λ first. (first < limit) × (path_at settings first ≡ Some p))
+  abbrev pub AreKnown : ℕ → BTreeMap PathKey ℕ → Type 0
+  AreKnown limit known = (key : PathKey) → IsSound key → IsAnswered limit key (tree.get path_key_cmp known key)
 
-  below : (n limit : ℕ) → n < limit + 1 → (n ≡ limit → ⊥) → n < limit
-  below n limit within ne = omega (arith, within, ne)
+  two_firsts : (a b : ℕ) → IsFirst config a → IsFirst config b → path_of config a ≡ path_of config b → a ≡ b
+  two_firsts a b first_a first_b same =
+      ⊎_elim (λ (e : a ≡ b). e) (λ apart. ⊎_elim (λ (less : a < b). absurd (first_b a less same)) (λ (less : b < a). absurd (first_a b less (sym same))) apart) (cases_order a b)
 
-  only_less : (limit n : ℕ) → IsOnly settings (limit + 1) n → IsOnly settings limit n
-  only_less limit n only other within same = only other (omega (arith, within)) same
+  same_above : (a b : Option ℕ) → IfSome a (IsFirst config) → IfSome b (IsFirst config) → option_map_or (path_of config) a [] ≡ option_map_or (path_of config) b [] → a ≡ b
+  same_above None None sound_a sound_b same = refl
+  same_above None (Some b) sound_a sound_b same = absurd (path_not_empty config b (sym same))
+  same_above (Some a) None sound_a sound_b same = absurd (path_not_empty config a same)
+  same_above (Some a) (Some b) sound_a sound_b same = ap (λ n. Some n) (two_firsts a b sound_a sound_b same)
 
-  only_more : (limit n : ℕ) → (path_at settings limit ≡ path_at settings n → limit ≡ n) → IsOnly settings limit n → IsOnly settings (limit + 1) n
-  only_more limit n next only other within same =
-      ⊎_elim (λ (e : other ≡ limit). e ∙ next (ap (path_at settings) (sym e) ∙ same)) (λ (ne : other ≡ limit → ⊥). only other (below other limit within ne) same) (cases_eq other limit)
+  -- keys of the same path are the same
+  same_key : (p q : PathKey) → IsSound p → IsSound q → path_of_key p ≡ path_of_key q → p ≡ q
+  same_key p q sound_p sound_q same =
+      let parts = same_from_push (option_map_or (path_of config) p.0 []) (option_map_or (path_of config) q.0 []) p.1 q.1 same in
+      let fronts = same_above p.0 q.0 sound_p sound_q parts.0 in
+      λ i. (fronts i, parts.1 i)
 
-  module _ (limit : ℕ) (own : List Bool) (firsts : BTreeMap Path ℕ) (p : Path) (here : path_at settings limit ≡ Some p) (known : AreOwnTo settings limit own) (are : AreFirsts limit firsts) where
-    -- ---- what is known of other paths
+  pub firsts_more : (limit : ℕ) (firsts : List ℕ) (first : ℕ) → AreFirsts config limit firsts → IsFirstLike config limit first → AreFirsts config (limit + 1) (firsts ++ first ∷ [])
+  firsts_more limit firsts first are is = record {
+    each = λ n within. ⊎_elim
+        (λ (e : n ≡ limit). subst (λ (k : ℕ). IsFirstLike config n k) (sym (get_or_push firsts first 0 n (are.all ∙ sym e))) (subst (λ (k : ℕ). IsFirstLike config k first) (sym e) is))
+        (λ (ne : n ≡ limit → ⊥). let less = below n limit within ne in
+        subst (λ (k : ℕ). IsFirstLike config n k) (sym (get_or_append_left firsts (first ∷ []) 0 n (omega (arith, less, are.all)))) (are.each n less))
+        (cases_eq n limit);
+    all = length_push firsts first ∙ ap (λ k. k + 1) are.all;
+  }
 
-    more_places : (q : Path) (o : Option ℕ) → (p ≡ q → o ≡ None → ⊥) → MatchOption o ((n : ℕ) → n < limit → path_at settings n ≡ Some q → ⊥) (λ first. (first < limit) × (path_at settings first ≡ Some q))
-        → MatchOption o ((n : ℕ) → n < limit + 1 → path_at settings n ≡ Some q → ⊥) (λ first. (first < limit + 1) × (path_at settings first ≡ Some q))
-    more_places q None apart none = λ n within at.
-        ⊎_elim (λ (e : n ≡ limit). apart (same_Some p q (sym here ∙ ap (path_at settings) (sym e) ∙ at)) refl) (λ (ne : n ≡ limit → ⊥). none n (below n limit within ne) at) (cases_eq n limit)
-    more_places q (Some first) apart found = (omega (arith, found.0), found.1)
+  module _ (parents : AreParentsFirst config) (limit : ℕ) (route : Route) (here : slice_get config.routes limit ≡ Some route) (firsts : List ℕ) (are : AreFirsts config limit firsts) where
+    is_key_under : (parent : Option ℕ) → parent_of config limit ≡ parent → IsKeyOf limit (option_and_then (slice_get firsts) parent, sorted_matchers route.matchers)
+    is_key_under None e = record { sound = tt; path = sym (path_root config parents limit route here e) }
+    is_key_under (Some parent) e =
+        let less = parents limit parent e in
+        let its = are.each parent less in
+        let found = slice_get-get_or firsts parent 0 (omega (arith, less, are.all)) in
+        subst (λ (o : Option ℕ). IsKeyOf limit (o, sorted_matchers route.matchers)) (sym found)
+        (record { sound = its.is_first; path = ap (λ (p : Path). p ++ sorted_matchers route.matchers ∷ []) its.same ∙ sym (path_child config parents limit route here parent e) })
 
-    others : (q : Path) (more : BTreeMap Path ℕ) → tree.get path_cmp more q ≡ tree.get path_cmp firsts q → (p ≡ q → ⊥)
-        → MatchOption (tree.get path_cmp more q) ((n : ℕ) → n < limit + 1 → path_at settings n ≡ Some q → ⊥) (λ first. (first < limit + 1) × (path_at settings first ≡ Some q))
-    others q more same apart =
-        subst (λ o. MatchOption o ((n : ℕ) → n < limit + 1 → path_at settings n ≡ Some q → ⊥) (λ first. (first < limit + 1) × (path_at settings first ≡ Some q))) (sym same)
-        (more_places q (tree.get path_cmp firsts q) (λ e none. apart e) (are q))
+    pub is_key : (key : PathKey) → key ≡ (option_and_then (slice_get firsts) route.parent, sorted_matchers route.matchers) → IsKeyOf limit key
+    is_key key e =
+        subst (IsKeyOf limit) (sym e) (is_key_under route.parent (ap (λ o. option_map_or (λ (r : Route). r.parent) o None) here))
 
-    -- ---- a path that has not been seen
-
-    module _ (unseen : tree.get path_cmp firsts p ≡ None) where
-      no_other : (n : ℕ) → n < limit → path_at settings n ≡ Some p → ⊥
-      no_other = MatchOption-at_none ((n : ℕ) → n < limit → path_at settings n ≡ Some p → ⊥) (λ first. (first < limit) × (path_at settings first ≡ Some p)) unseen (are p)
-
-      pub own_unseen : AreOwnTo settings (limit + 1) (own ++ true ∷ [])
-      own_unseen = record {
-        each = λ n within. ⊎_elim
-            (λ (e : n ≡ limit). decides_yes (get_or (own ++ true ∷ []) n false) (get_or_push own true false n (known.all ∙ sym e))
-            (only_more limit n (λ same. sym e) (λ other less same. absurd (no_other other less (same ∙ ap (path_at settings) e ∙ here)))))
-            (λ (ne : n ≡ limit → ⊥). let less = below n limit within ne in
-            decides_too (get_or own n false) (get_or (own ++ true ∷ []) n false) (get_or_append_left own (true ∷ []) false n (omega (arith, less, known.all)))
-            (only_more limit n (λ same. absurd (no_other n less (sym same ∙ here)))) (only_less limit n) (known.each n less))
-            (cases_eq n limit);
-        all = length_push own true ∙ ap (λ k. k + 1) known.all;
-      }
-
-      pub firsts_unseen : (more : BTreeMap Path ℕ) → tree.Updates path_cmp firsts more p (Some limit) → AreFirsts (limit + 1) more
-      firsts_unseen more up q =
-          elim (path_cmp p q) as (λ o. path_cmp p q ≡ o → MatchOption (tree.get path_cmp more q) ((n : ℕ) → n < limit + 1 → path_at settings n ≡ Some q → ⊥) (λ first. (first < limit + 1) × (path_at settings first ≡ Some q))) [
-            | Less ↦ λ tie. others q more (up.0 q ∙ ap (λ o. cond (is_eq o) (Some limit) (tree.get path_cmp firsts q)) tie) (λ same. let h = sym tie ∙ ap (path_cmp p) (sym same) ∙ tied_itself path_cmp_total p in absurd (cc))
-            | Equal ↦ λ tie. subst (λ o. MatchOption o ((n : ℕ) → n < limit + 1 → path_at settings n ≡ Some q → ⊥) (λ first. (first < limit + 1) × (path_at settings first ≡ Some q)))
-                (sym (up.0 q ∙ ap (λ o. cond (is_eq o) (Some limit) (tree.get path_cmp firsts q)) tie))
-                (omega arith, here ∙ ap (λ r. Some r) (path_cmp-IsAntisymmetric p q tie))
-            | Greater ↦ λ tie. others q more (up.0 q ∙ ap (λ o. cond (is_eq o) (Some limit) (tree.get path_cmp firsts q)) tie) (λ same. let h = sym tie ∙ ap (path_cmp p) (sym same) ∙ tied_itself path_cmp_total p in absurd (cc))
-          ] refl
+  module _ (limit : ℕ) (key : PathKey) (is : IsKeyOf limit key) (known : BTreeMap PathKey ℕ) (are : AreKnown limit known) where
+    answered_more : (other : PathKey) (found : Option ℕ) → IsSound other → (key ≡ other → found ≡ None → ⊥) → IsAnswered limit other found → IsAnswered (limit + 1) other found
+    answered_more other None sound apart none = λ n within same.
+        ⊎_elim (λ (e : n ≡ limit). apart (same_key key other is.sound sound (is.path ∙ ap (path_of config) (sym e) ∙ same)) refl) (λ (ne : n ≡ limit → ⊥). none n (below n limit within ne) same) (cases_eq n limit)
+    answered_more other (Some first) sound apart found = record { within = omega (arith, found.within); same = found.same; is_first = found.is_first }
 
     -- ---- a path that has been seen
 
-    module _ (first : ℕ) (seen : tree.get path_cmp firsts p ≡ Some first) where
-      pub first_is : (first < limit) × (path_at settings first ≡ Some p)
-      first_is = MatchOption-at_some ((n : ℕ) → n < limit → path_at settings n ≡ Some p → ⊥) (λ first. (first < limit) × (path_at settings first ≡ Some p)) first seen (are p)
+    module _ (first : ℕ) (seen : tree.get path_key_cmp known key ≡ Some first) where
+      has_first : HasFirst limit key first
+      has_first = MatchOption-at_some (IsUnseen limit key) (HasFirst limit key) first seen (are key is.sound)
+
+      pub first_seen : IsFirstLike config limit first
+      first_seen = record { within = omega (arith, has_first.within); same = has_first.same ∙ is.path; is_first = has_first.is_first }
+
+      pub known_seen : AreKnown (limit + 1) known
+      known_seen other sound =
+          answered_more other (tree.get path_key_cmp known other) sound (λ e none. none-some first (sym none ∙ ap (tree.get path_key_cmp known) (sym e) ∙ seen)) (are other sound)
+
+    -- ---- a path that has not been seen
+
+    module _ (unseen : tree.get path_key_cmp known key ≡ None) where
+      none_before : IsFirst config limit
+      none_before n less same = MatchOption-at_none (IsUnseen limit key) (HasFirst limit key) unseen (are key is.sound) n less (same ∙ sym is.path)
+
+      pub first_unseen : IsFirstLike config limit limit
+      first_unseen = record { within = omega arith; same = refl; is_first = none_before }
+
+      module _ (more : BTreeMap PathKey ℕ) (up : tree.Updates path_key_cmp known more key (Some limit)) where
+        others : (other : PathKey) → IsSound other → tree.get path_key_cmp more other ≡ tree.get path_key_cmp known other → (key ≡ other → ⊥) → IsAnswered (limit + 1) other (tree.get path_key_cmp more other)
+        others other sound same apart =
+            subst (IsAnswered (limit + 1) other) (sym same) (answered_more other (tree.get path_key_cmp known other) sound (λ e none. apart e) (are other sound))
+
+        pub known_unseen : AreKnown (limit + 1) more
+        known_unseen other sound =
+            elim (path_key_cmp key other) as (λ o. path_key_cmp key other ≡ o → IsAnswered (limit + 1) other (tree.get path_key_cmp more other)) [
+              | Less ↦ λ tie. others other sound (up.0 other ∙ ap (λ o. cond (is_eq o) (Some limit) (tree.get path_key_cmp known other)) tie) (λ same. let h = sym tie ∙ ap (path_key_cmp key) (sym same) ∙ tied_itself path_key_cmp_total key in absurd (cc))
+              | Equal ↦ λ tie. subst (IsAnswered (limit + 1) other)
+                  (sym (up.0 other ∙ ap (λ o. cond (is_eq o) (Some limit) (tree.get path_key_cmp known other)) tie))
+                  (record { within = omega arith; same = sym is.path ∙ ap path_of_key (keys_alike key other tie); is_first = none_before })
+              | Greater ↦ λ tie. others other sound (up.0 other ∙ ap (λ o. cond (is_eq o) (Some limit) (tree.get path_key_cmp known other)) tie) (λ same. let h = sym tie ∙ ap (path_key_cmp key) (sym same) ∙ tied_itself path_key_cmp_total key in absurd (cc))
+            ] refl
+
+  -- ---- the first routes tell which paths are of one route alone
+
+  module _ (limit : ℕ) (firsts : List ℕ) (are : AreFirsts config limit firsts) where
+    its : (n : ℕ) → n < length firsts → IsFirstLike config n (get_or firsts n 0)
+    its n there = are.each n (omega (arith, there, are.all))
+
+    pub are_first_places : AreFirstPlaces firsts
+    are_first_places n there =
+        let first = its n there in
+        let again = its (get_or firsts n 0) (omega (arith, there, first.within)) in
+        (first.within, two_firsts (get_or firsts (get_or firsts n 0) 0) (get_or firsts n 0) again.is_first first.is_first again.same)
+
+    same_path : (n other : ℕ) → n < limit → other < limit → get_or firsts other 0 ≡ get_or firsts n 0 → path_of config other ≡ path_of config n
+    same_path n other there other_there same = sym (are.each other other_there).same ∙ ap (path_of config) same ∙ (are.each n there).same
+
+    same_first : (n other : ℕ) → n < limit → other < limit → path_of config other ≡ path_of config n → get_or firsts other 0 ≡ get_or firsts n 0
+    same_first n other there other_there same =
+        two_firsts (get_or firsts other 0) (get_or firsts n 0) (are.each other other_there).is_first (are.each n there).is_first
+        ((are.each other other_there).same ∙ same ∙ sym (are.each n there).same)
+
+    pub are_own : (own : List Bool) → limit ≡ length config.routes → AreAlone firsts (length firsts) own → AreOwn config own
+    are_own own e alone = record {
+      each = λ n within.
+          let there : n < limit = omega (arith, within, e) in
+          decides_too (get_or own n false) (get_or own n false) refl
+          (λ (only : IsAlone firsts (length firsts) n) other less same. let less_too : other < limit = omega (arith, less, e) in only other (omega (arith, less_too, are.all)) (same_first n other there less_too same))
+          (λ (only : IsOnly config (length config.routes) n) other less same. let less_too : other < limit = omega (arith, less, are.all) in only other (omega (arith, less_too, e)) (same_path n other there less_too same))
+          (alone.each n (omega (arith, there, are.all)));
+      all = alone.all ∙ are.all ∙ e;
+    }
+
+-- ---- which places have a number alone
+
+module _ (numbers : List ℕ) where
+  alone_less : (limit n : ℕ) → IsAlone numbers (limit + 1) n → IsAlone numbers limit n
+  alone_less limit n only other within same = only other (omega (arith, within)) same
+
+  alone_more : (limit n : ℕ) → (get_or numbers limit 0 ≡ get_or numbers n 0 → limit ≡ n) → IsAlone numbers limit n → IsAlone numbers (limit + 1) n
+  alone_more limit n next only other within same =
+      ⊎_elim (λ (e : other ≡ limit). e ∙ next (ap (λ k. get_or numbers k 0) (sym e) ∙ same)) (λ (ne : other ≡ limit → ⊥). only other (below other limit within ne) same) (cases_eq other limit)
+
+  module _ (are : AreFirstPlaces numbers) (limit : ℕ) (there : limit < length numbers) (alone : List Bool) (known : AreAlone numbers limit alone) where
+    -- ---- a number that has not been seen
+
+    module _ (late : limit ≤ get_or numbers limit 0) where
+      no_other : (n : ℕ) → n < limit → get_or numbers n 0 ≡ get_or numbers limit 0 → ⊥
+      no_other n less same = let h : get_or numbers n 0 ≤ n = (are n (omega (arith, less, there))).0 in omega (arith, less, same, late, h)
+
+      pub alone_unseen : AreAlone numbers (limit + 1) (alone ++ true ∷ [])
+      alone_unseen = record {
+        each = λ n within. ⊎_elim
+            (λ (e : n ≡ limit). decides_yes (get_or (alone ++ true ∷ []) n false) (get_or_push alone true false n (known.all ∙ sym e))
+            (alone_more limit n (λ same. sym e) (λ other less same. absurd (no_other other less (same ∙ ap (λ k. get_or numbers k 0) e)))))
+            (λ (ne : n ≡ limit → ⊥). let less = below n limit within ne in
+            decides_too (get_or alone n false) (get_or (alone ++ true ∷ []) n false) (get_or_append_left alone (true ∷ []) false n (omega (arith, less, known.all)))
+            (alone_more limit n (λ same. absurd (no_other n less (sym same)))) (alone_less limit n) (known.each n less))
+            (cases_eq n limit);
+        all = length_push alone true ∙ ap (λ k. k + 1) known.all;
+      }
+
+    -- ---- a number that has been seen
+
+    module _ (first : ℕ) (is : first ≡ get_or numbers limit 0) (before : first < limit) where
+      first_has_it : get_or numbers first 0 ≡ get_or numbers limit 0
+      first_has_it = ap (λ k. get_or numbers k 0) is ∙ (are limit there).1
 
       abbrev left : List Bool
-      left = set own first false ++ false ∷ []
+      left = set alone first false ++ false ∷ []
 
-      not_left : (n : ℕ) → n < limit → (n ≡ first → ⊥) → get_or left n false ≡ get_or own n false
+      not_left : (n : ℕ) → n < limit → (n ≡ first → ⊥) → get_or left n false ≡ get_or alone n false
       not_left n less ne =
-          get_or_append_left (set own first false) (false ∷ []) false n (omega (arith, less, known.all, length-set own first false)) ∙ get_or-set_other own first n false false ne
+          get_or_append_left (set alone first false) (false ∷ []) false n (omega (arith, less, known.all, length-set alone first false)) ∙ get_or-set_other alone first n false false ne
 
       left_first : (n : ℕ) → n ≡ first → get_or left n false ≡ false
       left_first n e =
-          ap (λ k. get_or left k false) e ∙ get_or_append_left (set own first false) (false ∷ []) false first (omega (arith, first_is.0, known.all, length-set own first false))
-          ∙ get_or-set_same own first false false (omega (arith, first_is.0, known.all))
+          ap (λ k. get_or left k false) e ∙ get_or_append_left (set alone first false) (false ∷ []) false first (omega (arith, before, known.all, length-set alone first false))
+          ∙ get_or-set_same alone first false false (omega (arith, before, known.all))
 
-      pub own_seen : AreOwnTo settings (limit + 1) left
-      own_seen = record {
+      pub alone_seen : AreAlone numbers (limit + 1) left
+      alone_seen = record {
         each = λ n within. ⊎_elim
-            (λ (e : n ≡ limit). decides_no (get_or left n false) (get_or_push (set own first false) false false n (length-set own first false ∙ known.all ∙ sym e))
-            (λ only. let h : first ≡ n = only first (omega (arith, first_is.0)) (first_is.1 ∙ sym here ∙ ap (path_at settings) (sym e)) in omega (arith, h, e, first_is.0)))
+            (λ (e : n ≡ limit). decides_no (get_or left n false) (get_or_push (set alone first false) false false n (length-set alone first false ∙ known.all ∙ sym e))
+            (λ only. let h : first ≡ n = only first (omega (arith, before)) (first_has_it ∙ ap (λ k. get_or numbers k 0) (sym e)) in omega (arith, h, e, before)))
             (λ (ne : n ≡ limit → ⊥). let less = below n limit within ne in
             ⊎_elim
             (λ (e : n ≡ first). decides_no (get_or left n false) (left_first n e)
-            (λ only. let h : limit ≡ n = only limit (omega arith) (here ∙ sym first_is.1 ∙ ap (path_at settings) (sym e)) in omega (arith, h, less)))
-            (λ (apart : n ≡ first → ⊥). decides_too (get_or own n false) (get_or left n false) (not_left n less apart)
-            (λ only. only_more limit n (λ same. absurd (apart (sym (only first first_is.0 (first_is.1 ∙ sym here ∙ same))))) only) (only_less limit n) (known.each n less))
+            (λ only. let h : limit ≡ n = only limit (omega arith) (sym first_has_it ∙ ap (λ k. get_or numbers k 0) (sym e)) in omega (arith, h, less)))
+            (λ (apart : n ≡ first → ⊥). decides_too (get_or alone n false) (get_or left n false) (not_left n less apart)
+            (λ (only : IsAlone numbers limit n). alone_more limit n (λ same. absurd (apart (sym (only first before (first_has_it ∙ same))))) only) (alone_less limit n) (known.each n less))
             (cases_eq n first))
             (cases_eq n limit);
-        all = length_push (set own first false) false ∙ ap (λ k. k + 1) (length-set own first false ∙ known.all);
+        all = length_push (set alone first false) false ∙ ap (λ k. k + 1) (length-set alone first false ∙ known.all);
       }
-
-      pub firsts_seen : AreFirsts (limit + 1) firsts
-      firsts_seen q =
-          more_places q (tree.get path_cmp firsts q) (λ e none. none-some first (sym none ∙ ap (tree.get path_cmp firsts) (sym e) ∙ seen)) (are q)

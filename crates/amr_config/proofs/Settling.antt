@@ -31,13 +31,13 @@ module _ (config : Config) (first : AreParentsFirst config) (n : ℕ) (route : R
       ap (first_stated field config) (line_of-child config first n parent e)
       ∙ ap (λ o. option_or (option_map_or field o None) (first_stated field config (line_of config parent))) here
 
-  path_root : parent_of config n ≡ None → path_of config n ≡ sorted_matchers route.matchers ∷ []
+  pub path_root : parent_of config n ≡ None → path_of config n ≡ sorted_matchers route.matchers ∷ []
   unfolding path_of
   path_root e =
       ap (λ ns. reverse (map (λ m. option_map_or (λ (route : Route). sorted_matchers route.matchers) (slice_get config.routes m) []) ns)) (line_of-root config first n e)
       ∙ ap (λ o. option_map_or (λ (route : Route). sorted_matchers route.matchers) o [] ∷ []) here
 
-  path_child : (parent : ℕ) → parent_of config n ≡ Some parent → path_of config n ≡ path_of config parent ++ sorted_matchers route.matchers ∷ []
+  pub path_child : (parent : ℕ) → parent_of config n ≡ Some parent → path_of config n ≡ path_of config parent ++ sorted_matchers route.matchers ∷ []
   unfolding path_of
   path_child parent e =
       ap (λ ns. reverse (map (λ m. option_map_or (λ (route : Route). sorted_matchers route.matchers) (slice_get config.routes m) []) ns)) (line_of-child config first n parent e)

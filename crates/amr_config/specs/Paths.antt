@@ -1,14 +1,14 @@
 -- Paths of routes: their order, their texts, and which of them are paths of one route alone.
-use Rattle.std.specs.Prelude.{◌≡◌, ℕ, ◌<◌, ◌+◌, ◌*◌, ◌%◌, ◌^◌, Bool, false, List, [], ◌∷◌, ◌++◌, map, flat_map, fold, length, get_or, Option, option_map, slice_get}
+use Rattle.std.specs.Prelude.{◌≡◌, ℕ, ◌<◌, ◌≤◌, ◌+◌, ◌*◌, ◌%◌, ◌^◌, Bool, false, List, [], ◌∷◌, ◌++◌, map, flat_map, fold, length, get_or}
 use Rattle.std.specs.Bool.{Decides}
 use Rattle.std.specs.declared.cmp.Ordering.{Ordering}
 use Rattle.std.specs.Cmp.{IsTotalOrder}
 use Rattle.std.specs.Cmp.Lexicographic.{slice_cmp, lists_total}
-use Rattle.std.specs.FinMap.{IsAntisymmetric, slice_cmp-IsAntisymmetric}
 use Rattle.amr_labels.specs.Labels.{Text}
 use Rattle.amr_labels.specs.Spread.{text_spread}
-use Rattle.amr_matchers.specs.Matchers.{Matcher, operator_place, matcher_cmp, matcher_cmp_total, matcher_cmp-IsAntisymmetric}
-use Rattle.amr_config.specs.declared.settings.Settings.{Settings}
+use Rattle.amr_matchers.specs.Matchers.{Matcher, operator_place, matcher_cmp, matcher_cmp_total}
+use Rattle.amr_stated.specs.Config.{Config}
+use Rattle.amr_config.specs.Routing.{path_of}
 
 -- the matchers of each route from the root down to one
 abbrev pub Path : Type 0
@@ -20,10 +20,6 @@ path_cmp a b = slice_cmp (slice_cmp matcher_cmp) a b
 
 pub path_cmp_total : IsTotalOrder path_cmp
 path_cmp_total = lists_total (lists_total matcher_cmp_total)
-
--- paths that compare as equal are the same
-pub path_cmp-IsAntisymmetric : IsAntisymmetric path_cmp
-path_cmp-IsAntisymmetric = slice_cmp-IsAntisymmetric (slice_cmp-IsAntisymmetric matcher_cmp-IsAntisymmetric)
 
 -- ---- texts: other paths have other texts
 
@@ -52,18 +48,39 @@ path_spread path = fold (λ spread matchers. (spread * 31 % 2 ^ 64 + text_spread
 
 -- ---- paths of one route alone
 
-abbrev pub path_at : List Settings → ℕ → Option Path
-path_at settings n = option_map (λ its. its.path) (slice_get settings n)
+-- no route before this one has its path
+abbrev pub IsFirst : Config → ℕ → Type 0
+IsFirst config n = (other : ℕ) → other < n → path_of config other ≡ path_of config n → ⊥
+
+-- this is the first route with the path of route n
+pub record IsFirstLike (config : Config) (n first : ℕ) : Type 0 where
+  pub within : first ≤ n
+  pub same : path_of config first ≡ path_of config n
+  pub is_first : IsFirst config first
+
+-- what is said of each of the first routes is the first route with its path
+pub record AreFirsts (config : Config) (limit : ℕ) (firsts : List ℕ) : Type 0 where
+  pub each : (n : ℕ) → n < limit → IsFirstLike config n (get_or firsts n 0)
+  pub all : length firsts ≡ limit
 
 -- no other of the first routes has the path of this one
-abbrev pub IsOnly : List Settings → ℕ → ℕ → Type 0
-IsOnly settings limit n = (other : ℕ) → other < limit → path_at settings other ≡ path_at settings n → other ≡ n
-
--- what is said of each of the first routes is whether no other of them has its path
-pub record AreOwnTo (settings : List Settings) (limit : ℕ) (own : List Bool) : Type 0 where
-  pub each : (n : ℕ) → n < limit → Decides (get_or own n false) (IsOnly settings limit n)
-  pub all : length own ≡ limit
+abbrev pub IsOnly : Config → ℕ → ℕ → Type 0
+IsOnly config limit n = (other : ℕ) → other < limit → path_of config other ≡ path_of config n → other ≡ n
 
 -- what is said of each route is whether no other has its path
-abbrev pub AreOwn : List Settings → List Bool → Type 0
-AreOwn settings own = AreOwnTo settings (length settings) own
+pub record AreOwn (config : Config) (own : List Bool) : Type 0 where
+  pub each : (n : ℕ) → n < length config.routes → Decides (get_or own n false) (IsOnly config (length config.routes) n)
+  pub all : length own ≡ length config.routes
+
+-- each number is a place that has it, and no later than where it stands
+abbrev pub AreFirstPlaces : List ℕ → Type 0
+AreFirstPlaces numbers = (n : ℕ) → n < length numbers → (get_or numbers n 0 ≤ n) × (get_or numbers (get_or numbers n 0) 0 ≡ get_or numbers n 0)
+
+-- no other of the first places has the number of this one
+abbrev pub IsAlone : List ℕ → ℕ → ℕ → Type 0
+IsAlone numbers limit n = (other : ℕ) → other < limit → get_or numbers other 0 ≡ get_or numbers n 0 → other ≡ n
+
+-- what is said of each of the first places is whether no other of them has its number
+pub record AreAlone (numbers : List ℕ) (limit : ℕ) (alone : List Bool) : Type 0 where
+  pub each : (n : ℕ) → n < limit → Decides (get_or alone n false) (IsAlone numbers limit n)
+  pub all : length alone ≡ limit

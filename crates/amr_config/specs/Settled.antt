@@ -49,7 +49,7 @@ pub record AreSettled (parts : Parts) : Type 0 where
   pub settings : parts.settings ≡ settled (config_of_parts parts)
   pub parents : AreParentsFirst (config_of_parts parts)
   pub receivers : AreReceivers parts.stated.receivers parts.settings parts.receiver_places
-  pub own_paths : AreOwn parts.settings parts.own_paths
+  pub own_paths : AreOwn (config_of_parts parts) parts.own_paths
   pub rule_names : IfSome parts.rule_names (AreNamesOf parts.stated.rules)
 
 -- the receiver of a route, given its parent's settings, if it has a parent

@@ -9,10 +9,10 @@ pub returns-in-Some : goal.returns-in-Some
 returns-in-Some c =
     let parts = c.self.inside.shared.value in
     let same : c.as_slice.result.now ≡ parts.own_paths = c.as_slice.ensures ∙ ap (λ (p : Parts). p.own_paths) c.deref.ensures in
-    rw (← c.self.view_is) (own_found (config_of_parts parts) parts.settings c.as_slice.result.now c.args.route (Some c.in-Some.is_own) c.self.invariant.settings (subst (AreOwn parts.settings) (sym same) c.self.invariant.own_paths) c.in-Some.ensures.lookup)
+    rw (← c.self.view_is) (own_found (config_of_parts parts) c.as_slice.result.now c.args.route (Some c.in-Some.is_own) (subst (AreOwn (config_of_parts parts)) (sym same) c.self.invariant.own_paths) c.in-Some.ensures.lookup)
 
 pub returns-in-None : goal.returns-in-None
 returns-in-None c =
     let parts = c.self.inside.shared.value in
     let same : c.as_slice.result.now ≡ parts.own_paths = c.as_slice.ensures ∙ ap (λ (p : Parts). p.own_paths) c.deref.ensures in
-    rw (← c.self.view_is) (own_past (config_of_parts parts) c.args.route (own_found (config_of_parts parts) parts.settings c.as_slice.result.now c.args.route None c.self.invariant.settings (subst (AreOwn parts.settings) (sym same) c.self.invariant.own_paths) c.in-None.ensures.lookup))
+    rw (← c.self.view_is) (own_past (config_of_parts parts) c.args.route (own_found (config_of_parts parts) c.as_slice.result.now c.args.route None (subst (AreOwn (config_of_parts parts)) (sym same) c.self.invariant.own_paths) c.in-None.ensures.lookup))

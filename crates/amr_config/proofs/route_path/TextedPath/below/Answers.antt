@@ -2,7 +2,7 @@ use Rattle.std.proofs.Common.{◌≡◌, ◌*◌, ◌+◌, ◌%◌, ◌^◌, ◌
 use Rattle.std.specs.Prelude.{IfSome}
 use Rattle.std.proofs.lemmas.Option.{IfSome_then}
 use Rattle.amr_labels.specs.Spread.{text_spread}
-use Rattle.amr_config.specs.Paths.{Path, path_text, path_spread, matchers_text}
+use Rattle.amr_config.specs.Paths.{Path, path_text, matchers_text}
 use Rattle.amr_config.proofs.PathTexts.{text_more, spread_more}
 use Rattle.amr_config.proofs.route_path.TextedPath.below.Goals.{in-Some+in_ok-text-in-Some, in-None}
 use Rattle.amr_config.proofs.route_path.TextedPath.below.Goals as goal
