@@ -1,7 +1,7 @@
 //! The state of the replayed instance and its journal. The engine changes the state only through
 //! `Store`, which enters what each change displaces into the open record, so that an event can be
 //! undone. It decides nothing about alerts, groups or silences.
-ghost use Rattle.std.specs.Prelude.{◌≡◌, ◌≤◌, ◌<◌, ◌+◌, ◌++◌, ◌∷◌, ◌==◌, [], Option, Some, None, length, OnOk, IfOk};
+ghost use Rattle.std.specs.Prelude.{◌≡◌, ◌≤◌, ◌<◌, ◌+◌, ◌++◌, ◌∷◌, ◌==◌, [], ℕ, Option, Some, None, length, OnOk, IfOk, IfSome};
 ghost use Rattle.std.specs.Prelude.{if◌then◌else◌, is_some, option_map, slice_get};
 ghost use Rattle.std.specs.Ordering.{nat_cmp};
 ghost use Rattle.amr_labels.specs.Labels.{label_set_cmp};
@@ -410,13 +410,26 @@ impl Store {
         ensures kept { undone self.new ≡ undone self.old }
         ensures grown { GrownBy 1 self.old self.new }
     {
-        let group = group_key(
-            self.alloc,
-            self.config(),
-            route_labels.route,
-            &route_labels.labels,
-        )?;
+        let group = self.group_on(route_labels)?;
         self.set_placement(&group, route_labels, None)
+    }
+
+    /// Returns the group of a label set on a route. It makes no labels anew if the route takes the
+    /// label set, whose groups are remembered then.
+    fn group_on(&mut self, route_labels: &RouteLabels) -> Result<RouteLabels, AllocError>
+        ensures group { IfOk result (λ group. group
+            ≡ group_key self.old.state.config route_labels.now) }
+        ensures same { self.new ≡ self.old }
+    {
+        let route = route_labels.route;
+        let groups = self.groups_of(&route_labels.labels)?;
+        match group_among(groups.get().as_slice(), route) {
+            Some(group) => Ok(RouteLabels {
+                route,
+                labels: group.labels.clone()?,
+            }),
+            None => group_key(self.alloc, self.config(), route, &route_labels.labels),
+        }
     }
 
     /// Removes a member from its group, which the caller names. It is faster than `remove_copy`, which
@@ -703,4 +716,16 @@ fn keys_of<V: Drop>(
         found.push(route_labels.clone()?)?;
     }
     Ok(found)
+}
+
+/// Returns the group on a route, given groups in the order of their routes.
+fn group_among(groups: &[RouteGroup], route: usize) -> Option<&RouteGroup>
+    ensures { IfSome result (λ group. (group.now.route ≡ route)
+        × (n : ℕ) × (slice_get groups.now n ≡ Some group.now)) }
+{
+    let at = groups.partition_point(|group| group.route < route);
+    match groups.get(at) {
+        Some(group) if group.route == route => Some(group),
+        _ => None,
+    }
 }

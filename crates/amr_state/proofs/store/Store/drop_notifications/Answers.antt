@@ -1,4 +1,4 @@
-use Rattle.std.proofs.Common.{◌≡◌, [], ap, subst, ◌∙◌}
+use Rattle.std.proofs.Common.{ap, ◌∙◌}
 use Rattle.amr_state.specs.Kept.{Kept}
 use Rattle.amr_state.proofs.Soundness.{kept_silent}
 use Rattle.amr_state.proofs.store.Store.drop_notifications.Goals as goal
