@@ -2,7 +2,6 @@
 //! is long, so that equal paths are found equal by one comparison. A long path has none, since many
 //! routes may be below one with long matchers, and each would repeat them.
 ghost use Rattle.std.specs.Prelude.{◌≡◌, ◌*◌, ◌+◌, ◌%◌, ◌^◌, [], ◌∷◌, ◌++◌, string_bytes, IfOk, IfSome};
-ghost use Rattle.std.specs.Option.{option_copied};
 ghost use Rattle.std.proofs.Common.{rules};
 ghost use Rattle.std.specs.Cmp.{partial_order_from_own_ties};
 ghost use Rattle.std.specs.Cmp.Rules.{comparing};
@@ -127,7 +126,7 @@ fn text_below(alloc: Global, above: &str, own: &str) -> Result<Option<String>, A
     ensures { IfOk result (λ text. IfSome text (λ text.
         string_bytes text ≡ above.now ++ 49 ∷ own.now)) }
 {
-    if above.len() > LONGEST_TEXT || own.len() > LONGEST_TEXT - above.len() {
+    if above.len() > LONGEST_TEXT || own.len() >= LONGEST_TEXT - above.len() {
         return Ok(None);
     }
     let mut text = String::new(alloc);
