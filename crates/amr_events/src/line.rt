@@ -75,13 +75,13 @@ fn act(alloc: Global, seen: &mut SeenTexts, line: &Value) -> Result<Act, LineErr
         return Ok(Act::Post(alerts(alloc, seen, stated)?));
     }
     if let Some(stated) = line.get("silence") {
-        return Ok(Act::Silence(silence(alloc, seen.patterns(), line, stated)?));
+        return Ok(Act::Silence(silence(alloc, seen.patterns_for_line(), line, stated)?));
     }
     if let Some(stated) = line.get("expire") {
         return Ok(Act::Expire(id(stated)?));
     }
     if let Some(stated) = line.get("reload") {
-        return Ok(Act::Reload(reload(alloc, seen.patterns(), stated)?));
+        return Ok(Act::Reload(reload(alloc, seen.patterns_for_line(), stated)?));
     }
     let passes = line.get("tick").ok_or(LineError::Faulty)?;
     tick(passes)?;

@@ -35,8 +35,9 @@ impl SeenTexts {
         }
     }
 
-    /// Returns the patterns that were built before.
-    pub(crate) fn patterns(&mut self) -> &mut Patterns {
+    /// Returns the patterns that were built before, with the whole room for those of one more line.
+    pub(crate) fn patterns_for_line(&mut self) -> &mut Patterns {
+        self.patterns.begin_line();
         &mut self.patterns
     }
 

@@ -1,13 +1,13 @@
 //! Patterns that have to match a whole value. `regex` builds and runs them; a pattern that it
 //! refuses makes no matcher.
-ghost use Rattle.std.specs.Prelude.{◌≡◌, length, IfOk, IsErrOf, OnOk};
+ghost use Rattle.std.specs.Prelude.{◌≡◌, ◌≤◌, ◌^◌, length, IfOk, IfSome, IfNone, IsErrOf, OnOk};
 ghost use Rattle.amr_matchers.specs.Candidates.{kept_where, found_or_not};
 ghost use Rattle.regex.specs.Strings.{matcher_pattern};
 ghost use Rattle.amr_matchers.specs.Patterns.{pattern_matches, IsSearchFor, MayRefuse};
 ghost use Rattle.amr_matchers.specs.declared.pattern.MatcherError.TheVariants.{BadPattern};
 
 use amr_labels::{Labels, Text, spread_of};
-use regex::{Error, Matcher as Search, Regex};
+use regex::{Error, Matcher as Search, Regex, RegexBuilder};
 use std::alloc::{AllocError, AllocFailed, Global};
 use std::marker::Model;
 use std::{error, fmt};
@@ -76,22 +76,28 @@ impl Model for Pattern {
 }
 
 impl Pattern {
-    /// Builds a pattern, once, anchored at both ends as Alertmanager does.
-    pub fn new(alloc: Global, text: Text) -> Result<Pattern, MatcherError>
-        ensures read { IfOk result (λ pattern. pattern ≡ text) }
-        ensures refused { IsErrOf result BadPattern → MayRefuse text }
+    /// Builds the pattern of a text, anchored at both ends as Alertmanager does, or returns `None` if
+    /// it would take more than about `most` bytes.
+    pub(crate) fn within(
+        alloc: Global,
+        text: &Text,
+        most: usize,
+    ) -> Result<Option<Pattern>, MatcherError>
+        requires { most ≤ 2 ^ 34 }
+        ensures read { IfOk result (λ built. IfSome built (λ pattern. pattern ≡ text.now)) }
+        ensures large { IfOk result (λ built. IfNone built (MayRefuse text.now)) }
+        ensures refused { IsErrOf result BadPattern → MayRefuse text.now }
     {
         let bare = text.as_str();
         let anchored = format!(in alloc; "^(?:{bare})$")?;
-        match Regex::new(alloc, anchored.as_str()) {
-            Ok(regex) => {
-                let spread = spread_of(text.as_str());
-                Ok(Pattern {
-                    text,
-                    regex,
-                    spread,
-                })
-            }
+        let builder = RegexBuilder::new(anchored.as_str()).size_limit(most);
+        match builder.build(alloc) {
+            Ok(regex) => Ok(Some(Pattern {
+                text: text.clone()?,
+                regex,
+                spread: spread_of(text.as_str()),
+            })),
+            Err(Error::CompiledTooBig) => Ok(None),
             Err(Error::OutOfMemory) => Err(MatcherError::Memory),
             Err(_) => Err(MatcherError::BadPattern),
         }

@@ -1,6 +1,10 @@
 //! Patterns that were built before. Building a pattern takes far longer than finding it again, and
 //! reloads and silences repeat patterns, so a script is read with one memory of them.
-ghost use Rattle.std.specs.Prelude.{◌≡◌, IfOk, IsErrOf};
+//!
+//! A repetition such as `\w{30}` makes a short pattern large. So all patterns of a configuration, or
+//! of a line of a script, share a room. Without it, a mebibyte of such patterns took half a minute
+//! and twelve gigabytes.
+ghost use Rattle.std.specs.Prelude.{◌≡◌, ◌≤◌, ◌^◌, IfOk, IsErrOf};
 ghost use Rattle.amr_matchers.specs.Patterns.{MayRefuse};
 ghost use Rattle.amr_matchers.specs.declared.pattern.MatcherError.TheVariants.{BadPattern};
 
@@ -10,11 +14,22 @@ use std::alloc::Global;
 use std::collections::BTreeMap;
 use std::marker::Model;
 
+/// The most bytes that a pattern may take. It is the limit that `regex` has by itself.
+const LARGEST: usize = 10 << 20;
+
+/// The most bytes that the patterns of a configuration, or of a line of a script, may take together.
+const ROOM: usize = 256 << 20;
+
+/// How many limits are tried below the largest one. Each is four times the one before.
+const SMALLER_LIMITS: u32 = 7;
+
 /// Patterns by their texts. Contracts see nothing of them.
 #[derive(Drop)]
 pub struct Patterns {
     alloc: Global,
     built: BTreeMap<Text, Shared<Pattern>>,
+    /// How many bytes more patterns may take.
+    room: usize,
 }
 
 impl Model for Patterns {
@@ -35,7 +50,15 @@ impl Patterns {
         Patterns {
             alloc,
             built: BTreeMap::new(alloc),
+            room: ROOM,
         }
+    }
+
+    /// Gives the patterns of one more line of a script the whole room.
+    pub fn begin_line(&mut self)
+        ensures { self.new ≡ tt }
+    {
+        self.room = ROOM;
     }
 
     /// Returns the pattern of a text. It builds one only if it has none yet.
@@ -54,11 +77,63 @@ impl Patterns {
         ensures read { IfOk result (λ shared. shared ≡ text) }
         ensures refused { IsErrOf result BadPattern → MayRefuse text }
     {
-        let own = text.clone()?;
-        let pattern = Pattern::new(self.alloc, text)?;
+        let pattern = self.build_in_room(&text)?;
         let shared = Shared::new(self.alloc, pattern)?;
         let kept = shared.clone()?;
-        self.built.insert(own, kept)?;
+        self.built.insert(text, kept)?;
         Ok(shared)
     }
+
+    /// Builds a pattern, and takes its limit from the room, since `regex` doesn't say how large it is.
+    fn build_in_room(&mut self, text: &Text) -> Result<Pattern, MatcherError>
+        ensures read { IfOk result (λ pattern. pattern ≡ text.now) }
+        ensures refused { IsErrOf result BadPattern → MayRefuse text.now }
+    {
+        let most = self.room.min(LARGEST);
+        let limited = build_limited(self.alloc, text, most)?;
+        self.room -= limited.limit;
+        Ok(limited.pattern)
+    }
+}
+
+/// A pattern, and the limit in bytes with which it was built.
+#[derive(Drop)]
+struct Limited {
+    pattern: Pattern,
+    limit: usize,
+}
+
+/// Builds a pattern of at most so many bytes, with the least of a few limits that suffices.
+fn build_limited(alloc: Global, text: &Text, most: usize) -> Result<Limited, MatcherError>
+    requires { most ≤ 2 ^ 34 }
+    ensures read { IfOk result (λ limited. limited.pattern ≡ text.now) }
+    ensures limit { IfOk result (λ limited. limited.limit ≤ most) }
+    ensures refused { IsErrOf result BadPattern → MayRefuse text.now }
+{
+    let mut limit = least_limit(text);
+    for _smaller in 0..SMALLER_LIMITS {
+        if limit >= most {
+            break;
+        }
+        if let Some(pattern) = Pattern::within(alloc, text, limit)? {
+            return Ok(Limited { pattern, limit });
+        }
+        limit = limit.saturating_mul(4);
+    }
+    match Pattern::within(alloc, text, most)? {
+        Some(pattern) => Ok(Limited {
+            pattern,
+            limit: most,
+        }),
+        None => Err(MatcherError::BadPattern),
+    }
+}
+
+/// Returns how many bytes a pattern of a text may take if it repeats no group and no class. Most
+/// patterns take less.
+fn least_limit(text: &Text) -> usize {
+    text.as_str()
+        .len()
+        .saturating_mul(32)
+        .saturating_add(1 << 10)
 }
