@@ -15,7 +15,7 @@ use crate::rule_source::RuleSources;
 use amr_labels::{LabelMap, Labels, Text};
 use amr_rules::{Alert, AlertStore};
 use amr_stated::InhibitRule;
-use amr_tables::{Entries, Journal, Keyed, change, change_found};
+use amr_tables::{Entries, Journal, Keyed, change_found};
 use std::alloc::{AllocError, Global};
 use std::cmp::Ordering;
 use std::marker::Model;
@@ -66,15 +66,6 @@ impl AlertTable {
         self.alerts.get(labels)
     }
 
-    /// Returns whether this label set has a place, and the alert with these labels.
-    pub fn look_up(&self, labels: &Labels) -> (bool, Option<&Alert>)
-        ensures place { result.0 ≡ has_place label_set_cmp self.now labels.now }
-        ensures alert { option_copied result.1
-            ≡ map.get (shown label_set_cmp self.now) labels.now }
-    {
-        self.alerts.look_up(labels)
-    }
-
     /// Returns the number of this label set, if it has a place, and the alert with these labels. With
     /// the number, `change_found` needn't look for the labels again.
     pub fn look_up_number(&self, labels: &Labels) -> (Option<usize>, Option<&Alert>)
@@ -90,13 +81,6 @@ impl AlertTable {
         ensures { result ≡ map.entries (shown label_set_cmp self.now) }
     {
         self.alerts.iter()
-    }
-
-    /// Returns whether this label set has a place.
-    pub fn has_place(&self, labels: &Labels) -> bool
-        ensures { result ≡ has_place label_set_cmp self.now labels.now }
-    {
-        self.alerts.has_place(labels)
     }
 
     /// Returns label sets in the order in which they came: all that have a place, and those for
@@ -128,36 +112,10 @@ impl AlertTable {
         self.sources.forget_places();
     }
 
-    /// Sets or removes the alert with these labels. It makes a place for it and marks the place as
-    /// entered, if need be. Returns the entry that the open record needs, and leaves room for it
-    /// there. If memory runs out, no alert changes.
-    pub fn change<E>(
-        &mut self,
-        journal: &mut Journal<E>,
-        labels: &Labels,
-        alert: Option<Alert>,
-    ) -> Result<Option<(Labels, Option<Alert>)>, AllocError>
-        ensures entry { IfOk result (λ entry. entry ≡ entry_of label_set_cmp self.old labels.now) }
-        ensures shown { OnOk result (shown label_set_cmp self.new
-            ≡ map.set (shown label_set_cmp self.old) labels.now alert) }
-        ensures entered { OnOk result (Enters label_set_cmp self.old self.new labels.now) }
-        ensures made { OnOk result (IsTrue (has_place label_set_cmp self.new labels.now)) }
-        ensures err { OnErr result (IsUnchanged label_set_cmp self.old self.new) }
-        ensures keys { GrowsBy label_set_cmp
-            (places_for label_set_cmp self.old labels.now) self.old self.new }
-        ensures enough { OnOk result (HasPlaces label_set_cmp self.new) }
-        ensures places { KeepsPlaces label_set_cmp self.old self.new }
-        ensures room { IfOk result (λ entry. IsTrue (is_some entry) → 0 < journal.new.entry_room) }
-        ensures closed { journal.new.closed ≡ journal.old.closed }
-        ensures current { journal.new.current ≡ journal.old.current }
-        ensures record_room { journal.new.record_room ≡ journal.old.record_room }
-    {
-        self.make_place(labels)?;
-        change(&mut self.alerts, journal, labels, alert)
-    }
-
-    /// Sets or removes the alert with these labels, as `change` does, given the number of their
-    /// place, if they have one. It doesn't look for a place that they have again.
+    /// Sets or removes the alert with these labels, given the number of their place, if they have
+    /// one. It makes a place for new labels and marks the place as entered, if need be. Returns the
+    /// entry that the open record needs, and leaves room for it there. It doesn't look for a place
+    /// that they have again. If memory runs out, no alert changes.
     pub fn change_found<E>(
         &mut self,
         journal: &mut Journal<E>,
@@ -182,23 +140,13 @@ impl AlertTable {
         ensures record_room { journal.new.record_room ≡ journal.old.record_room }
     {
         match number {
-            None => self.change(journal, labels, alert),
+            None => {
+                self.make_place(labels)?;
+                let number = self.alerts.number_of(labels);
+                change_found(&mut self.alerts, journal, labels, number, alert)
+            }
             Some(_place) => change_found(&mut self.alerts, journal, labels, number, alert),
         }
-    }
-
-    /// Restores the alert with these labels, or its absence, and drops the present one. It takes no
-    /// memory.
-    pub fn put_back(&mut self, labels: &Labels, alert: Option<Alert>)
-        requires { IsTrue (has_place label_set_cmp self.old labels.now) }
-        ensures shown { shown label_set_cmp self.new
-            ≡ map.set (shown label_set_cmp self.old) labels.now alert }
-        ensures places { SamePlaces label_set_cmp self.old self.new }
-        ensures entered { SameEntered label_set_cmp self.old self.new }
-        ensures keys { self.new.numbers ≡ self.old.numbers }
-        ensures enough { HasPlaces label_set_cmp self.new }
-    {
-        drop(self.displace(labels, alert));
     }
 
     /// Sets or removes the alert with these labels, which have a place, and returns the former one.
@@ -257,11 +205,6 @@ impl AlertStore for AlertTable {
             }
         }
         Ok(found)
-    }
-
-    /// Returns the number of places, since `with_pair` looks at all of them.
-    fn count_with_pair(&self, _name: &Text, _value: &Text) -> usize {
-        self.alerts.next_number()
     }
 
     fn sources(

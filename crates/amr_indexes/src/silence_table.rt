@@ -18,7 +18,7 @@ use amr_rules::{
     Silence, SilencePeriod, SilenceRow, periods_at, silence_periods, silence_rows, silenced_by,
     silenced_in, unexpired,
 };
-use amr_tables::{Journal, Keyed, change};
+use amr_tables::{Journal, Keyed, change_found};
 use amr_time::Moment;
 use std::alloc::{AllocError, Global};
 use std::marker::Model;
@@ -377,7 +377,8 @@ impl SilenceTable {
         // Room for this change and for its undoing. Without room everything known is forgotten.
         drop(self.changes.reserve(2));
         let noted = SilenceChange::new(id, silence.as_ref());
-        let entry = change(&mut self.silences, journal, id, silence)?;
+        let number = self.silences.number_of(id);
+        let entry = change_found(&mut self.silences, journal, id, number, silence)?;
         let asked = &mut self.asked_ahead;
         note_change(
             self.alloc,

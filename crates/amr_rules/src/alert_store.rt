@@ -32,10 +32,6 @@ pub trait AlertStore {
         ensures { IfOk result (λ found. map deref_pair found.items
             ≡ with_pair name.now value.now (alerts self.now)) };
 
-    /// Returns about how many alerts `with_pair` looks at. Inhibition asks by the label with the
-    /// least count. That decides only how long it takes, so no contract depends on the count.
-    fn count_with_pair(&self, name: &Text, value: &Text) -> usize;
-
     /// Lists the stored alerts that match the rule's source matchers and agree with a target on the
     /// labels in `equal`, with their labels and in the order of the labels. Returns `None` if the
     /// store doesn't keep track of them. The rule's place in the configuration, from 0, helps a

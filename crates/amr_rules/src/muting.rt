@@ -170,29 +170,17 @@ fn filled_value<'a>(labels: &'a Labels, name: &Text) -> Option<&'a Text>
     }
 }
 
-/// Of the labels with these names and a value in `labels`, returns the one under which the store
-/// looks at the fewest alerts. The count is not part of the contract.
-fn rarest_label<'a, A: AlertStore>(
-    names: &'a [Text],
-    labels: &'a Labels,
-    alerts: &A,
-) -> Option<(&'a Text, &'a Text)>
+/// Returns the first of these names under which a label set has a value, with the value.
+fn first_label<'a>(names: &'a [Text], labels: &'a Labels) -> Option<(&'a Text, &'a Text)>
     ensures shared { IfSome result (λ label. SharesLabel names.now labels.now (deref_pair label)) }
     ensures some { is_some result ≡ has_some_label names.now labels.now }
 {
-    let mut rarest = None;
-    let mut fewest = usize::MAX;
     for name in names {
-        let Some(value) = filled_value(labels, name) else {
-            continue;
-        };
-        let count = alerts.count_with_pair(name, value);
-        if rarest.is_none() || count < fewest {
-            rarest = Some((name, value));
-            fewest = count;
+        if let Some(value) = filled_value(labels, name) {
+            return Some((name, value));
         }
     }
-    rarest
+    None
 }
 
 /// Lists the stored alerts that share with a target one of the labels in `equal` of a rule, or all
@@ -207,7 +195,7 @@ fn possible_sources<'a, A: AlertStore>(
     ensures { IfOk result (λ found. ListsSources rule.now target.now (A.alerts alerts.now)
         (map deref_pair found.items)) }
 {
-    match rarest_label(rule.equal.as_slice(), target, alerts) {
+    match first_label(rule.equal.as_slice(), target) {
         Some((name, value)) => alerts.with_pair(alloc, name, value),
         None => alerts.all(alloc),
     }

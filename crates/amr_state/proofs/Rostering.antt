@@ -24,10 +24,10 @@ use Rattle.amr_tables.specs.Queued.{Queued, values_of, has, in_order}
 use Rattle.amr_tables.proofs.Queueing.{sorted_inserted, sorted_in_order, sorted_without, has_inserted, has_in_order, has_without, same_from_members}
 use Rattle.amr_state.specs.declared.route_labels.RouteLabels.{RouteLabels}
 use Rattle.amr_state.specs.declared.membership.Membership.{Membership}
-use Rattle.amr_state.specs.State.{route_labels_cmp, route_labels_cmp_total, route_labels_cmp-IsAntisymmetric, group_key}
+use Rattle.amr_state.specs.State.{route_labels_cmp, route_labels_cmp_total, route_labels_cmp-IsAntisymmetric, group_key, members_among}
 use Rattle.amr_state.specs.declared.membership.IndexedMember.{IndexedMember}
 use Rattle.amr_state.specs.Spread.{route_labels_spread}
-use Rattle.amr_state.specs.Rostered.{membership_cmp, membership_of, in_group, member_entry_of, members_among, labels_of_members, with_alert, indexed_cmp, indexed_cmp_total, indexed_cmp-IsAntisymmetric, group_part_cmp, place_number, indexed_as, indexed_of, indexed_members, indexed_on_route, IsPlacedAt, KeepsNumbers, ArePlaced, labels_of_indexed, IsIndexed, enrolled, CanEnrol}
+use Rattle.amr_state.specs.Rostered.{membership_cmp, membership_of, in_group, member_entry_of, labels_of_members, with_alert, indexed_cmp, indexed_cmp_total, indexed_cmp-IsAntisymmetric, group_part_cmp, place_number, indexed_as, indexed_of, indexed_members, indexed_on_route, IsPlacedAt, KeepsNumbers, ArePlaced, labels_of_indexed, IsIndexed, enrolled, CanEnrol}
 
 -- ---- truth values
 

@@ -1,17 +1,16 @@
 -- The configuration in force with the members of all groups, and the index of members by group.
 use Rattle.std.specs.Prelude.{◌≡◌, ◌≤◌, ◌+◌, ◌<◌, ℕ, Bool, true, false, IsTrue, List, length, map, Option, Some, is_some, option_map, refl}
 use Rattle.std.specs.Option.{option_map_or}
-use Rattle.std.specs.List.{filter}
 use Rattle.std.specs.declared.cmp.Ordering.{Ordering}
 use Rattle.std.specs.declared.cmp.Ordering.TheVariants.{Less, Equal, Greater}
-use Rattle.std.specs.Ordering.{nat_cmp, ordering_then, eq_by_cmp}
+use Rattle.std.specs.Ordering.{nat_cmp, ordering_then}
 use Rattle.std.specs.Cmp.{IsTotalOrder, nat_cmp_total}
 use Rattle.std.specs.FinMap.{IsAntisymmetric}
 use Rattle.std.specs.BTreeSet.{insert_key}
 use Rattle.std.proofs.Common.{ap, ◌∙◌}
 use Rattle.std.proofs.lemmas.Cmp.{on_total, then_total}
 use Rattle.std.proofs.lemmas.Map.Lookups.{exact_pairs, exact_unsigned}
-use Rattle.amr_labels.specs.Map.{Map, get, keys, entries}
+use Rattle.amr_labels.specs.Map.{Map, get, keys}
 use Rattle.amr_labels.specs.Labels.{LabelSet, label_set_cmp, label_set_cmp_total, label_set_cmp-IsAntisymmetric}
 use Rattle.amr_stated.specs.Config.{Config}
 use Rattle.amr_rules.specs.declared.alert.Alert.{Alert}
@@ -126,11 +125,6 @@ KeepsNumbers old changed = (key : RouteLabels) → IsTrue (has_place route_label
 -- each member has a place
 abbrev pub ArePlaced : Numbered RouteLabels Alert → Type 0
 ArePlaced placements = (key : RouteLabels) → IsTrue (is_some (get (shown route_labels_cmp placements) key)) → IsTrue (has_place route_labels_cmp placements key)
-
--- the members of a group, by labels
-abbrev pub members_among : Config → Map route_labels_cmp Alert → RouteLabels → List (LabelSet × Alert)
-members_among config placements group =
-    map (λ placement. (placement.0.labels, placement.1)) (filter (λ placement. eq_by_cmp route_labels_cmp (group_key config placement.0) group) (entries placements))
 
 -- the label sets of members, and those of entries of the index
 abbrev pub labels_of_members : List (LabelSet × Alert) → List LabelSet

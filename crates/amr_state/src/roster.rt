@@ -9,8 +9,8 @@ ghost use Rattle.amr_stated.specs.RuleMatches.{rule_matches};
 ghost use Rattle.amr_tables.specs.Numbered.{shown, has_place, number_of, places_for, Enters, GrowsBy, KeepsPlaces, SamePlaces, SameEntered, NoneEntered, IsUnchanged};
 ghost use Rattle.std.specs.List.{All, filter_map, cons_option};
 ghost use Rattle.amr_tables.specs.Queued.{values_of};
-ghost use Rattle.amr_state.specs.State.{member_on_route, route_labels_cmp, group_key};
-ghost use Rattle.amr_state.specs.Rostered.{in_group, member_entry_of, members_among, labels_of_members, labels_of_indexed, with_alert, indexed_as, IsPlacedAt, KeepsNumbers, enrolled, CanEnrol};
+ghost use Rattle.amr_state.specs.State.{member_on_route, route_labels_cmp, group_key, members_among};
+ghost use Rattle.amr_state.specs.Rostered.{in_group, member_entry_of, labels_of_members, labels_of_indexed, with_alert, indexed_as, IsPlacedAt, KeepsNumbers, enrolled, CanEnrol};
 
 use crate::displaced::BoxedRouter;
 use crate::members::Member;

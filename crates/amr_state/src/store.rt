@@ -1,6 +1,7 @@
 //! The state of the replayed instance and its journal. The engine changes the state only through
 //! `Store`, which enters what each change displaces into the open record, so that an event can be
-//! undone. It decides nothing about alerts, groups or silences.
+//! undone. It decides nothing about alerts, groups or silences, but it asks the dedup check of
+//! `amr_rules` whether an entry of the notification log is due, since it finds the former entry.
 ghost use Rattle.std.specs.Prelude.{◌≡◌, ◌≤◌, ◌<◌, ◌+◌, ◌++◌, ◌∷◌, ◌==◌, [], ℕ, Option, Some, None, length, OnOk, IfOk, IfSome};
 ghost use Rattle.std.specs.Prelude.{if◌then◌else◌, is_some, option_map, slice_get};
 ghost use Rattle.std.specs.Ordering.{nat_cmp};
@@ -21,7 +22,7 @@ ghost use Rattle.amr_state.specs.Rostered.{labels_of_members};
 
 use crate::displaced::{BoxedRouter, Displaced};
 use crate::due::Due;
-use crate::logging::{is_due, write_found};
+use crate::logging::is_due;
 use crate::members::Member;
 use crate::notification::{GroupTimer, LogKey, Notification};
 use crate::placing::group_key;
@@ -35,7 +36,7 @@ use amr_labels::{Labels, Listing, Shared};
 use amr_posts::SilenceId;
 use amr_rules::{Alert, LogEntry, Silence};
 use amr_stated::RuleMatch;
-use amr_tables::{Journal, Keyed, Queue};
+use amr_tables::{Journal, Keyed, Queue, change_found};
 use amr_time::{Moment, Span};
 use std::alloc::{AllocError, Global};
 use std::marker::Model;
@@ -472,13 +473,11 @@ impl Store {
         let Some(former) = former.copied() else {
             return Ok(());
         };
+        let Some(number) = number else { unreachable!() };
         let timer = GroupTimer {
             next_flush: next,
             flushed: true,
             ..former
-        };
-        let Some(number) = number else {
-            return self.set_timer(group, timer);
         };
         let entry = self
             .tables
@@ -545,7 +544,13 @@ impl Store {
         if !is_due(former, &entry, send_resolved, repeat_interval) {
             return Ok(false);
         }
-        let displaced = write_found(&mut self.tables.log, &mut self.journal, key, number, entry)?;
+        let displaced = change_found(
+            &mut self.tables.log,
+            &mut self.journal,
+            key,
+            number,
+            Some(entry),
+        )?;
         if let Some((key, was)) = displaced {
             self.journal.push(Displaced::WasLogged(key, was));
         }

@@ -62,14 +62,6 @@ module _ {D : Type 0} (cmp : D → D → Ordering) where
   abbrev pub HasLess : List D → D → List D → Type 0
   HasLess dues due less = (other : D) → has less other ≡ (not (eq_by_cmp cmp other due) && has dues other)
 
-  -- sorted lists with the same items are the same
-  abbrev pub MembersDecide : Type 0
-  MembersDecide = (l m : List D) → IsStrictlySortedBy cmp l → IsStrictlySortedBy cmp m → ((due : D) → has l due ≡ has m due) → l ≡ m
-
-  -- `in_order` sorts a list and keeps its items
-  abbrev pub InOrderSorts : Type 0
-  InOrderSorts = (l : List D) → IsStrictlySortedBy cmp (in_order l) × ((due : D) → has (in_order l) due ≡ has l due)
-
   -- the items are sorted and counted, and the spare memory and the items together fit into the
   -- reserved room
   pub record IsQueue (dues : List D) (len spare room : ℕ) : Type 0 where

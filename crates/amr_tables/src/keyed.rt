@@ -108,23 +108,12 @@ impl<K: Key + Drop, V: Drop> Keyed<K, V> {
         self.numbers.contains_key(key)
     }
 
-    /// Returns whether a key has a place, and its value. It looks for the key once, where
-    /// `has_place` and `get` look for it twice.
-    pub fn look_up(&self, key: &K) -> (bool, Option<&V>)
-        ensures place { result.0 ≡ has_place K.cmp self.now key.now }
-        ensures value { option_copied result.1 ≡ map.get (shown K.cmp self.now) key.now }
-    {
-        match self.numbers.get(key) {
-            None => (false, None),
-            Some(number) => (true, self.slots.look(number)),
-        }
-    }
-
-    /// Returns the number of a key, if it has a place, and its value. With the number, `exchange_at`
-    /// and `exchange_placed` need not look for the key again.
+    /// Returns the number of a key, if it has a place, and its value. With the number, `change_found`
+    /// and `exchange_at` needn't look for the key again.
     pub fn look_up_number(&self, key: &K) -> (Option<usize>, Option<&V>)
         ensures number { result.0 ≡ number_of K.cmp self.now key.now }
         ensures value { option_copied result.1 ≡ map.get (shown K.cmp self.now) key.now }
+        ensures placed { IsTrue (is_some result.1) → IsTrue (is_some result.0) }
     {
         match self.numbers.get(key) {
             None => (None, None),
@@ -133,7 +122,7 @@ impl<K: Key + Drop, V: Drop> Keyed<K, V> {
     }
 
     /// Returns the number of a key, if it has a place.
-    fn number_of(&self, key: &K) -> Option<usize>
+    pub fn number_of(&self, key: &K) -> Option<usize>
         ensures { result ≡ number_of K.cmp self.now key.now }
     {
         self.numbers.get(key)
@@ -265,39 +254,10 @@ impl<K: Key + Drop, V: Drop> Keyed<K, V> {
     }
 }
 
-/// Sets or removes the value of a key. It makes a place for the key and marks it as entered, if
-/// need be. Returns the entry that the open record needs, which is the key with its former value,
-/// and leaves room for it there. Returns `None` if the place was marked before.
-pub fn change<K: Key + Drop, V: Drop, E>(
-    table: &mut Keyed<K, V>,
-    journal: &mut Journal<E>,
-    key: &K,
-    value: Option<V>,
-) -> Result<Option<(K, Option<V>)>, AllocError>
-    ensures entry { IfOk result (λ entry. entry ≡ entry_of K.cmp table.old key.now) }
-    ensures shown { OnOk result (shown K.cmp table.new
-        ≡ map.set (shown K.cmp table.old) key.now value) }
-    ensures entered { OnOk result (Enters K.cmp table.old table.new key.now) }
-    ensures made { OnOk result (IsTrue (has_place K.cmp table.new key.now)) }
-    ensures err { OnErr result (IsUnchanged K.cmp table.old table.new) }
-    ensures keys { GrowsBy K.cmp (places_for K.cmp table.old key.now) table.old table.new }
-    ensures enough { OnOk result (HasPlaces K.cmp table.new) }
-    ensures places { KeepsPlaces K.cmp table.old table.new }
-    ensures no_new { IsTrue (has_place K.cmp table.old key.now)
-        → SamePlaces K.cmp table.old table.new }
-    ensures numbers { IsTrue (has_place K.cmp table.old key.now)
-        → table.new.numbers ≡ table.old.numbers }
-    ensures room { IfOk result (λ entry. IsTrue (is_some entry) → 0 < journal.new.entry_room) }
-    ensures closed { journal.new.closed ≡ journal.old.closed }
-    ensures current { journal.new.current ≡ journal.old.current }
-    ensures record_room { journal.new.record_room ≡ journal.old.record_room }
-{
-    let number = table.number_of(key);
-    change_found(table, journal, key, number, value)
-}
-
-/// Sets or removes the value of a key that has this number, if it has one, as `change` does. It
-/// doesn't look for the key again.
+/// Sets or removes the value of a key, given its number, if it has one. It makes a place for a new
+/// key and marks the place as entered, if need be. Returns the entry that the open record needs,
+/// which is the key with its former value, and leaves room for it there. Returns `None` if the
+/// place was marked before. It doesn't look for the key again.
 pub fn change_found<K: Key + Drop, V: Drop, E>(
     table: &mut Keyed<K, V>,
     journal: &mut Journal<E>,
@@ -336,7 +296,7 @@ pub fn change_found<K: Key + Drop, V: Drop, E>(
 /// Sets or removes the value of a key that has this number, if it has one, and marks its place as
 /// entered. It makes a place for a new key. Returns the former value, and whether the place was
 /// marked before.
-pub fn exchange_placed<K: Key + Drop, V: Drop>(
+fn exchange_placed<K: Key + Drop, V: Drop>(
     table: &mut Keyed<K, V>,
     key: &K,
     number: Option<usize>,

@@ -57,13 +57,3 @@ pub trait Table {
     ghost at_key: { (t : Self) (k : Self.Key) (v : Option Self.Value) →
         IsTrue (is_placed t k) → look_at (displaced t k v) k ≡ v };
 }
-
-/// Restores the former value of a key, and drops the present one.
-pub fn put_back<T: Table>(table: &mut T, key: T::Key, value: Option<T::Value>)
-where
-    T::Value: Drop,
-    requires { IsTrue (T.is_placed table.old key) }
-    ensures { table.new ≡ T.displaced table.old key value }
-{
-    let _ = table.displace(key, value);
-}

@@ -273,36 +273,6 @@ fn lift_left<D: Drop>(root: &mut Option<Box<Node<D>>>)
     *root = Some(middle);
 }
 
-/// Restores the balance and the stored height of a tree after one of its sides has changed.
-#[inline]
-fn rebalance<D: Drop>(root: &mut Option<Box<Node<D>>>)
-    requires { IsNearlyBalanced root.old }
-    ensures list { (root_view root.new).0 ≡ (root_view root.old).0 }
-    ensures height { IsHeightOf (sides_of root.old).0 (sides_of root.old).1 (root_view root.new).1 }
-    ensures balanced { IsBalancedRoot root.new }
-{
-    let Some(node) = root else { unreachable!() };
-    let Node::Fork {
-        left,
-        height,
-        right,
-        ..
-    } = &mut **node
-    else {
-        unreachable!()
-    };
-    let (left_height, right_height) = (left.height(), right.height());
-    if left_height <= right_height + 1 && right_height <= left_height + 1 {
-        *height = left_height.max(right_height) + 1;
-        return;
-    }
-    if left_height > right_height {
-        lift_left(root);
-    } else {
-        lift_right(root);
-    }
-}
-
 /// Restores the balance and the stored height of a tree after a side of it has changed, if the
 /// height of that side has. Else it writes nothing. Returns whether the height of the tree has
 /// changed.
@@ -316,7 +286,7 @@ fn rebalance_if<D: Drop>(root: &mut Option<Box<Node<D>>>, has_changed: bool) -> 
     ensures changed { result ≡ not ((root_view root.new).1 == (root_view root.old).1) }
 {
     if has_changed {
-        return rebalance_noting(root);
+        return rebalance(root);
     }
     let Some(node) = root else { unreachable!() };
     let Node::Fork {
@@ -332,10 +302,10 @@ fn rebalance_if<D: Drop>(root: &mut Option<Box<Node<D>>>, has_changed: bool) -> 
     false
 }
 
-/// Restores the balance and the stored height of a tree after one of its sides has changed, as
-/// `rebalance` does. Returns whether the height of the tree has changed.
+/// Restores the balance and the stored height of a tree after one of its sides has changed. Returns
+/// whether the height of the tree has changed.
 #[inline(never)]
-fn rebalance_noting<D: Drop>(root: &mut Option<Box<Node<D>>>) -> bool
+fn rebalance<D: Drop>(root: &mut Option<Box<Node<D>>>) -> bool
     requires { IsNearlyBalanced root.old }
     ensures list { (root_view root.new).0 ≡ (root_view root.old).0 }
     ensures height { IsHeightOf (sides_of root.old).0 (sides_of root.old).1 (root_view root.new).1 }

@@ -12,7 +12,7 @@ invariant_of-self-2 g c =
     let t = c.self.inside in
     let id = c.args.id.now in
     let before : Silences = shown nat_cmp t.silences in
-    let after : Silences = shown nat_cmp c.change.new.table in
+    let after : Silences = shown nat_cmp c.change_found.new.table in
     let right = noted_right c.new-noted.result id before after c.args.silence (c.new-noted.ensures ∙ ap (change_of id) c.as_ref.ensures.value) c.in_ok-entry.ensures.shown in (
       c.note_change.ensures.known before after right.0
           (subst (λ (cs : List SilenceChange). AreKnown before (changed_ids cs) t.known.items) (sym c.reserve.ensures.items) c.self.invariant.0),

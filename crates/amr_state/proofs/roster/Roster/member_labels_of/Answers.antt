@@ -2,8 +2,8 @@ use Rattle.std.proofs.Common.{◌≡◌, List, IfOk, ap, subst, ◌∙◌}
 use Rattle.amr_labels.specs.Labels.{LabelSet}
 use Rattle.amr_tables.specs.Numbered.{shown}
 use Rattle.amr_tables.specs.Queued.{values_of}
-use Rattle.amr_state.specs.State.{route_labels_cmp}
-use Rattle.amr_state.specs.Rostered.{Rostered, members_among, labels_of_members}
+use Rattle.amr_state.specs.State.{route_labels_cmp, members_among}
+use Rattle.amr_state.specs.Rostered.{Rostered, labels_of_members}
 use Rattle.amr_state.proofs.Rostering.{labels_found}
 use Rattle.amr_state.proofs.roster.Roster.member_labels_of.Goals as goal
 

@@ -3,8 +3,8 @@ use Rattle.amr_labels.specs.Labels.{LabelSet}
 use Rattle.amr_rules.specs.declared.alert.Alert.{Alert}
 use Rattle.amr_tables.specs.Numbered.{shown}
 use Rattle.amr_tables.specs.Queued.{values_of}
-use Rattle.amr_state.specs.State.{route_labels_cmp}
-use Rattle.amr_state.specs.Rostered.{Rostered, members_among}
+use Rattle.amr_state.specs.State.{route_labels_cmp, members_among}
+use Rattle.amr_state.specs.Rostered.{Rostered}
 use Rattle.amr_state.proofs.Rostering.{members_found, placed_found}
 use Rattle.amr_state.proofs.roster.Roster.members_of.Goals as goal
 
