@@ -16,7 +16,7 @@ use Rattle.std.proofs.lemmas.Bool.{cases_eq, cases_order}
 use Rattle.std.proofs.lemmas.Cmp.{tied_itself, on_total, then_total}
 use Rattle.std.proofs.lemmas.List.{length-map, length-reverse, length-set, length_push, get_or_append_left, get_or_push, get_or-set_same, get_or-set_other, same_from_push}
 use Rattle.std.proofs.lemmas.Map.Lookups.{exact_pairs}
-use Rattle.std.proofs.lemmas.Option.{none-some, slice_get-get_or, MatchOption-at_some, MatchOption-at_none}
+use Rattle.std.proofs.lemmas.Option.{slice_get-get_or}
 use Rattle.amr_matchers.specs.Matchers.{Matcher, matcher_cmp, matcher_cmp_total, matcher_cmp-IsAntisymmetric}
 use Rattle.amr_stated.specs.declared.route.Route.{Route}
 use Rattle.amr_stated.specs.Config.{Config}

@@ -25,19 +25,19 @@ differ : (r s : Text) → 48 ∷ r ≡ 49 ∷ s → ⊥
 differ r s e = let h : ◌≡◌ {A = ℕ} 48 49 = heads 48 49 r s e in omega (arith, h)
 
 -- marks of 127 and a smaller byte tell how many marks there are, and the byte
-marks_tell : (a b x y : ℕ) (r s : Text) → x < 127 → y < 127 → replicate a 127 ++ x ∷ r ≡ replicate b 127 ++ y ∷ s → (a ≡ b) × (x ≡ y) × (r ≡ s)
-marks_tell zero zero x y r s small_x small_y e = (refl, heads x y r s e, tails x y r s e)
-marks_tell zero (suc b) x y r s small_x small_y e = let h : x ≡ 127 = heads x 127 _ _ e in absurd (omega (arith, h, small_x))
-marks_tell (suc a) zero x y r s small_x small_y e = let h : 127 ≡ y = heads 127 y _ _ e in absurd (omega (arith, h, small_y))
-marks_tell (suc a) (suc b) x y r s small_x small_y e =
-    let rest = marks_tell a b x y r s small_x small_y (tails 127 127 _ _ e) in
+counts_tell : (a b x y : ℕ) (r s : Text) → x < 127 → y < 127 → replicate a 127 ++ x ∷ r ≡ replicate b 127 ++ y ∷ s → (a ≡ b) × (x ≡ y) × (r ≡ s)
+counts_tell zero zero x y r s small_x small_y e = (refl, heads x y r s e, tails x y r s e)
+counts_tell zero (suc b) x y r s small_x small_y e = let h : x ≡ 127 = heads x 127 _ _ e in absurd (omega (arith, h, small_x))
+counts_tell (suc a) zero x y r s small_x small_y e = let h : 127 ≡ y = heads 127 y _ _ e in absurd (omega (arith, h, small_y))
+counts_tell (suc a) (suc b) x y r s small_x small_y e =
+    let rest = counts_tell a b x y r s small_x small_y (tails 127 127 _ _ e) in
     (ap (λ n. suc n) rest.0, rest.1, rest.2)
 
 lengths_tell : (m n : ℕ) (r s : Text) → length_text m ++ r ≡ length_text n ++ s → (m ≡ n) × (r ≡ s)
 lengths_tell m n r s e =
     let flat = sym (append_assoc (replicate (m / 127) 127) ((m % 127) ∷ []) r) ∙ e ∙ append_assoc (replicate (n / 127) 127) ((n % 127) ∷ []) s in
-    let marks = marks_tell (m / 127) (n / 127) (m % 127) (n % 127) r s (omega arith) (omega arith) flat in
-    (sym (div-add-mod m 127) ∙ (λ i. 127 * marks.0 i + marks.1 i) ∙ div-add-mod n 127, marks.2)
+    let counts = counts_tell (m / 127) (n / 127) (m % 127) (n % 127) r s (omega arith) (omega arith) flat in
+    (sym (div-add-mod m 127) ∙ (λ i. 127 * counts.0 i + counts.1 i) ∙ div-add-mod n 127, counts.2)
 
 as_long_tell : (xs ys r s : Text) → length xs ≡ length ys → xs ++ r ≡ ys ++ s → (xs ≡ ys) × (r ≡ s)
 as_long_tell [] [] r s l e = (refl, e)

@@ -96,7 +96,7 @@ fn alone(alloc: Global, numbers: &[usize]) -> Result<Listing<bool>, AllocError>
     requires { AreFirstPlaces numbers.now }
     ensures { IfOk result (λ alone. AreAlone numbers.now (length numbers.now) alone) }
 {
-    let mut alone = Vec::new(alloc);
+    let mut alone = Vec::with_capacity(alloc, numbers.len())?;
     for (place, first) in numbers.iter().enumerate() {
         if *first < place {
             alone[*first] = false;
