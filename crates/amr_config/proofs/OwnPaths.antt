@@ -1,9 +1,9 @@
 -- The first route with each path, and which places no other is like.
-use Rattle.std.proofs.Common.{◌≡◌, ℕ, zero, suc, ◌+◌, ◌<◌, ◌≤◌, Bool, true, false, cond, List, [], ◌∷◌, ◌++◌, length, get_or, set, map, Option, Some, None, MatchOption, option_and_then, refl, sym, ap, subst, ◌∙◌, ⊎_elim, arith}
+use Rattle.std.proofs.Common.{◌≡◌, ℕ, zero, suc, ◌+◌, ◌-◌, ◌<◌, ◌≤◌, Bool, true, false, cond, List, [], ◌∷◌, ◌++◌, length, get_or, set, map, Option, Some, None, MatchOption, option_and_then, unwrap_or, refl, sym, ap, subst, ◌∙◌, ⊎_elim, arith}
 use Rattle.std.specs.Prelude.{IfSome}
 use Rattle.std.specs.Bool.{Decides}
 use Rattle.std.specs.BTreeMap as tree
-use Rattle.std.specs.BTreeMap.{BTreeMap}
+use Rattle.std.specs.Map.{lookup}
 use Rattle.std.specs.Cmp.{IsTotalOrder, nat_cmp_total}
 use Rattle.std.specs.Cmp.Lexicographic.{slice_cmp, lists_total, options_total}
 use Rattle.std.specs.FinMap.{nat_cmp-IsAntisymmetric, slice_cmp-IsAntisymmetric}
@@ -16,13 +16,15 @@ use Rattle.std.proofs.lemmas.Bool.{cases_eq, cases_order}
 use Rattle.std.proofs.lemmas.Cmp.{tied_itself, on_total, then_total}
 use Rattle.std.proofs.lemmas.List.{length-map, length-reverse, length-set, length_push, get_or_append_left, get_or_push, get_or-set_same, get_or-set_other, same_from_push}
 use Rattle.std.proofs.lemmas.Map.Lookups.{exact_pairs}
-use Rattle.std.proofs.lemmas.Option.{none-some, slice_get-get_or, MatchOption-at_some, MatchOption-at_none}
+use Rattle.std.proofs.lemmas.Option.{slice_get-get_or}
 use Rattle.amr_matchers.specs.Matchers.{Matcher, matcher_cmp, matcher_cmp_total, matcher_cmp-IsAntisymmetric}
 use Rattle.amr_stated.specs.declared.route.Route.{Route}
 use Rattle.amr_stated.specs.Config.{Config}
-use Rattle.amr_config.specs.Paths.{Path, IsFirst, IsFirstLike, AreFirsts, IsOnly, AreOwn, AreFirstPlaces, IsAlone, AreAlone}
+use Rattle.amr_config.specs.Paths.{Path, path_spread, IsFirst, IsFirstLike, AreFirsts, IsOnly, AreOwn, AreFirstPlaces, IsAlone, AreAlone}
 use Rattle.amr_config.specs.Routing.{parent_of, line_within, line_of, path_of, sorted_matchers}
-use Rattle.amr_config.specs.Settled.{AreParentsFirst}
+use Rattle.amr_config.specs.declared.settings.Settings.{Settings}
+use Rattle.amr_config.specs.Settled.{settings_of, settled, AreParentsFirst}
+use Rattle.amr_config.proofs.Inherited.{get_or-settled}
 use Rattle.amr_config.proofs.Settling.{path_root, path_child}
 
 pub decides_too : {P Q : Type 0} (r s : Bool) → s ≡ r → (P → Q) → (Q → P) → Decides r P → Decides s Q
@@ -39,15 +41,25 @@ below n limit within ne = omega (arith, within, ne)
 
 -- ---- keys of paths
 
--- the first route with the parent's path, if there is a parent, and the sorted matchers
+-- what tells paths apart that have one number
+abbrev EndKey : Type 0
+EndKey = Option ℕ × List Matcher
+
+-- the number of the path; the first route with the parent's path, if there is a parent; and the sorted matchers
 abbrev pub PathKey : Type 0
-PathKey = Option ℕ × List Matcher
+PathKey = ℕ × EndKey
+
+abbrev end_key_cmp : EndKey → EndKey → Ordering
+end_key_cmp a b = ordering_then (option_cmp nat_cmp a.0 b.0) (slice_cmp matcher_cmp a.1 b.1)
 
 abbrev pub path_key_cmp : PathKey → PathKey → Ordering
-path_key_cmp a b = ordering_then (option_cmp nat_cmp a.0 b.0) (slice_cmp matcher_cmp a.1 b.1)
+path_key_cmp a b = ordering_then (nat_cmp a.0 b.0) (end_key_cmp a.1 b.1)
+
+end_key_cmp_total : IsTotalOrder end_key_cmp
+end_key_cmp_total = then_total (on_total (λ (q : EndKey). q.0) (options_total nat_cmp_total)) (on_total (λ (q : EndKey). q.1) (lists_total matcher_cmp_total))
 
 path_key_cmp_total : IsTotalOrder path_key_cmp
-path_key_cmp_total = then_total (on_total (λ (q : PathKey). q.0) (options_total nat_cmp_total)) (on_total (λ (q : PathKey). q.1) (lists_total matcher_cmp_total))
+path_key_cmp_total = then_total (on_total (λ (q : PathKey). q.0) nat_cmp_total) (on_total (λ (q : PathKey). q.1) end_key_cmp_total)
 
 options_alike : (p q : Option ℕ) → option_cmp nat_cmp p q ≡ Equal → p ≡ q
 options_alike None None e = refl
@@ -55,9 +67,16 @@ options_alike None (Some b) e = let h : ◌≡◌ {A = Ordering} Less Equal = e 
 options_alike (Some a) None e = let h : ◌≡◌ {A = Ordering} Greater Equal = e in absurd (cc)
 options_alike (Some a) (Some b) e = ap (λ n. Some n) (nat_cmp-IsAntisymmetric a b e)
 
+ends_alike : (p q : EndKey) → end_key_cmp p q ≡ Equal → p ≡ q
+ends_alike = exact_pairs (option_cmp nat_cmp) (slice_cmp matcher_cmp) options_alike (slice_cmp-IsAntisymmetric matcher_cmp-IsAntisymmetric)
+
 -- keys that compare as equal are the same
 keys_alike : (p q : PathKey) → path_key_cmp p q ≡ Equal → p ≡ q
-keys_alike = exact_pairs (option_cmp nat_cmp) (slice_cmp matcher_cmp) options_alike (slice_cmp-IsAntisymmetric matcher_cmp-IsAntisymmetric)
+keys_alike = exact_pairs nat_cmp end_key_cmp nat_cmp-IsAntisymmetric ends_alike
+
+-- the value under a key
+abbrev pub value_at : List (PathKey × ℕ) → PathKey → Option ℕ
+value_at entries key = lookup (tree.is_at (path_key_cmp key)) entries
 
 -- ---- the first route with each path
 
@@ -71,13 +90,29 @@ path_not_empty config n e =
     let matchers : ℕ → List Matcher = λ m. option_map_or (λ (route : Route). sorted_matchers route.matchers) (slice_get config.routes m) [] in
     omega (arith, line_not_empty config n n, sym (length-map (line_of config n) matchers) ∙ sym (length-reverse (map matchers (line_of config n))) ∙ ap length e)
 
+pub path_settled : (config : Config) (settings : List Settings) (n : ℕ) (its : Settings) → settings ≡ settled config → its ≡ get_or settings n its → n < length config.routes → its.path ≡ path_of config n
+unfolding settings_of
+path_settled config settings n its same is within =
+    ap (λ (s : Settings). s.path) (is ∙ ap (λ ss. get_or ss n its) same ∙ get_or-settled config n its within)
+
+-- the last matchers of a path
+abbrev pub own_of : Path → List Matcher
+own_of path = unwrap_or (slice_get path (length path - 1)) []
+
+own_of_push : (front : Path) (own : List Matcher) → own_of (front ++ own ∷ []) ≡ own
+own_of_push front own =
+    let long : length (front ++ own ∷ []) ≡ length front + 1 = length_push front own in
+    ap (λ o. unwrap_or o []) (slice_get-get_or (front ++ own ∷ []) (length (front ++ own ∷ []) - 1) own (omega (arith, long))
+    ∙ ap (λ own. Some own) (get_or_push front own own (length (front ++ own ∷ []) - 1) (omega (arith, long))))
+
 module _ (config : Config) where
   abbrev path_of_key : PathKey → Path
-  path_of_key key = option_map_or (path_of config) key.0 [] ++ key.1 ∷ []
+  path_of_key key = option_map_or (path_of config) key.1.0 [] ++ key.1.1 ∷ []
 
   -- a key that a path may have
-  abbrev IsSound : PathKey → Type 0
-  IsSound key = IfSome key.0 (IsFirst config)
+  pub record IsSound (key : PathKey) : Type 0 where
+    pub first : IfSome key.1.0 (IsFirst config)
+    pub spread : key.0 ≡ path_spread (path_of_key key)
 
   -- the key is that of route n
   pub record IsKeyOf (n : ℕ) (key : PathKey) : Type 0 where
@@ -97,8 +132,11 @@ module _ (config : Config) where
   IsAnswered limit key found = MatchOption found (IsUnseen limit key) (HasFirst limit key)
 
   -- the first of the first routes with each path is known
-  abbrev pub AreKnown : ℕ → BTreeMap PathKey ℕ → Type 0
-  AreKnown limit known = (key : PathKey) → IsSound key → IsAnswered limit key (tree.get path_key_cmp known key)
+  abbrev pub AreKnown : ℕ → List (PathKey × ℕ) → Type 0
+  AreKnown limit known = (key : PathKey) → IsSound key → IsAnswered limit key (value_at known key)
+
+  pub known_same : (limit : ℕ) (a b : List (PathKey × ℕ)) → a ≡ b → AreKnown limit a → AreKnown limit b
+  known_same limit a b same are = subst (AreKnown limit) same are
 
   two_firsts : (a b : ℕ) → IsFirst config a → IsFirst config b → path_of config a ≡ path_of config b → a ≡ b
   two_firsts a b first_a first_b same =
@@ -113,9 +151,10 @@ module _ (config : Config) where
   -- keys of the same path are the same
   same_key : (p q : PathKey) → IsSound p → IsSound q → path_of_key p ≡ path_of_key q → p ≡ q
   same_key p q sound_p sound_q same =
-      let parts = same_from_push (option_map_or (path_of config) p.0 []) (option_map_or (path_of config) q.0 []) p.1 q.1 same in
-      let fronts = same_above p.0 q.0 sound_p sound_q parts.0 in
-      λ i. (fronts i, parts.1 i)
+      let parts = same_from_push (option_map_or (path_of config) p.1.0 []) (option_map_or (path_of config) q.1.0 []) p.1.1 q.1.1 same in
+      let fronts = same_above p.1.0 q.1.0 sound_p.first sound_q.first parts.0 in
+      let spreads = sound_p.spread ∙ ap path_spread same ∙ sym sound_q.spread in
+      λ i. (spreads i, (fronts i, parts.1 i))
 
   pub firsts_more : (limit : ℕ) (firsts : List ℕ) (first : ℕ) → AreFirsts config limit firsts → IsFirstLike config limit first → AreFirsts config (limit + 1) (firsts ++ first ∷ [])
   firsts_more limit firsts first are is = record {
@@ -128,61 +167,57 @@ module _ (config : Config) where
   }
 
   module _ (parents : AreParentsFirst config) (limit : ℕ) (route : Route) (here : slice_get config.routes limit ≡ Some route) (firsts : List ℕ) (are : AreFirsts config limit firsts) where
-    is_key_under : (parent : Option ℕ) → parent_of config limit ≡ parent → IsKeyOf limit (option_and_then (slice_get firsts) parent, sorted_matchers route.matchers)
-    is_key_under None e = record { sound = tt; path = sym (path_root config parents limit route here e) }
+    abbrev key_under : Option ℕ → PathKey
+    key_under parent = (path_spread (path_of config limit), (option_and_then (slice_get firsts) parent, sorted_matchers route.matchers))
+
+    is_key_at : (key : PathKey) → IfSome key.1.0 (IsFirst config) → key.0 ≡ path_spread (path_of config limit) → path_of_key key ≡ path_of config limit → IsKeyOf limit key
+    is_key_at key first spread path = record { sound = record { first = first; spread = spread ∙ ap path_spread (sym path) }; path = path }
+
+    is_key_under : (parent : Option ℕ) → parent_of config limit ≡ parent → IsKeyOf limit (key_under parent)
+    is_key_under None e = is_key_at (key_under None) tt refl (sym (path_root config parents limit route here e))
     is_key_under (Some parent) e =
         let less = parents limit parent e in
         let its = are.each parent less in
         let found = slice_get-get_or firsts parent 0 (omega (arith, less, are.all)) in
-        subst (λ (o : Option ℕ). IsKeyOf limit (o, sorted_matchers route.matchers)) (sym found)
-        (record { sound = its.is_first; path = ap (λ (p : Path). p ++ sorted_matchers route.matchers ∷ []) its.same ∙ sym (path_child config parents limit route here parent e) })
+        subst (λ (o : Option ℕ). IsKeyOf limit (path_spread (path_of config limit), (o, sorted_matchers route.matchers))) (sym found)
+        (is_key_at (path_spread (path_of config limit), (Some (get_or firsts parent 0), sorted_matchers route.matchers)) its.is_first refl
+        (ap (λ (p : Path). p ++ sorted_matchers route.matchers ∷ []) its.same ∙ sym (path_child config parents limit route here parent e)))
 
-    pub is_key : (key : PathKey) → key ≡ (option_and_then (slice_get firsts) route.parent, sorted_matchers route.matchers) → IsKeyOf limit key
-    is_key key e =
-        subst (IsKeyOf limit) (sym e) (is_key_under route.parent (ap (λ o. option_map_or (λ (r : Route). r.parent) o None) here))
+    pub is_key : (path : Path) (key : PathKey) → path ≡ path_of config limit → key ≡ (path_spread path, (option_and_then (slice_get firsts) route.parent, own_of path)) → IsKeyOf limit key
+    is_key path key same e =
+        let under = is_key_under route.parent (ap (λ o. option_map_or (λ (r : Route). r.parent) o None) here) in
+        let own : own_of path ≡ sorted_matchers route.matchers =
+        ap own_of (same ∙ sym under.path) ∙ own_of_push (option_map_or (path_of config) (key_under route.parent).1.0 []) (sorted_matchers route.matchers) in
+        subst (IsKeyOf limit) (sym (e ∙ (λ i. (path_spread (same i), (option_and_then (slice_get firsts) route.parent, own i))))) under
 
-  module _ (limit : ℕ) (key : PathKey) (is : IsKeyOf limit key) (known : BTreeMap PathKey ℕ) (are : AreKnown limit known) where
-    answered_more : (other : PathKey) (found : Option ℕ) → IsSound other → (key ≡ other → found ≡ None → ⊥) → IsAnswered limit other found → IsAnswered (limit + 1) other found
+  module _ (limit : ℕ) (key : PathKey) (is : IsKeyOf limit key) (known : List (PathKey × ℕ)) (are : AreKnown limit known) where
+    first_by : (found : Option ℕ) (first : ℕ) → IsAnswered limit key found → first ≡ unwrap_or found limit → IsFirstLike config limit first
+    first_by None first none e = subst (IsFirstLike config limit) (sym e) (record { within = omega arith; same = refl; is_first = λ n less same. none n less (same ∙ sym is.path) })
+    first_by (Some w) first has e = subst (IsFirstLike config limit) (sym e) (record { within = omega (arith, has.within); same = has.same ∙ is.path; is_first = has.is_first })
+
+    -- the first route with the path, which is the one that is known, or this one
+    pub first_like : (first : ℕ) → first ≡ unwrap_or (value_at known key) limit → IsFirstLike config limit first
+    first_like first e = first_by (value_at known key) first (are key is.sound) e
+
+    answered_more : (other : PathKey) (found : Option ℕ) → IsSound other → (key ≡ other → ⊥) → IsAnswered limit other found → IsAnswered (limit + 1) other found
     answered_more other None sound apart none = λ n within same.
-        ⊎_elim (λ (e : n ≡ limit). apart (same_key key other is.sound sound (is.path ∙ ap (path_of config) (sym e) ∙ same)) refl) (λ (ne : n ≡ limit → ⊥). none n (below n limit within ne) same) (cases_eq n limit)
+        ⊎_elim (λ (e : n ≡ limit). apart (same_key key other is.sound sound (is.path ∙ ap (path_of config) (sym e) ∙ same))) (λ (ne : n ≡ limit → ⊥). none n (below n limit within ne) same) (cases_eq n limit)
     answered_more other (Some first) sound apart found = record { within = omega (arith, found.within); same = found.same; is_first = found.is_first }
 
-    -- ---- a path that has been seen
+    module _ (first : ℕ) (like : IsFirstLike config limit first) (more : List (PathKey × ℕ)) (up : (q : PathKey) → value_at more q ≡ cond (is_eq (path_key_cmp key q)) (Some first) (value_at known q)) where
+      others : (other : PathKey) → IsSound other → value_at more other ≡ value_at known other → (key ≡ other → ⊥) → IsAnswered (limit + 1) other (value_at more other)
+      others other sound same apart =
+          subst (IsAnswered (limit + 1) other) (sym same) (answered_more other (value_at known other) sound apart (are other sound))
 
-    module _ (first : ℕ) (seen : tree.get path_key_cmp known key ≡ Some first) where
-      has_first : HasFirst limit key first
-      has_first = MatchOption-at_some (IsUnseen limit key) (HasFirst limit key) first seen (are key is.sound)
-
-      pub first_seen : IsFirstLike config limit first
-      first_seen = record { within = omega (arith, has_first.within); same = has_first.same ∙ is.path; is_first = has_first.is_first }
-
-      pub known_seen : AreKnown (limit + 1) known
-      known_seen other sound =
-          answered_more other (tree.get path_key_cmp known other) sound (λ e none. none-some first (sym none ∙ ap (tree.get path_key_cmp known) (sym e) ∙ seen)) (are other sound)
-
-    -- ---- a path that has not been seen
-
-    module _ (unseen : tree.get path_key_cmp known key ≡ None) where
-      none_before : IsFirst config limit
-      none_before n less same = MatchOption-at_none (IsUnseen limit key) (HasFirst limit key) unseen (are key is.sound) n less (same ∙ sym is.path)
-
-      pub first_unseen : IsFirstLike config limit limit
-      first_unseen = record { within = omega arith; same = refl; is_first = none_before }
-
-      module _ (more : BTreeMap PathKey ℕ) (up : tree.Updates path_key_cmp known more key (Some limit)) where
-        others : (other : PathKey) → IsSound other → tree.get path_key_cmp more other ≡ tree.get path_key_cmp known other → (key ≡ other → ⊥) → IsAnswered (limit + 1) other (tree.get path_key_cmp more other)
-        others other sound same apart =
-            subst (IsAnswered (limit + 1) other) (sym same) (answered_more other (tree.get path_key_cmp known other) sound (λ e none. apart e) (are other sound))
-
-        pub known_unseen : AreKnown (limit + 1) more
-        known_unseen other sound =
-            elim (path_key_cmp key other) as (λ o. path_key_cmp key other ≡ o → IsAnswered (limit + 1) other (tree.get path_key_cmp more other)) [
-              | Less ↦ λ tie. others other sound (up.0 other ∙ ap (λ o. cond (is_eq o) (Some limit) (tree.get path_key_cmp known other)) tie) (λ same. let h = sym tie ∙ ap (path_key_cmp key) (sym same) ∙ tied_itself path_key_cmp_total key in absurd (cc))
-              | Equal ↦ λ tie. subst (IsAnswered (limit + 1) other)
-                  (sym (up.0 other ∙ ap (λ o. cond (is_eq o) (Some limit) (tree.get path_key_cmp known other)) tie))
-                  (record { within = omega arith; same = sym is.path ∙ ap path_of_key (keys_alike key other tie); is_first = none_before })
-              | Greater ↦ λ tie. others other sound (up.0 other ∙ ap (λ o. cond (is_eq o) (Some limit) (tree.get path_key_cmp known other)) tie) (λ same. let h = sym tie ∙ ap (path_key_cmp key) (sym same) ∙ tied_itself path_key_cmp_total key in absurd (cc))
-            ] refl
+      pub known_more : AreKnown (limit + 1) more
+      known_more other sound =
+          elim (path_key_cmp key other) as (λ o. path_key_cmp key other ≡ o → IsAnswered (limit + 1) other (value_at more other)) [
+            | Less ↦ λ tie. others other sound (up other ∙ ap (λ o. cond (is_eq o) (Some first) (value_at known other)) tie) (λ same. let h = sym tie ∙ ap (path_key_cmp key) (sym same) ∙ tied_itself path_key_cmp_total key in absurd (cc))
+            | Equal ↦ λ tie. subst (IsAnswered (limit + 1) other)
+                (sym (up other ∙ ap (λ o. cond (is_eq o) (Some first) (value_at known other)) tie))
+                (record { within = omega (arith, like.within); same = like.same ∙ sym is.path ∙ ap path_of_key (keys_alike key other tie); is_first = like.is_first })
+            | Greater ↦ λ tie. others other sound (up other ∙ ap (λ o. cond (is_eq o) (Some first) (value_at known other)) tie) (λ same. let h = sym tie ∙ ap (path_key_cmp key) (sym same) ∙ tied_itself path_key_cmp_total key in absurd (cc))
+          ] refl
 
   -- ---- the first routes tell which paths are of one route alone
 

@@ -1,14 +1,15 @@
 -- Other paths have other texts.
-use Rattle.std.proofs.Common.{◌≡◌, ℕ, zero, suc, ◌+◌, ◌*◌, ◌%◌, ◌^◌, ◌<◌, List, [], ◌∷◌, ◌++◌, length, get_or, map, take, refl, sym, ap, ◌∙◌, arith}
+use Rattle.std.proofs.Common.{◌≡◌, ℕ, zero, suc, ◌+◌, ◌*◌, ◌/◌, ◌%◌, ◌^◌, ◌<◌, List, [], ◌∷◌, ◌++◌, length, replicate, refl, sym, ap, ◌∙◌, arith}
 use Rattle.std.specs.Prelude.{flat_map}
 use Rattle.std.proofs.lemmas.Grind.{flat_map-append, fold-append}
-use Rattle.std.proofs.lemmas.List.{append_assoc, append-nil, map-append, take_more}
+use Rattle.std.proofs.lemmas.List.{append_assoc, append-nil}
+use Rattle.std.proofs.Math.Nat.{div-add-mod}
 use Rattle.amr_labels.specs.Labels.{Text}
 use Rattle.amr_labels.specs.Spread.{text_spread}
 use Rattle.amr_matchers.specs.declared.Operator.{Operator}
 use Rattle.amr_matchers.specs.declared.Operator.TheVariants.{Equal, NotEqual, Matches, NotMatches}
 use Rattle.amr_matchers.specs.Matchers.{Matcher, operator_place}
-use Rattle.amr_config.specs.Paths.{Path, text_after_length, operator_mark, matcher_text, matchers_text, path_text, path_spread}
+use Rattle.amr_config.specs.Paths.{Path, length_text, text_after_length, operator_mark, matcher_text, matchers_text, path_text, path_spread}
 
 -- a text tells what it is written for, whatever follows it
 abbrev Tells : {X : Type 0} → (X → Text) → Type 0
@@ -23,13 +24,20 @@ tails a b r s e = cc
 differ : (r s : Text) → 48 ∷ r ≡ 49 ∷ s → ⊥
 differ r s e = let h : ◌≡◌ {A = ℕ} 48 49 = heads 48 49 r s e in omega (arith, h)
 
-lengths_tell : (xs ys r s : Text) → map (λ (byte : ℕ). 49) xs ++ 48 ∷ r ≡ map (λ (byte : ℕ). 49) ys ++ 48 ∷ s → (length xs ≡ length ys) × (r ≡ s)
-lengths_tell [] [] r s e = (refl, tails 48 48 r s e)
-lengths_tell [] (y ∷ ys) r s e = absurd (differ _ _ e)
-lengths_tell (x ∷ xs) [] r s e = absurd (differ _ _ (sym e))
-lengths_tell (x ∷ xs) (y ∷ ys) r s e =
-    let rest = lengths_tell xs ys r s (tails 49 49 _ _ e) in
-    (ap (λ n. suc n) rest.0, rest.1)
+-- marks of 127 and a smaller byte tell how many marks there are, and the byte
+counts_tell : (a b x y : ℕ) (r s : Text) → x < 127 → y < 127 → replicate a 127 ++ x ∷ r ≡ replicate b 127 ++ y ∷ s → (a ≡ b) × (x ≡ y) × (r ≡ s)
+counts_tell zero zero x y r s small_x small_y e = (refl, heads x y r s e, tails x y r s e)
+counts_tell zero (suc b) x y r s small_x small_y e = let h : x ≡ 127 = heads x 127 _ _ e in absurd (omega (arith, h, small_x))
+counts_tell (suc a) zero x y r s small_x small_y e = let h : 127 ≡ y = heads 127 y _ _ e in absurd (omega (arith, h, small_y))
+counts_tell (suc a) (suc b) x y r s small_x small_y e =
+    let rest = counts_tell a b x y r s small_x small_y (tails 127 127 _ _ e) in
+    (ap (λ n. suc n) rest.0, rest.1, rest.2)
+
+lengths_tell : (m n : ℕ) (r s : Text) → length_text m ++ r ≡ length_text n ++ s → (m ≡ n) × (r ≡ s)
+lengths_tell m n r s e =
+    let flat = sym (append_assoc (replicate (m / 127) 127) ((m % 127) ∷ []) r) ∙ e ∙ append_assoc (replicate (n / 127) 127) ((n % 127) ∷ []) s in
+    let counts = counts_tell (m / 127) (n / 127) (m % 127) (n % 127) r s (omega arith) (omega arith) flat in
+    (sym (div-add-mod m 127) ∙ (λ i. 127 * counts.0 i + counts.1 i) ∙ div-add-mod n 127, counts.2)
 
 as_long_tell : (xs ys r s : Text) → length xs ≡ length ys → xs ++ r ≡ ys ++ s → (xs ≡ ys) × (r ≡ s)
 as_long_tell [] [] r s l e = (refl, e)
@@ -42,8 +50,8 @@ as_long_tell (x ∷ xs) (y ∷ ys) r s l e =
 
 text_tells : Tells text_after_length
 text_tells x y r s e =
-    let marks = lengths_tell x y (x ++ r) (y ++ s) (sym (append_assoc (map (λ (byte : ℕ). 49) x) (48 ∷ x) r) ∙ e ∙ append_assoc (map (λ (byte : ℕ). 49) y) (48 ∷ y) s) in
-    as_long_tell x y r s marks.0 marks.1
+    let lengths = lengths_tell (length x) (length y) (x ++ r) (y ++ s) (sym (append_assoc (length_text (length x)) x r) ∙ e ∙ append_assoc (length_text (length y)) y s) in
+    as_long_tell x y r s lengths.0 lengths.1
 
 operator_at : ℕ → Operator
 operator_at zero = Equal
@@ -105,10 +113,3 @@ unfolding path_spread
 spread_more path own own_text spread is_own is =
     is ∙ ap (λ text. (path_spread path * 31 % 2 ^ 64 + text_spread text) % 2 ^ 64) is_own
     ∙ sym (fold-append (λ (spread : ℕ) (matchers : List Matcher). (spread * 31 % 2 ^ 64 + text_spread (matchers_text matchers)) % 2 ^ 64) 0 path (own ∷ []))
-
--- the mark for one more byte
-pub one_more_mark : (old so_far bytes : Text) (k : ℕ) → k < length bytes → so_far ≡ old ++ map (λ (byte : ℕ). 49) (take k bytes) → so_far ++ 49 ∷ [] ≡ old ++ map (λ (byte : ℕ). 49) (take (k + 1) bytes)
-one_more_mark old so_far bytes k within is =
-    let more : map (λ (byte : ℕ). 49) (take (k + 1) bytes) ≡ map (λ (byte : ℕ). 49) (take k bytes) ++ 49 ∷ [] =
-    ap (map (λ (byte : ℕ). 49)) (take_more bytes k 0 within) ∙ map-append (λ (byte : ℕ). 49) (take k bytes) (get_or bytes k 0 ∷ []) in
-    ap (λ t. t ++ 49 ∷ []) is ∙ append_assoc old (map (λ (byte : ℕ). 49) (take k bytes)) (49 ∷ []) ∙ sym (ap (λ t. old ++ t) more)

@@ -1,5 +1,5 @@
 -- Paths of routes: their order, their texts, and which of them are paths of one route alone.
-use Rattle.std.specs.Prelude.{◌≡◌, ℕ, ◌<◌, ◌≤◌, ◌+◌, ◌*◌, ◌%◌, ◌^◌, Bool, false, List, [], ◌∷◌, ◌++◌, map, flat_map, fold, length, get_or}
+use Rattle.std.specs.Prelude.{◌≡◌, ℕ, ◌<◌, ◌≤◌, ◌+◌, ◌*◌, ◌/◌, ◌%◌, ◌^◌, Bool, false, List, [], ◌∷◌, ◌++◌, replicate, flat_map, fold, length, get_or}
 use Rattle.std.specs.Bool.{Decides}
 use Rattle.std.specs.declared.cmp.Ordering.{Ordering}
 use Rattle.std.specs.Cmp.{IsTotalOrder}
@@ -23,9 +23,12 @@ path_cmp_total = lists_total (lists_total matcher_cmp_total)
 
 -- ---- texts: other paths have other texts
 
--- a '1' for each byte of the text, a '0', and the text
+-- a byte 127 for each 127 in the length, and the rest as a byte
+abbrev pub length_text : ℕ → Text
+length_text length = replicate (length / 127) 127 ++ (length % 127) ∷ []
+
 abbrev pub text_after_length : Text → Text
-text_after_length text = map (λ byte. 49) text ++ 48 ∷ text
+text_after_length text = length_text (length text) ++ text
 
 -- '0', '1', '2' or '3'
 abbrev pub operator_mark : Matcher → Text

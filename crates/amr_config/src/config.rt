@@ -83,7 +83,7 @@ impl Config {
         let settings = inherit(alloc, &stated)?;
         let rule_names = rule_names(alloc, stated.rules.as_slice())?;
         let receiver_places = receiver_places(alloc, &stated, settings.as_slice())?;
-        let own_paths = own_paths(alloc, &stated)?;
+        let own_paths = own_paths(alloc, &stated, settings.as_slice())?;
         let parts = Parts {
             stated,
             settings,

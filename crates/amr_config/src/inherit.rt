@@ -18,7 +18,7 @@ pub(crate) fn inherit(alloc: Global, stated: &Stated) -> Result<Listing<Settings
     requires { AreParentsFirst (stated_config stated.now) }
     ensures { IfOk result (λ settings. settings ≡ settled (stated_config stated.now)) }
 {
-    let mut settings = Vec::new(alloc);
+    let mut settings = Vec::with_capacity(alloc, stated.routes.len())?;
     for route in stated.routes.as_slice() {
         let made = settings_under(alloc, route, above(settings.as_slice(), route.parent))?;
         settings.push(made)?;

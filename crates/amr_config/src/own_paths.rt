@@ -2,63 +2,82 @@
 //! matchers at the end, so the first route with the parent's path and those matchers tell it. What
 //! routes share with their parent is then never compared, and the time is about linear in the size
 //! of the configuration, whatever the parents' matchers.
-ghost use Rattle.std.specs.Prelude.{◌≡◌, length, IfOk, option_and_then, slice_get};
-ghost use Rattle.amr_config.specs.Paths.{AreFirsts, AreFirstPlaces, AreAlone, AreOwn};
-ghost use Rattle.amr_config.specs.Routing.{sorted_matchers};
-ghost use Rattle.amr_config.specs.Settled.{stated_config, AreParentsFirst};
+ghost use Rattle.std.specs.Prelude.{◌≡◌, ◌-◌, [], length, IfOk, option_and_then, slice_get, unwrap_or};
+ghost use Rattle.amr_config.specs.Paths.{AreFirsts, AreFirstPlaces, AreAlone, AreOwn, path_spread};
+ghost use Rattle.amr_config.specs.Settled.{stated_config, settled, AreParentsFirst};
 
-use crate::sorted::sorted;
+use crate::route_path::RoutePath;
+use crate::settings::Settings;
 use amr_labels::Listing;
 use amr_matchers::Matchers;
-use amr_stated::{Route, Stated};
+use amr_stated::Stated;
 use std::alloc::{AllocError, Global};
 use std::collections::BTreeMap;
 
-/// What tells a path from others: the first route with the parent's path, if there is a parent,
-/// and the route's own matchers, sorted.
-type PathKey = (Option<usize>, Matchers);
+/// What tells a path from others: a number made of it, by which most differ, the first route with
+/// the parent's path, if there is a parent, and the route's own matchers, sorted.
+type PathKey = (usize, (Option<usize>, Matchers));
 
 /// Returns for each route whether no other route has its path.
-pub(crate) fn own_paths(alloc: Global, stated: &Stated) -> Result<Listing<bool>, AllocError>
-    requires { AreParentsFirst (stated_config stated.now) }
+pub(crate) fn own_paths(
+    alloc: Global,
+    stated: &Stated,
+    settings: &[Settings],
+) -> Result<Listing<bool>, AllocError>
+    requires parents { AreParentsFirst (stated_config stated.now) }
+    requires settings { settings.now ≡ settled (stated_config stated.now) }
     ensures { IfOk result (λ own. AreOwn (stated_config stated.now) own) }
 {
-    let firsts = first_routes(alloc, stated)?;
+    let firsts = first_routes(alloc, stated, settings)?;
     alone(alloc, firsts.as_slice())
 }
 
 /// Returns for each route the first route with its path. A parent comes before its children, so one
 /// pass is enough.
-fn first_routes(alloc: Global, stated: &Stated) -> Result<Vec<usize>, AllocError>
-    requires { AreParentsFirst (stated_config stated.now) }
+fn first_routes(
+    alloc: Global,
+    stated: &Stated,
+    settings: &[Settings],
+) -> Result<Vec<usize>, AllocError>
+    requires parents { AreParentsFirst (stated_config stated.now) }
+    requires settings { settings.now ≡ settled (stated_config stated.now) }
     ensures { IfOk result (λ firsts.
         AreFirsts (stated_config stated.now) (length stated.now.routes) firsts.items) }
 {
     let mut known = BTreeMap::new(alloc);
-    let mut firsts = Vec::new(alloc);
+    let mut firsts = Vec::with_capacity(alloc, settings.len())?;
     for (number, route) in stated.routes.as_slice().iter().enumerate() {
-        let key = path_key(alloc, route, firsts.as_slice())?;
-        let first = match known.get(&key).copied() {
-            Some(first) => first,
-            None => {
-                known.insert(key, number)?;
-                number
-            }
-        };
+        let first_above = above(firsts.as_slice(), route.parent);
+        let key = path_key(alloc, &settings[number].path, first_above)?;
+        let first = *known.entry(key)?.or_insert(number);
         firsts.push(first)?;
     }
     Ok(firsts)
 }
 
-/// Returns what tells a route's path from others, given the first routes with the paths of the
-/// routes before it.
-fn path_key(alloc: Global, route: &Route, firsts: &[usize]) -> Result<PathKey, AllocError>
+/// Returns what tells a route's path from others, given the first route with the parent's path.
+fn path_key(
+    alloc: Global,
+    path: &RoutePath,
+    first_above: Option<usize>,
+) -> Result<PathKey, AllocError>
     ensures { IfOk result (λ key. key ≡ (
-      option_and_then (slice_get firsts.now) route.now.parent,
-      sorted_matchers route.now.matchers,
+      path_spread path.now,
+      (first_above, unwrap_or (slice_get path.now (length path.now - 1)) []),
     )) }
 {
-    Ok((above(firsts, route.parent), sorted(alloc, &route.matchers)?))
+    Ok((path.spread(), (first_above, own_matchers(alloc, path)?)))
+}
+
+/// Returns the matchers of the route of a path, which are the last of the path.
+fn own_matchers(alloc: Global, path: &RoutePath) -> Result<Matchers, AllocError>
+    ensures { IfOk result (λ own.
+        own ≡ unwrap_or (slice_get path.now (length path.now - 1)) []) }
+{
+    match path.get().as_slice().last() {
+        Some(own) => own.clone(),
+        None => Matchers::none(alloc),
+    }
 }
 
 /// Returns the first route with the path of a parent, if there is a parent.
@@ -77,7 +96,7 @@ fn alone(alloc: Global, numbers: &[usize]) -> Result<Listing<bool>, AllocError>
     requires { AreFirstPlaces numbers.now }
     ensures { IfOk result (λ alone. AreAlone numbers.now (length numbers.now) alone) }
 {
-    let mut alone = Vec::new(alloc);
+    let mut alone = Vec::with_capacity(alloc, numbers.len())?;
     for (place, first) in numbers.iter().enumerate() {
         if *first < place {
             alone[*first] = false;

@@ -129,7 +129,7 @@ fn text_below(alloc: Global, above: &str, own: &str) -> Result<Option<String>, A
     if above.len() > LONGEST_TEXT || own.len() >= LONGEST_TEXT - above.len() {
         return Ok(None);
     }
-    let mut text = String::new(alloc);
+    let mut text = String::with_capacity(alloc, above.len() + 1 + own.len())?;
     text.push_str(above)?;
     text.push('1')?;
     text.push_str(own)?;

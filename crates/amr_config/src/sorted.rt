@@ -10,7 +10,7 @@ use std::alloc::{AllocError, Global};
 fn copies(alloc: Global, matchers: &[Matcher]) -> Result<Vec<Matcher>, AllocError>
     ensures { IfOk result (λ copies. copies.items ≡ matchers.now) }
 {
-    let mut copies = Vec::new(alloc);
+    let mut copies = Vec::with_capacity(alloc, matchers.len())?;
     for matcher in matchers {
         copies.push(matcher.clone()?)?;
     }

@@ -5,7 +5,7 @@ use Rattle.amr_config.proofs.inherit.inherit.Goals as goal
 
 pub loop-route-init : goal.loop-route-init
 unfolding settled_to
-loop-route-init c = c.new-settings.ensures.items
+loop-route-init c = c.in_ok-settings.ensures.items
 
 pub loop-route-preserved : goal.loop-route-preserved
 loop-route-preserved c =

@@ -1,40 +1,42 @@
-use Rattle.std.proofs.Common.{◌≡◌, ◌+◌, ◌∙◌, length, Some, None, option_and_then, slice_get, sym, ap, subst, arith}
-use Rattle.std.specs.BTreeMap as tree
+use Rattle.std.proofs.Common.{◌≡◌, ◌+◌, ◌<◌, ◌∙◌, length, Some, option_and_then, slice_get, unwrap_or, sym, ap, subst, arith, rules}
+use Rattle.std.specs.BTreeMap.Entry.{map_with_value}
+use Rattle.std.proofs.lemmas.Grind.{common_steps}
 use Rattle.std.proofs.lemmas.Option.{slice_get-get_or}
-use Rattle.amr_config.specs.Paths.{AreFirsts, IsFirstLike}
-use Rattle.amr_config.specs.Routing.{sorted_matchers}
+use Rattle.amr_config.specs.Paths.{AreFirsts, IsFirstLike, path_spread}
+use Rattle.amr_config.specs.Routing.{path_of}
 use Rattle.amr_config.specs.Settled.{stated_config}
-use Rattle.amr_config.proofs.OwnPaths.{path_key_cmp, IsKeyOf, AreKnown, is_key, firsts_more, first_seen, known_seen, first_unseen, known_unseen}
-use Rattle.amr_config.proofs.own_paths.first_routes.Goals.{in-Some, in-None+in_ok-insert-in-None}
+use Rattle.amr_config.proofs.OwnPaths.{IsKeyOf, path_settled, own_of, is_key, firsts_more, first_like, known_same, known_more}
+use Rattle.amr_config.proofs.Receivers.{as_many}
 use Rattle.amr_config.proofs.own_paths.first_routes.Goals as goal
+
+pub bounds-settings-number : goal.bounds-settings-number
+bounds-settings-number c =
+    omega (arith, ap length c.as_slice-route-items.ensures, as_many (stated_config c.args.stated.now) c.args.settings.now c.requires.settings, c.loop-number-test.true)
 
 pub loop-number-preserved : goal.loop-number-preserved
 loop-number-preserved c =
     let config = stated_config c.args.stated.now in
     let number = c.loop-number.number in
     let route = c.route-item.result in
+    let its = c.index-settings-number.result in
     let firsts = c.loop-number.firsts.items in
     let known = c.loop-number.known in
     let key = c.in_ok-key.key in
+    let first = c.or_insert-first.result.now in
     let same : c.as_slice-route-items.result.now ≡ config.routes = c.as_slice-route-items.ensures in
+    let within : number < length config.routes = omega (arith, ap length same, c.loop-number-test.true) in
     let here : slice_get config.routes number ≡ Some route =
-    slice_get-get_or config.routes number route (omega (arith, ap length same, c.loop-number-test.true)) ∙ ap (λ r. Some r) (sym (rw same at c.route-item.is)) in
+    slice_get-get_or config.routes number route within ∙ ap (λ r. Some r) (sym (rw same at c.route-item.is)) in
+    let path : its.path ≡ path_of config number = path_settled config c.args.settings.now number its c.requires.settings c.index-settings-number.is within in
+    let above = c.above-first_above.ensures ∙ ap (λ fs. option_and_then (slice_get fs) route.parent) c.as_slice.ensures.value in
     let is_its : IsKeyOf config number key =
-    is_key config c.requires number route here firsts c.loop-number.invariant.firsts key (c.in_ok-key.ensures ∙ ap (λ fs. (option_and_then (slice_get fs) route.parent, sorted_matchers route.matchers)) c.as_slice.ensures.value) in
+    is_key config c.requires.parents number route here firsts c.loop-number.invariant.firsts its.path key path
+    (c.in_ok-key.ensures ∙ (λ i. let at = sym c.index-settings-number.is i in (path_spread at.path, (above i, own_of at.path)))) in
     let are_known = c.loop-number.invariant.known in
-    let more : IsFirstLike config number c.match-copied.first → AreFirsts config (number + 1) c.push.new.self.items =
-    λ is. subst (AreFirsts config (number + 1)) (sym c.in_ok-push.ensures.items) (firsts_more config number firsts c.match-copied.first c.loop-number.invariant.firsts is) in
-    elim c.match-copied.branch [
-      | in-Some w ↦
-          let seen : tree.get path_key_cmp known key ≡ Some w.in-Some.first = sym c.get.ensures.value ∙ sym c.copied.ensures ∙ w.in-Some.is in
-          record {
-            firsts = more (subst (IsFirstLike config number) (sym w.first-is) (first_seen config number key is_its known are_known w.in-Some.first seen));
-            known = subst (AreKnown config (number + 1)) (sym w.known-is) (known_seen config number key is_its known are_known w.in-Some.first seen);
-          }
-      | in-None+in_ok-insert-in-None w ↦
-          let unseen : tree.get path_key_cmp known key ≡ None = sym c.get.ensures.value ∙ sym c.copied.ensures ∙ w.in-None.is in
-          record {
-            firsts = more (subst (IsFirstLike config number) (sym w.first-is) (first_unseen config number key is_its known are_known unseen));
-            known = subst (AreKnown config (number + 1)) (sym w.known-is) (known_unseen config number key is_its known are_known unseen w.insert.new.self w.in_ok-insert-in-None.ensures.updates);
-          }
-    ]
+    let like : IsFirstLike config number first =
+    first_like config number key is_its known.entries are_known first (c.or_insert-first.ensures.value ∙ ap (λ o. unwrap_or o number) c.in_ok-known.ensures.value) in
+    record {
+      firsts = subst (AreFirsts config (number + 1)) (sym c.in_ok-push.ensures.items) (firsts_more config number firsts first c.loop-number.invariant.firsts like);
+      known = known_same config (number + 1) (map_with_value c.in_ok-known.field-0 first).entries _ (first_of (search rules, cc, grind (arith, common_steps)))
+          (known_more config number key is_its known.entries are_known first like (map_with_value c.in_ok-known.field-0 first).entries (c.in_ok-known.ensures.update.0 first).0);
+    }

@@ -6,5 +6,5 @@ use Rattle.amr_config.proofs.own_paths.first_routes.Given as goal
 abbrev pub invariant-loop-number : goal.invariant-loop-number
 invariant-loop-number l = record {
   firsts : AreFirsts (stated_config l.stated) l.number l.firsts.items;
-  known : AreKnown (stated_config l.stated) l.number l.known;
+  known : AreKnown (stated_config l.stated) l.number l.known.entries;
 }
