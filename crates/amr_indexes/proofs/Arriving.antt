@@ -21,28 +21,6 @@ nothing_arrived t arrived none labels h = absurd (true≢false (sym h ∙ ap (λ
 pub arrived_same : (t u : Numbered LabelSet Alert) (arrived : List LabelSet) → AllArrived t arrived → SamePlaces label_set_cmp t u → AllArrived u arrived
 arrived_same t u arrived is same labels h = is labels (subst IsTrue (same labels) h)
 
-one_more : (known same place : Bool) → (place ≡ true → known ≡ true) → (same || place) ≡ true → (known || (same || false)) ≡ true
-one_more true same place k h = refl
-one_more false true place k h = refl
-one_more false false place k h = k h
-
--- the label set that gets a place has arrived
-pub arrived_more : (t u : Numbered LabelSet Alert) (arrived : List LabelSet) (labels : LabelSet) → AllArrived t arrived → GetsPlace label_set_cmp t u labels → AllArrived u (arrived ++ labels ∷ [])
-arrived_more t u arrived labels is gets other h =
-    list_any-append (eq_by_cmp label_set_cmp other) arrived (labels ∷ [])
-    ∙ one_more (has label_set_cmp arrived other) (eq_by_cmp label_set_cmp other labels) (has_place label_set_cmp t other) (is other) (sym (gets other) ∙ h)
-
-or_true : (b : Bool) → (b || true) ≡ true
-or_true true = refl
-or_true false = refl
-
--- a label set may arrive and get no place
-pub arrived_in_vain : (t u : Numbered LabelSet Alert) (arrived : List LabelSet) (labels : LabelSet) → AllArrived t arrived → SamePlaces label_set_cmp t u → AllArrived u (arrived ++ labels ∷ [])
-arrived_in_vain t u arrived labels is same other h =
-    list_any-append (eq_by_cmp label_set_cmp other) arrived (labels ∷ [])
-    ∙ one_more (has label_set_cmp arrived other) (eq_by_cmp label_set_cmp other labels) (has_place label_set_cmp t other) (is other)
-    (ap (λ b. eq_by_cmp label_set_cmp other labels || b) (sym (same other) ∙ h) ∙ or_true (eq_by_cmp label_set_cmp other labels))
-
 -- ---- stored alerts have places
 
 abbrev IsStored : Numbered LabelSet Alert → LabelSet → Type 0
@@ -94,18 +72,6 @@ module _ (t u : Numbered LabelSet Alert) (arrived : List LabelSet) (is : IsFollo
       → OnOk r (shown label_set_cmp u ≡ set (shown label_set_cmp t) k alert) → OnErr r (IsUnchanged label_set_cmp t u) → IsFollowed u arrived
   followed_changed (Ok x) k alert same at shows err = followed_set k alert same at shows
   followed_changed (Err e) k alert same at shows err = followed_same same err.0
-
-  -- a label set arrives, and gets a place unless that fails
-  pub followed_more : {X E : Type 0} (r : Result X E) (labels : LabelSet) → KeepsPlaces label_set_cmp t u → shown label_set_cmp u ≡ shown label_set_cmp t
-      → OnOk r (GetsPlace label_set_cmp t u labels) → OnErr r (SamePlaces label_set_cmp t u) → IsFollowed u (arrived ++ labels ∷ [])
-  followed_more (Ok x) labels kept shows gets err = record {
-    stored = stored_same t u is.stored kept shows;
-    arrived = arrived_more t u arrived labels is.arrived gets;
-  }
-  followed_more (Err e) labels kept shows gets err = record {
-    stored = stored_same t u is.stored kept shows;
-    arrived = arrived_in_vain t u arrived labels is.arrived err;
-  }
 
 -- what a change enters follows what the table shows and what is entered
 pub entry_same : (a b : Numbered LabelSet Alert) (k : LabelSet) → shown label_set_cmp b ≡ shown label_set_cmp a → SameEntered label_set_cmp a b → entry_of label_set_cmp b k ≡ entry_of label_set_cmp a k

@@ -97,10 +97,6 @@ module _ (old gone changed : ByValues) (values : List Text) (listed : Set label_
     listed_same (Ok _) kept = tt
     listed_same (Err _) kept = λ under other. ap (λ found. is_in found other) (replaced under) ∙ no_more kept under other (eq_by_cmp values_cmp under values) refl
 
--- a place for values lists nothing more
-pub same_shown : (old changed : ByValues) → shown values_cmp changed ≡ shown values_cmp old → ListsSame old changed
-same_shown old changed same = λ under other. ap (λ m. is_in (get m under) other) same
-
 -- ---- a label set is taken in
 
 same_put : (m e h : Bool) → ((m && (e && true)) || (h && (m && e))) ≡ ((h || true) && (m && e))
@@ -156,15 +152,6 @@ side_new arrived known seen none = record {
   within = omega (arith, seen);
   exact = λ values q. ap (λ m. is_in (get m values) q) none ∙ ap (λ found. is_in found q) (get-empty values_cmp values) ∙ (λ i. has label_set_cmp (take (sym seen i) arrived) q && is_source known.side q values);
 }
-
--- one more label set arrives
-pub side_kept : (arrived : List LabelSet) (labels : LabelSet) (known : KnownSide) → ListsSide arrived known → ListsSide (arrived ++ labels ∷ []) known
-side_kept arrived labels known is =
-    let longer : length (arrived ++ labels ∷ []) ≡ length arrived + 1 = length-append arrived (labels ∷ []) in
-    record {
-      within = omega (arith, is.within, longer);
-      exact = λ values q. is.exact values q ∙ ap (λ l. has label_set_cmp l q && is_source known.side q values) (sym (take-append-le known.seen arrived (labels ∷ []) is.within));
-    }
 
 -- a label set that matches the side is put at it
 pub is_put : (old changed : KnownSide) (labels : LabelSet) (values : List Text) → all_hold old.side.source labels ≡ true → values ≡ label_values old.side.equal.items labels → IsListedToo values labels old.sources changed.sources
