@@ -1,17 +1,15 @@
 -- Stored alerts have places, and the label sets that have a place are among those that arrived.
-use Rattle.std.proofs.Common.{◌≡◌, ℕ, Bool, true, false, cond, ◌||◌, List, [], ◌∷◌, ◌++◌, Option, Some, None, refl, sym, ap, subst, ◌∙◌, IsTrue, is_some}
+use Rattle.std.proofs.Common.{◌≡◌, ℕ, true, false, cond, List, [], Option, Some, None, refl, sym, ap, subst, ◌∙◌, IsTrue, is_some}
 use Rattle.std.specs.Prelude.{Result, Ok, Err, OnOk, OnErr}
 use Rattle.std.specs.Ordering.{eq_by_cmp}
 use Rattle.std.specs.FinMap.{find}
 use Rattle.std.proofs.lemmas.Bool.{true≢false}
-use Rattle.std.proofs.lemmas.List.Folds.{list_any-append}
 use Rattle.std.proofs.lemmas.Map.Views.{tells_apart}
 use Rattle.amr_labels.specs.Map.{get, set, empty, get-set, get-empty}
 use Rattle.amr_labels.specs.Labels.{LabelSet, label_set_cmp, label_set_cmp_total, label_set_cmp-IsAntisymmetric}
 use Rattle.amr_rules.specs.declared.alert.Alert.{Alert}
 use Rattle.amr_rules.specs.Muting.{Alerts}
-use Rattle.amr_tables.specs.Numbered.{Numbered, shown, has_place, entry_of, KeepsPlaces, SamePlaces, SameEntered, IsUnchanged, GetsPlace}
-use Rattle.amr_tables.specs.Queued.{has}
+use Rattle.amr_tables.specs.Numbered.{Numbered, shown, has_place, entry_of, KeepsPlaces, SamePlaces, SameEntered, IsUnchanged}
 use Rattle.amr_indexes.specs.RuleSources.{AllArrived, IsFollowed}
 
 pub nothing_arrived : (t : Numbered LabelSet Alert) (arrived : List LabelSet) → t.numbers ≡ [] → AllArrived t arrived
