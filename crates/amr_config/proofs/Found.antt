@@ -9,9 +9,9 @@ use Rattle.amr_stated.specs.declared.receiver.Receiver.{Receiver}
 use Rattle.amr_stated.specs.declared.route.Route.{Route}
 use Rattle.amr_stated.specs.Config.{Config}
 use Rattle.amr_config.specs.declared.settings.Settings.{Settings}
-use Rattle.amr_config.specs.Paths.{IsOnly, AreOwn}
+use Rattle.amr_config.specs.Paths.{IsAlone, AreOwn}
 use Rattle.amr_config.specs.Receivers.{receiver_at, receiver_named, AreReceivers}
-use Rattle.amr_config.specs.Routing.{HasOwnPath, receiver_name_of}
+use Rattle.amr_config.specs.Routing.{HasOwnPath, path_of, receiver_name_of}
 use Rattle.amr_config.specs.Settled.{settings_of, settled}
 use Rattle.amr_config.proofs.Inherited.{length-settled, get_or-settled, inherited_past}
 use Rattle.amr_config.proofs.OwnPaths.{decides_too, decides_no}
@@ -33,7 +33,7 @@ module _ (config : Config) where
   own_found own n (Some x) are h =
       let within : n < length own = h.3.0 in
       let there : n < length config.routes = omega (arith, are.all, within) in
-      decides_too (get_or own n false) x.now (h.4 (omega arith) false) (λ (only : IsOnly config (length config.routes) n). record { is_there = there; own = only }) (λ (has : HasOwnPath config n). has.own) (are.each n there)
+      decides_too (get_or own n false) x.now (h.4 (omega arith) false) (λ (only : IsAlone (path_of config) (length config.routes) n). record { is_there = there; own = only }) (λ (has : HasOwnPath config n). has.own) (are.each n there)
 
   pub own_past : (n : ℕ) → length config.routes ≤ n → Decides false (HasOwnPath config n)
   own_past n past = decides_no false refl (λ (has : HasOwnPath config n). omega (arith, has.is_there, past))

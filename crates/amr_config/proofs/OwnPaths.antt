@@ -20,7 +20,7 @@ use Rattle.std.proofs.lemmas.Option.{slice_get-get_or}
 use Rattle.amr_matchers.specs.Matchers.{Matcher, matcher_cmp, matcher_cmp_total, matcher_cmp-IsAntisymmetric}
 use Rattle.amr_stated.specs.declared.route.Route.{Route}
 use Rattle.amr_stated.specs.Config.{Config}
-use Rattle.amr_config.specs.Paths.{Path, path_spread, IsFirst, IsFirstLike, AreFirsts, IsOnly, AreOwn, AreFirstPlaces, IsAlone, AreAlone}
+use Rattle.amr_config.specs.Paths.{Path, path_spread, IsFirst, IsFirstLike, AreFirsts, AreOwn, AreFirstPlaces, IsAlone, AreAlone}
 use Rattle.amr_config.specs.Routing.{parent_of, line_within, line_of, path_of, sorted_matchers}
 use Rattle.amr_config.specs.declared.settings.Settings.{Settings}
 use Rattle.amr_config.specs.Settled.{settings_of, settled, AreParentsFirst}
@@ -244,8 +244,8 @@ module _ (config : Config) where
       each = λ n within.
           let there : n < limit = omega (arith, within, e) in
           decides_too (get_or own n false) (get_or own n false) refl
-          (λ (only : IsAlone firsts (length firsts) n) other less same. let less_too : other < limit = omega (arith, less, e) in only other (omega (arith, less_too, are.all)) (same_first n other there less_too same))
-          (λ (only : IsOnly config (length config.routes) n) other less same. let less_too : other < limit = omega (arith, less, are.all) in only other (omega (arith, less_too, e)) (same_path n other there less_too same))
+          (λ (only : IsAlone (λ place. get_or firsts place 0) (length firsts) n) other less same. let less_too : other < limit = omega (arith, less, e) in only other (omega (arith, less_too, are.all)) (same_first n other there less_too same))
+          (λ (only : IsAlone (path_of config) (length config.routes) n) other less same. let less_too : other < limit = omega (arith, less, are.all) in only other (omega (arith, less_too, e)) (same_path n other there less_too same))
           (alone.each n (omega (arith, there, are.all)));
       all = alone.all ∙ are.all ∙ e;
     }
@@ -253,10 +253,10 @@ module _ (config : Config) where
 -- ---- which places have a number alone
 
 module _ (numbers : List ℕ) where
-  alone_less : (limit n : ℕ) → IsAlone numbers (limit + 1) n → IsAlone numbers limit n
+  alone_less : (limit n : ℕ) → IsAlone (λ place. get_or numbers place 0) (limit + 1) n → IsAlone (λ place. get_or numbers place 0) limit n
   alone_less limit n only other within same = only other (omega (arith, within)) same
 
-  alone_more : (limit n : ℕ) → (get_or numbers limit 0 ≡ get_or numbers n 0 → limit ≡ n) → IsAlone numbers limit n → IsAlone numbers (limit + 1) n
+  alone_more : (limit n : ℕ) → (get_or numbers limit 0 ≡ get_or numbers n 0 → limit ≡ n) → IsAlone (λ place. get_or numbers place 0) limit n → IsAlone (λ place. get_or numbers place 0) (limit + 1) n
   alone_more limit n next only other within same =
       ⊎_elim (λ (e : other ≡ limit). e ∙ next (ap (λ k. get_or numbers k 0) (sym e) ∙ same)) (λ (ne : other ≡ limit → ⊥). only other (below other limit within ne) same) (cases_eq other limit)
 
@@ -307,7 +307,7 @@ module _ (numbers : List ℕ) where
             (λ (e : n ≡ first). decides_no (get_or left n false) (left_first n e)
             (λ only. let h : limit ≡ n = only limit (omega arith) (sym first_has_it ∙ ap (λ k. get_or numbers k 0) (sym e)) in omega (arith, h, less)))
             (λ (apart : n ≡ first → ⊥). decides_too (get_or alone n false) (get_or left n false) (not_left n less apart)
-            (λ (only : IsAlone numbers limit n). alone_more limit n (λ same. absurd (apart (sym (only first before (first_has_it ∙ same))))) only) (alone_less limit n) (known.each n less))
+            (λ (only : IsAlone (λ place. get_or numbers place 0) limit n). alone_more limit n (λ same. absurd (apart (sym (only first before (first_has_it ∙ same))))) only) (alone_less limit n) (known.each n less))
             (cases_eq n first))
             (cases_eq n limit);
         all = length_push (set alone first false) false ∙ ap (λ k. k + 1) (length-set alone first false ∙ known.all);

@@ -13,7 +13,7 @@ use Rattle.amr_stated.specs.declared.receiver.Receiver.{Receiver}
 use Rattle.amr_stated.specs.declared.route.Route.{Route}
 use Rattle.amr_stated.specs.Config.{Config}
 use Rattle.amr_config.specs.declared.settings.Settings.{Settings}
-use Rattle.amr_config.specs.Receivers.{receiver_named, receiver_at, ArePlaces, AreReceivers, receiver_parent, place_at, place_of}
+use Rattle.amr_config.specs.Receivers.{receiver_named, receiver_at, ArePlaces, AreReceivers, receiver_parent, place_at}
 use Rattle.amr_config.specs.Routing.{receiver_name_of}
 use Rattle.amr_config.specs.Settled.{settings_of, settled, AreParentsFirst}
 use Rattle.amr_config.proofs.Inherited.{length-settled, get_or-settled}
@@ -75,7 +75,7 @@ module _ (receivers : List Receiver) (config : Config) (settings : List Settings
   -- the places for the first routes, and for one more
   pub receivers_more : (known : BTreeMap Text ℕ) (places more : List (Option ℕ)) (route : Route) (its : Settings) (place : Option ℕ) → AreParentsFirst config → ArePlaces receivers known
       → route ≡ get_or config.routes n route → its ≡ get_or settings n its → AreReceivers receivers (take n settings) places
-      → place ≡ place_of known places route its → more ≡ places ++ place ∷ [] → AreReceivers receivers (take (n + 1) settings) more
+      → place ≡ option_map_or (place_at places) (receiver_parent route) (tree.get text_cmp known its.receiver) → more ≡ places ++ place ∷ [] → AreReceivers receivers (take (n + 1) settings) more
   receivers_more known places more route its place first are is its_is so_far pl mr =
       let here : slice_get config.routes n ≡ Some route = slice_get-get_or config.routes n route within ∙ ap (λ r. Some r) (sym is) in
       let long : length settings ≡ length config.routes = as_many config settings are_settled in

@@ -66,24 +66,20 @@ pub record AreFirsts (config : Config) (limit : ℕ) (firsts : List ℕ) : Type 
   pub each : (n : ℕ) → n < limit → IsFirstLike config n (get_or firsts n 0)
   pub all : length firsts ≡ limit
 
--- no other of the first routes has the path of this one
-abbrev pub IsOnly : Config → ℕ → ℕ → Type 0
-IsOnly config limit n = (other : ℕ) → other < limit → path_of config other ≡ path_of config n → other ≡ n
+-- of the numbers below the limit, this one alone has its value
+abbrev pub IsAlone : {X : Type 0} → (ℕ → X) → ℕ → ℕ → Type 0
+IsAlone value limit n = (other : ℕ) → other < limit → value other ≡ value n → other ≡ n
 
 -- what is said of each route is whether no other has its path
 pub record AreOwn (config : Config) (own : List Bool) : Type 0 where
-  pub each : (n : ℕ) → n < length config.routes → Decides (get_or own n false) (IsOnly config (length config.routes) n)
+  pub each : (n : ℕ) → n < length config.routes → Decides (get_or own n false) (IsAlone (path_of config) (length config.routes) n)
   pub all : length own ≡ length config.routes
 
 -- each number is a place that has it, and no later than where it stands
 abbrev pub AreFirstPlaces : List ℕ → Type 0
 AreFirstPlaces numbers = (n : ℕ) → n < length numbers → (get_or numbers n 0 ≤ n) × (get_or numbers (get_or numbers n 0) 0 ≡ get_or numbers n 0)
 
--- no other of the first places has the number of this one
-abbrev pub IsAlone : List ℕ → ℕ → ℕ → Type 0
-IsAlone numbers limit n = (other : ℕ) → other < limit → get_or numbers other 0 ≡ get_or numbers n 0 → other ≡ n
-
--- what is said of each of the first places is whether no other of them has its number
+-- what is said of each place is whether no other before the limit has its number
 pub record AreAlone (numbers : List ℕ) (limit : ℕ) (alone : List Bool) : Type 0 where
-  pub each : (n : ℕ) → n < limit → Decides (get_or alone n false) (IsAlone numbers limit n)
+  pub each : (n : ℕ) → n < limit → Decides (get_or alone n false) (IsAlone (λ place. get_or numbers place 0) limit n)
   pub all : length alone ≡ limit

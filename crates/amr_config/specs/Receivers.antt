@@ -33,7 +33,3 @@ receiver_parent route = option_map_or (λ name. None) route.receiver route.paren
 -- the place of the receiver of the route with this number, if there is one
 abbrev pub place_at : List (Option ℕ) → ℕ → Option ℕ
 place_at places route = option_and_then (λ place. place) (slice_get places route)
-
--- the place of a route's receiver, given those of the routes before it
-abbrev pub place_of : BTreeMap Text ℕ → List (Option ℕ) → Route → Settings → Option ℕ
-place_of known places route its = option_map_or (place_at places) (receiver_parent route) (tree.get text_cmp known its.receiver)

@@ -3,7 +3,10 @@
 //! it takes its parent's place, since many routes can inherit one long name. So the time grows
 //! little faster than the configuration.
 ghost use Rattle.std.specs.Prelude.{◌≡◌, IfOk};
-ghost use Rattle.amr_config.specs.Receivers.{ArePlaces, AreReceivers, place_at, place_of, receiver_parent};
+ghost use Rattle.std.specs.BTreeMap.{get};
+ghost use Rattle.std.specs.Option.{option_map_or};
+ghost use Rattle.amr_labels.specs.Labels.{text_cmp};
+ghost use Rattle.amr_config.specs.Receivers.{ArePlaces, AreReceivers, place_at, receiver_parent};
 ghost use Rattle.amr_config.specs.Settled.{stated_config, settled, AreParentsFirst};
 
 use crate::settings::Settings;
@@ -41,7 +44,8 @@ fn place_of(
     route: &Route,
     its: &Settings,
 ) -> Option<usize>
-    ensures { result ≡ place_of known.now places.now route.now its.now }
+    ensures { result ≡ option_map_or (place_at places.now) (receiver_parent route.now)
+        (get text_cmp known.now its.now.receiver) }
 {
     match receiver_parent(route) {
         Some(parent) => place_at(places, parent),

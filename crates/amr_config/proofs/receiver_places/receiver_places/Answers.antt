@@ -1,5 +1,8 @@
 use Rattle.std.proofs.Common.{◌≡◌, ◌<◌, ◌∙◌, length, ap, subst, arith}
-use Rattle.amr_config.specs.Receivers.{ArePlaces, place_of}
+use Rattle.std.specs.BTreeMap as tree
+use Rattle.std.specs.Option.{option_map_or}
+use Rattle.amr_labels.specs.Labels.{text_cmp}
+use Rattle.amr_config.specs.Receivers.{ArePlaces, place_at, receiver_parent}
 use Rattle.amr_config.specs.Settled.{stated_config}
 use Rattle.amr_config.proofs.Receivers.{as_many, receivers_more}
 use Rattle.amr_config.proofs.receiver_places.receiver_places.Goals as goal
@@ -20,4 +23,4 @@ loop-number-preserved c =
     let are : ArePlaces stated.receivers known = subst (λ rs. ArePlaces rs known) c.as_slice.ensures c.in_ok-known.ensures in
     receivers_more stated.receivers (stated_config stated) settings c.requires.settings c.loop-number.number within known c.loop-number.places.items c.push.new.self.items
     route its c.place_of-place.result c.requires.parents are (rw same at c.index-routes-number.is) c.index-settings-number.is c.loop-number.invariant
-    (c.place_of-place.ensures ∙ ap (λ places. place_of known places route its) c.as_slice-in-loop-number.ensures.value) c.in_ok-push.ensures.items
+    (c.place_of-place.ensures ∙ ap (λ places. option_map_or (place_at places) (receiver_parent route) (tree.get text_cmp known its.receiver)) c.as_slice-in-loop-number.ensures.value) c.in_ok-push.ensures.items
