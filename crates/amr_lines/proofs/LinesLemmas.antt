@@ -1,11 +1,10 @@
 pub mod Parts
-pub mod Floats
-pub mod LineParts
-pub mod ObjectMembers
 pub mod Tokens
 pub mod Plain
 pub mod Pushed
 pub mod PlainObjects
 pub mod MomentTexts
+pub mod LineParts
+pub mod VerdictTexts
 pub mod NotificationTexts
 pub mod ListedTokens

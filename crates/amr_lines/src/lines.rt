@@ -11,7 +11,6 @@ mod notification_text;
 mod outlet;
 mod plain;
 mod pushed_text;
-mod values;
 mod verdicts;
 mod word;
 
@@ -19,7 +18,7 @@ pub use inlet::{Inlet, ReadFailed};
 pub use last_lines::{
     cursor_text, moves_text, place_text, write_back, write_backward_seek, write_refused,
 };
-pub use lines::{event_text, line_text, notes_text};
+pub use lines::{event_text, notes_text};
 pub use listings::{alert_lines, group_lines, log_lines, silence_lines};
 pub use outlet::{Outlet, WriteFailed, flush, write_parts, write_whole};
 pub use verdicts::verdicts_text;

@@ -1,45 +1,69 @@
 -- The lines that are written part by part are those of their values.
-use Rattle.std.proofs.Common.{◌≡◌, ◌++◌, ℕ, codes, decimal, append_assoc}
+use Rattle.std.proofs.Common.{◌≡◌, ◌++◌, ℕ, List, codes, decimal, map, refl, sym, ap, ◌∙◌, append_assoc}
 use Rattle.std.specs.Fmt.{digits}
+use Rattle.json.specs.Print.{escape}
 use Rattle.serde_json.proofs.OnLiterals.{serde_json_on_literals}
-use Rattle.amr_lines.specs.Lines.LastLines.{word_text, moves_line, cursor_line, refused_line}
+use Rattle.serde_json.specs.Data.{array}
+use Rattle.serde_json.specs.View.{items_of}
+use Rattle.serde_json.specs.Written.{compact_text}
+use Rattle.amr_time.specs.Time.{Moment}
+use Rattle.amr_time.specs.MomentText.{moment_text}
+use Rattle.amr_lines.specs.Lines.Printed.{number_data, skipped_line, refused_event_line}
+use Rattle.amr_lines.specs.Lines.LastLines.{word_text, moves_line, cursor_line, place_data, place_line, refused_line}
 use Rattle.amr_lines.specs.declared.lines.word.Word.{Word}
 use Rattle.amr_lines.specs.declared.lines.word.Word.TheVariants.{Step, Back, Seek, SeekTime, Trial, Explain, Alerts, Silences, Groups, Log, Transcript, Cursor, Unknown}
+use Rattle.amr_lines.proofs.LinesLemmas.MomentTexts.{quoted_moment}
 
-pub cursor_line-back : (cursor : ℕ) → codes "{\"command\":\"back\",\"cursor\":" ++ (decimal cursor ++ codes "}\n") ≡ cursor_line Back cursor
+-- no word needs an escape
+escape_word : (word : Word) → escape (word_text word) ≡ word_text word
 unfolding serde_json_on_literals
-cursor_line-back cursor = simp append_assoc
+escape_word Step = refl
+escape_word Back = refl
+escape_word Seek = refl
+escape_word SeekTime = refl
+escape_word Trial = refl
+escape_word Explain = refl
+escape_word Alerts = refl
+escape_word Silences = refl
+escape_word Groups = refl
+escape_word Log = refl
+escape_word Transcript = refl
+escape_word Cursor = refl
+escape_word Unknown = refl
+
+pub cursor_line-parts : (word : Word) (cursor : ℕ)
+    → codes "{\"command\":\"" ++ (word_text word ++ (codes "\",\"cursor\":" ++ (decimal cursor ++ codes "}\n"))) ≡ cursor_line word cursor
+unfolding serde_json_on_literals
+cursor_line-parts word cursor = simp (append_assoc, escape_word)
+
+pub moves_line-parts : (word : Word) (cursor moves : ℕ)
+    → codes "{\"command\":\"" ++ (word_text word ++ (codes "\",\"cursor\":" ++ (decimal cursor ++ (codes ",\"moves\":" ++ (decimal moves ++ codes "}\n"))))) ≡ moves_line word cursor moves
+unfolding serde_json_on_literals
+moves_line-parts word cursor moves = simp (append_assoc, escape_word)
+
+pub moves_line-none : (word : Word) (cursor : ℕ)
+    → codes "{\"command\":\"" ++ (word_text word ++ (codes "\",\"cursor\":" ++ (decimal cursor ++ codes ",\"moves\":0}\n"))) ≡ moves_line word cursor 0
+unfolding digits
+moves_line-none word cursor = moves_line-parts word cursor 0
 
 pub refused_line-parts : (word : Word) (cursor reason : ℕ)
     → codes "{\"command\":\"" ++ (word_text word ++ (codes "\",\"cursor\":" ++ (decimal cursor ++ (codes ",\"refused\":" ++ (decimal reason ++ codes "}\n"))))) ≡ refused_line word cursor reason
 unfolding serde_json_on_literals
-refused_line-parts Step cursor reason = simp append_assoc
-refused_line-parts Back cursor reason = simp append_assoc
-refused_line-parts Seek cursor reason = simp append_assoc
-refused_line-parts SeekTime cursor reason = simp append_assoc
-refused_line-parts Trial cursor reason = simp append_assoc
-refused_line-parts Explain cursor reason = simp append_assoc
-refused_line-parts Alerts cursor reason = simp append_assoc
-refused_line-parts Silences cursor reason = simp append_assoc
-refused_line-parts Groups cursor reason = simp append_assoc
-refused_line-parts Log cursor reason = simp append_assoc
-refused_line-parts Transcript cursor reason = simp append_assoc
-refused_line-parts Cursor cursor reason = simp append_assoc
-refused_line-parts Unknown cursor reason = simp append_assoc
+refused_line-parts word cursor reason = simp (append_assoc, escape_word)
 
-pub moves_line-none : (word : Word) (cursor : ℕ)
-    → codes "{\"command\":\"" ++ (word_text word ++ (codes "\",\"cursor\":" ++ (decimal cursor ++ codes ",\"moves\":0}\n"))) ≡ moves_line word cursor 0
-unfolding serde_json_on_literals digits
-moves_line-none Step cursor = simp append_assoc
-moves_line-none Back cursor = simp append_assoc
-moves_line-none Seek cursor = simp append_assoc
-moves_line-none SeekTime cursor = simp append_assoc
-moves_line-none Trial cursor = simp append_assoc
-moves_line-none Explain cursor = simp append_assoc
-moves_line-none Alerts cursor = simp append_assoc
-moves_line-none Silences cursor = simp append_assoc
-moves_line-none Groups cursor = simp append_assoc
-moves_line-none Log cursor = simp append_assoc
-moves_line-none Transcript cursor = simp append_assoc
-moves_line-none Cursor cursor = simp append_assoc
-moves_line-none Unknown cursor = simp append_assoc
+pub place_line-parts : (cursor events : ℕ) (now : Moment)
+    → (codes "{\"command\":\"cursor\",\"cursor\":" ++ (decimal cursor ++ (codes ",\"events\":" ++ (decimal events ++ codes ",\"now\":\"")))) ++ (moment_text now ++ codes "\"}\n") ≡ place_line cursor events now
+unfolding place_data serde_json_on_literals
+place_line-parts cursor events now =
+    let before : List ℕ → List ℕ = λ l. codes "{\"command\":\"cursor\",\"cursor\":" ++ (decimal cursor ++ (codes ",\"events\":" ++ (decimal events ++ (codes ",\"now\":" ++ l)))) in
+    (simp append_assoc) ∙ ap before (sym (quoted_moment now (codes "}\n"))) ∙ (simp append_assoc)
+
+pub refused_event_line-parts : (event reason : ℕ)
+    → codes "{\"event\":" ++ (decimal event ++ (codes ",\"reason\":" ++ (decimal reason ++ codes "}\n"))) ≡ refused_event_line event reason
+unfolding serde_json_on_literals
+refused_event_line-parts event reason = simp append_assoc
+
+pub skipped_line-parts : (event : ℕ) (places : List ℕ)
+    → (codes "{\"event\":" ++ (decimal event ++ codes ",\"skipped\":")) ++ (compact_text (array (items_of (map number_data places))) ++ codes "}\n") ≡ skipped_line event places
+unfolding serde_json_on_literals
+skipped_line-parts event places = simp append_assoc

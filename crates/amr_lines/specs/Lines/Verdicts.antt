@@ -1,7 +1,11 @@
 -- The lines of `explain`.
 use Rattle.std.specs.Prelude.{ℕ, List, [], ◌∷◌, ◌++◌, Option, None, Some, codes}
+use Rattle.std.specs.List.{flat_map, filter}
+use Rattle.std.specs.Ordering.{is_lt}
+use Rattle.json.specs.Print.{quoted}
 use Rattle.serde_json.specs.Data.{Data, string, object}
-use Rattle.amr_labels.specs.Labels.{Text}
+use Rattle.serde_json.specs.Written.{compact_text}
+use Rattle.amr_labels.specs.Labels.{Text, text_cmp}
 use Rattle.amr_engine.specs.declared.explain.Finding.{Finding}
 use Rattle.amr_engine.specs.declared.explain.Finding.TheVariants.{Waiting, Inhibited, OutsideActive, TimeMuted, Silenced, Nowhere, Told, Due}
 use Rattle.amr_engine.specs.declared.explain.Verdict.{Verdict}
@@ -48,3 +52,15 @@ verdict_data verdict = object (object_of (verdict_members verdict))
 -- a verdict
 abbrev pub verdict_line : Verdict → Text
 verdict_line verdict = data_line (verdict_data verdict)
+
+-- members of an object as they are printed, each with a comma after it
+abbrev pub with_commas : List (Text × Data) → Text
+with_commas ms = flat_map (λ m. quoted m.0 ++ 58 ∷ (compact_text m.1 ++ codes ",")) ms
+
+-- what a finding has under names that come before `integration`
+abbrev pub members_before : Finding → List (Text × Data)
+members_before finding = filter (λ m. is_lt (text_cmp m.0 (codes "integration"))) (finding_members finding)
+
+-- what a finding has under names that come after `route`
+abbrev pub members_after : Finding → List (Text × Data)
+members_after finding = filter (λ m. is_lt (text_cmp (codes "route") m.0)) (finding_members finding)

@@ -1,27 +1,16 @@
 //! The status lines that end the commands of a session. Those of refusals and of steps back are
 //! written part by part, because they must not take memory.
 ghost use Rattle.std.specs.Prelude.{◌≡◌, IfOk, string_bytes};
-ghost use Rattle.serde_json.specs.View.{view};
-ghost use Rattle.amr_lines.specs.Lines.LastLines.{moves_data, moves_line, cursor_data, cursor_line, place_data, place_line, refused_line};
+ghost use Rattle.amr_lines.specs.Lines.LastLines.{moves_line, cursor_line, place_line, refused_line};
 ghost use Rattle.amr_lines.specs.Lines.Outlet.{WritesText, FailsAt};
 ghost use Rattle.amr_lines.specs.declared.lines.word.Word.TheVariants.{Back};
 
-use crate::lines::lines::line_text;
 use crate::lines::outlet::{Outlet, WriteFailed, write_parts};
-use crate::lines::values::{put_moment, put_text};
 use crate::lines::word::{Word, word_text};
-use amr_time::Moment;
+use amr_time::{Moment, push_moment};
 use itoa::Buffer;
-use serde_json::{Map, Value, json, put};
 use std::alloc::{AllocError, Global};
 use std::io::Write;
-
-/// Returns the last line of a command that passes events, as JSON.
-fn moves_value(alloc: Global, word: Word, cursor: usize, moves: usize) -> Result<Value, AllocError>
-    ensures { IfOk result (λ v. view v ≡ moves_data word cursor moves) }
-{
-    json!(in alloc; {"command": word_text(word), "cursor": cursor, "moves": moves})
-}
 
 /// Returns the last line of a command that passes events, with the number of moves that they made.
 pub fn moves_text(
@@ -32,41 +21,16 @@ pub fn moves_text(
 ) -> Result<String, AllocError>
     ensures { IfOk result (λ text. string_bytes text ≡ moves_line word cursor moves) }
 {
-    let value = moves_value(alloc, word, cursor, moves)?;
-    line_text(alloc, &value)
-}
-
-/// Returns the last line with the word and the cursor, as JSON.
-fn cursor_value(alloc: Global, word: Word, cursor: usize) -> Result<Value, AllocError>
-    ensures { IfOk result (λ v. view v ≡ cursor_data word cursor) }
-{
-    json!(in alloc; {"command": word_text(word), "cursor": cursor})
+    let word = word_text(word);
+    format!(in alloc; "{{\"command\":\"{word}\",\"cursor\":{cursor},\"moves\":{moves}}}\n")
 }
 
 /// Returns the last line of a command with its word and the cursor only.
 pub fn cursor_text(alloc: Global, word: Word, cursor: usize) -> Result<String, AllocError>
     ensures { IfOk result (λ text. string_bytes text ≡ cursor_line word cursor) }
 {
-    let value = cursor_value(alloc, word, cursor)?;
-    line_text(alloc, &value)
-}
-
-/// Returns the line of the command `cursor`, as JSON.
-#[tactic(auto, unfolding(crate::specs::Lines::LastLines::place_data))]
-fn place_value(
-    alloc: Global,
-    cursor: usize,
-    events: usize,
-    now: Moment,
-) -> Result<Value, AllocError>
-    ensures { IfOk result (λ v. view v ≡ place_data cursor events now) }
-{
-    let mut members = Map::new(alloc);
-    put_text(&mut members, alloc, "command", "cursor")?;
-    put(&mut members, alloc, "cursor", Value::from(cursor))?;
-    put(&mut members, alloc, "events", Value::from(events))?;
-    put_moment(&mut members, alloc, "now", now)?;
-    Ok(Value::Object(members))
+    let word = word_text(word);
+    format!(in alloc; "{{\"command\":\"{word}\",\"cursor\":{cursor}}}\n")
 }
 
 /// Returns the line of the command `cursor`: the cursor, the number of events, and the clock.
@@ -78,8 +42,12 @@ pub fn place_text(
 ) -> Result<String, AllocError>
     ensures { IfOk result (λ text. string_bytes text ≡ place_line cursor events now) }
 {
-    let value = place_value(alloc, cursor, events, now)?;
-    line_text(alloc, &value)
+    let mut line = format!(in alloc;
+        "{{\"command\":\"cursor\",\"cursor\":{cursor},\"events\":{events},\"now\":\""
+    )?;
+    push_moment(&mut line, now)?;
+    line.push_str("\"}\n")?;
+    Ok(line)
 }
 
 /// Writes the line of a refused command, with the number of the reason. It takes no memory.

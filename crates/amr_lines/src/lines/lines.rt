@@ -1,20 +1,17 @@
 //! The lines of an event: its notifications, then the alerts that it skipped; or its refusal.
-//! Notifications are written in `notification_text.rt`; the other values are made in `values.rt`,
-//! and here they become text.
-ghost use Rattle.std.specs.Prelude.{◌≡◌, ◌∷◌, [], ◌++◌, false, length, ◌<◌, IfOk, string_bytes, codes};
+//! Notifications are written in `notification_text.rt`, the others here.
+ghost use Rattle.std.specs.Prelude.{◌≡◌, ◌++◌, IfOk, OnOk, string_bytes};
 ghost use Rattle.std.specs.List.{flat_map};
-ghost use Rattle.serde_json.specs.Written.{has_float, compact_text};
-ghost use Rattle.serde_json.specs.View.{view};
 ghost use Rattle.amr_lines.specs.Lines.Printed.{notification_line, skipped_line, skipped_lines, refused_event_line, event_lines};
 ghost use Rattle.amr_engine.specs.Outcomes.{outcome_view};
 
 use crate::lines::notification_text::push_notification_line;
-use crate::lines::values::{refused_event_value, skipped_value};
+use crate::lines::pushed_text::push_numbers;
 use amr_engine::Outcome;
 use amr_labels::Shared;
 use amr_state::Notification;
-use serde_json::Value;
 use std::alloc::{AllocError, Global};
+use std::fmt::Write;
 
 /// The room that is made at once for each notification's line, in bytes: most are shorter.
 const LINE_ROOM: usize = 1024;
@@ -59,7 +56,7 @@ fn accepted_text(
 {
     let mut text = notes_text(alloc, notes)?;
     if !skipped.is_empty() {
-        text.push_str(skipped_text(alloc, event, skipped)?.as_str())?;
+        push_skipped_line(&mut text, event, skipped)?;
     }
     Ok(text)
 }
@@ -68,25 +65,15 @@ fn accepted_text(
 fn refused_event_text(alloc: Global, event: u64, reason: u64) -> Result<String, AllocError>
     ensures { IfOk result (λ text. string_bytes text ≡ refused_event_line event reason) }
 {
-    let value = refused_event_value(alloc, event, reason)?;
-    line_text(alloc, &value)
+    format!(in alloc; "{{\"event\":{event},\"reason\":{reason}}}\n")
 }
 
-/// Returns the line with the alerts that an event skipped, by their positions in the post, from 1.
-fn skipped_text(alloc: Global, event: u64, places: &[usize]) -> Result<String, AllocError>
-    ensures { IfOk result (λ text. string_bytes text ≡ skipped_line event places.now) }
+/// Appends the line with the alerts that an event skipped, by their positions in the post, from 1.
+fn push_skipped_line(out: &mut String, event: u64, places: &[usize]) -> Result<(), AllocError>
+    ensures { OnOk result (string_bytes out.new
+        ≡ string_bytes out.old ++ skipped_line event places.now) }
 {
-    let value = skipped_value(alloc, event, places)?;
-    line_text(alloc, &value)
-}
-
-/// Returns a value as compact JSON on a line of its own.
-pub fn line_text(alloc: Global, value: &Value) -> Result<String, AllocError>
-    requires { has_float (view value.now) ≡ false }
-    ensures { IfOk result (λ text. string_bytes text
-        ≡ compact_text (view value.now) ++ codes "\n") }
-{
-    let mut text = value.to_string(alloc)?;
-    text.push('\n')?;
-    Ok(text)
+    write!(out, "{{\"event\":{event},\"skipped\":")?;
+    push_numbers(out, places)?;
+    out.push_str("}\n")
 }

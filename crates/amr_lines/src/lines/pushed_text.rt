@@ -1,11 +1,13 @@
 //! JSON appended to a text: strings, label sets, numbers. A string that needs no escape,
 //! as nearly all do, is copied as it is.
-ghost use Rattle.std.specs.Prelude.{◌≡◌, ◌∷◌, ◌++◌, T, OnOk, string_bytes, decimal};
+ghost use Rattle.std.specs.Prelude.{◌≡◌, ◌∷◌, ◌++◌, T, map, OnOk, string_bytes, decimal};
 ghost use Rattle.std.specs.FinMap.{is_sorted};
 ghost use Rattle.json.specs.Print.{escape, quoted};
+ghost use Rattle.serde_json.specs.Data.{array};
+ghost use Rattle.serde_json.specs.View.{items_of};
 ghost use Rattle.serde_json.specs.Written.{compact_text, comma_if};
 ghost use Rattle.amr_labels.specs.Labels.{text_cmp};
-ghost use Rattle.amr_lines.specs.Lines.Printed.{texts_data, labels_data};
+ghost use Rattle.amr_lines.specs.Lines.Printed.{number_data, texts_data, labels_data};
 
 use crate::lines::plain::needs_no_escape;
 use amr_labels::{Labels, Text};
@@ -107,6 +109,22 @@ fn push_escaped(out: &mut String, alloc: Global, text: &str) -> Result<(), Alloc
         Ok(text) => out.push_str(text),
         Err(_) => unreachable!(),
     }
+}
+
+/// Appends an array of numbers.
+pub(crate) fn push_numbers(out: &mut String, numbers: &[usize]) -> Result<(), AllocError>
+    ensures { OnOk result (string_bytes out.new ≡ string_bytes out.old
+        ++ compact_text (array (items_of (map number_data numbers.now)))) }
+{
+    out.push('[')?;
+    let mut later = false;
+    for number in numbers {
+        push_comma(out, later)?;
+        push_number(out, *number)?;
+        later = true;
+    }
+    out.push(']')?;
+    Ok(())
 }
 
 /// Appends a number in decimal.

@@ -1,115 +1,176 @@
 //! The lines of `explain`: why an alert was or wasn't in a notification. The verdicts are found in
-//! `amr_engine`.
-ghost use Rattle.std.specs.Prelude.{◌≡◌, IfOk, OnOk, string_bytes};
+//! `amr_engine`. Members are in the order of their names, so what a finding has stands partly before
+//! the integration and partly after the route; each but the last, the verdict, has a comma after it.
+ghost use Rattle.std.specs.Prelude.{◌≡◌, ◌∷◌, [], ◌++◌, codes, IfOk, OnOk, string_bytes};
 ghost use Rattle.std.specs.List.{flat_map};
-ghost use Rattle.serde_json.specs.View.{view, members_view};
-ghost use Rattle.amr_lines.specs.Lines.Printed.{with_members};
+ghost use Rattle.serde_json.specs.Data.{string};
+ghost use Rattle.amr_posts.specs.Ids.{id_text};
+ghost use Rattle.amr_lines.specs.Lines.Printed.{number_data, moment_data, labels_data};
 ghost use Rattle.amr_engine.specs.declared.explain.Verdict.TheVariants.{AtRoute};
-ghost use Rattle.amr_lines.specs.Lines.Verdicts.{finding_name as name_of_finding, finding_members, integration_members, verdict_data, verdict_line};
+ghost use Rattle.amr_lines.specs.Lines.Verdicts.{finding_name as name_of_finding, integration_members, members_before, members_after, with_commas, verdict_line};
 
-use crate::lines::lines::line_text;
-use crate::lines::values::{put_moment, put_text, put_texts};
+use crate::lines::pushed_text::{push_labels, push_number, push_string};
 use amr_engine::{Finding, Verdict};
-use amr_labels::Text;
-use serde_json::{Map, Value, json, put};
+use amr_labels::{Labels, Text};
+use amr_posts::SilenceId;
+use amr_time::{Moment, push_moment};
 use std::alloc::{AllocError, Global};
 
 /// Returns the lines of verdicts.
 pub fn verdicts_text(alloc: Global, verdicts: &[Verdict]) -> Result<String, AllocError>
     ensures { IfOk result (λ text. string_bytes text ≡ flat_map verdict_line verdicts.now) }
 {
-    let mut text = String::new(alloc);
+    let mut lines = String::new(alloc);
     for verdict in verdicts {
-        text.push_str(verdict_text(alloc, verdict)?.as_str())?;
+        push_verdict_line(&mut lines, alloc, verdict)?;
     }
-    Ok(text)
+    Ok(lines)
 }
 
-/// Returns the line of a verdict.
-fn verdict_text(alloc: Global, verdict: &Verdict) -> Result<String, AllocError>
-    ensures { IfOk result (λ text. string_bytes text ≡ verdict_line verdict.now) }
-{
-    let value = verdict_value(alloc, verdict)?;
-    line_text(alloc, &value)
-}
-
-/// Returns a verdict as JSON.
-#[tactic(auto, unfolding(crate::specs::Lines::Verdicts::verdict_data))]
-fn verdict_value(alloc: Global, verdict: &Verdict) -> Result<Value, AllocError>
-    ensures { IfOk result (λ v. view v ≡ verdict_data verdict.now) }
+/// Appends the line of a verdict.
+fn push_verdict_line(out: &mut String, alloc: Global, verdict: &Verdict) -> Result<(), AllocError>
+    ensures { OnOk result (string_bytes out.new
+        ≡ string_bytes out.old ++ verdict_line verdict.now) }
 {
     match verdict {
-        Verdict::Unknown => json!(in alloc; {"verdict": "Unknown"}),
-        Verdict::Ended => json!(in alloc; {"verdict": "Ended"}),
+        Verdict::Unknown => out.push_str("{\"verdict\":\"Unknown\"}\n"),
+        Verdict::Ended => out.push_str("{\"verdict\":\"Ended\"}\n"),
         Verdict::AtRoute {
             route,
             receiver,
             integration,
             finding,
-        } => at_route_value(alloc, *route, receiver.as_str(), integration, finding),
+        } => push_at_route(out, alloc, *route, receiver.as_str(), integration, finding),
     }
 }
 
-/// Returns a finding at a route as JSON.
-fn at_route_value(
+/// Appends the line of a finding at a route.
+fn push_at_route(
+    out: &mut String,
     alloc: Global,
     route: usize,
     receiver: &str,
     integration: &Option<(Text, usize)>,
     finding: &Finding,
-) -> Result<Value, AllocError>
-    ensures { IfOk result (λ v. view v
-        ≡ verdict_data (AtRoute route receiver.now integration.now finding.now)) }
+) -> Result<(), AllocError>
+    ensures { OnOk result (string_bytes out.new ≡ string_bytes out.old
+        ++ verdict_line (AtRoute route receiver.now integration.now finding.now)) }
 {
-    let mut members = Map::new(alloc);
-    put_text(&mut members, alloc, "verdict", finding_name(finding))?;
-    put(&mut members, alloc, "route", Value::from(route))?;
-    put_text(&mut members, alloc, "receiver", receiver)?;
-    put_integration(alloc, &mut members, integration)?;
-    put_finding(alloc, &mut members, finding)?;
-    Ok(Value::Object(members))
+    out.push_str("{")?;
+    push_before_integration(out, alloc, finding)?;
+    push_integration(out, alloc, integration)?;
+    out.push_str("\"receiver\":")?;
+    push_string(out, alloc, receiver)?;
+    out.push_str(",\"route\":")?;
+    push_number(out, route)?;
+    out.push_str(",")?;
+    push_after_route(out, alloc, finding)?;
+    out.push_str("\"verdict\":\"")?;
+    out.push_str(finding_name(finding))?;
+    out.push_str("\"}\n")
 }
 
-/// Puts an integration, if there is one, into an object, by its kind and its index.
-fn put_integration(
+/// Appends what a finding has under names that come before `integration`.
+fn push_before_integration(
+    out: &mut String,
     alloc: Global,
-    members: &mut Map<String, Value>,
+    finding: &Finding,
+) -> Result<(), AllocError>
+    ensures { OnOk result (string_bytes out.new
+        ≡ string_bytes out.old ++ with_commas (members_before finding.now)) }
+{
+    match finding {
+        Finding::Waiting { due } => push_moment_member(out, alloc, "due", *due),
+        Finding::Inhibited { rule: _, source: _ } => Ok(()),
+        Finding::OutsideActive => Ok(()),
+        Finding::TimeMuted => Ok(()),
+        Finding::Silenced { id } => push_id(out, alloc, *id),
+        Finding::Nowhere => Ok(()),
+        Finding::Told { at } => push_moment_member(out, alloc, "at", *at),
+        Finding::Due { at } => push_moment_member(out, alloc, "at", *at),
+    }
+}
+
+/// Appends a moment under its name.
+fn push_moment_member(
+    out: &mut String,
+    alloc: Global,
+    name: &str,
+    moment: Moment,
+) -> Result<(), AllocError>
+    ensures { OnOk result (string_bytes out.new
+        ≡ string_bytes out.old ++ with_commas ((name.now, moment_data moment) ∷ [])) }
+{
+    push_string(out, alloc, name)?;
+    out.push_str(":\"")?;
+    push_moment(out, moment)?;
+    out.push_str("\",")
+}
+
+/// Appends the id of a silence.
+fn push_id(out: &mut String, alloc: Global, id: SilenceId) -> Result<(), AllocError>
+    ensures { OnOk result (string_bytes out.new
+        ≡ string_bytes out.old ++ with_commas ((codes "id", string (id_text id)) ∷ [])) }
+{
+    out.push_str("\"id\":")?;
+    push_string(out, alloc, id.text(alloc)?.as_str())?;
+    out.push_str(",")
+}
+
+/// Appends an integration, if there is one, by its kind and its index.
+fn push_integration(
+    out: &mut String,
+    alloc: Global,
     integration: &Option<(Text, usize)>,
 ) -> Result<(), AllocError>
-    ensures { OnOk result (members_view members.new.entries
-        ≡ with_members (integration_members integration.now) (members_view members.old.entries)) }
+    ensures { OnOk result (string_bytes out.new
+        ≡ string_bytes out.old ++ with_commas (integration_members integration.now)) }
 {
     match integration {
         None => Ok(()),
         Some(integration) => {
-            put(members, alloc, "place", Value::from(integration.1))?;
-            put_text(members, alloc, "integration", integration.0.as_str())
+            out.push_str("\"integration\":")?;
+            push_string(out, alloc, integration.0.as_str())?;
+            out.push_str(",\"place\":")?;
+            push_number(out, integration.1)?;
+            out.push_str(",")
         }
     }
 }
 
-/// Puts what a finding has besides its name into an object.
-fn put_finding(
-    alloc: Global,
-    members: &mut Map<String, Value>,
-    finding: &Finding,
-) -> Result<(), AllocError>
-    ensures { OnOk result (members_view members.new.entries
-        ≡ with_members (finding_members finding.now) (members_view members.old.entries)) }
+/// Appends what a finding has under names that come after `route`.
+fn push_after_route(out: &mut String, alloc: Global, finding: &Finding) -> Result<(), AllocError>
+    ensures { OnOk result (string_bytes out.new
+        ≡ string_bytes out.old ++ with_commas (members_after finding.now)) }
 {
     match finding {
-        Finding::Waiting { due } => put_moment(members, alloc, "due", *due),
-        Finding::Inhibited { rule, source } => {
-            put_texts(members, alloc, "source", source.entries())?;
-            put(members, alloc, "rule", Value::from(*rule))
-        }
+        Finding::Waiting { due: _ } => Ok(()),
+        Finding::Inhibited { rule, source } => push_rule(out, alloc, *rule, source),
         Finding::OutsideActive => Ok(()),
         Finding::TimeMuted => Ok(()),
-        Finding::Silenced { id } => put(members, alloc, "id", Value::String(id.text(alloc)?)),
+        Finding::Silenced { id: _ } => Ok(()),
         Finding::Nowhere => Ok(()),
-        Finding::Told { at } => put_moment(members, alloc, "at", *at),
-        Finding::Due { at } => put_moment(members, alloc, "at", *at),
+        Finding::Told { at: _ } => Ok(()),
+        Finding::Due { at: _ } => Ok(()),
     }
+}
+
+/// Appends an inhibition rule and the label set of the alert by which it mutes.
+fn push_rule(
+    out: &mut String,
+    alloc: Global,
+    rule: usize,
+    source: &Labels,
+) -> Result<(), AllocError>
+    ensures { OnOk result (string_bytes out.new ≡ string_bytes out.old
+        ++ with_commas ((codes "rule", number_data rule)
+        ∷ (codes "source", labels_data source.now) ∷ [])) }
+{
+    out.push_str("\"rule\":")?;
+    push_number(out, rule)?;
+    out.push_str(",\"source\":")?;
+    push_labels(out, alloc, source)?;
+    out.push_str(",")
 }
 
 /// Returns the printed name of a finding.

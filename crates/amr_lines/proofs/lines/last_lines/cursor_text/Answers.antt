@@ -1,5 +1,10 @@
-use Rattle.std.proofs.Common.{refl}
+use Rattle.std.proofs.Common.{◌≡◌, ◌++◌, codes, decimal}
+use Rattle.amr_lines.specs.Lines.LastLines.{cursor_line}
+use Rattle.amr_lines.proofs.LinesLemmas.LineParts.{cursor_line-parts}
 use Rattle.amr_lines.proofs.lines.last_lines.cursor_text.Goals as goal
 
-pub line_text-requires : goal.line_text-requires
-line_text-requires c = rw c.in_ok-value.ensures refl
+pub returns : goal.returns
+returns c =
+    let parts : codes "{\"command\":\"" ++ (c.word_text-word.result.now ++ (codes "\",\"cursor\":" ++ (decimal c.args.cursor ++ codes "}\n"))) ≡ cursor_line c.args.word c.args.cursor =
+    rw c.word_text-word.ensures (cursor_line-parts c.args.word c.args.cursor) in
+    rw (← parts) c.format.ensures.ok

@@ -1,5 +1,10 @@
-use Rattle.std.proofs.Common.{refl}
+use Rattle.std.proofs.Common.{◌≡◌, ◌++◌, codes, decimal}
+use Rattle.amr_lines.specs.Lines.LastLines.{moves_line}
+use Rattle.amr_lines.proofs.LinesLemmas.LineParts.{moves_line-parts}
 use Rattle.amr_lines.proofs.lines.last_lines.moves_text.Goals as goal
 
-pub line_text-requires : goal.line_text-requires
-line_text-requires c = rw c.in_ok-value.ensures refl
+pub returns : goal.returns
+returns c =
+    let parts : codes "{\"command\":\"" ++ (c.word_text-word.result.now ++ (codes "\",\"cursor\":" ++ (decimal c.args.cursor ++ (codes ",\"moves\":" ++ (decimal c.args.moves ++ codes "}\n"))))) ≡ moves_line c.args.word c.args.cursor c.args.moves =
+    rw c.word_text-word.ensures (moves_line-parts c.args.word c.args.cursor c.args.moves) in
+    rw (← parts) c.format.ensures.ok

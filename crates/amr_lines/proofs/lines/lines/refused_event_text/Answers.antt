@@ -1,5 +1,5 @@
-use Rattle.std.proofs.Common.{refl}
+use Rattle.amr_lines.proofs.LinesLemmas.LineParts.{refused_event_line-parts}
 use Rattle.amr_lines.proofs.lines.lines.refused_event_text.Goals as goal
 
-pub line_text-requires : goal.line_text-requires
-line_text-requires c = rw c.in_ok-value.ensures refl
+pub returns : goal.returns
+returns c = rw (← refused_event_line-parts c.args.event c.args.reason) c.format.ensures.ok

@@ -4,4 +4,4 @@ use Rattle.amr_lines.specs.Lines.Verdicts.{verdict_line}
 use Rattle.amr_lines.proofs.lines.verdicts.verdicts_text.Given as goal
 
 abbrev pub invariant-loop-verdict : goal.invariant-loop-verdict
-invariant-loop-verdict l = string_bytes l.text ≡ flat_map verdict_line (take l.verdict-index l.verdicts)
+invariant-loop-verdict l = string_bytes l.lines ≡ flat_map verdict_line (take l.verdict-index l.verdicts)
