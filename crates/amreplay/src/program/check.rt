@@ -1,15 +1,13 @@
 //! The command `check`: validates a configuration and prints how many receivers, routes and
 //! inhibition rules it has.
 ghost use Rattle.std.specs.Prelude.{◌≡◌, IfOk, string_bytes};
-ghost use Rattle.serde_json.specs.View.{view};
 ghost use Rattle.amreplay.specs.Program.Ends.{EndsBy};
-ghost use Rattle.amreplay.specs.Program.Checked.{counts_data, counts_line, CheckLeaves};
+ghost use Rattle.amreplay.specs.Program.Checked.{counts_line, CheckLeaves};
 
 use crate::program::fault::Fault;
 use crate::program::load::read_config;
 use amr_config::Config;
-use amr_lines::lines::{Outlet, flush, line_text, write_whole};
-use serde_json::{Value, json};
+use amr_lines::lines::{Outlet, flush, write_whole};
 use std::alloc::{AllocError, Global};
 use std::io::Write;
 
@@ -31,20 +29,12 @@ pub fn check_config<W: Write>(
     Ok(())
 }
 
-/// Returns the same as a line.
+/// Returns the line: how many receivers, routes (with the root) and inhibition rules there are.
 fn counts_text(alloc: Global, config: &Config) -> Result<String, AllocError>
     ensures { IfOk result (λ text. string_bytes text ≡ counts_line config.now) }
-{
-    let value = counts_value(alloc, config)?;
-    line_text(alloc, &value)
-}
-
-/// Returns as JSON how many receivers, routes (with the root) and inhibition rules there are.
-fn counts_value(alloc: Global, config: &Config) -> Result<Value, AllocError>
-    ensures { IfOk result (λ v. view v ≡ counts_data config.now) }
 {
     let receivers = config.receiver_count();
     let routes = config.route_count();
     let rules = config.rules().len();
-    json!(in alloc; {"receivers": receivers, "routes": routes, "rules": rules})
+    format!(in alloc; "{{\"receivers\":{receivers},\"routes\":{routes},\"rules\":{rules}}}\n")
 }
