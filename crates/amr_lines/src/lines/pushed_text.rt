@@ -1,5 +1,5 @@
-//! JSON appended to a text: strings, label sets, numbers. A string that needs no escape,
-//! as nearly all do, is copied as it is.
+//! JSON appended to a text: strings, label sets, numbers and arrays of them. A string that needs no
+//! escape, as nearly all do, is copied as it is.
 ghost use Rattle.std.specs.Prelude.{◌≡◌, ◌∷◌, ◌++◌, T, map, OnOk, string_bytes, decimal};
 ghost use Rattle.std.specs.FinMap.{is_sorted};
 ghost use Rattle.json.specs.Print.{escape, quoted};

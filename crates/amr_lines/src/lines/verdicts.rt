@@ -1,6 +1,6 @@
 //! The lines of `explain`: why an alert was or wasn't in a notification. The verdicts are found in
-//! `amr_engine`. Members are in the order of their names, so what a finding has stands partly before
-//! the integration and partly after the route; each but the last, the verdict, has a comma after it.
+//! `amr_engine`. Members are in the order of their names, so part of a finding comes before the
+//! integration, and part of it after the route. Each member but the last has a comma after it.
 ghost use Rattle.std.specs.Prelude.{◌≡◌, ◌∷◌, [], ◌++◌, codes, IfOk, OnOk, string_bytes};
 ghost use Rattle.std.specs.List.{flat_map};
 ghost use Rattle.serde_json.specs.Data.{string};
