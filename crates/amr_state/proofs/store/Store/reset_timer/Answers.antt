@@ -12,7 +12,6 @@ use Rattle.amr_state.specs.declared.store.Store.TheInside.{Inside}
 use Rattle.amr_state.specs.Stored.{state_of}
 use Rattle.amr_state.proofs.Soundness.{by_place, NoNewMark, NewMarkAt, fits_alike, kept_grown, kept_entered, undone_pushed, undone_covered, taken}
 use Rattle.amr_state.proofs.Flushed.{none_flushed, one_flushed}
-use Rattle.amr_state.proofs.Placed.{on_ok}
 use Rattle.amr_state.proofs.store.Store.reset_timer.Goals as goal
 
 pub invariant_of-self-in-Some-entry : goal.invariant_of-self-in-Some-entry
@@ -71,12 +70,6 @@ returns-in_default-clause-ok c =
     let found : c.copied.result ≡ map.get c.args.self.now.state.timers c.args.group.now =
     c.copied.ensures ∙ c.look_up_number-number.ensures.value ∙ ap (λ t. map.get (shown route_labels_cmp t) c.args.group.now) c.timers.ensures ∙ ap (λ (k : Kept). map.get k.state.timers c.args.group.now) c.self.view_is in
     ap (λ m. record c.args.self.now.state { timers = m }) (none_flushed c.args.next c.args.group.now c.args.self.now.state.timers (sym (taken _ c.in_default.not-Some ∙ found)))
-
-pub returns-in_default-number-clause-ok : goal.returns-in_default-number-clause-ok
-returns-in_default-number-clause-ok c =
-    let found : c.copied.result ≡ map.get c.args.self.now.state.timers c.args.group.now =
-    c.copied.ensures ∙ c.look_up_number-number.ensures.value ∙ ap (λ t. map.get (shown route_labels_cmp t) c.args.group.now) c.timers.ensures ∙ ap (λ (k : Kept). map.get k.state.timers c.args.group.now) c.self.view_is in
-    on_ok c.set_timer.result _ _ (λ set. set ∙ ap (λ m. record c.args.self.now.state { timers = m }) (one_flushed c.args.next c.args.group.now c.args.self.now.state.timers c.in-Some.former (sym found ∙ c.in-Some.is))) c.set_timer.ensures.ok
 
 pub returns-in-Some-entry-clause-ok : goal.returns-in-Some-entry-clause-ok
 returns-in-Some-entry-clause-ok c =
