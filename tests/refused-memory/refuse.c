@@ -1,48 +1,53 @@
 /* Refuses memory to the program that it is loaded into (LD_PRELOAD).
  *
- * REFUSE_AT    the number of the first growth that is refused, from 1; absent: none is
- * REFUSE_ALL   if it is set, each growth from then on is refused too
- * COUNT_TO     if it is set, a file that gets the number of growths at the end
+ * REFUSE_BY names a file of four 64-bit numbers, which the program and the check share:
+ *
+ *   growths   how many growths there were so far
+ *   first     the number of the growth that is refused, counted from the start of the program from 1; 0: none is
+ *   all       if it isn't 0, each growth after that one is refused too
+ *   waits     1 while the program waits for standard input, and otherwise 0
  *
  * A growth is a call of malloc, calloc, aligned_alloc or posix_memalign, and one of realloc for more bytes.
  */
 #define _GNU_SOURCE
-#include <dlfcn.h>
 #include <errno.h>
+#include <fcntl.h>
 #include <malloc.h>
-#include <stdio.h>
+#include <stdint.h>
 #include <stdlib.h>
+#include <sys/mman.h>
+#include <sys/syscall.h>
+#include <unistd.h>
 
 extern void *__libc_malloc(size_t);
 extern void *__libc_calloc(size_t, size_t);
 extern void *__libc_realloc(void *, size_t);
 extern void *__libc_memalign(size_t, size_t);
 
-static long growths;
-static long first;
-static int all;
+struct wishes {
+    volatile int64_t growths, first, all, waits;
+};
+
+static struct wishes none;
+static struct wishes *wishes = &none;
 
 __attribute__((constructor)) static void read_wishes(void) {
-    const char *at = getenv("REFUSE_AT");
-    growths = 0;
-    first = at ? atol(at) : 0;
-    all = getenv("REFUSE_ALL") != NULL;
-}
-
-__attribute__((destructor)) static void tell(void) {
-    const char *path = getenv("COUNT_TO");
-    long count = growths;
-    first = 0;
-    FILE *file = path ? fopen(path, "w") : NULL;
-    if (file) {
-        fprintf(file, "%ld\n", count);
-        fclose(file);
+    const char *path = getenv("REFUSE_BY");
+    int file = path ? open(path, O_RDWR) : -1;
+    if (file < 0) {
+        return;
+    }
+    void *shared = mmap(NULL, sizeof(struct wishes), PROT_READ | PROT_WRITE, MAP_SHARED, file, 0);
+    close(file);
+    if (shared != MAP_FAILED) {
+        wishes = shared;
+        wishes->growths = 0;
     }
 }
 
 static int is_refused(void) {
-    growths++;
-    if (first && (growths == first || (all && growths > first))) {
+    int64_t number = ++wishes->growths;
+    if (wishes->first && (number == wishes->first || (wishes->all && number > wishes->first))) {
         errno = ENOMEM;
         return 1;
     }
@@ -75,4 +80,14 @@ int posix_memalign(void **held, size_t alignment, size_t size) {
     }
     *held = found;
     return 0;
+}
+
+ssize_t read(int fd, void *bytes, size_t count) {
+    if (fd != 0) {
+        return syscall(SYS_read, fd, bytes, count);
+    }
+    wishes->waits = 1;
+    ssize_t got = syscall(SYS_read, fd, bytes, count);
+    wishes->waits = 0;
+    return got;
 }
