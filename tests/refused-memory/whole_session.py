@@ -104,6 +104,13 @@ class WholeSession:
         if not is_whole and not is_beginning:
             self.fault(f"growth {at} of a run refused: the run ended with {status} and {complaint!r}, and printed {printed!r}")
 
+    def far_away(self):
+        """Returns another path of the folder, so long that the program needs memory to open a file in it."""
+        above = "/".join([self.room, "a" * 250, "b" * 250, "c" * 250])
+        os.makedirs(above)
+        os.symlink(self.folder, f"{above}/files")
+        return f"{above}/files"
+
     def sweep(self):
         """Tries the session and the run of its files, and returns whether all went well."""
         status, printed, _, growths = self.run("session", self.lines)
@@ -111,6 +118,7 @@ class WholeSession:
         if status or len(whole) != len(self.lines) or any(is_unheld(answer) for answer in whole):
             self.fault("the session fails with all its memory")
             return False
+        self.folder = self.far_away()
         _, run_text, _, in_runs = self.run("run", [])
         with ThreadPoolExecutor(os.cpu_count()) as pool:
             refused = sum(pool.map(lambda at: self.one_refused(at, whole), range(1, growths + 1)))
