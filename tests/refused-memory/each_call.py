@@ -111,8 +111,7 @@ class EachCall:
         with self.fresh(cursor) as session:
             # A line longer than any of these has been held before.
             session.ask(b'explain {"a":"' + b"a" * 200 + b'"}')
-            wanted = [(b"cursor", None)]
-            wanted += [(f"seek {n}".encode(), None) for n in range(cursor + 1)]
+            wanted = [(f"seek {n}".encode(), None) for n in range(cursor + 1)]
             wanted += [(f"seek {count + 1}".encode(), 24)]
             wanted += [(b"step", 22)] if cursor == count else []
             wanted += [(b"back", None if cursor else 23)]
