@@ -18,7 +18,7 @@ use crate::receiver_places::receiver_places;
 use crate::route_path::RoutePath;
 use crate::rule_names::rule_names;
 use crate::settings::Settings;
-use amr_labels::{Exact, Labels, Listing, Text};
+use amr_labels::{Exact, Labels, Listing, Names, Text};
 use amr_matchers::Matchers;
 use amr_stated::{Grouping, InhibitRule, Integration, NamedInterval, Receiver, Route, Stated};
 use amr_time::{Moment, Span};
@@ -37,7 +37,7 @@ pub(crate) struct Parts {
     pub(crate) receiver_places: Listing<Option<usize>>,
     /// For each route, whether no other route has its path.
     pub(crate) own_paths: Listing<bool>,
-    pub(crate) rule_names: Option<Listing<Text>>,
+    pub(crate) rule_names: Option<Names>,
 }
 
 /// A configuration. Clones share its content.
@@ -137,7 +137,7 @@ impl Config {
             kept ≡ kept_for self.now.rules labels.now)) }
     {
         match &self.shared.rule_names {
-            Some(names) => Ok(Some(labels.kept_by_names(alloc, names.as_slice())?)),
+            Some(names) => Ok(Some(labels.kept_by_names(alloc, names)?)),
             None => Ok(None),
         }
     }
@@ -370,6 +370,6 @@ fn grouped_by(
     match grouping {
         None => Labels::empty(alloc),
         Some(Grouping::AllLabels) => labels.clone(),
-        Some(Grouping::Named(names)) => labels.kept_by_names(alloc, names.get().as_slice()),
+        Some(Grouping::Named(names)) => labels.kept_by_names(alloc, names),
     }
 }
