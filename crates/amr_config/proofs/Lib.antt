@@ -5,6 +5,7 @@ pub mod Inherited
 pub mod Lines
 pub mod OwnPaths
 pub mod PathTexts
+pub mod Places
 pub mod Ranges
 pub mod Receivers
 pub mod Remembered

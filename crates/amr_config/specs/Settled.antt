@@ -10,6 +10,7 @@ use Rattle.amr_config.specs.declared.settings.Settings.{Settings}
 use Rattle.amr_config.specs.declared.config.Parts.{Parts}
 use Rattle.amr_stated.specs.declared.stated.Stated.{Stated}
 use Rattle.amr_stated.specs.Config.{Config}
+use Rattle.amr_config.specs.Intervals.{AreIntervals}
 use Rattle.amr_config.specs.Paths.{AreOwn}
 use Rattle.amr_config.specs.Receivers.{AreReceivers}
 use Rattle.amr_config.specs.RuleNames.{AreNamesOf}
@@ -50,6 +51,7 @@ pub record AreSettled (parts : Parts) : Type 0 where
   pub parents : AreParentsFirst (config_of_parts parts)
   pub receivers : AreReceivers parts.stated.receivers parts.settings parts.receiver_places
   pub own_paths : AreOwn (config_of_parts parts) parts.own_paths
+  pub intervals : AreIntervals parts.stated.time_intervals parts.interval_places
   pub rule_names : IfSome parts.rule_names (AreNamesOf parts.stated.rules)
 
 -- the receiver of a route, given its parent's settings, if it has a parent

@@ -7,23 +7,26 @@ ghost use Rattle.std.specs.Option.{option_copied};
 ghost use Rattle.std.specs.Ordering.{eq_by_cmp};
 ghost use Rattle.std.specs.List.{find, list_any};
 ghost use Rattle.amr_labels.specs.Labels.{text_cmp};
+ghost use Rattle.amr_config.specs.Intervals.{interval_at, interval_named};
 ghost use Rattle.amr_config.specs.Receivers.{receiver_at, receiver_named};
 ghost use Rattle.amr_config.specs.Routing.{group_wait_of, group_interval_of, repeat_interval_of, receiver_name_of, integrations_of, path_of, HasOwnPath, group_of, grouped_by, is_within, is_active_at, is_muted_at};
 ghost use Rattle.amr_config.specs.RuleNames.{kept_for};
 ghost use Rattle.amr_config.specs.Settled.{settings_of, stated_config, AreParentsFirst};
 
 use crate::inherit::inherit;
+use crate::interval_places::interval_places;
 use crate::own_paths::own_paths;
 use crate::receiver_places::receiver_places;
 use crate::route_path::RoutePath;
 use crate::rule_names::rule_names;
 use crate::settings::Settings;
-use amr_labels::{Exact, Labels, Listing, Text};
+use amr_labels::{Exact, Labels, Listing, Names, Text};
 use amr_matchers::Matchers;
 use amr_stated::{Grouping, InhibitRule, Integration, NamedInterval, Receiver, Route, Stated};
 use amr_time::{Moment, Span};
 use std::alloc::{AllocError, Global};
 use std::cmp::Ordering;
+use std::collections::BTreeMap;
 use std::marker::Model;
 use std::rc::Rc;
 
@@ -37,7 +40,9 @@ pub(crate) struct Parts {
     pub(crate) receiver_places: Listing<Option<usize>>,
     /// For each route, whether no other route has its path.
     pub(crate) own_paths: Listing<bool>,
-    pub(crate) rule_names: Option<Listing<Text>>,
+    /// For each name of a time interval, its place.
+    pub(crate) interval_places: BTreeMap<Text, usize>,
+    pub(crate) rule_names: Option<Names>,
 }
 
 /// A configuration. Clones share its content.
@@ -83,12 +88,14 @@ impl Config {
         let settings = inherit(alloc, &stated)?;
         let rule_names = rule_names(alloc, stated.rules.as_slice())?;
         let receiver_places = receiver_places(alloc, &stated, settings.as_slice())?;
+        let interval_places = interval_places(alloc, stated.time_intervals.as_slice())?;
         let own_paths = own_paths(alloc, &stated, settings.as_slice())?;
         let parts = Parts {
             stated,
             settings,
             receiver_places,
             own_paths,
+            interval_places,
             rule_names,
         };
         Ok(Config {
@@ -137,7 +144,7 @@ impl Config {
             kept ≡ kept_for self.now.rules labels.now)) }
     {
         match &self.shared.rule_names {
-            Some(names) => Ok(Some(labels.kept_by_names(alloc, names.as_slice())?)),
+            Some(names) => Ok(Some(labels.kept_by_names(alloc, names)?)),
             None => Ok(None),
         }
     }
@@ -303,11 +310,18 @@ impl Config {
     fn is_within(&self, name: &Text, moment: Moment) -> bool
         ensures { result ≡ is_within self.now moment name.now }
     {
-        let intervals = self.shared.stated.time_intervals.as_slice();
-        match interval_named(intervals, name.as_str()) {
+        match self.interval_named(name) {
             Some(found) => found.interval.contains(moment),
             None => false,
         }
+    }
+
+    /// Returns the time interval with a name.
+    fn interval_named(&self, name: &Text) -> Option<&NamedInterval>
+        ensures { option_copied result ≡ interval_named self.now.time_intervals name.now }
+    {
+        let place = self.shared.interval_places.get(name).copied();
+        interval_at(self.shared.stated.time_intervals.as_slice(), place)
     }
 
     /// Returns the settings of a route: its own, inherited, or default.
@@ -323,17 +337,14 @@ impl Config {
     }
 }
 
-/// Returns the time interval with a name.
-fn interval_named<'a>(intervals: &'a [NamedInterval], name: &str) -> Option<&'a NamedInterval>
-    ensures { option_copied result
-        ≡ find (λ found. eq_by_cmp text_cmp found.name name.now) intervals.now }
+/// Returns the time interval at a place, if there is one.
+fn interval_at(intervals: &[NamedInterval], place: Option<usize>) -> Option<&NamedInterval>
+    ensures { option_copied result ≡ interval_at intervals.now place }
 {
-    for interval in intervals {
-        if interval.name.as_str().cmp(name) == Ordering::Equal {
-            return Some(interval);
-        }
+    match place {
+        Some(place) => intervals.get(place),
+        None => None,
     }
-    None
 }
 
 /// Returns the receiver at a place, if there is one.
@@ -370,6 +381,6 @@ fn grouped_by(
     match grouping {
         None => Labels::empty(alloc),
         Some(Grouping::AllLabels) => labels.clone(),
-        Some(Grouping::Named(names)) => labels.kept_by_names(alloc, names.get().as_slice()),
+        Some(Grouping::Named(names)) => labels.kept_by_names(alloc, names),
     }
 }

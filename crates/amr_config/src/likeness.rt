@@ -5,7 +5,7 @@ ghost use Rattle.std.specs.Bool.{Decides};
 ghost use Rattle.amr_config.specs.Alike.{AreAlike, routing_part, sides};
 
 use crate::config::Config;
-use amr_labels::{Listing, Shared, Text};
+use amr_labels::Names;
 use amr_stated::{Grouping, InhibitRule, Route};
 
 impl Config {
@@ -81,10 +81,10 @@ fn groups_alike(grouping: &Grouping, other: &Grouping) -> bool
 }
 
 /// Returns whether two groupings have the same names of labels.
-fn are_names_alike(names: &Shared<Listing<Text>>, others: &Shared<Listing<Text>>) -> bool
+fn are_names_alike(names: &Names, others: &Names) -> bool
     ensures { Decides result (names.now ≡ others.now) }
 {
-    names.get().as_slice() == others.get().as_slice()
+    names.as_slice() == others.as_slice()
 }
 
 /// Returns whether each rule is like the other one at its place.

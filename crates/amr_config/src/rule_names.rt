@@ -7,7 +7,7 @@ ghost use Rattle.std.specs.Ordering.{eq_by_cmp};
 ghost use Rattle.amr_labels.specs.Labels.{text_cmp};
 ghost use Rattle.amr_config.specs.RuleNames.{AreNamesOf, is_among, is_named};
 
-use amr_labels::{Listing, Text};
+use amr_labels::{Listing, Names, Text};
 use amr_matchers::Matcher;
 use amr_stated::InhibitRule;
 use std::alloc::{AllocError, Global};
@@ -22,10 +22,7 @@ const MOST_NAMES: usize = 16;
 
 /// Returns the names of the labels that the matchers of these rules name, each once. Returns `None`
 /// if there are few rules, or too many names.
-pub(crate) fn rule_names(
-    alloc: Global,
-    rules: &[InhibitRule],
-) -> Result<Option<Listing<Text>>, AllocError>
+pub(crate) fn rule_names(alloc: Global, rules: &[InhibitRule]) -> Result<Option<Names>, AllocError>
     ensures { IfOk result (λ found. IfSome found (AreNamesOf rules.now)) }
 {
     if rules.len() <= FEW_RULES {
@@ -37,7 +34,7 @@ pub(crate) fn rule_names(
             return Ok(None);
         }
     }
-    Ok(Some(Listing::from_vec(names)))
+    Ok(Some(Names::new(alloc, Listing::from_vec(names))?))
 }
 
 /// Adds the names of the matchers of a rule. Returns `false`, maybe without some of them, if there

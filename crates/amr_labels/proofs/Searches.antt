@@ -1,14 +1,17 @@
 -- What a binary search by key finds among entries in strictly ascending order.
-use Rattle.std.proofs.Common.{◌≡◌, ◌≢◌, ℕ, zero, suc, ◌<◌, ◌≤◌, cond, T, List, [], ◌∷◌, Some, None, Result, Ok, Err, MatchResult, length, get_or, refl, sym, ap, ◌∙◌, inl, inr, arith}
+use Rattle.std.proofs.Common.{◌≡◌, ◌≢◌, ℕ, zero, suc, ◌<◌, ◌≤◌, true, false, true≢false, cond, T, IsSorted, List, [], ◌∷◌, Some, None, Result, Ok, Err, MatchResult, length, get_or, refl, sym, ap, ◌∙◌, inl, inr, arith}
 use Rattle.std.specs.declared.cmp.Ordering.{Ordering}
 use Rattle.std.specs.declared.cmp.Ordering.TheVariants.{Less, Equal, Greater}
 use Rattle.std.specs.Cmp.{IsTotalOrder}
 use Rattle.std.specs.FinMap.{find, is_sorted}
 use Rattle.std.specs.FinMap.Entries.{below_all}
 use Rattle.std.specs.List.Sorted.{IsSearchInRange, IsBinarySearchResult}
-use Rattle.std.specs.Ordering.{is_eq, ordering_index, ordering_reverse}
+use Rattle.std.specs.List.{list_any}
+use Rattle.std.specs.Ordering.{eq_by_cmp, is_eq, ordering_index, ordering_reverse}
 use Rattle.std.proofs.lemmas.Bool.Decides.{leb_tells}
 use Rattle.std.proofs.lemmas.Cmp.{alike_right}
+use Rattle.std.proofs.lemmas.List.Folds.{list_any_at, list_any_none}
+use Rattle.std.proofs.lemmas.List.Sorted.{searchable_from_sorted}
 use Rattle.amr_labels.proofs.Sorted.{first, second, less}
 
 at_most_two : (o : Ordering) → ordering_index o ≤ 2
@@ -78,4 +81,25 @@ module _ {K X : Type 0} {R : K → K → Ordering} (o : IsTotalOrder R) where
       none_found q es (λ k d lt e. elim (leb_tells i k) [
         | inl p ↦ apart_above _ (parts.1 k d p.1 lt) e
         | inr p ↦ apart _ (parts.0 k d (omega arith) p.1) e
+      ])
+
+-- a search among keys in ascending order, some of which may be equal, tells whether a key is among them
+module _ {K : Type 0} {R : K → K → Ordering} (o : IsTotalOrder R) where
+  is_key : (q x : K) → R x q ≡ Equal → eq_by_cmp R q x ≡ true
+  is_key q x e = ap is_eq (o.antisymm q x ∙ ap ordering_reverse e)
+
+  not_key : (q x : K) (r : Ordering) → R x q ≡ r → is_eq r ≡ false → eq_by_cmp R q x ≡ false
+  not_key q x Less e unlike = ap is_eq (o.antisymm q x ∙ ap ordering_reverse e)
+  not_key q x Equal e unlike = absurd (true≢false unlike)
+  not_key q x Greater e unlike = ap is_eq (o.antisymm q x ∙ ap ordering_reverse e)
+
+  pub among : (q : K) (ks : List K) (r : Result ℕ ℕ) → IsSorted R ks → IsSearchInRange r (length ks) → IsBinarySearchResult (λ k. R k q) ks r
+      → MatchResult r (λ i. list_any (eq_by_cmp R q) ks ≡ true) (λ i. list_any (eq_by_cmp R q) ks ≡ false)
+  among q [] (Ok i) up within result = absurd (omega arith)
+  among q (k ∷ ks) (Ok i) up within result = list_any_at (eq_by_cmp R q) (k ∷ ks) i k within (is_key q _ (result k))
+  among q ks (Err i) up within result =
+      let parts = result (searchable_from_sorted o (λ k. k) ks q up) in
+      list_any_none (eq_by_cmp R q) ks (λ k d lt. elim (leb_tells i k) [
+        | inl p ↦ not_key q _ Greater (parts.1 k d p.1 lt) refl
+        | inr p ↦ not_key q _ Less (parts.0 k d (omega arith) p.1) refl
       ])

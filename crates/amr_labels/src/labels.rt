@@ -12,6 +12,7 @@ ghost use Rattle.amr_labels.specs.Spread.{label_set_spread};
 ghost use Rattle.amr_labels.specs.ObjectText.{plain_object};
 
 use crate::keyed_texts::KeyedTexts;
+use crate::names::Names;
 use crate::shared::Shared;
 use crate::text::Text;
 use crate::text_map::TextMap;
@@ -137,7 +138,7 @@ impl Labels {
     }
 
     /// Returns the labels with these names.
-    pub fn kept_by_names(&self, alloc: Global, names: &[Text]) -> Result<Labels, AllocError>
+    pub fn kept_by_names(&self, alloc: Global, names: &Names) -> Result<Labels, AllocError>
         ensures { IfOk result (λ kept. kept
             ≡ map.retain_keys self.now (λ name. list_any (eq_by_cmp text_cmp name) names.now)) }
     {

@@ -10,6 +10,7 @@ ghost use Rattle.std.specs.FinMap.{find, is_sorted};
 ghost use Rattle.amr_labels.specs.Map as map;
 ghost use Rattle.amr_labels.specs.Labels.{text_cmp, value_of, is_empty};
 
+use crate::names::Names;
 use crate::text::Text;
 use std::alloc::{AllocError, Global};
 use std::cmp::Ordering;
@@ -107,25 +108,18 @@ fn filled(alloc: Global, pairs: &[(Text, Text)]) -> Result<Vec<(Text, Text)>, Al
     Ok(kept)
 }
 
-/// Returns whether a name is one of the names.
-fn is_among(name: &Text, names: &[Text]) -> bool
-    ensures { result ≡ list_any (eq_by_cmp text_cmp name.now) names.now }
-{
-    names.iter().any(|other| name == other)
-}
-
 /// Returns the pairs whose names are among the names.
 fn named(
     alloc: Global,
     pairs: &[(Text, Text)],
-    names: &[Text],
+    names: &Names,
 ) -> Result<Vec<(Text, Text)>, AllocError>
     ensures { IfOk result (λ kept. kept.items
         ≡ filter (λ pair. list_any (eq_by_cmp text_cmp pair.0) names.now) pairs.now) }
 {
     let mut kept = Vec::new(alloc);
     for pair in pairs {
-        if is_among(&pair.0, names) {
+        if names.contains(&pair.0) {
             kept.push(copied(pair)?)?;
         }
     }
@@ -251,7 +245,7 @@ impl TextMap {
     }
 
     /// Returns the texts under these names.
-    pub fn kept_by_names(&self, alloc: Global, names: &[Text]) -> Result<TextMap, AllocError>
+    pub fn kept_by_names(&self, alloc: Global, names: &Names) -> Result<TextMap, AllocError>
         ensures { IfOk result (λ kept. kept
             ≡ map.retain_keys self.now (λ name. list_any (eq_by_cmp text_cmp name) names.now)) }
     {

@@ -14,7 +14,7 @@ use crate::members::{flag_member, items, member, same, span_member, text_member,
 use crate::place::Place;
 use crate::read_matchers::read_matchers;
 use crate::whole::Whole;
-use amr_labels::{Listing, Shared, Text};
+use amr_labels::{Listing, Names, Text};
 use amr_matchers::Patterns;
 use amr_stated::{Grouping, Route};
 use amr_time::Span;
@@ -201,7 +201,7 @@ fn grouping(alloc: Global, names: Listing<Text>) -> Result<Grouping, AllocError>
     if is_all(names.as_slice()) {
         return Ok(Grouping::AllLabels);
     }
-    Ok(Grouping::Named(Shared::new(alloc, names)?))
+    Ok(Grouping::Named(Names::new(alloc, names)?))
 }
 
 /// Returns whether the names are `...` alone, which means all labels in Alertmanager.

@@ -94,7 +94,7 @@ fn is_badly_grouped(alloc: Global, route: &Route) -> Result<bool, AllocError>
     ensures { IfOk result (λ bad. bad ≡ badly_of route.now) }
 {
     match &route.group_by {
-        Some(Grouping::Named(names)) => has_bad_names(alloc, names.get().as_slice()),
+        Some(Grouping::Named(names)) => has_bad_names(alloc, names.as_slice()),
         Some(Grouping::AllLabels) => Ok(false),
         None => Ok(false),
     }

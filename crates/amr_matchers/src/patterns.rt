@@ -3,7 +3,8 @@
 //!
 //! A repetition such as `\w{30}` makes a short pattern large. So all patterns of a configuration, or
 //! of a line of a script, share a room. Without it, a mebibyte of such patterns took half a minute
-//! and twelve gigabytes.
+//! and twelve gigabytes. The lines of a script share a larger one, since its patterns stay for as
+//! long as it does.
 ghost use Rattle.std.specs.Prelude.{◌≡◌, ◌≤◌, ◌^◌, IfOk, IsErrOf};
 ghost use Rattle.amr_matchers.specs.Patterns.{MayRefuse};
 ghost use Rattle.amr_matchers.specs.declared.pattern.MatcherError.TheVariants.{BadPattern};
@@ -20,6 +21,9 @@ const LARGEST: usize = 10 << 20;
 /// The most bytes that the patterns of a configuration, or of a line of a script, may take together.
 const ROOM: usize = 256 << 20;
 
+/// The most bytes that the patterns of all lines of a script may take together.
+const SCRIPT_ROOM: usize = 512 << 20;
+
 /// How many limits are tried below the largest one. Each is four times the one before.
 const SMALLER_LIMITS: u32 = 7;
 
@@ -28,8 +32,10 @@ const SMALLER_LIMITS: u32 = 7;
 pub struct Patterns {
     alloc: Global,
     built: BTreeMap<Text, Shared<Pattern>>,
-    /// How many bytes more patterns may take.
+    /// How many bytes more the patterns of this configuration or line may take.
     room: usize,
+    /// How many bytes more the patterns of all lines may take.
+    script_room: usize,
 }
 
 impl Model for Patterns {
@@ -51,10 +57,11 @@ impl Patterns {
             alloc,
             built: BTreeMap::new(alloc),
             room: ROOM,
+            script_room: SCRIPT_ROOM,
         }
     }
 
-    /// Gives the patterns of one more line of a script the whole room.
+    /// Gives the patterns of one more line of a script the room of a line.
     pub fn begin_line(&mut self)
         ensures { self.new ≡ tt }
     {
@@ -84,14 +91,16 @@ impl Patterns {
         Ok(shared)
     }
 
-    /// Builds a pattern, and takes its limit from the room, since `regex` doesn't say how large it is.
+    /// Builds a pattern, and takes its limit from both rooms, since `regex` doesn't say how large it
+    /// is.
     fn build_in_room(&mut self, text: &Text) -> Result<Pattern, MatcherError>
         ensures read { IfOk result (λ pattern. pattern ≡ text.now) }
         ensures refused { IsErrOf result BadPattern → MayRefuse text.now }
     {
-        let most = self.room.min(LARGEST);
+        let most = self.room.min(self.script_room).min(LARGEST);
         let limited = build_limited(self.alloc, text, most)?;
         self.room -= limited.limit;
+        self.script_room -= limited.limit;
         Ok(limited.pattern)
     }
 }
@@ -129,8 +138,8 @@ fn build_limited(alloc: Global, text: &Text, most: usize) -> Result<Limited, Mat
     }
 }
 
-/// Returns how many bytes a pattern of a text may take if it repeats no group and no class. Most
-/// patterns take less.
+/// Returns the least limit with which the pattern of a text is tried. Most patterns without classes
+/// and repetitions take less. One class of Unicode, such as `\w`, takes more.
 fn least_limit(text: &Text) -> usize {
     text.as_str()
         .len()

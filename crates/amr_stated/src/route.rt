@@ -1,7 +1,7 @@
 //! A route with what it states itself. `amr_config` resolves what it inherits.
 ghost use Rattle.std.specs.Prelude.{◌≡◌};
 
-use amr_labels::{Exact, Listing, Shared, Text};
+use amr_labels::{Exact, Listing, Names, Text};
 use amr_matchers::Matchers;
 use amr_time::Span;
 use std::alloc::AllocError;
@@ -13,7 +13,7 @@ pub enum Grouping {
     AllLabels,
     /// By the labels with these names. Clones share the list, since a route below takes its
     /// parent's.
-    Named(Shared<Listing<Text>>),
+    Named(Names),
 }
 
 impl Clone for Grouping {

@@ -10,5 +10,5 @@ returns c =
     let names = c.args.names.now in
     let others = c.args.others.now in
     let is : c.eq.result ≡ pointwise (eq_by_cmp text_cmp) names others =
-    c.eq.ensures ∙ (λ i. pointwise (eq_by_cmp text_cmp) ((c.as_slice.ensures ∙ c.get.ensures) i) ((c.as_slice-2.ensures ∙ c.get-2.ensures) i)) in
+    c.eq.ensures ∙ (λ i. pointwise (eq_by_cmp text_cmp) (c.as_slice.ensures i) (c.as_slice-2.ensures i)) in
     names_decide names others c.eq.result is
