@@ -1,5 +1,5 @@
 -- The laws of the table of slots.
-use Rattle.std.specs.Prelude.{◌≡◌, ℕ, ◌<◌, Option, None, List, [], ◌∷◌, ◌++◌, length, zero, suc, nat_lt, slice_set, IsTrue, option_and_then}
+use Rattle.std.specs.Prelude.{◌≡◌, ◌≢◌, ℕ, ◌<◌, Option, None, List, [], ◌∷◌, ◌++◌, length, zero, suc, nat_lt, slice_set, IsTrue, option_and_then}
 use Rattle.std.proofs.Common.{ap, ◌∙◌, refl, get_or, arith}
 use Rattle.std.proofs.lemmas.Option.{slice_get-get_or}
 use Rattle.std.proofs.lemmas.List.{get_or-set_same, set-get_or, length-set, set-set}
@@ -18,6 +18,14 @@ at_law {V} t k v h =
     let same = length-set t k v in
     let within : k < length (slice_set t k v) = omega arith in
     value_is (slice_set t k v) k within ∙ get_or-set_same t k v None lt
+
+-- the other places keep their values
+pub others_law : {V : Type 0} (t : List (Option V)) (k : ℕ) (v : Option V) (j : ℕ) → j ≢ k → value_at (slice_set t k v) j ≡ value_at t j
+others_law [] k v j h = refl
+others_law (x ∷ t) zero v zero h = absurd (h refl)
+others_law (x ∷ t) zero v (suc j) h = refl
+others_law (x ∷ t) (suc k) v zero h = refl
+others_law (x ∷ t) (suc k) v (suc j) h = others_law t k v j (λ e. h (ap suc e))
 
 pub back_law : {V : Type 0} (t : List (Option V)) (k : ℕ) (v : Option V) → IsTrue (nat_lt k (length t)) → slice_set (slice_set t k v) k (value_at t k) ≡ t
 back_law t k v h =

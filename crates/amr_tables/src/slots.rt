@@ -54,13 +54,15 @@ impl<V> Table for Slots<V> {
 
     ghost displaced = { λ t k v. slice_set t k v };
 
-    ghost use Rattle.amr_tables.specs.Laws.{back_law, keeps_law, at_law};
+    ghost use Rattle.amr_tables.specs.Laws.{back_law, keeps_law, at_law, others_law};
 
     ghost back = { λ t k v h. back_law t k v h };
 
     ghost keeps_places = { λ t k v j. keeps_law t k v j };
 
     ghost at_key = { λ t k v h. at_law t k v h };
+
+    ghost at_others = { λ t k v j h. others_law t k v j h };
 
     fn look(&self, key: usize) -> Option<&V> {
         match self.cells.get(key) {

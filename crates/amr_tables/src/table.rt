@@ -1,6 +1,6 @@
 //! What a table of places promises: a place has a value or none, and what is displaced can be put
 //! back. `Slots` is one.
-ghost use Rattle.std.specs.Prelude.{◌≡◌, Bool, Option, IsTrue, OnOk, OnErr};
+ghost use Rattle.std.specs.Prelude.{◌≡◌, ◌≢◌, Bool, Option, IsTrue, OnOk, OnErr};
 ghost use Rattle.std.specs.Option.{option_copied};
 
 use std::alloc::AllocError;
@@ -56,4 +56,8 @@ pub trait Table {
     /// The key has its new value.
     ghost at_key: { (t : Self) (k : Self.Key) (v : Option Self.Value) →
         IsTrue (is_placed t k) → look_at (displaced t k v) k ≡ v };
+
+    /// The other keys keep their values.
+    ghost at_others: { (t : Self) (k : Self.Key) (v : Option Self.Value) (j : Self.Key) →
+        j ≢ k → look_at (displaced t k v) j ≡ look_at t j };
 }
