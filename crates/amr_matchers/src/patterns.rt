@@ -22,7 +22,7 @@ const LARGEST: usize = 10 << 20;
 const ROOM: usize = 256 << 20;
 
 /// The most bytes that the patterns of all lines of a script may take together.
-const SCRIPT_ROOM: usize = 512 << 20;
+const SCRIPT_ROOM: usize = 1 << 30;
 
 /// How many limits are tried below the largest one. Each is four times the one before.
 const SMALLER_LIMITS: u32 = 7;
