@@ -26,6 +26,18 @@ pub enum Act {
     Label(Text),
 }
 
+impl Act {
+    ghost use Rattle.amr_actions.specs.Acts.{act_of};
+    ghost use Rattle.amr_actions.specs.Events.{is_label};
+
+    /// Returns whether the action only names a moment, and does nothing.
+    pub fn is_label(&self) -> bool
+        ensures { result ≡ is_label (act_of self.now) }
+    {
+        matches!(self, Act::Label(_))
+    }
+}
+
 /// An action at a moment. The moment is one that a script can have, from 1970 to the end of the
 /// year 8999.
 #[derive(Drop)]
