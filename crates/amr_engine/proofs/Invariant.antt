@@ -1,7 +1,7 @@
 -- What holds at the start, and what moves, the clock and actions keep, holds after every run.
 use Rattle.std.specs.Prelude.{◌≡◌, ℕ, false, List, [], ◌∷◌, ◌++◌, Some, Result, Ok, Err, ◌≤◌, nat_lt}
 use Rattle.std.specs.List.{fold}
-use Rattle.std.proofs.Common.{refl, subst, arith}
+use Rattle.std.proofs.Common.{refl, sym, subst, inl, inr, arith}
 use Rattle.std.proofs.lemmas.Bool.Decides.{nat_tests}
 use Rattle.amr_time.specs.Time.{Moment}
 use Rattle.amr_stated.specs.Config.{Config}
@@ -41,7 +41,8 @@ module _ (P : Moment → State → Type 0)
   holds_at_event s event present holds = later s.moment event.at s (not_past event.at s.moment present) holds
 
   pub holds_after_done : (limit : ℕ) (s : State) (event : Event) (moves : List Due) (after : State) → Does limit s event moves after → P s.moment s → P after.moment after
-  holds_after_done limit s event moves after does holds =
+  holds_after_done limit s event moves after (inl named) holds = subst (λ (x : State). P x.moment x) (sym named.same) holds
+  holds_after_done limit s event moves after (inr does) holds =
       acted (at_moment event.at does.moved) event.act after
       (clocked event.at does.moved (holds_after_moves event.at moves s does.moved does.advanced (holds_at_event s event does.not_past holds))) does.acted
 

@@ -82,6 +82,7 @@ module _ (at : Moment) (s after : State) where
   act_follows (Act.Silence posted) e = silences_follow (after_post s.moment posted s.silences) e
   act_follows (Act.Expire id) e = silences_follow (after_expiry s.moment id s.silences) e
   act_follows (Act.Reload config) e = reload_follows config e
+  act_follows (Act.Label text) e = let same : s ≡ after = cc in follows_itself at s after same
   act_follows Act.Tick e = let same : s ≡ after = cc in follows_itself at s after same
 
 act_placed : (s : State) (act : Act) (after : State) → ArePlaced s → after_act s act ≡ Ok after → ArePlaced after
