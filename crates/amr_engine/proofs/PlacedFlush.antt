@@ -1,16 +1,14 @@
 -- A flush leaves the alerts placed.
-use Rattle.std.specs.Prelude.{◌≡◌, ℕ, Bool, true, false, not, List, [], ◌∷◌, ◌++◌, ◌⊎◌, ◌≤◌, Option, Some, None, cond, map, option_map, ◌+◌, ◌*◌, nat_le, if◌then◌else◌}
-use Rattle.std.specs.List.{Contains, filter, fold, filter_map, cons_option}
+use Rattle.std.specs.Prelude.{◌≡◌, ℕ, Bool, true, false, List, [], ◌∷◌, ◌≤◌, Option, Some, None, map, ◌+◌, if◌then◌else◌}
+use Rattle.std.specs.List.{Contains, filter, fold}
 use Rattle.std.specs.Option.{option_map_or}
 use Rattle.std.specs.Ordering.{eq_by_cmp, is_eq}
-use Rattle.std.specs.declared.cmp.Ordering.{Ordering}
-use Rattle.std.specs.declared.cmp.Ordering.TheVariants.{Less, Equal, Greater}
 use Rattle.std.proofs.Common.{refl, sym, ap, ◌∙◌, subst, inl, inr, arith}
 use Rattle.std.proofs.lemmas.Cmp.{tied_itself}
 use Rattle.std.proofs.lemmas.Bool.Decides.{nat_tests}
 use Rattle.amr_labels.specs.Map.{Map, get, insert, remove, entries}
-use Rattle.amr_labels.specs.Labels.{LabelSet, label_set_cmp, label_set_cmp_total, label_set_cmp-IsAntisymmetric}
-use Rattle.amr_time.specs.Time.{Moment, second, next_multiple_of}
+use Rattle.amr_labels.specs.Labels.{LabelSet}
+use Rattle.amr_time.specs.Time.{Moment}
 use Rattle.amr_stated.specs.declared.receiver.Integration.{Integration}
 use Rattle.amr_stated.specs.Config.{Config}
 use Rattle.amr_config.specs.Routing.{chosen, integrations_of, group_interval_of, repeat_interval_of}
@@ -21,22 +19,13 @@ use Rattle.amr_rules.specs.Dedup.{needs_update}
 use Rattle.amr_state.specs.declared.notification.GroupTimer.{GroupTimer}
 use Rattle.amr_state.specs.declared.notification.LogKey.{LogKey}
 use Rattle.amr_state.specs.declared.notification.Notification.{Notification}
-use Rattle.amr_state.specs.declared.due.Due.{Due}
-use Rattle.amr_state.specs.declared.due.Kind.{Kind}
-use Rattle.amr_state.specs.declared.due.Kind.TheVariants.{AlertRemoval, GroupRemoval, GroupFlush}
 use Rattle.amr_state.specs.declared.route_labels.RouteLabels.{RouteLabels}
 use Rattle.amr_state.specs.State.{State, on_route, route_labels_cmp, route_labels_cmp_total, route_labels_cmp-IsAntisymmetric, log_key_cmp, group_key, members_among, members}
-use Rattle.amr_state.specs.Dues.{alert_removal_of, group_removal_of, flush_of, dues}
 use Rattle.amr_engine.specs.Flush.{Members, firing_of, resolved_of, labels_of, log_key_of, let_through, notify, notify_all, record_notification, set_timer, drop_member, mark_if_empty, drop_resolved, run_pipeline, flush}
-use Rattle.amr_engine.specs.Moves.{move, move_of_kind}
-use Rattle.amr_engine.specs.Said.{IsIn}
 use Rattle.amr_engine.specs.Placed.{IsTimed, IsPlaced}
-use Rattle.amr_engine.proofs.PlacedLists.{Each, IsAmong, each_weaker, each_kept, kept_among, all_pass, same_or_apart, get-inserted, get-insert_apart, get-removed, get-remove_apart, get-before_remove, get-remove_none, get-each, among_entries}
-use Rattle.amr_engine.proofs.PlacedPosts.{timed_as, placed_as}
-
--- two keys are the same, or they compare as different
-pub key_or_apart : (q k : RouteLabels) → (q ≡ k) ⊎ ((q ≡ k → ⊥) × (eq_by_cmp route_labels_cmp q k ≡ false))
-key_or_apart = same_or_apart route_labels_cmp_total route_labels_cmp-IsAntisymmetric
+use Rattle.amr_engine.proofs.QuietStays.{equal}
+use Rattle.amr_engine.proofs.PlacedLists.{Each, IsAmong, each_kept, kept_among, all_pass, get-inserted, get-insert_apart, get-removed, get-remove_apart, get-before_remove, get-remove_none, get-each, among_entries}
+use Rattle.amr_engine.proofs.PlacedPosts.{key_or_apart, timed_as, placed_as}
 
 -- what is resolved stays resolved
 still_resolved : (at later : Moment) (alert : Alert) → at ≤ later → is_resolved_at later alert ≡ false → is_resolved_at at alert ≡ false
@@ -75,9 +64,9 @@ module _ (group : RouteLabels) (change : GroupTimer → GroupTimer) (s : State) 
 
   set_timer_keeps : ((timer : GroupTimer) → timer.empty_since ≡ None → (change timer).empty_since ≡ None) → (other : RouteLabels) → IsTimed s other → IsTimed (set_timer group change s) other
   set_timer_keeps keeps other timed = elim (key_or_apart other group) [
-      | inl same ↦ subst (IsTimed (set_timer group change s)) (sym same) (set_timer_same keeps (subst (IsTimed s) same timed))
-      | inr apart ↦ set_timer_apart other apart.1 timed
-    ]
+    | inl same ↦ subst (IsTimed (set_timer group change s)) (sym same) (set_timer_same keeps (subst (IsTimed s) same timed))
+    | inr apart ↦ set_timer_apart other apart.1 timed
+  ]
 
   timer_reset : (at : Moment) → ((timer : GroupTimer) → timer.empty_since ≡ None → (change timer).empty_since ≡ None) → IsPlaced at s → IsPlaced at (set_timer group change s)
   timer_reset at keeps placed = record {
@@ -124,11 +113,6 @@ module _ (config : Config) (group : RouteLabels) (placements : Map route_labels_
   abbrev pub IsHad : LabelSet × Alert → Type 0
   IsHad member = get placements (on_route group.route member.0) ≡ Some member.1
 
-  equal : (r : Ordering) → is_eq r ≡ true → r ≡ Equal
-  equal Less e = absurd (cc)
-  equal Equal e = refl
-  equal Greater e = absurd (cc)
-
   abbrev is_in_group : RouteLabels × Alert → Bool
   is_in_group placement = eq_by_cmp route_labels_cmp (group_key config placement.0) group
 
@@ -152,9 +136,9 @@ module _ (config : Config) (group : RouteLabels) (placements : Map route_labels_
   among_of : (q : RouteLabels) (copy : Alert) (es : List (RouteLabels × Alert)) → IsAmong {X = RouteLabels × Alert} (q, copy) es → IsAmong {X = LabelSet × Alert} (q.labels, copy) (map (λ placement. (placement.0.labels, placement.1)) es)
   among_of q copy [] h = h
   among_of q copy (e ∷ es) h = elim h [
-      | inl same ↦ inl (ap (λ (x : RouteLabels × Alert). (x.0.labels, x.1)) same)
-      | inr later ↦ inr (among_of q copy es later)
-    ]
+    | inl same ↦ inl (ap (λ (x : RouteLabels × Alert). (x.0.labels, x.1)) same)
+    | inr later ↦ inr (among_of q copy es later)
+  ]
 
   pub among_members : (q : RouteLabels) (copy : Alert) → get placements q ≡ Some copy → group_key config q ≡ group → IsAmong {X = LabelSet × Alert} (q.labels, copy) (members_among config placements group)
   among_members q copy is of =
@@ -174,9 +158,9 @@ module _ (group : RouteLabels) where
       → get (fold (drop_member group) s ms).placements q ≡ Some copy
   not_dropped [] s q copy differ e = e
   not_dropped (m ∷ ms) s q copy differ e = not_dropped ms (drop_member group s m) q copy differ.1 (elim (key_or_apart q (on_route group.route m.0)) [
-      | inl same ↦ absurd (differ.0 same)
-      | inr apart ↦ get-remove_apart route_labels_cmp_total route_labels_cmp-IsAntisymmetric s.placements (on_route group.route m.0) q apart.1 ∙ e
-    ])
+    | inl same ↦ absurd (differ.0 same)
+    | inr apart ↦ get-remove_apart route_labels_cmp_total route_labels_cmp-IsAntisymmetric s.placements (on_route group.route m.0) q apart.1 ∙ e
+  ])
 
   still_none : (ms : Members) (s : State) (q : RouteLabels) → get s.placements q ≡ None → get (fold (drop_member group) s ms).placements q ≡ None
   still_none [] s q e = e
@@ -185,11 +169,11 @@ module _ (group : RouteLabels) where
   all_dropped : (ms : Members) (s : State) (m : LabelSet × Alert) → IsAmong m ms → get (fold (drop_member group) s ms).placements (on_route group.route m.0) ≡ None
   all_dropped [] s m h = absurd h
   all_dropped (x ∷ xs) s m h = elim h [
-      | inl same ↦ still_none xs (drop_member group s x) (on_route group.route m.0)
-          (subst (λ (y : LabelSet × Alert). get (remove s.placements (on_route group.route x.0)) (on_route group.route y.0) ≡ None) (sym same)
-          (get-removed route_labels_cmp_total route_labels_cmp-IsAntisymmetric s.placements (on_route group.route x.0)))
-      | inr later ↦ all_dropped xs (drop_member group s x) m later
-    ]
+    | inl same ↦ still_none xs (drop_member group s x) (on_route group.route m.0)
+        (subst (λ (y : LabelSet × Alert). get (remove s.placements (on_route group.route x.0)) (on_route group.route y.0) ≡ None) (sym same)
+        (get-removed route_labels_cmp_total route_labels_cmp-IsAntisymmetric s.placements (on_route group.route x.0)))
+    | inr later ↦ all_dropped xs (drop_member group s x) m later
+  ]
 
   dropped_alerts : (ms : Members) (s : State) → (fold (drop_member group) s ms).alerts ≡ s.alerts
   dropped_alerts [] s = refl
@@ -256,9 +240,9 @@ module _ (at now : Moment) (group : RouteLabels) (s : State) (order : now ≤ at
     copied = dropped_copied;
     chosen_only = dropped_chosen;
     timed = λ member copy e. elim (key_or_apart (group_key dropped.config member) group) [
-        | inl same ↦ absurd (none_left is member copy e same)
-        | inr apart ↦ set_timer_apart group (λ timer. record timer { empty_since = Some now }) dropped (group_key dropped.config member) apart.1 (dropped_timed member copy e)
-      ];
+      | inl same ↦ absurd (none_left is member copy e same)
+      | inr apart ↦ set_timer_apart group (λ timer. record timer { empty_since = Some now }) dropped (group_key dropped.config member) apart.1 (dropped_timed member copy e)
+    ];
   }
 
   resolved_dropped : IsPlaced at (drop_resolved now group ms s)
@@ -285,4 +269,3 @@ unfolding flush members
 flush_placed at now group s order placed =
     let reset : GroupTimer → GroupTimer = λ timer. record timer { next_flush = now + group_interval_of s.config group.route; flushed = true } in
     pipeline_placed at now group (set_timer group reset s) order (members s group) refl (timer_reset group reset s at (λ timer none. none) placed)
-

@@ -1,7 +1,7 @@
 -- Where the alerts are placed, they are listed in their groups.
-use Rattle.std.specs.Prelude.{◌≡◌, ℕ, Bool, true, false, List, [], ◌∷◌, Some, map, length, ◌<◌}
+use Rattle.std.specs.Prelude.{◌≡◌, ℕ, List, [], ◌∷◌, Some, map}
 use Rattle.std.specs.List.{Contains}
-use Rattle.std.proofs.Common.{refl, sym, ap, ◌∙◌, subst, inl, inr}
+use Rattle.std.proofs.Common.{refl, sym, subst, inl, inr}
 use Rattle.amr_labels.specs.Map.{get, entries}
 use Rattle.amr_labels.specs.Labels.{LabelSet}
 use Rattle.amr_config.specs.Routing.{chosen}
@@ -9,9 +9,9 @@ use Rattle.amr_rules.specs.declared.alert.Alert.{Alert}
 use Rattle.amr_state.specs.declared.notification.GroupTimer.{GroupTimer}
 use Rattle.amr_state.specs.declared.route_labels.RouteLabels.{RouteLabels}
 use Rattle.amr_state.specs.declared.views.Group.{Group}
-use Rattle.amr_state.specs.State.{State, on_route, route_labels_cmp, route_labels_cmp_total, route_labels_cmp-IsAntisymmetric, group_key, members_among, members}
+use Rattle.amr_state.specs.State.{State, on_route, route_labels_cmp_total, route_labels_cmp-IsAntisymmetric, group_key, members_among, members}
 use Rattle.amr_state.specs.Seen.{group_seen, groups_of}
-use Rattle.amr_engine.specs.Placed.{IsTimed, IsPlaced, ArePlaced, IsListed, AreListed}
+use Rattle.amr_engine.specs.Placed.{IsTimed, ArePlaced, IsListed, AreListed}
 use Rattle.amr_engine.proofs.PlacedLists.{Each, IsAmong, contains_cases, contains_none, contains_first, contains_rest, among_entries}
 use Rattle.amr_engine.proofs.PlacedFlush.{IsHad, each_had, among_members}
 
@@ -25,9 +25,9 @@ contains_image f x (y ∷ ys) (inr later) = contains_rest (f y) (map f ys) (f x)
 from_image : {X Y : Type 0} (P : X → Type 0) (f : X → Y) (xs : List X) (y : Y) → Each P xs → Contains (map f xs) y → (x : X) × P x × (f x ≡ y)
 from_image P f [] y each has = absurd (contains_none y has)
 from_image P f (x ∷ xs) y each has = elim (contains_cases (f x) (map f xs) y has) [
-    | inl same ↦ (x, each.0, same)
-    | inr later ↦ from_image P f xs y each.1 later
-  ]
+  | inl same ↦ (x, each.0, same)
+  | inr later ↦ from_image P f xs y each.1 later
+]
 
 -- every entry is one
 each_is : {X : Type 0} (xs : List X) → Each (λ (x : X). Unit {0}) xs

@@ -1,5 +1,5 @@
 -- Finite maps at a key, at other keys and by their entries, and lists item by item.
-use Rattle.std.specs.Prelude.{◌≡◌, ℕ, zero, suc, Bool, true, false, not, ◌&&◌, ◌⊎◌, T, List, [], ◌∷◌, Option, Some, None, cond, ◌<◌}
+use Rattle.std.specs.Prelude.{◌≡◌, zero, suc, Bool, true, false, not, ◌&&◌, ◌⊎◌, T, List, [], ◌∷◌, Option, Some, None, cond}
 use Rattle.std.specs.List.{Contains, filter}
 use Rattle.std.specs.declared.cmp.Ordering.{Ordering}
 use Rattle.std.specs.declared.cmp.Ordering.TheVariants.{Less, Equal, Greater}
@@ -7,9 +7,10 @@ use Rattle.std.specs.Ordering.{eq_by_cmp, is_eq, is_lt}
 use Rattle.std.specs.Cmp.{IsTotalOrder}
 use Rattle.std.specs.FinMap.{find, is_sorted, IsAntisymmetric}
 use Rattle.std.specs.FinMap.Entries.{below_all}
-use Rattle.std.proofs.Common.{refl, sym, ap, ◌∙◌, subst, inl, inr, arith}
+use Rattle.std.proofs.Common.{refl, sym, ap, ◌∙◌, inl, inr, arith}
 use Rattle.std.proofs.lemmas.Cmp.{tied_itself, eq_by_cmp_equiv}
 use Rattle.amr_labels.specs.Map.{Map, get, insert, remove, entries, get-insert, get-remove, get-entries, entries-sorted}
+use Rattle.amr_engine.proofs.QuietStays.{equal}
 
 -- ---- lists
 
@@ -76,11 +77,6 @@ module _ {X : Type 0} where
         by false e rest none h = absurd (cc)
 
 -- ---- maps
-
-equal : (r : Ordering) → is_eq r ≡ true → r ≡ Equal
-equal Less e = absurd (cc)
-equal Equal e = refl
-equal Greater e = absurd (cc)
 
 less : (r : Ordering) → T (is_lt r) → r ≡ Less
 less Less p = refl

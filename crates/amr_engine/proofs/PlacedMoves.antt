@@ -1,39 +1,24 @@
 -- Moves leave the alerts placed.
-use Rattle.std.specs.Prelude.{◌≡◌, ℕ, Bool, true, false, not, List, [], ◌∷◌, ◌++◌, ◌⊎◌, ◌≤◌, Option, Some, None, cond, map, option_map, ◌+◌, ◌*◌, nat_le, if◌then◌else◌}
-use Rattle.std.specs.List.{Contains, filter, fold, filter_map, cons_option}
-use Rattle.std.specs.Option.{option_map_or}
-use Rattle.std.specs.Ordering.{eq_by_cmp, is_eq}
-use Rattle.std.specs.declared.cmp.Ordering.{Ordering}
-use Rattle.std.specs.declared.cmp.Ordering.TheVariants.{Less, Equal, Greater}
-use Rattle.std.proofs.Common.{refl, sym, ap, ◌∙◌, subst, inl, inr, arith}
-use Rattle.std.proofs.lemmas.Cmp.{tied_itself}
-use Rattle.std.proofs.lemmas.Bool.Decides.{nat_tests}
-use Rattle.amr_labels.specs.Map.{Map, get, insert, remove, entries}
-use Rattle.amr_labels.specs.Labels.{LabelSet, label_set_cmp, label_set_cmp_total, label_set_cmp-IsAntisymmetric}
+use Rattle.std.specs.Prelude.{◌≡◌, List, [], ◌∷◌, ◌++◌, ◌⊎◌, ◌≤◌, Option, Some, None, map, option_map, ◌*◌}
+use Rattle.std.specs.List.{filter_map, cons_option}
+use Rattle.std.proofs.Common.{refl, sym, ap, ◌∙◌, subst, inl, inr}
+use Rattle.amr_labels.specs.Map.{get, remove, entries}
+use Rattle.amr_labels.specs.Labels.{LabelSet, label_set_cmp_total, label_set_cmp-IsAntisymmetric}
 use Rattle.amr_time.specs.Time.{Moment, second, next_multiple_of}
-use Rattle.amr_stated.specs.declared.receiver.Integration.{Integration}
-use Rattle.amr_stated.specs.Config.{Config}
-use Rattle.amr_config.specs.Routing.{chosen, integrations_of, group_interval_of, repeat_interval_of}
 use Rattle.amr_rules.specs.declared.alert.Alert.{Alert}
-use Rattle.amr_rules.specs.Alerts.{is_resolved_at}
-use Rattle.amr_rules.specs.declared.dedup.LogEntry.{LogEntry}
-use Rattle.amr_rules.specs.Dedup.{needs_update}
 use Rattle.amr_state.specs.declared.notification.GroupTimer.{GroupTimer}
-use Rattle.amr_state.specs.declared.notification.LogKey.{LogKey}
-use Rattle.amr_state.specs.declared.notification.Notification.{Notification}
 use Rattle.amr_state.specs.declared.due.Due.{Due}
 use Rattle.amr_state.specs.declared.due.Kind.{Kind}
 use Rattle.amr_state.specs.declared.due.Kind.TheVariants.{AlertRemoval, GroupRemoval, GroupFlush}
 use Rattle.amr_state.specs.declared.route_labels.RouteLabels.{RouteLabels}
-use Rattle.amr_state.specs.State.{State, on_route, route_labels_cmp, route_labels_cmp_total, route_labels_cmp-IsAntisymmetric, log_key_cmp, group_key, members_among, members}
+use Rattle.amr_state.specs.State.{State, on_route, route_labels_cmp_total, route_labels_cmp-IsAntisymmetric, group_key}
 use Rattle.amr_state.specs.Dues.{alert_removal_of, group_removal_of, flush_of, dues}
-use Rattle.amr_engine.specs.Flush.{Members, firing_of, resolved_of, labels_of, log_key_of, let_through, notify, notify_all, record_notification, set_timer, drop_member, mark_if_empty, drop_resolved, run_pipeline, flush}
 use Rattle.amr_engine.specs.Moves.{move, move_of_kind}
 use Rattle.amr_engine.specs.Said.{IsIn}
 use Rattle.amr_engine.specs.Placed.{IsTimed, IsPlaced}
-use Rattle.amr_engine.proofs.PlacedLists.{Each, IsAmong, each_weaker, each_kept, kept_among, all_pass, same_or_apart, get-inserted, get-insert_apart, get-removed, get-remove_apart, get-before_remove, get-remove_none, get-each, among_entries}
-use Rattle.amr_engine.proofs.PlacedPosts.{timed_as}
-use Rattle.amr_engine.proofs.PlacedFlush.{key_or_apart, flush_placed}
+use Rattle.amr_engine.proofs.PlacedLists.{Each, get-remove_apart, get-before_remove, get-each}
+use Rattle.amr_engine.proofs.PlacedPosts.{key_or_apart, timed_as}
+use Rattle.amr_engine.proofs.PlacedFlush.{flush_placed}
 
 -- ---- the removal of an alert
 
@@ -66,13 +51,13 @@ module _ (at : Moment) (s : State) (group : RouteLabels) where
 
   others_timed : (other : RouteLabels) → IsEmptied s group → IsTimed s other → IsTimed without_group other
   others_timed other emptied timed = elim (key_or_apart other group) [
-      | inl same ↦ absurd (not_both s group (subst (IsTimed s) same timed) emptied)
-      | inr apart ↦ record {
-        timer = timed.timer;
-        known = get-remove_apart route_labels_cmp_total route_labels_cmp-IsAntisymmetric s.timers group other apart.1 ∙ timed.known;
-        not_empty = timed.not_empty;
-      }
-    ]
+    | inl same ↦ absurd (not_both s group (subst (IsTimed s) same timed) emptied)
+    | inr apart ↦ record {
+      timer = timed.timer;
+      known = get-remove_apart route_labels_cmp_total route_labels_cmp-IsAntisymmetric s.timers group other apart.1 ∙ timed.known;
+      not_empty = timed.not_empty;
+    }
+  ]
 
   group_removed : IsEmptied s group → IsPlaced at s → IsPlaced at without_group
   group_removed emptied placed = record {
@@ -86,23 +71,23 @@ module _ (at : Moment) (s : State) (group : RouteLabels) where
 is_in-append : (due : Due) (xs ys : List Due) → IsIn due (xs ++ ys) → IsIn due xs ⊎ IsIn due ys
 is_in-append due [] ys h = inr h
 is_in-append due (x ∷ xs) ys h = elim h [
-    | inl same ↦ inl (inl same)
-    | inr later ↦ elim (is_in-append due xs ys later) [ inl left ↦ inl (inr left) | inr right ↦ inr right ]
-  ]
+  | inl same ↦ inl (inl same)
+  | inr later ↦ elim (is_in-append due xs ys later) [ inl left ↦ inl (inr left) | inr right ↦ inr right ]
+]
 
 no_alert_removal : (due : Due) (es : List (LabelSet × Alert)) → due.kind ≡ GroupRemoval → IsIn due (map alert_removal_of es) → ⊥
 no_alert_removal due [] kind h = h
 no_alert_removal due (e ∷ es) kind h = elim h [
-    | inl same ↦ let no : AlertRemoval ≡ GroupRemoval = sym (ap (λ (d : Due). d.kind) same) ∙ kind in absurd (cc)
-    | inr later ↦ no_alert_removal due es kind later
-  ]
+  | inl same ↦ let no : AlertRemoval ≡ GroupRemoval = sym (ap (λ (d : Due). d.kind) same) ∙ kind in absurd (cc)
+  | inr later ↦ no_alert_removal due es kind later
+]
 
 no_flush : (due : Due) (es : List (RouteLabels × GroupTimer)) → due.kind ≡ GroupRemoval → IsIn due (map flush_of es) → ⊥
 no_flush due [] kind h = h
 no_flush due (e ∷ es) kind h = elim h [
-    | inl same ↦ let no : GroupFlush ≡ GroupRemoval = sym (ap (λ (d : Due). d.kind) same) ∙ kind in absurd (cc)
-    | inr later ↦ no_flush due es kind later
-  ]
+  | inl same ↦ let no : GroupFlush ≡ GroupRemoval = sym (ap (λ (d : Due). d.kind) same) ∙ kind in absurd (cc)
+  | inr later ↦ no_flush due es kind later
+]
 
 abbrev removal_since : RouteLabels → Option Moment → Option Due
 removal_since group empty_since = option_map (λ since. record { moment = next_multiple_of since (30 * second); kind = GroupRemoval; route = group.route; labels = group.labels }) empty_since
@@ -127,12 +112,12 @@ module _ (s : State) (due : Due) where
   removal_emptied : due.kind ≡ GroupRemoval → IsIn due (dues s) → IsEmptied s (on_route due.route due.labels)
   unfolding dues
   removal_emptied kind h = elim (is_in-append due (map alert_removal_of (entries s.alerts) ++ filter_map group_removal_of (entries s.timers)) (map flush_of (entries s.timers)) h) [
-      | inl front ↦ elim (is_in-append due (map alert_removal_of (entries s.alerts)) (filter_map group_removal_of (entries s.timers)) front) [
-        | inl alert ↦ absurd (no_alert_removal due (entries s.alerts) kind alert)
-        | inr group ↦ removal_in (entries s.timers) (get-each route_labels_cmp_total route_labels_cmp-IsAntisymmetric s.timers) group
-      ]
-      | inr flushes ↦ absurd (no_flush due (entries s.timers) kind flushes)
+    | inl front ↦ elim (is_in-append due (map alert_removal_of (entries s.alerts)) (filter_map group_removal_of (entries s.timers)) front) [
+      | inl alert ↦ absurd (no_alert_removal due (entries s.alerts) kind alert)
+      | inr group ↦ removal_in (entries s.timers) (get-each route_labels_cmp_total route_labels_cmp-IsAntisymmetric s.timers) group
     ]
+    | inr flushes ↦ absurd (no_flush due (entries s.timers) kind flushes)
+  ]
 
 -- a move that is due by the moment leaves the alerts placed
 pub move_placed : (at : Moment) (s : State) (due : Due) → IsIn due (dues s) → due.moment ≤ at → IsPlaced at s → IsPlaced at (move due s)

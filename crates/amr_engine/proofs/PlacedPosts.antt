@@ -1,10 +1,9 @@
 -- Posts and reloads leave the alerts placed.
-use Rattle.std.specs.Prelude.{◌≡◌, ℕ, Bool, true, false, List, [], ◌∷◌, ◌⊎◌, Option, Some, None, cond}
+use Rattle.std.specs.Prelude.{◌≡◌, ℕ, false, List, [], ◌∷◌, ◌⊎◌, Option, Some, None}
 use Rattle.std.specs.List.{Contains, fold}
 use Rattle.std.specs.Ordering.{eq_by_cmp}
-use Rattle.std.specs.FinMap.{find}
 use Rattle.std.proofs.Common.{refl, sym, ap, ◌∙◌, subst, inl, inr}
-use Rattle.amr_labels.specs.Map.{get, insert, entries, empty, get-empty, get-entries}
+use Rattle.amr_labels.specs.Map.{get, insert, entries, empty, get-empty}
 use Rattle.amr_labels.specs.Labels.{LabelSet, label_set_cmp, label_set_cmp_total, label_set_cmp-IsAntisymmetric}
 use Rattle.amr_time.specs.Time.{Moment, Span}
 use Rattle.amr_stated.specs.Config.{Config}
@@ -18,7 +17,8 @@ use Rattle.amr_engine.specs.Events.{put, with_config}
 use Rattle.amr_engine.specs.Placed.{IsTimed, IsPlaced}
 use Rattle.amr_engine.proofs.PlacedLists.{Each, IsAmong, among_entries, each_weaker, contains_cases, contains_none, each_contained, same_or_apart, get-inserted, get-insert_apart, get-each}
 
-key_or_apart : (q k : RouteLabels) → (q ≡ k) ⊎ ((q ≡ k → ⊥) × (eq_by_cmp route_labels_cmp q k ≡ false))
+-- two keys are the same, or they differ and compare as different
+pub key_or_apart : (q k : RouteLabels) → (q ≡ k) ⊎ ((q ≡ k → ⊥) × (eq_by_cmp route_labels_cmp q k ≡ false))
 key_or_apart = same_or_apart route_labels_cmp_total route_labels_cmp-IsAntisymmetric
 
 labels_or_apart : (q k : LabelSet) → (q ≡ k) ⊎ ((q ≡ k → ⊥) × (eq_by_cmp label_set_cmp q k ≡ false))
@@ -65,13 +65,13 @@ module _ (labels : LabelSet) (alert : Alert) (s : State) (route : ℕ) where
 
   still_timed : (group : RouteLabels) → IsTimed s group → IsTimed (place_on labels alert s route) group
   still_timed group before = elim (key_or_apart group (group_key s.config (on_route route labels))) [
-      | inl same ↦ subst (IsTimed (place_on labels alert s route)) (sym same) own_group_timed
-      | inr apart ↦ record {
-        timer = before.timer;
-        known = get-insert_apart route_labels_cmp_total route_labels_cmp-IsAntisymmetric s.timers (group_key s.config (on_route route labels)) own_timer group apart.1 ∙ before.known;
-        not_empty = before.not_empty;
-      }
-    ]
+    | inl same ↦ subst (IsTimed (place_on labels alert s route)) (sym same) own_group_timed
+    | inr apart ↦ record {
+      timer = before.timer;
+      known = get-insert_apart route_labels_cmp_total route_labels_cmp-IsAntisymmetric s.timers (group_key s.config (on_route route labels)) own_timer group apart.1 ∙ before.known;
+      not_empty = before.not_empty;
+    }
+  ]
 
   placed_here : get (place_on labels alert s route).placements (on_route route labels) ≡ Some alert
   placed_here = get-inserted route_labels_cmp_total route_labels_cmp-IsAntisymmetric s.placements (on_route route labels) alert
@@ -82,28 +82,28 @@ module _ (labels : LabelSet) (alert : Alert) (s : State) (route : ℕ) where
   place_on_in_groups : Contains (chosen s.config labels) route → AreInGroups s → AreInGroups (place_on labels alert s route)
   place_on_in_groups takes before = record {
     chosen_only = λ member copy e. elim (key_or_apart member (on_route route labels)) [
-        | inl same ↦ subst (λ (m : RouteLabels). Contains (chosen s.config m.labels) m.route) (sym same) takes
-        | inr apart ↦ before.chosen_only member copy (sym (placed_elsewhere member apart.1) ∙ e)
-      ];
+      | inl same ↦ subst (λ (m : RouteLabels). Contains (chosen s.config m.labels) m.route) (sym same) takes
+      | inr apart ↦ before.chosen_only member copy (sym (placed_elsewhere member apart.1) ∙ e)
+    ];
     timed = λ member copy e. elim (key_or_apart member (on_route route labels)) [
-        | inl same ↦ subst (λ (m : RouteLabels). IsTimed (place_on labels alert s route) (group_key s.config m)) (sym same) own_group_timed
-        | inr apart ↦ still_timed (group_key s.config member) (before.timed member copy (sym (placed_elsewhere member apart.1) ∙ e))
-      ];
+      | inl same ↦ subst (λ (m : RouteLabels). IsTimed (place_on labels alert s route) (group_key s.config m)) (sym same) own_group_timed
+      | inr apart ↦ still_timed (group_key s.config member) (before.timed member copy (sym (placed_elsewhere member apart.1) ∙ e))
+    ];
   }
 
   -- the copy on a route stays, since only equal ones are inserted
   still_placed : (n : ℕ) → get s.placements (on_route n labels) ≡ Some alert → get (place_on labels alert s route).placements (on_route n labels) ≡ Some alert
   still_placed n e = elim (key_or_apart (on_route n labels) (on_route route labels)) [
-      | inl same ↦ ap (get (place_on labels alert s route).placements) same ∙ placed_here
-      | inr apart ↦ placed_elsewhere (on_route n labels) apart.1 ∙ e
-    ]
+    | inl same ↦ ap (get (place_on labels alert s route).placements) same ∙ placed_here
+    | inr apart ↦ placed_elsewhere (on_route n labels) apart.1 ∙ e
+  ]
 
   -- alerts with other labels stay as they are
   others_stay : (q : RouteLabels) → (q.labels ≡ labels → ⊥) → get (place_on labels alert s route).placements q ≡ get s.placements q
   others_stay q differ = elim (key_or_apart q (on_route route labels)) [
-      | inl same ↦ absurd (differ (ap (λ (x : RouteLabels). x.labels) same))
-      | inr apart ↦ placed_elsewhere q apart.1
-    ]
+    | inl same ↦ absurd (differ (ap (λ (x : RouteLabels). x.labels) same))
+    | inr apart ↦ placed_elsewhere q apart.1
+  ]
 
 -- ---- an alert on all its routes
 
@@ -119,9 +119,9 @@ module _ (labels : LabelSet) (alert : Alert) where
   on_each_placed : (rs : List ℕ) (s : State) (n : ℕ) → Contains rs n → get (fold (place_on labels alert) s rs).placements (on_route n labels) ≡ Some alert
   on_each_placed [] s n has = absurd (contains_none n has)
   on_each_placed (r ∷ rs) s n has = elim (contains_cases r rs n has) [
-      | inl same ↦ on_each_still rs (place_on labels alert s r) n (subst (λ (x : ℕ). get (place_on labels alert s r).placements (on_route x labels) ≡ Some alert) same (placed_here labels alert s r))
-      | inr later ↦ on_each_placed rs (place_on labels alert s r) n later
-    ]
+    | inl same ↦ on_each_still rs (place_on labels alert s r) n (subst (λ (x : ℕ). get (place_on labels alert s r).placements (on_route x labels) ≡ Some alert) same (placed_here labels alert s r))
+    | inr later ↦ on_each_placed rs (place_on labels alert s r) n later
+  ]
 
   on_each_others : (rs : List ℕ) (s : State) (q : RouteLabels) → (q.labels ≡ labels → ⊥) → get (fold (place_on labels alert) s rs).placements q ≡ get s.placements q
   on_each_others [] s q differ = refl
@@ -184,15 +184,15 @@ module _ (at : Moment) (s : State) (labels : LabelSet) (stored : Alert) where
   store_copied : IsPlaced at s → (asked : LabelSet) (found : Alert) → get (insert s.alerts labels stored) asked ≡ Some found → is_resolved_at at found ≡ false
       → (route : ℕ) → Contains (chosen s.config asked) route → get after.placements (on_route route asked) ≡ Some found
   store_copied placed asked found e fires route takes = elim (labels_or_apart asked labels) [
-      | inl same ↦
-          let value : ◌≡◌ {A = Option Alert} (Some stored) (Some found) =
-          sym (get-inserted label_set_cmp_total label_set_cmp-IsAntisymmetric s.alerts labels stored) ∙ ap (get (insert s.alerts labels stored)) (sym same) ∙ e in
-          subst (λ (l : LabelSet). get after.placements (on_route route l) ≡ Some found) (sym same)
-          (place_placed with_stored labels stored route (subst (λ (l : LabelSet). Contains (chosen s.config l) route) same takes) ∙ value)
-      | inr apart ↦
-          place_others with_stored labels stored (on_route route asked) apart.0
-          ∙ placed.copied asked found (sym (get-insert_apart label_set_cmp_total label_set_cmp-IsAntisymmetric s.alerts labels stored asked apart.1) ∙ e) fires route takes
-    ]
+    | inl same ↦
+        let value : ◌≡◌ {A = Option Alert} (Some stored) (Some found) =
+        sym (get-inserted label_set_cmp_total label_set_cmp-IsAntisymmetric s.alerts labels stored) ∙ ap (get (insert s.alerts labels stored)) (sym same) ∙ e in
+        subst (λ (l : LabelSet). get after.placements (on_route route l) ≡ Some found) (sym same)
+        (place_placed with_stored labels stored route (subst (λ (l : LabelSet). Contains (chosen s.config l) route) same takes) ∙ value)
+    | inr apart ↦
+        place_others with_stored labels stored (on_route route asked) apart.0
+        ∙ placed.copied asked found (sym (get-insert_apart label_set_cmp_total label_set_cmp-IsAntisymmetric s.alerts labels stored asked apart.1) ∙ e) fires route takes
+  ]
 
   stored_is_placed : IsPlaced at s → IsPlaced at after
   stored_is_placed placed = record {
@@ -250,9 +250,9 @@ module _ (labels : LabelSet) (alert : Alert) where
 
   placed_again : (s : State) (e : LabelSet × Alert) (n : ℕ) → Agrees e → get s.placements (on_route n labels) ≡ Some alert → get (place s e).placements (on_route n labels) ≡ Some alert
   placed_again s e n agrees is = elim (labels_or_apart labels e.0) [
-      | inl same ↦ subst (λ (x : LabelSet × Alert). get (place s x).placements (on_route n labels) ≡ Some alert) (pair_of labels e.0 alert e.1 same (sym (agrees (sym same)))) (place_still s labels alert n is)
-      | inr apart ↦ place_others s e.0 e.1 (on_route n labels) apart.0 ∙ is
-    ]
+    | inl same ↦ subst (λ (x : LabelSet × Alert). get (place s x).placements (on_route n labels) ≡ Some alert) (pair_of labels e.0 alert e.1 same (sym (agrees (sym same)))) (place_still s labels alert n is)
+    | inr apart ↦ place_others s e.0 e.1 (on_route n labels) apart.0 ∙ is
+  ]
 
   fold_again : (es : List (LabelSet × Alert)) (s : State) (n : ℕ) → Each Agrees es → get s.placements (on_route n labels) ≡ Some alert → get (fold place s es).placements (on_route n labels) ≡ Some alert
   fold_again [] s n agree is = is
@@ -261,9 +261,9 @@ module _ (labels : LabelSet) (alert : Alert) where
   fold_placed : (es : List (LabelSet × Alert)) (s : State) (n : ℕ) → Each Agrees es → IsAmong (labels, alert) es → Contains (chosen s.config labels) n → get (fold place s es).placements (on_route n labels) ≡ Some alert
   fold_placed [] s n agree among takes = absurd among
   fold_placed (e ∷ es) s n agree among takes = elim among [
-      | inl same ↦ fold_again es (place s e) n agree.1 (subst (λ (x : LabelSet × Alert). get (place s x).placements (on_route n labels) ≡ Some alert) same (place_placed s labels alert n takes))
-      | inr later ↦ fold_placed es (place s e) n agree.1 later (subst (λ (c : Config). Contains (chosen c labels) n) (sym (place_config s e.0 e.1)) takes)
-    ]
+    | inl same ↦ fold_again es (place s e) n agree.1 (subst (λ (x : LabelSet × Alert). get (place s x).placements (on_route n labels) ≡ Some alert) same (place_placed s labels alert n takes))
+    | inr later ↦ fold_placed es (place s e) n agree.1 later (subst (λ (c : Config). Contains (chosen c labels) n) (sym (place_config s e.0 e.1)) takes)
+  ]
 
 module _ (at : Moment) (s : State) (config : Config) where
   abbrev emptied : State

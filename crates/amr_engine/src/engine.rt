@@ -48,11 +48,9 @@ impl Model for Engine {
 
     ghost view = { λ engine. record { state = engine.store.state; past = befores engine.store.records engine.store.state; records = engine.store.records } };
 
-    ghost invariant = {
-        λ engine. (engine.store.current ≡ [])
+    ghost invariant = { λ engine. (engine.store.current ≡ [])
         × IsTrueOf engine.quiet_groups engine.store.state
-        × StayPlaced engine.store.state (befores engine.store.records engine.store.state)
-    };
+        × StayPlaced engine.store.state (befores engine.store.records engine.store.state) };
 }
 
 impl Engine {

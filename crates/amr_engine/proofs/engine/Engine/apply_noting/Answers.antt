@@ -62,10 +62,10 @@ invariant_of-self-in-Ok c =
         | else-is_refused w ↦ subst (λ (x : Inside). IsTrueOf x.quiet_groups state) (sym w.self-inside-is) (subst (IsTrueOf c.attempt.new.quiet_groups) (sym (c.close.ensures.state ∙ ap (λ (x : Inside). x.store.state) w.self-inside-is)) c.in-Ok.ensures.memory)
       ],
       applied_stays before.state state (befores before.records before.state) (befores after.records state) c.args.event.now
-      (c.close.ensures.state ∙ done.state ∙ ap (λ (s : State). after_event s c.args.event.now) c.in_ok-begin.ensures.state)
-      (past_is c.begin.new.self left.store done.undone_is after c.close.ensures.state c.close.ensures.records
-      ∙ (λ i. befores (c.in_ok-begin.ensures.records i) (c.in_ok-begin.ensures.state i) ++ c.in_ok-begin.ensures.state i ∷ []))
-      c.self.invariant.2,
+          (c.close.ensures.state ∙ done.state ∙ ap (λ (s : State). after_event s c.args.event.now) c.in_ok-begin.ensures.state)
+          (past_is c.begin.new.self left.store done.undone_is after c.close.ensures.state c.close.ensures.records
+          ∙ (λ i. befores (c.in_ok-begin.ensures.records i) (c.in_ok-begin.ensures.state i) ++ c.in_ok-begin.ensures.state i ∷ []))
+          c.self.invariant.2,
     )
 
 pub returns-after-is_refused-clause-state : goal.returns-after-is_refused-clause-state

@@ -15,7 +15,7 @@ invariant_of-self c =
       is_idle c.reopen.new.self after c.undo_open.ensures,
       c.clear.ensures after.state,
       undone_stays before.state after.state (befores before.records before.state) (befores after.records after.state)
-      (past_undone before c.reopen.new.self after c.reopen.ensures.state c.reopen.ensures.records c.undo_open.ensures) c.self.invariant.2,
+          (past_undone before c.reopen.new.self after c.reopen.ensures.state c.reopen.ensures.records c.undo_open.ensures) c.self.invariant.2,
     )
 
 pub returns-clause-past : goal.returns-clause-past
