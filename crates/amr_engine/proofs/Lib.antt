@@ -18,3 +18,4 @@ pub mod MovesNoted
 pub mod Remembering
 pub mod Forgetting
 pub mod Unnotified
+pub mod Invariant
