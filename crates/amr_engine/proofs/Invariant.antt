@@ -45,11 +45,14 @@ module _ (P : Moment → State → Type 0)
       acted (at_moment event.at does.moved) event.act after
       (clocked event.at does.moved (holds_after_moves event.at moves s does.moved does.advanced (holds_at_event s event does.not_past holds))) does.acted
 
+  abbrev HoldsAfter : State → Result (List Due × State) Reason → Type 0
+  HoldsAfter s r = let after : State = elim r as (λ x. State) [ Ok done ↦ done.1 | Err reason ↦ s ] in P after.moment after
+
   pub holds_after_event : (s : State) (event : Event) → P s.moment s → P (after_event s event).moment (after_event s event)
   unfolding after_event
   holds_after_event s event holds = by (do_event s event) refl
     where
-      by : (r : Result (List Due × State) Reason) → do_event s event ≡ r → P (elim r [ Ok done ↦ done.1 | Err reason ↦ s ]).moment (elim r [ Ok done ↦ done.1 | Err reason ↦ s ])
+      by : (r : Result (List Due × State) Reason) → do_event s event ≡ r → HoldsAfter s r
       by (Ok (moves, after)) is = holds_after_done move_limit s event moves after (do_within-Does move_limit s event moves after is) holds
       by (Err reason) is = holds
 

@@ -19,3 +19,7 @@ pub mod Remembering
 pub mod Forgetting
 pub mod Unnotified
 pub mod Invariant
+pub mod Listed
+pub mod Told
+pub mod Telling
+pub mod Explained
