@@ -23,3 +23,4 @@ pub mod Listed
 pub mod Told
 pub mod Telling
 pub mod Explained
+pub mod Repeating

@@ -65,9 +65,12 @@ module _ (at : Moment) (group : RouteLabels) (ms : Members) (labels : LabelSet) 
       → needs_update o firing resolved integration.send_resolved at (repeat_interval_of s.config group.route) ≡ false → HasLogged (key_at s integration) labels s
   unfolding needs_update
   was_logged s integration None is e = absurd (cc (ap not (some_fire (firing_of at ms) labels fires), e))
-  was_logged s integration (Some entry) is e =
-      (entry, is, in_superset (map (λ member. member.0) (firing_of at ms)) entry.firing labels (all_known (is_subset firing entry.firing) _ _ e)
-      (listed_in_set (map (λ member. member.0) (firing_of at ms)) labels fires))
+  was_logged s integration (Some entry) is e = (
+    entry,
+    is,
+    in_superset (map (λ member. member.0) (firing_of at ms)) entry.firing labels (all_known (is_subset firing entry.firing) _ _ e)
+        (listed_in_set (map (λ member. member.0) (firing_of at ms)) labels fires),
+  )
 
   logs_at : (s : State) (key : LogKey) (send_resolved : Bool) (asked : LogKey) (b : Bool) → eq_by_cmp log_key_cmp asked key ≡ b → HasLogged asked labels s
       → HasLogged asked labels (record_notification at group key send_resolved ms s)
@@ -77,9 +80,12 @@ module _ (at : Moment) (group : RouteLabels) (ms : Members) (labels : LabelSet) 
       (has.0, get-insert log_key_cmp_total s.log key _ asked ∙ ap (λ b. cond b (Some (record { time = at; firing = firing; resolved = resolved })) (get s.log asked)) other ∙ has.1, has.2)
 
   logs_now : (s : State) (key : LogKey) (send_resolved : Bool) → HasLogged key labels (record_notification at group key send_resolved ms s)
-  logs_now s key send_resolved =
-      (record { time = at; firing = firing; resolved = resolved }, get-insert log_key_cmp_total s.log key _ key
-      ∙ ap (λ r. cond (is_eq r) (Some (record { time = at; firing = firing; resolved = resolved })) (get s.log key)) (tied_itself log_key_cmp_total key), fires)
+  logs_now s key send_resolved = (
+    record { time = at; firing = firing; resolved = resolved },
+    get-insert log_key_cmp_total s.log key _ key
+        ∙ ap (λ r. cond (is_eq r) (Some (record { time = at; firing = firing; resolved = resolved })) (get s.log key)) (tied_itself log_key_cmp_total key),
+    fires,
+  )
 
   -- the integration's entry has it after its turn
   notify_logs : (s : State) (integration : Integration) → HasLogged (key_at s integration) labels (notify at group ms s integration)

@@ -1,12 +1,12 @@
 -- What integrations were notified of, by the notification log and by the transcript.
-use Rattle.std.specs.Prelude.{◌≡◌, ℕ, true, false, List, Option, None, Some, IsSomeAnd, map}
+use Rattle.std.specs.Prelude.{◌≡◌, ◌⊎◌, ◌+◌, ◌<◌, ℕ, true, false, List, Option, None, Some, IsSomeAnd, map}
 use Rattle.std.specs.List.{fold, Contains}
 use Rattle.amr_labels.specs.Map.{get}
 use Rattle.amr_labels.specs.Set.{contains}
 use Rattle.amr_labels.specs.Labels.{Text, LabelSet}
 use Rattle.amr_time.specs.Time.{Moment}
 use Rattle.amr_stated.specs.declared.receiver.Integration.{Integration}
-use Rattle.amr_config.specs.Routing.{group_of, path_of, integrations_of}
+use Rattle.amr_config.specs.Routing.{group_of, path_of, integrations_of, repeat_interval_of}
 use Rattle.amr_rules.specs.declared.alert.Alert.{Alert}
 use Rattle.amr_rules.specs.Alerts.{is_resolved_at}
 use Rattle.amr_rules.specs.declared.dedup.LogEntry.{LogEntry}
@@ -67,6 +67,13 @@ abbrev pub AllAreNotified : State → Moment → RouteLabels → State → Type 
 AllAreNotified s at group after = (member : LabelSet × Alert) → IsToNotify s at group member
     → (integration : Integration) → Contains (integrations_of s.config group.route) integration
     → IsNotified after (log_key_of s.config group integration) member.0
+
+-- an entry that has the same sets as the last one is that one, or was written after the repeat
+-- interval
+abbrev pub RepeatsWait : State → ℕ → State → Type 0
+RepeatsWait s route after = (key : LogKey) (last entry : LogEntry) → get s.log key ≡ Some last → get after.log key ≡ Some entry
+    → entry.firing ≡ last.firing → entry.resolved ≡ last.resolved
+    → (entry ≡ last) ⊎ (last.time + repeat_interval_of s.config route < entry.time)
 
 -- the state after moves, one after another
 abbrev pub after_moves : State → List Due → State
