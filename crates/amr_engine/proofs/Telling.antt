@@ -161,11 +161,18 @@ flush_notifies due s is_flush notified = λ member to_notify integration of.
       notified = move_holds due s notified (log_key_of s.config group integration) has.0 member.0 has.1 has.2;
     }
 
+no_part : (before later : List Due) (due : Due) → before ++ due ∷ later ≡ [] → ⊥
+no_part [] later due e = absurd (cc)
+no_part (first ∷ before) later due e = absurd (cc)
+
 -- so does each flush among the moves of an accepted event
 pub flushes_notify : (limit : ℕ) (s : State) (event : Event) (moves : List Due) (after : State) → LogIsNotified s → Accepts limit s event moves after
     → (before later : List Due) (due : Due) → moves ≡ before ++ due ∷ later → due.kind ≡ GroupFlush
     → AllAreNotified (after_moves s before) due.moment (on_route due.route due.labels) (move due (after_moves s before))
-flushes_notify limit s event moves after notified accepted before later due parts is_flush =
-    let does : Does limit s event moves after = do_within-Does limit s event moves after accepted in
-    let run : Advances event.at s (before ++ due ∷ later) does.moved = subst (λ (ds : List Due). Advances event.at s ds does.moved) parts does.advanced in
-    flush_notifies due (after_moves s before) is_flush (between_is_notified event.at before (due ∷ later) s does.moved run notified)
+flushes_notify limit s event moves after notified accepted before later due parts is_flush = by (do_within-Does limit s event moves after accepted)
+  where
+    by : Does limit s event moves after → AllAreNotified (after_moves s before) due.moment (on_route due.route due.labels) (move due (after_moves s before))
+    by (inl names) = absurd (no_part before later due (sym parts ∙ names.none))
+    by (inr acts) =
+        let run : Advances event.at s (before ++ due ∷ later) acts.moved = subst (λ (ds : List Due). Advances event.at s ds acts.moved) parts acts.advanced in
+        flush_notifies due (after_moves s before) is_flush (between_is_notified event.at before (due ∷ later) s acts.moved run notified)

@@ -173,6 +173,7 @@ act_holds s (Act.Silence posted) after holds e = ok_holds (with_silences s) (λ 
 act_holds s (Act.Expire id) after holds e = ok_holds (with_silences s) (λ silences. holds) (after_expiry s.moment id s.silences) after e
 act_holds s (Act.Reload config) after holds e = ok_holds (with_config s) (λ config. with_config_holds s config holds) config after e
 act_holds s Act.Tick after holds e = let is : s ≡ after = cc in subst LogIsNotified is holds
+act_holds s (Act.Label text) after holds e = let is : s ≡ after = cc in subst LogIsNotified is holds
 
 -- ---- a run
 

@@ -1,7 +1,8 @@
 //! A cursor over a script. Whatever steps, backs, seeks and trials came before, the session shows
 //! the run of the events before the cursor, from the start. Each event passed has a record, so that
 //! going back takes no memory.
-ghost use Rattle.std.specs.Prelude.{◌≡◌, ◌+◌, ◌-◌, ◌<◌, ◌≤◌, [], Some, Err, IsOk, IsErr, IsOkAnd, IfOk, IfErr, OnOk, OnErr, length, map, slice_get};
+ghost use Rattle.std.specs.Prelude.{◌≡◌, ◌+◌, ◌-◌, ◌<◌, ◌≤◌, true, [], Some, Err, IsOk, IsErr, IsOkAnd, IfOk, IfErr, OnOk, OnErr, length, map, slice_get};
+ghost use Rattle.amr_actions.specs.Events.{is_label};
 ghost use Rattle.amr_engine.specs.Events.{Refused, outcome_of};
 ghost use Rattle.amr_engine.specs.Outcomes.{outcome_view};
 ghost use Rattle.amr_engine.specs.Explain.{verdicts};
@@ -130,6 +131,14 @@ impl Session {
         self.script.len()
     }
 
+    /// Returns an event of the script; `index` counts from 0.
+    pub fn event(&self, index: usize) -> &Event
+        requires { index < length self.now.events }
+        ensures { slice_get self.now.events index ≡ Some result.now }
+    {
+        self.script.event(index)
+    }
+
     /// Returns the number of records, one for each event passed. It takes no memory.
     pub fn records(&self) -> usize
         ensures { result ≡ self.now.cursor }
@@ -138,7 +147,7 @@ impl Session {
     }
 
     /// Returns the number of entries in the record of an event passed; `index` counts from 0. The
-    /// record of a refused event has none. It takes no memory.
+    /// record of a refused event or of a label has none. It takes no memory.
     pub fn record_len(&self, index: usize) -> usize
         requires { index < self.now.cursor }
         ensures entries { (event : _) → slice_get self.now.events index ≡ Some event →
@@ -146,6 +155,8 @@ impl Session {
         ensures refused { (event : _) (reason : _) → slice_get self.now.events index ≡ Some event →
             outcome_of (state_at self.now.config self.now.events index) event ≡ Refused reason →
             result ≡ 0 }
+        ensures label { (event : _) → slice_get self.now.events index ≡ Some event →
+            is_label event.act ≡ true → result ≡ 0 }
     {
         self.engine.record_len(index)
     }

@@ -8,7 +8,7 @@ use Rattle.amr_engine.specs.Events.{after_event}
 use Rattle.amr_engine.specs.Remembered.{IsTrueOf}
 use Rattle.amr_engine.specs.declared.engine.Engine.TheInside.{Inside}
 use Rattle.amr_engine.specs.Weight.{event_weight}
-use Rattle.amr_engine.proofs.Settling.{IsLeft, Settled, settled, has_room, past_is, records_are, state_back, put_back_whole, is_idle}
+use Rattle.amr_engine.proofs.Settling.{IsLeft, Settled, settled, has_room, past_is, records_are, state_back, put_back_whole, is_idle, label_entryless}
 use Rattle.amr_engine.proofs.engine.Engine.apply_noting.Goals as goal
 use Rattle.amr_engine.proofs.engine.Engine.apply_noting.Goals.{then-is_refused, else-is_refused}
 
@@ -76,13 +76,16 @@ returns-after-is_refused-clause-record_kept c =
       | then-is_refused w ↦ subst (λ b. IsLeft b c.attempt.new.store c.if-is_refused.self-inside.store) (sym w.if-is_refused.true ∙ c.is_refused.ensures) (ap (λ x. x.store) w.self-inside-is ∙ w.undo_open.ensures)
       | else-is_refused w ↦ subst (λ b. IsLeft b c.attempt.new.store c.if-is_refused.self-inside.store) (sym w.if-is_refused.false ∙ c.is_refused.ensures) (ap (λ x. x.store) w.self-inside-is)
     ]) in
-    let left = c.if-is_refused.self-inside.store in (
+    let left = c.if-is_refused.self-inside.store in
+    let short =
+    subst (λ (p : State × State). length left.current ≤ 4 * event_weight p.0 c.args.event.now p.1) (λ i. ((c.in_ok-begin.ensures.state ∙ ap (λ (v : Steps). v.state) c.self.view_is) i, sym c.close.ensures.state i)) done.short in (
       left.current,
       record {
         added = c.close.ensures.records ∙ ap (λ rs. rs ++ left.current ∷ []) (records_are c.begin.new.self left done.undone_is ∙ c.in_ok-begin.ensures.records ∙ ap (λ (v : Steps). v.records) c.self.view_is);
         back = ap (λ (state : State). put_back left.current state) c.close.ensures.state ∙ state_back c.begin.new.self left done.undone_is ∙ c.in_ok-begin.ensures.state ∙ ap (λ (v : Steps). v.state) c.self.view_is;
         empty = done.empty;
-        short = subst (λ (p : State × State). length left.current ≤ 4 * event_weight p.0 c.args.event.now p.1) (λ i. ((c.in_ok-begin.ensures.state ∙ ap (λ (v : Steps). v.state) c.self.view_is) i, sym c.close.ensures.state i)) done.short;
+        label = label_entryless c.args.self.now.state c.close.new.self.state c.args.event.now left.current short;
+        short = short;
       },
     )
 
