@@ -1,7 +1,7 @@
 -- What holds at the start, and what moves, the clock and actions keep, holds after every run.
 use Rattle.std.specs.Prelude.{◌≡◌, ℕ, false, List, [], ◌∷◌, ◌++◌, Some, Result, Ok, Err, ◌≤◌, nat_lt}
 use Rattle.std.specs.List.{fold}
-use Rattle.std.proofs.Common.{refl, sym, subst, inl, inr, arith}
+use Rattle.std.proofs.Common.{refl, sym, subst, arith, inl, inr}
 use Rattle.std.proofs.lemmas.Bool.Decides.{nat_tests}
 use Rattle.amr_time.specs.Time.{Moment}
 use Rattle.amr_stated.specs.Config.{Config}
@@ -12,7 +12,7 @@ use Rattle.amr_state.specs.State.{State, start}
 use Rattle.amr_state.specs.Dues.{next_due}
 use Rattle.amr_engine.specs.Moves.{move, Advances}
 use Rattle.amr_engine.specs.Events.{after_act, at_moment, do_within, do_event, after_event, after_events, run_of, move_limit}
-use Rattle.amr_engine.specs.Said.{Does}
+use Rattle.amr_engine.specs.Said.{Acts, Does}
 use Rattle.amr_engine.proofs.MovesLaws.{do_within-Does}
 
 not_past : (at now : Moment) → nat_lt at now ≡ false → now ≤ at
@@ -40,11 +40,14 @@ module _ (P : Moment → State → Type 0)
   pub holds_at_event : (s : State) (event : Event) → nat_lt event.at s.moment ≡ false → P s.moment s → P event.at s
   holds_at_event s event present holds = later s.moment event.at s (not_past event.at s.moment present) holds
 
-  pub holds_after_done : (limit : ℕ) (s : State) (event : Event) (moves : List Due) (after : State) → Does limit s event moves after → P s.moment s → P after.moment after
-  holds_after_done limit s event moves after (inl named) holds = subst (λ (x : State). P x.moment x) (sym named.same) holds
-  holds_after_done limit s event moves after (inr does) holds =
+  holds_after_act : (limit : ℕ) (s : State) (event : Event) (moves : List Due) (after : State) → Acts limit s event moves after → P s.moment s → P after.moment after
+  holds_after_act limit s event moves after does holds =
       acted (at_moment event.at does.moved) event.act after
       (clocked event.at does.moved (holds_after_moves event.at moves s does.moved does.advanced (holds_at_event s event does.not_past holds))) does.acted
+
+  pub holds_after_done : (limit : ℕ) (s : State) (event : Event) (moves : List Due) (after : State) → Does limit s event moves after → P s.moment s → P after.moment after
+  holds_after_done limit s event moves after (inl names) holds = subst (λ (x : State). P x.moment x) (sym names.same) holds
+  holds_after_done limit s event moves after (inr acts) holds = holds_after_act limit s event moves after acts holds
 
   abbrev HoldsAfter : State → Result (List Due × State) Reason → Type 0
   HoldsAfter s r = let after : State = elim r as (λ x. State) [ Ok done ↦ done.1 | Err reason ↦ s ] in P after.moment after

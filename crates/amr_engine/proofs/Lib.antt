@@ -25,3 +25,8 @@ pub mod PlacedFlush
 pub mod PlacedMoves
 pub mod PlacedRuns
 pub mod PlacedGroups
+pub mod Listed
+pub mod Told
+pub mod Telling
+pub mod Explained
+pub mod Repeating

@@ -8,6 +8,7 @@ ghost use Rattle.amr_engine.specs.Outcomes.{outcome_view};
 ghost use Rattle.amr_engine.specs.Explain.{verdicts};
 ghost use Rattle.amr_engine.specs.Placed.{ArePlaced, HasTimers, AreListed};
 ghost use Rattle.amr_state.specs.Seen.{groups_of};
+ghost use Rattle.amr_engine.specs.Told.{ToldIsNotified};
 ghost use Rattle.amr_replay.specs.Session.{at_cursor, state_at, outcomes_passed, events_until};
 ghost use Rattle.amr_replay.specs.Records.{HasEntries};
 
@@ -322,12 +323,15 @@ impl Session {
         self.engine.learn_sources(labels)
     }
 
-    /// Explains why an alert with these labels was or wasn't in a notification, at the cursor. It is
-    /// much faster on a large state if `learn_sources` was called before.
+    /// Explains why an alert with these labels was or wasn't in a notification, at the cursor. An
+    /// alert explained as `Told` is in a notification of the transcript. It is much faster on a large
+    /// state if `learn_sources` was called before.
     pub fn explain(&self, labels: &Labels) -> Result<Vec<Verdict>, AllocError>
         ensures explained { IfOk result (λ found. found.items
             ≡ verdicts self.now.state labels.now) }
         ensures timed { HasTimers self.now.state labels.now }
+        ensures notified { IfOk result (λ found.
+            ToldIsNotified self.now.state labels.now found.items) }
     {
         self.engine.explain(labels)
     }
