@@ -6,7 +6,7 @@ use Rattle.amr_posts.specs.Reasons.{Reason, reason_number}
 use Rattle.amr_actions.specs.Events.{Act, Event}
 use Rattle.amr_actions.specs.Events as events
 use Rattle.amr_actions.specs.declared.event.Act as code
-use Rattle.amr_actions.specs.declared.event.Act.TheVariants.{Post, Silence, Expire, Reload, Tick}
+use Rattle.amr_actions.specs.declared.event.Act.TheVariants.{Post, Silence, Expire, Reload, Tick, Label}
 use Rattle.amr_actions.specs.declared.event.Event.TheInside.{Inside}
 use Rattle.amr_posts.specs.declared.reason.Reason as reason
 
@@ -21,6 +21,7 @@ act_of (Silence silence) = events.Act.Silence silence
 act_of (Expire id) = events.Act.Expire id
 act_of (Reload read) = events.Act.Reload (by_number read)
 act_of Tick = events.Act.Tick
+act_of (Label text) = events.Act.Label text
 
 abbrev pub event_at : Moment → Act → Event
 event_at at act = record { at = at; act = act }

@@ -4,7 +4,7 @@ ghost use Rattle.std.specs.Prelude.{◌≡◌, ◌≤◌};
 ghost use Rattle.amr_time.specs.Time.{latest_read};
 
 use amr_config::Config;
-use amr_labels::Listing;
+use amr_labels::{Listing, Text};
 use amr_posts::{PostedAlert, PostedSilence, Reason, SilenceId};
 use amr_time::Moment;
 use std::marker::Model;
@@ -22,6 +22,20 @@ pub enum Act {
     Reload(Result<Config, Reason>),
     /// Lets time pass.
     Tick,
+    /// Names a moment of the script, such as 'paged' or 'deploy'. It changes nothing.
+    Label(Text),
+}
+
+impl Act {
+    ghost use Rattle.amr_actions.specs.Acts.{act_of};
+    ghost use Rattle.amr_actions.specs.Events.{is_label};
+
+    /// Returns whether the action only names a moment, and does nothing.
+    pub fn is_label(&self) -> bool
+        ensures { result ≡ is_label (act_of self.now) }
+    {
+        matches!(self, Act::Label(_))
+    }
 }
 
 /// An action at a moment. The moment is one that a script can have, from 1970 to the end of the

@@ -68,7 +68,7 @@ pub some_value : {A : Type 0} (o r : Option A) → o ≡ r → true ≡ is_some 
 some_value None r e h = absurd (true≢false h)
 some_value (Some x) r e h = (x, e)
 
-pub limit_is : move_limit ≡ 10_000
+pub limit_is : move_limit ≡ 1_000_000
 unfolding move_limit
 limit_is = refl
 

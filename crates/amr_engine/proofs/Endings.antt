@@ -1,21 +1,22 @@
 -- The outcome of an event, case by case.
-use Rattle.std.proofs.Common.{◌≡◌, true, false, ℕ, List, Option, None, Some, Result, Ok, Err, length, drop, refl, sym, ap, subst, ◌∙◌}
+use Rattle.std.proofs.Common.{◌≡◌, true, false, ℕ, List, [], Option, None, Some, Result, Ok, Err, length, drop, refl, sym, ap, subst, ◌∙◌}
 use Rattle.std.specs.Prelude.{if◌then◌else◌, nat_lt}
 use Rattle.amr_time.specs.Time.{Moment}
 use Rattle.amr_posts.specs.Reasons.{Reason, reason_number}
-use Rattle.amr_actions.specs.Events.{Event, Act}
+use Rattle.amr_actions.specs.Events.{Event, Act, is_label}
 use Rattle.amr_actions.specs.Acts.{event_at}
 use Rattle.amr_state.specs.declared.due.Due.{Due}
 use Rattle.amr_state.specs.State.{State}
 use Rattle.amr_state.specs.Dues.{next_due}
 use Rattle.amr_engine.specs.Moves.{move, advance}
-use Rattle.amr_engine.specs.Events.{do_within, do_event, after_event, outcome_of, outcome_from, skipped_of, judge, finish, after_act, at_moment, on_ok, move_limit}
+use Rattle.amr_engine.specs.Events.{do_event, after_event, outcome_of, outcome_from, skipped_of, judge, finish, after_act, at_moment, on_ok, move_limit}
 use Rattle.amr_engine.specs.Outcomes.{acceptance, refusal}
 use Rattle.amr_engine.specs.Applied.{ComesTo, run_moved}
 use Rattle.amr_engine.specs.Prepared.{IsPrepared, DoesAsPrepared, Stays, performed, skipped_by}
 use Rattle.amr_engine.specs.declared.prepare.Prepared as prepare
 use Rattle.amr_posts.specs.declared.reason.Reason as code
 use Rattle.amr_engine.proofs.RunsLaws.{run_within-sound}
+use Rattle.amr_engine.proofs.MovesLaws.{do_within-act, do_within-label}
 use Rattle.amr_engine.proofs.TickLaws.{Judged, advances_keep}
 
 -- a refused event doesn't change the state
@@ -37,13 +38,11 @@ is_accepted s event moves end count skipped e counted left = record {
 }
 
 -- the event is before the clock
-pub past : (s : State) (event : Event) → nat_lt event.at s.moment ≡ true → do_event s event ≡ Err 20
-unfolding do_within
-past s event h = ap (λ b. if b then Err 20 else judge move_limit s event (after_act (at_moment event.at s) event.act)) h
+pub past : (s : State) (event : Event) → is_label event.act ≡ false → nat_lt event.at s.moment ≡ true → do_event s event ≡ Err 20
+past s event no_label h = do_within-act move_limit s event no_label ∙ ap (λ b. if b then Err 20 else judge move_limit s event (after_act (at_moment event.at s) event.act)) h
 
-pub not_past : (s : State) (event : Event) → nat_lt event.at s.moment ≡ false → do_event s event ≡ judge move_limit s event (after_act (at_moment event.at s) event.act)
-unfolding do_within
-not_past s event h = ap (λ b. if b then Err 20 else judge move_limit s event (after_act (at_moment event.at s) event.act)) h
+pub not_past : (s : State) (event : Event) → is_label event.act ≡ false → nat_lt event.at s.moment ≡ false → do_event s event ≡ judge move_limit s event (after_act (at_moment event.at s) event.act)
+not_past s event no_label h = do_within-act move_limit s event no_label ∙ ap (λ b. if b then Err 20 else judge move_limit s event (after_act (at_moment event.at s) event.act)) h
 
 -- the moves of a run, if it ends within the limit
 pub none_run : (at : Moment) (o : Option (List Due × State)) → None ≡ run_moved at o → o ≡ None
@@ -64,27 +63,27 @@ some_run at (Some r) count next e =
     record { moves = r.0; moved = r.1; ran = refl; counted = ap (λ (p : ℕ × State). p.0) parts; ends = ap (λ (p : ℕ × State). p.1) parts }
 
 -- the action has a reason against it
-pub act_refused : (s : State) (at : Moment) (act : Act) (reason : Reason) → nat_lt at s.moment ≡ false
+pub act_refused : (s : State) (at : Moment) (act : Act) (reason : Reason) → is_label act ≡ false → nat_lt at s.moment ≡ false
     → after_act (at_moment at s) act ≡ Err reason → ComesTo s (event_at at act) s (refusal reason)
-act_refused s at act reason h own =
-    is_refused s (event_at at act) reason (not_past s (event_at at act) h ∙ ap (judge move_limit s (event_at at act)) own)
+act_refused s at act reason no_label h own =
+    is_refused s (event_at at act) reason (not_past s (event_at at act) no_label h ∙ ap (judge move_limit s (event_at at act)) own)
 
 -- too many moves are due
-pub act_is_over : (s : State) (at : Moment) (act : Act) (at_once : State) → nat_lt at s.moment ≡ false
+pub act_is_over : (s : State) (at : Moment) (act : Act) (at_once : State) → is_label act ≡ false → nat_lt at s.moment ≡ false
     → after_act (at_moment at s) act ≡ Ok at_once → None ≡ run_moved at (advance move_limit at s) → ComesTo s (event_at at act) s (refusal 21)
-act_is_over s at act at_once h own over =
+act_is_over s at act at_once no_label h own over =
     is_refused s (event_at at act) 21
-    (not_past s (event_at at act) h ∙ ap (judge move_limit s (event_at at act)) own ∙ ap (finish (event_at at act)) (none_run at (advance move_limit at s) over))
+    (not_past s (event_at at act) no_label h ∙ ap (judge move_limit s (event_at at act)) own ∙ ap (finish (event_at at act)) (none_run at (advance move_limit at s) over))
 
 -- the action is done after the moves
-pub act_accepted : (s : State) (at : Moment) (act : Act) (at_once : State) (count : ℕ) (next done : State) (skipped : List ℕ) → nat_lt at s.moment ≡ false
+pub act_accepted : (s : State) (at : Moment) (act : Act) (at_once : State) (count : ℕ) (next done : State) (skipped : List ℕ) → is_label act ≡ false → nat_lt at s.moment ≡ false
     → after_act (at_moment at s) act ≡ Ok at_once → Some (count, next) ≡ run_moved at (advance move_limit at s) → after_act next act ≡ Ok done
     → skipped ≡ skipped_of (at_moment at s) act → ComesTo s (event_at at act) done (acceptance count (drop (length s.notes) done.notes) skipped)
-act_accepted s at act at_once count next done skipped h own ran acted none =
+act_accepted s at act at_once count next done skipped no_label h own ran acted none =
     let event : Event = event_at at act in
     let r = some_run at (advance move_limit at s) count next ran in
     is_accepted s event r.moves done count skipped
-    (not_past s event h ∙ ap (judge move_limit s event) own ∙ ap (finish event) r.ran
+    (not_past s event no_label h ∙ ap (judge move_limit s event) own ∙ ap (finish event) r.ran
     ∙ ap (λ (x : State). on_ok (λ end. (r.moves, end)) (after_act x act)) (sym r.ends) ∙ ap (on_ok (λ end. (r.moves, end))) acted) r.counted none
 
 stays_after : (s : State) (at : Moment) (run : Option (List Due × State)) (count : ℕ) (next : State) → advance move_limit at s ≡ run → Some (count, next) ≡ run_moved at run → Stays s at next
@@ -105,28 +104,41 @@ stays s at count next ran = stays_after s at (advance move_limit at s) count nex
 at_first : (s : State) (at : Moment) → Stays s at (at_moment at s)
 at_first s at = record { silences = refl; config = refl; moment = refl }
 
-module _ (s : State) (event : Event) (at : Moment) (act : Act) (at_is : at ≡ event.at) (act_is : act ≡ event.act) (h : nat_lt at s.moment ≡ false) where
+module _ (s : State) (event : Event) (at : Moment) (act : Act) (at_is : at ≡ event.at) (act_is : act ≡ event.act) (no_label : is_label act ≡ false) (h : nat_lt at s.moment ≡ false) where
   the_event : event_at at act ≡ event
   the_event = λ i. event_at (at_is i) (act_is i)
 
   -- the action has its own reason against it
   pub refused_by_act : (reason : code.Reason) → IsPrepared s at act (Err reason) → ComesTo s event s (refusal (reason_number reason))
   unfolding the_event
-  refused_by_act reason own = subst (λ (e : Event). ComesTo s e s (refusal (reason_number reason))) the_event (act_refused s at act (reason_number reason) h own)
+  refused_by_act reason own = subst (λ (e : Event). ComesTo s e s (refusal (reason_number reason))) the_event (act_refused s at act (reason_number reason) no_label h own)
 
   -- too many moves are due
   pub refused_by_moves : (prepared : prepare.Prepared) → DoesAsPrepared s at act prepared → None ≡ run_moved at (advance move_limit at s) → ComesTo s event s (refusal 21)
   refused_by_moves prepared does over =
-      subst (λ (e : Event). ComesTo s e s (refusal 21)) the_event (act_is_over s at act (performed prepared (at_moment at s)) h (does.does (at_moment at s) (at_first s at)) over)
+      subst (λ (e : Event). ComesTo s e s (refusal 21)) the_event (act_is_over s at act (performed prepared (at_moment at s)) no_label h (does.does (at_moment at s) (at_first s at)) over)
 
   -- the action is done after the moves
   pub done_after_moves : (prepared : prepare.Prepared) (count : ℕ) (next done : State) (skipped : List ℕ) → DoesAsPrepared s at act prepared → Some (count, next) ≡ run_moved at (advance move_limit at s)
       → done ≡ performed prepared next → skipped ≡ skipped_by prepared → ComesTo s event done (acceptance count (drop (length s.notes) done.notes) skipped)
   done_after_moves prepared count next done skipped does ran acted left =
       subst (λ (e : Event). ComesTo s e done (acceptance count (drop (length s.notes) done.notes) skipped)) the_event
-      (act_accepted s at act (performed prepared (at_moment at s)) count next done skipped h (does.does (at_moment at s) (at_first s at)) ran
+      (act_accepted s at act (performed prepared (at_moment at s)) count next done skipped no_label h (does.does (at_moment at s) (at_first s at)) ran
       (does.does next (stays s at count next ran) ∙ ap (λ (x : State). Ok x) (sym acted)) (left ∙ does.skips))
 
 -- an event before the clock
-pub past_refused : (s : State) (event : Event) → nat_lt event.at s.moment ≡ true → ComesTo s event s (refusal 20)
-past_refused s event h = is_refused s event 20 (past s event h)
+pub past_refused : (s : State) (event : Event) → is_label event.act ≡ false → nat_lt event.at s.moment ≡ true → ComesTo s event s (refusal 20)
+past_refused s event no_label h = is_refused s event 20 (past s event no_label h)
+
+-- no alert is skipped at a label
+pub none_skipped : (s : State) (act : Act) → is_label act ≡ true → [] ≡ skipped_of s act
+none_skipped s (Act.Label text) h = refl
+none_skipped s (Act.Post posted) h = absurd (cc)
+none_skipped s (Act.Silence posted) h = absurd (cc)
+none_skipped s (Act.Expire id) h = absurd (cc)
+none_skipped s (Act.Reload config) h = absurd (cc)
+none_skipped s Act.Tick h = absurd (cc)
+
+-- a label
+pub label_accepted : (s : State) (event : Event) (skipped : List ℕ) → is_label event.act ≡ true → skipped ≡ [] → ComesTo s event s (acceptance 0 (drop (length s.notes) s.notes) skipped)
+label_accepted s event skipped h none = is_accepted s event [] s 0 skipped (do_within-label move_limit s event h) refl (none ∙ none_skipped (at_moment event.at s) event.act h)

@@ -1,5 +1,5 @@
 -- How many entries an event adds to the open record.
-use Rattle.std.specs.Prelude.{◌≡◌, ℕ, zero, suc, List, [], Option, None, Some, length, drop, ◌+◌, ◌-◌, ◌*◌, ◌≤◌, ◌<◌}
+use Rattle.std.specs.Prelude.{◌≡◌, ℕ, zero, suc, false, if◌then◌else◌, List, [], Option, None, Some, length, drop, ◌+◌, ◌-◌, ◌*◌, ◌≤◌, ◌<◌}
 use Rattle.std.specs.Option.{option_map, option_map_or}
 use Rattle.std.specs.List.{fold, sum_by}
 use Rattle.std.proofs.Common.{get_or, refl, sym, ap, subst, ◌∙◌, arith}
@@ -11,7 +11,7 @@ use Rattle.amr_time.specs.Time.{Moment}
 use Rattle.amr_stated.specs.Config.{Config}
 use Rattle.amr_config.specs.Routing.{chosen}
 use Rattle.amr_rules.specs.declared.alert.Alert.{Alert}
-use Rattle.amr_actions.specs.Events.{Event, Act}
+use Rattle.amr_actions.specs.Events.{Event, Act, is_label}
 use Rattle.amr_actions.specs.Acts.{event_at}
 use Rattle.amr_state.specs.declared.due.Due.{Due}
 use Rattle.amr_state.specs.State.{State}
@@ -22,7 +22,7 @@ use Rattle.amr_engine.specs.Moves.{move, advance}
 use Rattle.amr_engine.specs.Events.{at_moment, move_limit, with_config}
 use Rattle.amr_engine.specs.Applied.{run_moved}
 use Rattle.amr_engine.specs.Prepared.{DoesAsPrepared, entries_of}
-use Rattle.amr_engine.specs.Weight.{move_weight, moves_weight, first_weight, reload_entries, alert_weight, alerts_weight, copies, act_weight, weight, event_weight}
+use Rattle.amr_engine.specs.Weight.{move_weight, moves_weight, first_weight, reload_entries, alert_weight, alerts_weight, copies, act_weight, weight, run_weight, event_weight}
 use Rattle.amr_engine.proofs.Endings.{Ran, some_run, stays}
 use Rattle.amr_engine.proofs.Copied.{copies_are_members}
 
@@ -99,27 +99,28 @@ put_more config was alerts i alert now later bound so_far less is same grown =
 -- the entries of a reload
 pub reloaded : (s : State) (config replacing : Config) (alerts : List (LabelSet × Alert)) (after : State) (now replaced placed : ℕ) → after ≡ with_config s config → replacing ≡ config
     → alerts ≡ entries s.alerts → replaced ≤ now + (1 + len s.timers + len s.placements) → placed ≤ replaced + 2 * copies replacing alerts → placed ≤ now + reload_entries s after
-reloaded s config replacing alerts after now replaced placed is same all first then =
+reloaded s config replacing alerts after now replaced placed is same all first later =
     let members : len after.placements ≡ copies replacing alerts =
     ap (λ (x : State). len x.placements) is ∙ copies_are_members s config ∙ (λ i. copies (sym same i) (sym all i)) in
-    omega (arith, members, first, then)
+    omega (arith, members, first, later)
 
 -- an accepted event as a whole
-light_event : (s : State) (at : Moment) (act : Act) (prepared : prepare.Prepared) (count : ℕ) (next after : State) (now moved done : ℕ) → DoesAsPrepared s at act prepared
+light_event : (s : State) (at : Moment) (act : Act) (prepared : prepare.Prepared) (count : ℕ) (next after : State) (now moved done : ℕ) → is_label act ≡ false → DoesAsPrepared s at act prepared
     → Some (count, next) ≡ run_moved at (advance move_limit at s) → moved ≤ now + (1 + 2 * first_weight move_limit at s) → done ≤ moved + entries_of prepared next after
     → done ≤ now + 4 * event_weight s (event_at at act) after
-light_event s at act prepared count next after now moved done does ran went acted =
+light_event s at act prepared count next after now moved done no_label does ran went acted =
     let r : Ran at (advance move_limit at s) count next = some_run at (advance move_limit at s) count next ran in
     let light : entries_of prepared next after ≤ 1 + 2 * act_weight next after act = does.light next after (stays s at count next ran) in
     let ends : act_weight next after act ≡ act_weight (at_moment at r.moved) after act = ap (λ (x : State). act_weight x after act) r.ends in
     let moves : first_weight move_limit at s ≡ moves_weight s r.moves = first_weight-run move_limit at s (r.moves, r.moved) r.ran in
     let whole : event_weight s (event_at at act) after ≡ weight s r.moves r.moved after (event_at at act) =
-    ap (λ (o : Option (List Due × State)). option_map_or (λ run. weight s run.0 run.1 after (event_at at act)) o 0) r.ran in
+    ap (λ b. if b then 0 else run_weight s (event_at at act) after) no_label
+    ∙ ap (λ (o : Option (List Due × State)). option_map_or (λ run. weight s run.0 run.1 after (event_at at act)) o 0) r.ran in
     omega (arith, light, ends, moves, whole, went, acted)
 
 pub light_done : (s : State) (event : Event) (at : Moment) (act : Act) (at_is : at ≡ event.at) (act_is : act ≡ event.act) (prepared : prepare.Prepared) (count : ℕ) (next after : State)
-    (now moved done : ℕ) → DoesAsPrepared s at act prepared
+    (now moved done : ℕ) → is_label act ≡ false → DoesAsPrepared s at act prepared
     → Some (count, next) ≡ run_moved at (advance move_limit at s) → moved ≤ now + (1 + 2 * first_weight move_limit at s) → done ≤ moved + entries_of prepared next after
     → done ≤ now + 4 * event_weight s event after
-light_done s event at act at_is act_is prepared count next after now moved done does ran went acted =
-    subst (λ (e : Event). done ≤ now + 4 * event_weight s e after) (λ i. event_at (at_is i) (act_is i)) (light_event s at act prepared count next after now moved done does ran went acted)
+light_done s event at act at_is act_is prepared count next after now moved done no_label does ran went acted =
+    subst (λ (e : Event). done ≤ now + 4 * event_weight s e after) (λ i. event_at (at_is i) (act_is i)) (light_event s at act prepared count next after now moved done no_label does ran went acted)

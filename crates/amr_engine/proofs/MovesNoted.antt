@@ -1,5 +1,5 @@
 -- What is noted of the moves from a state holds of them.
-use Rattle.std.specs.Prelude.{◌≡◌, ℕ, zero, suc, Bool, true, false, if◌then◌else◌, ◌==◌, ◌+◌, List, [], ◌∷◌, ◌++◌, Option, Some, None, length, get_or, nat_le}
+use Rattle.std.specs.Prelude.{◌≡◌, ℕ, zero, suc, Bool, true, false, if◌then◌else◌, ◌==◌, ◌&&◌, nat_lt, ◌+◌, List, [], ◌∷◌, ◌++◌, Option, Some, None, length, get_or, nat_le}
 use Rattle.std.specs.Option.{option_map_or}
 use Rattle.std.proofs.Common.{refl, sym, ap, ◌∙◌, subst, arith}
 use Rattle.std.proofs.lemmas.Bool.Decides.{nat_tests}
@@ -8,7 +8,7 @@ use Rattle.amr_state.specs.declared.due.Due.{Due}
 use Rattle.amr_state.specs.State.{State}
 use Rattle.amr_state.specs.Dues.{dues, least_due, due_by, next_due}
 use Rattle.amr_engine.specs.Moves.{move}
-use Rattle.amr_engine.specs.QuietMoves.{first_due, moved, moved_times, OnlySets, IsQuietMove, AreQuietMoves, noted}
+use Rattle.amr_engine.specs.QuietMoves.{first_due, moved, moved_times, OnlySets, IsQuietMove, AreQuietMoves, most_noted, noted}
 
 -- a timer that is due by a moment is the first of all
 first_by : (at : Moment) (first : Option Due) (due : Due) → due_by at first ≡ Some due → first ≡ Some due
@@ -43,7 +43,7 @@ one_noted (first ∷ moves) quiet s known one = (known.0, one_noted moves quiet 
 -- one more move is noted
 pub still_noted : (moves : List Bool) (made : ℕ) (quiet : Bool) (s : State) → AreQuietMoves moves s → (quiet ≡ true → IsQuietMove (moved_times made s)) → AreQuietMoves (noted made quiet moves) s
 still_noted moves made quiet s known one =
-    elim (made == length moves) as (λ b. (made == length moves) ≡ b → AreQuietMoves (if b then moves ++ quiet ∷ [] else moves) s) [
+    elim ((made == length moves) && nat_lt made most_noted) as (λ b. ((made == length moves) && nat_lt made most_noted) ≡ b → AreQuietMoves (if b then moves ++ quiet ∷ [] else moves) s) [
       | true ↦ λ e.
           let all : made ≡ length moves = grind (arith, nat_tests) in
           one_noted moves quiet s known (subst (λ n. quiet ≡ true → IsQuietMove (moved_times n s)) all one)

@@ -5,7 +5,7 @@ use Rattle.std.specs.Option.{option_map_or}
 use Rattle.std.specs.List.{fold, filter_map}
 use Rattle.std.proofs.lemmas.Bool.Decides.{nat_tests}
 use Rattle.amr_labels.specs.Map.{get, insert}
-use Rattle.amr_labels.specs.Labels.{LabelSet}
+use Rattle.amr_labels.specs.Labels.{Text, LabelSet}
 use Rattle.amr_time.specs.Time.{Moment, Span}
 use Rattle.amr_stated.specs.Config.{Config}
 use Rattle.amr_posts.specs.declared.posted_alert.PostedAlert.{PostedAlert}
@@ -126,3 +126,8 @@ no_reload s at reason = refl
 pub some_tick : (s : State) (at : Moment) → DoesAsPrepared s at Act.Tick prepared.Tick
 unfolding after_act
 some_tick s at = record { does = λ next stays. refl; skips = refl; light = λ next after stays. omega arith }
+
+-- a label does as little
+pub some_label : (s : State) (at : Moment) (text : Text) → DoesAsPrepared s at (Act.Label text) prepared.Tick
+unfolding after_act
+some_label s at text = record { does = λ next stays. refl; skips = refl; light = λ next after stays. omega arith }

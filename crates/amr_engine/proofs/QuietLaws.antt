@@ -116,13 +116,13 @@ module _ (from until at : Moment) (not_before : from ≤ at) (before : at < unti
   resolved_not : (alert : Alert) → nat_le until alert.ends_at ≡ true → is_resolved_at at alert ≡ false
   resolved_not alert fires = grind (arith, nat_tests)
 
-  firing_all : (ms : Members) → all_fire_until until ms ≡ true → firing_of at ms ≡ ms
+  pub firing_all : (ms : Members) → all_fire_until until ms ≡ true → firing_of at ms ≡ ms
   firing_all [] fire = refl
   firing_all (m ∷ ms) fire =
       let parts = both (nat_le until m.1.ends_at) (all_fire_until until ms) fire in
       (λ i. cond (not (resolved_not m.1 parts.0 i)) (m ∷ firing_all ms parts.1 i) (firing_all ms parts.1 i))
 
-  resolved_none : (ms : Members) → all_fire_until until ms ≡ true → resolved_of at ms ≡ []
+  pub resolved_none : (ms : Members) → all_fire_until until ms ≡ true → resolved_of at ms ≡ []
   resolved_none [] fire = refl
   resolved_none (m ∷ ms) fire =
       let parts = both (nat_le until m.1.ends_at) (all_fire_until until ms) fire in

@@ -1,7 +1,8 @@
 -- What an event leaves in the store: its record is closed if it is accepted, and else put back.
-use Rattle.std.specs.Prelude.{◌≡◌, ℕ, Bool, true, false, List, [], ◌∷◌, ◌++◌, length, ◌<◌, ◌≤◌, ◌*◌}
+use Rattle.std.specs.Prelude.{◌≡◌, ℕ, Bool, true, false, if◌then◌else◌, List, [], ◌∷◌, ◌++◌, length, ◌<◌, ◌≤◌, ◌*◌}
 use Rattle.std.proofs.Common.{sym, ap, subst, ◌∙◌, arith}
-use Rattle.amr_actions.specs.Events.{Event}
+use Rattle.std.proofs.lemmas.List.{nil_from_length}
+use Rattle.amr_actions.specs.Events.{Event, is_label}
 use Rattle.amr_state.specs.declared.displaced.Displaced.{Displaced}
 use Rattle.amr_state.specs.State.{State}
 use Rattle.amr_state.specs.Kept.{Kept, undone}
@@ -10,7 +11,7 @@ use Rattle.amr_state.proofs.Undoing.{befores_push, length-befores, undone-idle, 
 use Rattle.amr_engine.specs.Events.{after_event}
 use Rattle.amr_engine.specs.Applied.{Leads}
 use Rattle.amr_engine.specs.Kept.{IsEmptyIfRefused, IsLightIfAccepted}
-use Rattle.amr_engine.specs.Weight.{event_weight}
+use Rattle.amr_engine.specs.Weight.{run_weight, event_weight}
 use Rattle.amr_engine.specs.Refusals.{is_refused}
 use Rattle.amr_engine.specs.declared.outcome.Outcome.{Outcome}
 use Rattle.amr_engine.specs.declared.outcome.Outcome.TheVariants.{Accepted, Refused}
@@ -44,6 +45,12 @@ settled event begun tried left (Refused reason) idle leads kept light is = recor
   empty = no_current left tried is;
   short = omega (arith, ap length (no_current left tried is));
 }
+
+-- the record of a label is empty
+pub label_entryless : (s after : State) (event : Event) (r : List Displaced) → length r ≤ 4 * event_weight s event after → is_label event.act ≡ true → r ≡ []
+label_entryless s after event r short h =
+    let none : event_weight s event after ≡ 0 = ap (λ b. if b then 0 else run_weight s event after) h in
+    nil_from_length r (omega (arith, none, short))
 
 module _ (begun left : Kept) (e : undone left ≡ begun) where
   pub room_is : left.room ≡ begun.room

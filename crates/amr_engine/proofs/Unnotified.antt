@@ -12,7 +12,7 @@ use Rattle.amr_stated.specs.Config.{Config}
 use Rattle.amr_rules.specs.declared.alert.Alert.{Alert}
 use Rattle.amr_rules.specs.Silences.{after_post, after_expiry}
 use Rattle.amr_posts.specs.Reasons.{Reason}
-use Rattle.amr_actions.specs.Events.{Event, Act}
+use Rattle.amr_actions.specs.Events.{Event, Act, is_label}
 use Rattle.amr_state.specs.declared.due.Due.{Due}
 use Rattle.amr_state.specs.declared.due.Kind.{Kind}
 use Rattle.amr_state.specs.declared.due.Kind.TheVariants.{AlertRemoval, GroupRemoval, GroupFlush}
@@ -25,7 +25,7 @@ use Rattle.amr_engine.specs.Stages.{taken_away}
 use Rattle.amr_engine.specs.Flush.{Members, notify, notify_all, record_notification, notifications_of, drop_member, mark_if_empty, drop_resolved, run_pipeline, flush, firing_of, resolved_of, let_through, log_key_of}
 use Rattle.amr_engine.specs.Runs as run
 use Rattle.amr_engine.specs.Moves.{move, move_of_kind, advance}
-use Rattle.amr_engine.specs.Events.{put, put_all, valid_alerts, with_config, with_silences, on_ok, after_act, at_moment, finish, judge, do_within, do_event, after_event, Outcome, skipped_of, outcome_from, outcome_of, without_notifications, move_limit}
+use Rattle.amr_engine.specs.Events.{put, put_all, valid_alerts, with_config, with_silences, on_ok, after_act, at_moment, finish, judge, act_within, do_within, do_event, after_event, Outcome, skipped_of, outcome_from, outcome_of, without_notifications, move_limit}
 
 drop_first : {A : Type 0} (xs ys : List A) → drop (length xs) (xs ++ ys) ≡ ys
 drop_first [] ys = refl
@@ -155,6 +155,7 @@ module _ (earlier : List Notification) where
   act_after s (Act.Expire id) = sym (on_ok-twice after (with_silences s) (after_expiry s.moment id s.silences))
   act_after s (Act.Reload config) = reloaded_after s config
   act_after s Act.Tick = refl
+  act_after s (Act.Label text) = refl
 
   -- ---- the event
 
@@ -173,12 +174,21 @@ module _ (earlier : List Notification) where
   refused_or true e r = refl
   refused_or false e r = refl
 
-  do_within_after : (limit : ℕ) (s : State) (event : Event) → do_within limit (after s) event ≡ on_ok after_moves (do_within limit s event)
-  unfolding do_within
-  do_within_after limit s event =
+  act_within_after : (limit : ℕ) (s : State) (event : Event) → act_within limit (after s) event ≡ on_ok after_moves (act_within limit s event)
+  act_within_after limit s event =
       ap (λ (r : Result (List Due × State) Reason). if nat_lt event.at s.moment then Err 20 else r)
       (ap (judge limit (after s) event) (act_after (at_moment event.at s) event.act) ∙ judge_after limit s event (after_act (at_moment event.at s) event.act))
       ∙ refused_or (nat_lt event.at s.moment) 20 (judge limit s event (after_act (at_moment event.at s) event.act))
+
+  same_or : (b : Bool) (s : State) (r : Result (List Due × State) Reason) → (if b then Ok ([], after s) else on_ok after_moves r) ≡ on_ok after_moves (if b then Ok ([], s) else r)
+  same_or true s r = refl
+  same_or false s r = refl
+
+  do_within_after : (limit : ℕ) (s : State) (event : Event) → do_within limit (after s) event ≡ on_ok after_moves (do_within limit s event)
+  unfolding do_within
+  do_within_after limit s event =
+      ap (λ (r : Result (List Due × State) Reason). if is_label event.act then Ok ([], after s) else r) (act_within_after limit s event)
+      ∙ same_or (is_label event.act) s (act_within limit s event)
 
 -- ---- an event after which the notifications before it are dropped
 
@@ -194,6 +204,7 @@ skipped_same s (Act.Silence posted) = refl
 skipped_same s (Act.Expire id) = refl
 skipped_same s (Act.Reload config) = refl
 skipped_same s Act.Tick = refl
+skipped_same s (Act.Label text) = refl
 
 outcome_same : (s : State) (event : Event) (r : Result (List Due × State) Reason) → outcome_from (without_notifications s) event r ≡ outcome_from s event (on_ok (after_moves s.notes) r)
 outcome_same s event (Err e) = refl

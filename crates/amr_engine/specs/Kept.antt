@@ -1,6 +1,6 @@
 -- The record of an event, and how long it may be.
-use Rattle.std.specs.Prelude.{◌≡◌, ◌≤◌, ◌*◌, List, [], ◌∷◌, ◌++◌, length, Result, Ok, Err}
-use Rattle.amr_actions.specs.Events.{Event}
+use Rattle.std.specs.Prelude.{◌≡◌, true, ◌≤◌, ◌*◌, List, [], ◌∷◌, ◌++◌, length, Result, Ok, Err}
+use Rattle.amr_actions.specs.Events.{Event, is_label}
 use Rattle.amr_posts.specs.declared.reason.Reason.{Reason}
 use Rattle.amr_state.specs.declared.displaced.Displaced.{Displaced}
 use Rattle.amr_state.specs.Kept.{Kept, GrownBy}
@@ -20,11 +20,12 @@ IsEmptyIfRefused (Accepted moves notes skipped) r = Unit {0}
 IsEmptyIfRefused (Refused reason) r = r ≡ []
 
 -- The last record leads back to the state before the event, and has at most four entries for each
--- unit of the event's weight.
+-- unit of the event's weight. That of a label has none.
 pub record RecordOf (before : Steps) (event : Event) (after : Steps) (outcome : Outcome) (r : List Displaced) : Type 0 where
   pub added : after.records ≡ before.records ++ r ∷ []
   pub back : put_back r after.state ≡ before.state
   pub empty : IsEmptyIfRefused outcome r
+  pub label : is_label event.act ≡ true → r ≡ []
   pub short : length r ≤ 4 * event_weight before.state event after.state
 
 -- the open record grew by at most four entries for each unit of the event's weight

@@ -1,5 +1,5 @@
 -- Which of the moves from a state only set a group timer.
-use Rattle.std.specs.Prelude.{◌≡◌, ℕ, zero, suc, Bool, true, if◌then◌else◌, ◌==◌, List, [], ◌∷◌, ◌++◌, Option, Some, length}
+use Rattle.std.specs.Prelude.{◌≡◌, ℕ, zero, suc, Bool, true, if◌then◌else◌, ◌==◌, ◌&&◌, nat_lt, List, [], ◌∷◌, ◌++◌, Option, Some, length}
 use Rattle.std.specs.Option.{option_map_or}
 use Rattle.amr_state.specs.declared.due.Due.{Due}
 use Rattle.amr_state.specs.State.{State, on_route}
@@ -32,6 +32,10 @@ abbrev pub AreQuietMoves : List Bool → State → Type 0
 AreQuietMoves [] s = Unit {0}
 AreQuietMoves (quiet ∷ rest) s = (quiet ≡ true → IsQuietMove s) × AreQuietMoves rest (moved s)
 
--- one more move is noted, if it comes after those that are
+-- this many moves from a state are noted at most
+abbrev pub most_noted : ℕ
+most_noted = 10_000
+
+-- one more move is noted, if it comes after those that are, and they aren't too many
 abbrev pub noted : ℕ → Bool → List Bool → List Bool
-noted made quiet moves = if made == length moves then moves ++ quiet ∷ [] else moves
+noted made quiet moves = if (made == length moves) && nat_lt made most_noted then moves ++ quiet ∷ [] else moves

@@ -1,5 +1,5 @@
 -- The weight of an event: how much it may displace.
-use Rattle.std.specs.Prelude.{ℕ, zero, suc, List, [], ◌∷◌, ◌+◌, ◌*◌, length}
+use Rattle.std.specs.Prelude.{ℕ, zero, suc, List, [], ◌∷◌, ◌+◌, ◌*◌, length, if◌then◌else◌}
 use Rattle.std.specs.Option.{option_map_or}
 use Rattle.std.specs.List.{sum_by}
 use Rattle.amr_labels.specs.Map.{len}
@@ -8,7 +8,7 @@ use Rattle.amr_time.specs.Time.{Moment}
 use Rattle.amr_stated.specs.Config.{Config}
 use Rattle.amr_config.specs.Routing.{chosen, integrations_of}
 use Rattle.amr_rules.specs.declared.alert.Alert.{Alert}
-use Rattle.amr_actions.specs.Events.{Act, Event}
+use Rattle.amr_actions.specs.Events.{Act, Event, is_label}
 use Rattle.amr_state.specs.declared.due.Due.{Due}
 use Rattle.amr_state.specs.declared.due.Kind.{Kind}
 use Rattle.amr_state.specs.declared.due.Kind.TheVariants.{AlertRemoval, GroupRemoval, GroupFlush}
@@ -62,14 +62,20 @@ act_weight before after (Act.Silence posted) = 2
 act_weight before after (Act.Expire id) = 2
 act_weight before after (Act.Reload config) = groups_weight before + groups_weight after
 act_weight before after Act.Tick = 0
+act_weight before after (Act.Label text) = 0
 
--- the weight of an accepted event, with the state after its moves and the state after it
+-- the weight of an accepted event that is no label, with the state after its moves and the state
+-- after it
 abbrev pub weight : State → List Due → State → State → Event → ℕ
 weight s moves moved after event = 2 + moves_weight s moves + act_weight (at_moment event.at moved) after event.act
 
--- the weight of an event, given the states before and after it; 0 if too many moves are due
+-- the same, if there is such a run; 0 if too many moves are due
+abbrev pub run_weight : State → Event → State → ℕ
+run_weight s event after = option_map_or (λ run. weight s run.0 run.1 after event) (advance move_limit event.at s) 0
+
+-- the weight of an event, given the states before and after it; 0 for a label
 abbrev pub event_weight : State → Event → State → ℕ
-event_weight s event after = option_map_or (λ run. weight s run.0 run.1 after event) (advance move_limit event.at s) 0
+event_weight s event after = if is_label event.act then 0 else run_weight s event after
 
 -- how many members alerts become, each on its chosen routes
 abbrev pub copies : Config → List (LabelSet × Alert) → ℕ

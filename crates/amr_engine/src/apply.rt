@@ -66,7 +66,7 @@ struct Done {
 
 /// Prepares the event's action, makes the moves that are due up to the event, and performs the
 /// action. The action's own reason is decided before the first move, so it counts before too many
-/// moves.
+/// moves. Does nothing for a label, whatever its moment.
 fn apply_in_order(
     store: &mut Store,
     quiet_groups: &mut QuietGroups,
@@ -81,11 +81,16 @@ fn apply_in_order(
     ensures memory { OnOk result (IsTrueOf quiet_groups.new store.new.state) }
     ensures quiet { AreQuietMoves quiet_moves.new store.old.state }
 {
+    let act = event.act();
+    if act.is_label() {
+        let skipped = Listing::new(store.alloc());
+        return Ok(Ok(Done { moves: 0, skipped }));
+    }
     let at = event.at();
     if at.nanoseconds() < store.moment().nanoseconds() {
         return Ok(Err(Reason::Backwards));
     }
-    match prepare(store, at, event.act())? {
+    match prepare(store, at, act)? {
         Err(reason) => Ok(Err(reason)),
         Ok(prepared) => match advance_to(store, quiet_groups, quiet_moves, at)? {
             None => Ok(Err(Reason::TooManyMoves)),
@@ -98,7 +103,7 @@ fn apply_in_order(
 }
 
 /// Makes every move due at or before `at`, then advances the clock to `at`. Returns the number of
-/// moves, or `None` if more than 10,000 are due.
+/// moves, or `None` if more than 1,000,000 are due.
 fn advance_to(
     store: &mut Store,
     quiet_groups: &mut QuietGroups,

@@ -18,7 +18,7 @@ use amr_time::Moment;
 use std::alloc::AllocError;
 
 /// The most moves that one event may make. It bounds the work of an event far in the future.
-const MOST_MOVES: usize = 10_000;
+const MOST_MOVES: usize = 1_000_000;
 
 /// Makes every move due at or before a moment, and returns how many there were. Returns `None` if
 /// there are more than `MOST_MOVES`; the caller then undoes those that were made. Moves that

@@ -32,7 +32,7 @@ pub(crate) enum Prepared {
     },
     /// Replaces the configuration.
     Reload(Config),
-    /// Only lets time pass.
+    /// Changes nothing more, as a tick does.
     Tick,
 }
 
@@ -54,6 +54,7 @@ pub(crate) fn prepare(
         Act::Expire(id) => prepare_expiry(store, at, *id),
         Act::Reload(read) => prepare_reload(read),
         Act::Tick => Ok(Ok(Prepared::Tick)),
+        Act::Label(_) => Ok(Ok(Prepared::Tick)),
     }
 }
 

@@ -7,6 +7,10 @@ ghost use Rattle.amr_engine.specs.QuietMoves.{noted};
 use std::alloc::{AllocError, Global};
 use std::marker::Model;
 
+/// The most moves that are noted from a state. Those after them are worked out again, so that what
+/// is noted of an event of a million moves stays small.
+const MOST_NOTED: usize = 10_000;
+
 /// For each of the first moves from a state, whether it is known to set a group timer and to change
 /// nothing else. Contracts see the list.
 #[derive(Drop)]
@@ -46,12 +50,13 @@ impl QuietMoves {
         }
     }
 
-    /// Notes of the next move whether it only sets a group timer, unless it was noted before.
+    /// Notes of the next move whether it only sets a group timer, unless it was noted before or
+    /// `MOST_NOTED` moves come before it.
     pub(crate) fn note(&mut self, made: usize, quiet: bool) -> Result<(), AllocError>
         ensures ok { OnOk result (self.new ≡ noted made quiet self.old) }
         ensures err { OnErr result (self.new ≡ self.old) }
     {
-        if made == self.moves.len() {
+        if made == self.moves.len() && made < MOST_NOTED {
             self.moves.push(quiet)?;
         }
         Ok(())

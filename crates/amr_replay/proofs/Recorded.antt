@@ -1,10 +1,10 @@
 -- One record for each event before the cursor.
-use Rattle.std.specs.Prelude.{◌≡◌, ℕ, zero, suc, ◌+◌, ◌<◌, ◌≤◌, ◌*◌, List, [], ◌∷◌, ◌++◌, length, take, Some, option_map}
+use Rattle.std.specs.Prelude.{◌≡◌, ℕ, zero, suc, true, ◌+◌, ◌<◌, ◌≤◌, ◌*◌, List, [], ◌∷◌, ◌++◌, length, take, Some, option_map}
 use Rattle.std.specs.List.{slice_get}
 use Rattle.std.proofs.Common.{refl, sym, ap, subst, ◌∙◌, arith, length-take}
 use Rattle.amr_stated.specs.Config.{Config}
 use Rattle.amr_posts.specs.Reasons.{Reason}
-use Rattle.amr_actions.specs.Events.{Event}
+use Rattle.amr_actions.specs.Events.{Event, is_label}
 use Rattle.amr_state.specs.declared.displaced.Displaced.{Displaced}
 use Rattle.amr_state.specs.State.{State, start}
 use Rattle.amr_state.specs.Records.{put_back}
@@ -61,6 +61,7 @@ is_record : (before after : Steps) (e : Event) (o : code.Outcome) (r : List Disp
 is_record before after e o r told is kept = record {
   back = ap (put_back r) (sym is) ∙ kept.back;
   empty = λ reason refused. entryless o reason (told ∙ refused) kept.empty;
+  label = kept.label;
   short = subst (λ s. length r ≤ 4 * event_weight before.state e s) is kept.short;
 }
   where
@@ -80,6 +81,9 @@ record_has c es n rs k e m h before at is = record_at n (start c) es rs k e m h 
 
 pub refused_has_none : (s : State) (e : Event) (m : ℕ) (reason : Reason) → HasEntries s e m → outcome_of s e ≡ Refused reason → m ≡ 0
 refused_has_none s e m reason has refused = sym has.2 ∙ ap length (has.1.empty reason refused)
+
+pub label_has_none : (s : State) (e : Event) (m : ℕ) → HasEntries s e m → is_label e.act ≡ true → m ≡ 0
+label_has_none s e m has label = sym has.2 ∙ ap length (has.1.label label)
 
 -- one event on
 pub records_next : (c : Config) (es : List Event) (n : ℕ) (before after : Steps) (e : Event) (o : code.Outcome) (r : List Displaced) → AreRecords (start c) (take n es) before.records → before.state ≡ state_at c es n

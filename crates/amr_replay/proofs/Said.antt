@@ -1,21 +1,23 @@
 -- The outcome of an event and the state after it are what the relations say.
 use Rattle.std.specs.Prelude.{◌≡◌, ◌<◌, ◌≤◌, Bool, true, false, List, [], Option, Some, None, Result, Ok, Err, length, drop, nat_le, if◌then◌else◌}
-use Rattle.std.proofs.Common.{refl, sym, ap, ◌∙◌, subst}
+use Rattle.std.proofs.Common.{refl, sym, ap, ◌∙◌, subst, arith}
+use Rattle.std.proofs.lemmas.List.{drop_all}
 use Rattle.std.specs.declared.cmp.Ordering.{Ordering}
 use Rattle.std.specs.declared.cmp.Ordering.TheVariants.{Less, Equal, Greater}
 use Rattle.std.specs.Ordering.{is_gt, ordering_reverse}
 use Rattle.std.proofs.lemmas.Bool.{le-leb, lt-leb, leb-true}
 use Rattle.amr_time.specs.Time.{Moment}
 use Rattle.amr_posts.specs.Reasons.{Reason}
-use Rattle.amr_actions.specs.Events.{Event}
+use Rattle.amr_actions.specs.Events.{Event, is_label}
 use Rattle.amr_state.specs.declared.due.Due.{Due}
 use Rattle.amr_state.specs.State.{State}
 use Rattle.amr_state.specs.Dues.{due_cmp, due_cmp_total, due_cmp-IsAntisymmetric, due_by, least_due, dues, next_due}
-use Rattle.amr_engine.specs.Events.{Accepted, Refused, do_event, outcome_of, outcome_from, after_event, move_limit}
+use Rattle.amr_engine.specs.Events.{Accepted, Refused, do_event, outcome_of, outcome_from, after_event, at_moment, skipped_of, move_limit}
 use Rattle.amr_engine.specs.Said.{Does, Refuses, IsIn, IsLeast}
-use Rattle.amr_engine.proofs.MovesLaws.{least_due-empty, least_due-IsLeast, Advances-ends, do_within-Does, Does-do_within}
+use Rattle.amr_engine.proofs.MovesLaws.{least_due-empty, least_due-IsLeast, Advances-ends, do_within-label, do_within-Does, Does-do_within}
+use Rattle.amr_engine.proofs.Endings.{none_skipped}
 use Rattle.amr_engine.proofs.RefusalLaws.{do_within-Refuses, Refuses-do_within}
-use Rattle.amr_replay.specs.Laws.{IsDone, AcceptedIsDone, RefusedIsSaid, StateIsSaid, RefusedIsLeft, NextIsLeast, NoneIsLater}
+use Rattle.amr_replay.specs.Laws.{IsDone, AcceptedIsDone, RefusedIsSaid, StateIsSaid, RefusedIsLeft, LabelsChangeNothing, NextIsLeast, NoneIsLater}
 
 abbrev Done : Type 0
 Done = Result (List Due × State) Reason
@@ -69,6 +71,14 @@ accepted_is_done s event count notes skipped = (
           skipped_are = cc;
         }
     by (Err other) is e = absurd (cc)
+
+pub labels_change_nothing : LabelsChangeNothing
+labels_change_nothing s event label =
+    let is : do_event s event ≡ Ok ([], s) = do_within-label move_limit s event label in (
+      outcome_is s event (Ok ([], s)) is
+          ∙ (λ i. Accepted 0 (drop_all (length s.notes) s.notes (omega arith) i) (sym (none_skipped (at_moment event.at s) event.act label) i)),
+      after_done s event [] s is,
+    )
 
 -- two that don't go before each other are the same
 alike : (o p : Ordering) → o ≡ ordering_reverse p → is_gt o ≡ false → is_gt p ≡ false → o ≡ Equal

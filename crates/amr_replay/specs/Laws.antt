@@ -1,9 +1,9 @@
 -- The outcome of an event and the state after it, by relations: an accepted event does what `Does`
 -- says, and a refused one is refused for the reason that `Refuses` gives.
-use Rattle.std.specs.Prelude.{◌≡◌, ◌↔◌, ℕ, ◌<◌, ◌≤◌, List, Some, None, length, drop}
+use Rattle.std.specs.Prelude.{◌≡◌, ◌↔◌, ℕ, true, ◌<◌, ◌≤◌, List, [], Some, None, length, drop}
 use Rattle.amr_time.specs.Time.{Moment}
 use Rattle.amr_posts.specs.Reasons.{Reason}
-use Rattle.amr_actions.specs.Events.{Event}
+use Rattle.amr_actions.specs.Events.{Event, is_label}
 use Rattle.amr_state.specs.declared.due.Due.{Due}
 use Rattle.amr_state.specs.declared.notification.Notification.{Notification}
 use Rattle.amr_state.specs.State.{State}
@@ -37,6 +37,10 @@ StateIsSaid = (s : State) (event : Event) (moves : List Due) (after : State) →
 
 abbrev pub RefusedIsLeft : Type 0
 RefusedIsLeft = (s : State) (event : Event) (reason : Reason) → Refuses move_limit s event reason → after_event s event ≡ s
+
+-- a label is accepted, whatever its moment; it makes no moves and leaves the state as it is
+abbrev pub LabelsChangeNothing : Type 0
+LabelsChangeNothing = (s : State) (event : Event) → is_label event.act ≡ true → (outcome_of s event ≡ Accepted 0 [] []) × (after_event s event ≡ s)
 
 -- the next move is the least of all that is due, if that is due by the moment
 abbrev pub NextIsLeast : Type 0

@@ -1,10 +1,14 @@
 //! A cursor over a script. Whatever steps, backs, seeks and trials came before, the session shows
 //! the run of the events before the cursor, from the start. Each event passed has a record, so that
 //! going back takes no memory.
-ghost use Rattle.std.specs.Prelude.{◌≡◌, ◌+◌, ◌-◌, ◌<◌, ◌≤◌, [], Some, Err, IsOk, IsErr, IsOkAnd, IfOk, IfErr, OnOk, OnErr, length, map, slice_get};
+ghost use Rattle.std.specs.Prelude.{◌≡◌, ◌+◌, ◌-◌, ◌<◌, ◌≤◌, true, [], Some, Err, IsOk, IsErr, IsOkAnd, IfOk, IfErr, OnOk, OnErr, length, map, slice_get};
+ghost use Rattle.amr_actions.specs.Events.{is_label};
 ghost use Rattle.amr_engine.specs.Events.{Refused, outcome_of};
 ghost use Rattle.amr_engine.specs.Outcomes.{outcome_view};
 ghost use Rattle.amr_engine.specs.Explain.{verdicts};
+ghost use Rattle.amr_engine.specs.Placed.{ArePlaced, HasTimers, AreListed};
+ghost use Rattle.amr_state.specs.Seen.{groups_of};
+ghost use Rattle.amr_engine.specs.Told.{ToldIsNotified};
 ghost use Rattle.amr_replay.specs.Session.{at_cursor, state_at, outcomes_passed, events_until};
 ghost use Rattle.amr_replay.specs.Records.{HasEntries};
 
@@ -14,7 +18,7 @@ use amr_config::Config;
 use amr_engine::{Engine, Outcome, Verdict};
 use amr_events::Script;
 use amr_labels::Labels;
-use amr_state::Store;
+use amr_state::{Group, Store};
 use amr_time::Moment;
 use std::alloc::{AllocError, Global};
 use std::error::Error;
@@ -129,6 +133,14 @@ impl Session {
         self.script.len()
     }
 
+    /// Returns an event of the script; `index` counts from 0.
+    pub fn event(&self, index: usize) -> &Event
+        requires { index < length self.now.events }
+        ensures { slice_get self.now.events index ≡ Some result.now }
+    {
+        self.script.event(index)
+    }
+
     /// Returns the number of records, one for each event passed. It takes no memory.
     pub fn records(&self) -> usize
         ensures { result ≡ self.now.cursor }
@@ -137,7 +149,7 @@ impl Session {
     }
 
     /// Returns the number of entries in the record of an event passed; `index` counts from 0. The
-    /// record of a refused event has none. It takes no memory.
+    /// record of a refused event or of a label has none. It takes no memory.
     pub fn record_len(&self, index: usize) -> usize
         requires { index < self.now.cursor }
         ensures entries { (event : _) → slice_get self.now.events index ≡ Some event →
@@ -145,6 +157,8 @@ impl Session {
         ensures refused { (event : _) (reason : _) → slice_get self.now.events index ≡ Some event →
             outcome_of (state_at self.now.config self.now.events index) event ≡ Refused reason →
             result ≡ 0 }
+        ensures label { (event : _) → slice_get self.now.events index ≡ Some event →
+            is_label event.act ≡ true → result ≡ 0 }
     {
         self.engine.record_len(index)
     }
@@ -309,20 +323,34 @@ impl Session {
         self.engine.learn_sources(labels)
     }
 
-    /// Explains why an alert with these labels was or wasn't in a notification, at the cursor. It is
-    /// much faster on a large state if `learn_sources` was called before.
+    /// Explains why an alert with these labels was or wasn't in a notification, at the cursor. An
+    /// alert explained as `Told` is in a notification of the transcript. It is much faster on a large
+    /// state if `learn_sources` was called before.
     pub fn explain(&self, labels: &Labels) -> Result<Vec<Verdict>, AllocError>
-        ensures { IfOk result (λ found. found.items ≡ verdicts self.now.state labels.now) }
+        ensures explained { IfOk result (λ found. found.items
+            ≡ verdicts self.now.state labels.now) }
+        ensures timed { HasTimers self.now.state labels.now }
+        ensures notified { IfOk result (λ found.
+            ToldIsNotified self.now.state labels.now found.items) }
     {
         self.engine.explain(labels)
     }
 
-    /// Returns the state at the cursor. `Store` has a getter for each part, and `amr_state::views`
-    /// lists the groups.
+    /// Returns the state at the cursor. `Store` has a getter for each part.
     pub fn state(&self) -> &Store
         ensures { result.now.state ≡ self.now.state }
     {
         self.engine.state()
+    }
+
+    /// Returns the groups at the cursor, by route and labels. A stored alert that isn't resolved is
+    /// in its group on exactly the routes that take it, as it is stored.
+    pub fn groups(&self) -> Result<Vec<Group>, AllocError>
+        ensures listed { IfOk result (λ found. found.items ≡ groups_of self.now.state) }
+        ensures placed { ArePlaced self.now.state }
+        ensures members { AreListed self.now.state (groups_of self.now.state) }
+    {
+        self.engine.groups()
     }
 }
 

@@ -1,10 +1,12 @@
--- As many moves as one event may make, and one more.
-use Rattle.std.specs.Prelude.{◌≡◌, true, List, [], ◌∷◌, Some, Err, codes, ◌+◌, ◌*◌, is_ok}
+-- As many moves as one event may make, and one more. The limit is three here, so that the moves can
+-- be counted.
+use Rattle.std.specs.Prelude.{◌≡◌, List, [], ◌∷◌, Some, Ok, Err, codes, ◌+◌, ◌*◌, length}
 use Rattle.std.proofs.Common.{refl}
 use Rattle.amr_labels.specs.Labels.{Text}
 use Rattle.amr_time.specs.Time.{second, hour}
 use Rattle.amr_stated.specs.Config.{Config}
-use Rattle.amr_engine.specs.Events.{run_of, do_event, replaying}
+use Rattle.amr_state.specs.State.{State}
+use Rattle.amr_engine.specs.Events.{on_ok, run_of, do_within, replaying}
 use Rattle.amr_replay.proofs.worked.Setting.{ten, root, config_ops, alert, posts, ticks}
 
 abbrev x : List (Text × Text)
@@ -13,10 +15,13 @@ x = (codes "alertname", codes "X") ∷ []
 abbrev quick : Config
 quick = record config_ops { routes = record (root (codes "ops")) { group_interval = Some 1_000_000 } ∷ [] }
 
-pub a_thousand_moves_are_made : is_ok (do_event (run_of quick (posts ten (alert x (Some ten) (Some (ten + 10 * hour)) ∷ []) ∷ [])) (ticks (ten + 31 * second))) ≡ true
-unfolding replaying
-a_thousand_moves_are_made = refl
+abbrev posted : State
+posted = run_of quick (posts ten (alert x (Some ten) (Some (ten + 10 * hour)) ∷ []) ∷ [])
 
-pub one_move_too_many_is_refused : do_event (run_of quick (posts ten (alert x (Some ten) (Some (ten + 10 * hour)) ∷ []) ∷ [])) (ticks (ten + 40 * second)) ≡ Err 21
+pub three_moves_are_made : on_ok (λ done. length done.0) (do_within 3 posted (ticks (ten + 30 * second + 2_000_000))) ≡ Ok 3
+unfolding replaying
+three_moves_are_made = refl
+
+pub one_move_too_many_is_refused : do_within 3 posted (ticks (ten + 30 * second + 3_000_000)) ≡ Err 21
 unfolding replaying
 one_move_too_many_is_refused = refl

@@ -51,6 +51,6 @@ returns-then-is_some-clause-ok c =
 
 pub returns-clause-ok : goal.returns-clause-ok
 returns-clause-ok c =
-    let all : c.loop-made.made ≡ 10000 = omega arith in
+    let all : c.loop-made.made ≡ 1000000 = omega arith in
     ap (λ n. Some (n, c.loop-made.store.state)) (sym all)
     ∙ stops move_limit c.loop-made.made c.args.at c.loop-made.store.state c.args.store.now.state c.loop-made.invariant.ok (no_value c.in_ok-next_due-2.field-0 _ c.in_ok-next_due-2.ensures.due c.if-is_some.ensures)

@@ -1,4 +1,4 @@
-use Rattle.amr_replay.proofs.Said.{accepted_is_done, refused_is_said, state_is_said, refused_is_left}
+use Rattle.amr_replay.proofs.Said.{accepted_is_done, refused_is_said, state_is_said, refused_is_left, labels_change_nothing}
 use Rattle.amr_replay.proofs.laws.events_do_what_is_said.Goals as goal
 
 pub returns-clause-accepted : goal.returns-clause-accepted
@@ -12,3 +12,6 @@ returns-clause-state c = state_is_said
 
 pub returns-clause-left : goal.returns-clause-left
 returns-clause-left c = refused_is_left
+
+pub returns-clause-label : goal.returns-clause-label
+returns-clause-label c = labels_change_nothing

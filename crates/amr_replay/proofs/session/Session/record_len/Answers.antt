@@ -2,7 +2,7 @@ use Rattle.std.proofs.Common.{◌≡◌, ◌<◌, Some, slice_get, ap, subst, ar
 use Rattle.amr_actions.specs.Events.{Event}
 use Rattle.amr_replay.specs.Session.{View, state_at}
 use Rattle.amr_replay.specs.Records.{HasEntries}
-use Rattle.amr_replay.proofs.Recorded.{records_count, record_has, refused_has_none}
+use Rattle.amr_replay.proofs.Recorded.{records_count, record_has, refused_has_none, label_has_none}
 use Rattle.amr_replay.proofs.session.Session.record_len.Goals as goal
 
 pub record_len-requires : goal.record_len-requires
@@ -24,3 +24,6 @@ returns-clause-entries c =
 
 pub returns-clause-refused : goal.returns-clause-refused
 returns-clause-refused c = λ event reason at refused. refused_has_none _ event c.record_len.result reason (returns-clause-entries c event at) refused
+
+pub returns-clause-label : goal.returns-clause-label
+returns-clause-label c = λ event at label. label_has_none _ event c.record_len.result (returns-clause-entries c event at) label
