@@ -1,5 +1,6 @@
-//! Tests of what no command of the program shows: places of faulty matcher texts, texts of errors,
-//! the last moment, numbers of label sets, copies, and label sets of names that aren't in order.
+//! Tests of what no command of the program shows: places of faulty matcher texts, a refused
+//! pattern, texts of errors, the last moment, numbers of label sets, copies, and label sets of names
+//! that aren't in order.
 use amr_interner::Interner;
 use amr_labels::{Labels, Text};
 use amr_matchers::{MatcherError, Matchers, ParseError};
@@ -51,6 +52,16 @@ fn faulty_matcher_texts_are_refused_at_their_places(rt: HostRuntime) -> Result<(
     for (text, place) in &FAULTY {
         assert_eq!(rt; place_of_fault(rt.alloc(), text)?, Some(*place), "{text}");
     }
+    Ok(())
+}
+
+#[test]
+fn a_pattern_that_is_not_read_is_refused(rt: HostRuntime) -> Result<(), Fail> {
+    let refused = matches!(
+        Matchers::parse(rt.alloc(), "a=~\"(\""),
+        Err(ParseError::BadPattern)
+    );
+    assert!(rt; refused);
     Ok(())
 }
 

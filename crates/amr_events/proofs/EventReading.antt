@@ -14,11 +14,12 @@ use Rattle.amr_loading.specs.Members.{present}
 use Rattle.amr_events.specs.Shapes.{◌>>=◌, each_item, texts_in, moment_under}
 use Rattle.amr_events.specs.Posted.{is_missing, time_of, time_at, time_in, annotations_in, alert_of, alerts_of}
 use Rattle.amr_events.specs.PostedSilences.{id_at, named_id_in, new_id_in, if_named, matchers_of, silence_of}
-use Rattle.amr_events.specs.Lines.{act_count, post_of, silencing_of, expiry_of, reload_of, tick_if, tick_of, act_of_stated, act_in}
+use Rattle.amr_events.specs.Lines.{act_count, post_of, silencing_of, expiry_of, reload_of, tick_if, tick_of, labelling_of, act_of_stated, label_in, act_in}
 use Rattle.amr_events.specs.Refused.{ActIs}
 use Rattle.amr_events.specs.EventLaws.{IsStatable, AlertIsStatable, ActIsStatable, ReadEventsAreStatable}
 use Rattle.amr_posts.specs.declared.posted_alert.PostedAlert.{PostedAlert}
 use Rattle.amr_posts.specs.declared.posted_silence.PostedSilence.{PostedSilence}
+use Rattle.amr_events.specs.declared.version.Version.{Version}
 
 -- a step that gave something
 record Step {A B : Type 0} (o : Option A) (f : A → Option B) (y : B) : Type 0 where
@@ -162,31 +163,40 @@ expiry_of-bound d act e =
     let same : events.Act.Expire id.value ≡ act = cc in
     subst ActIsStatable same tt
 
-stated-bound : (line : Data) (alerts silence id config tick : Option Data) (act : Act) → act_of_stated line alerts silence id config tick ≡ Some act → ActIsStatable act
-stated-bound line (Some d) silence id config tick act e = post_of-bound d act e
-stated-bound line None (Some d) id config tick act e = silencing_of-bound line d act e
-stated-bound line None None (Some d) config tick act e = expiry_of-bound d act e
-stated-bound line None None None (Some d) tick act e = let same : reload_of d ≡ act = cc in subst ActIsStatable same tt
-stated-bound line None None None None (Some d) act e = tick_of-bound d act e
-stated-bound line None None None None None act e = none_is_some act e
+labelling_of-bound : (d : Data) (act : Act) → labelling_of d ≡ Some act → ActIsStatable act
+unfolding labelling_of
+labelling_of-bound d act e =
+    let text = step (as_str d) _ act e in
+    let same : events.Act.Label text.value ≡ act = cc in
+    subst ActIsStatable same tt
 
-act_in-bound : (d : Data) (act : Act) → act_in d ≡ Some act → ActIsStatable act
+stated-bound : (line : Data) (alerts silence id config tick label : Option Data) (act : Act) → act_of_stated line alerts silence id config tick label ≡ Some act → ActIsStatable act
+stated-bound line (Some d) silence id config tick label act e = post_of-bound d act e
+stated-bound line None (Some d) id config tick label act e = silencing_of-bound line d act e
+stated-bound line None None (Some d) config tick label act e = expiry_of-bound d act e
+stated-bound line None None None (Some d) tick label act e = let same : reload_of d ≡ act = cc in subst ActIsStatable same tt
+stated-bound line None None None None (Some d) label act e = tick_of-bound d act e
+stated-bound line None None None None None (Some d) act e = labelling_of-bound d act e
+stated-bound line None None None None None None act e = none_is_some act e
+
+act_in-bound : (version : Version) (d : Data) (act : Act) → act_in version d ≡ Some act → ActIsStatable act
 unfolding act_in
-act_in-bound d act e =
-    stated-bound d (get (codes "alerts") d) (get (codes "silence") d) (get (codes "expire") d) (get (codes "reload") d) (get (codes "tick") d) act
-    (passed (eqb (act_count d) 1) _ act e)
+act_in-bound version d act e =
+    stated-bound d (get (codes "alerts") d) (get (codes "silence") d) (get (codes "expire") d) (get (codes "reload") d) (get (codes "tick") d) (label_in version d) act
+    (passed (eqb (act_count version d) 1) _ act e)
 
-act-bound : (d : Data) (act : Act) → ActIs d act → ActIsStatable act
-act-bound d (events.Act.Post alerts) is = act_in-bound d (events.Act.Post alerts) is
-act-bound d (events.Act.Silence silence) (stated, is, so) =
-    let bounds = act_in-bound d (events.Act.Silence stated) is in
+act-bound : (version : Version) (d : Data) (act : Act) → ActIs version d act → ActIsStatable act
+act-bound version d (events.Act.Post alerts) is = act_in-bound version d (events.Act.Post alerts) is
+act-bound version d (events.Act.Silence silence) (stated, is, so) =
+    let bounds = act_in-bound version d (events.Act.Silence stated) is in
     (subst IsStatable (sym so.starts_at) bounds.0, subst IsStatable (sym so.ends_at) bounds.1)
-act-bound d (events.Act.Expire id) is = tt
-act-bound d (events.Act.Reload config) is = tt
-act-bound d events.Act.Tick is = tt
+act-bound version d (events.Act.Expire id) is = tt
+act-bound version d (events.Act.Reload config) is = tt
+act-bound version d events.Act.Tick is = tt
+act-bound version d (events.Act.Label text) is = tt
 
 pub read_events_are_statable : ReadEventsAreStatable
-read_events_are_statable line event is = record {
+read_events_are_statable version line event is = record {
   at = moment_under-bound (codes "at") is.stated event.at is.reads.at;
-  act = act-bound is.stated event.act is.reads.act;
+  act = act-bound version is.stated event.act is.reads.act;
 }

@@ -1,13 +1,17 @@
 -- One line after another, as the loop reads them.
-use Rattle.std.proofs.Common.{◌≡◌, ℕ, ◌+◌, ◌<◌, ◌≤◌, true, false, List, [], ◌∷◌, ◌++◌, length, take, drop, get_or, refl, sym, ap, ◌∙◌, subst, arith, append-nil, length-append}
-use Rattle.std.specs.Prelude.{not}
+use Rattle.std.proofs.Common.{◌≡◌, ℕ, ◌+◌, ◌<◌, ◌≤◌, ◌&&◌, ◌==◌, Bool, true, false, List, [], ◌∷◌, ◌++◌, length, take, drop, get_or, refl, sym, ap, ◌∙◌, subst, arith, rules, tests, append-nil, length-append}
+use Rattle.std.specs.Prelude.{All, not, if◌then◌else◌}
 use Rattle.std.specs.List.{AllZip}
 use Rattle.std.proofs.lemmas.List.{at_drop_more, take_more, take_all, take-append-drop, length-take-le}
 use Rattle.std.proofs.lemmas.List.Elements.{All-nil, All-push, filter-append}
 use Rattle.amr_events.specs.Answers.{IsRefused, IsStop}
 use Rattle.amr_actions.specs.Events.{Event}
 use Rattle.amr_events.specs.Refused.{LineIs}
-use Rattle.amr_events.specs.Scripts.{is_blank, lines_of, longest_line, most_events, event_lines, ReadAs, HasFault, HasFirstFault, ScriptIs, Adds, NoEvent, OneEvent}
+use Rattle.amr_events.specs.Versions.{is_header}
+use Rattle.amr_events.specs.Scripts.{is_blank, lines_of, longest_line, most_events, full_lines, version_of, after_header, Script, ReadAs, is_header_after, HasFault, HasFirstFault, ScriptIs}
+use Rattle.amr_events.specs.Drafts.{nothing, is_new, begins_with, Adds, NoEvent, Header, OneEvent}
+use Rattle.amr_events.specs.declared.version.Version.{Version}
+use Rattle.amr_events.specs.declared.version.Version.TheVariants.{One, Two}
 use Rattle.amr_events.specs.declared.error.Fault.{Fault}
 use Rattle.amr_events.specs.declared.error.ScriptError.{ScriptError}
 use Rattle.amr_events.specs.declared.error.ScriptError.TheVariants.{Memory, Refused}
@@ -24,35 +28,112 @@ pairs_push R [] (y ∷ ys) a b all here = absurd all
 pairs_push R (x ∷ xs) [] a b all here = absurd all
 pairs_push R (x ∷ xs) (y ∷ ys) a b all here = (all.0, pairs_push R xs ys a b all.1 here)
 
-pub event_lines-blank : (line : Line) (lines : List Line) → is_blank line ≡ true → event_lines (line ∷ lines) ≡ event_lines lines
-event_lines-blank line lines b = rw b refl
+pub full_lines-blank : (line : Line) (lines : List Line) → is_blank line ≡ true → full_lines (line ∷ lines) ≡ full_lines lines
+full_lines-blank line lines b = rw b refl
 
-pub event_lines-event : (line : Line) (lines : List Line) → is_blank line ≡ false → event_lines (line ∷ lines) ≡ line ∷ event_lines lines
-event_lines-event line lines b = rw b refl
+pub full_lines-full : (line : Line) (lines : List Line) → is_blank line ≡ false → full_lines (line ∷ lines) ≡ line ∷ full_lines lines
+full_lines-full line lines b = rw b refl
 
-push_blank : (lines : List Line) (line : Line) → is_blank line ≡ true → event_lines (lines ++ line ∷ []) ≡ event_lines lines
+push_blank : (lines : List Line) (line : Line) → is_blank line ≡ true → full_lines (lines ++ line ∷ []) ≡ full_lines lines
 push_blank lines line blank =
-    filter-append (λ l. not (is_blank l)) lines (line ∷ []) ∙ ap (λ ls. event_lines lines ++ ls) (event_lines-blank line [] blank) ∙ append-nil (event_lines lines)
+    filter-append (λ l. not (is_blank l)) lines (line ∷ []) ∙ ap (λ ls. full_lines lines ++ ls) (full_lines-blank line [] blank) ∙ append-nil (full_lines lines)
 
-push_event : (lines : List Line) (line : Line) → is_blank line ≡ false → event_lines (lines ++ line ∷ []) ≡ event_lines lines ++ line ∷ []
-push_event lines line blank =
-    filter-append (λ l. not (is_blank l)) lines (line ∷ []) ∙ ap (λ ls. event_lines lines ++ ls) (event_lines-event line [] blank)
+push_full : (lines : List Line) (line : Line) → is_blank line ≡ false → full_lines (lines ++ line ∷ []) ≡ full_lines lines ++ line ∷ []
+push_full lines line blank =
+    filter-append (λ l. not (is_blank l)) lines (line ∷ []) ∙ ap (λ ls. full_lines lines ++ ls) (full_lines-full line [] blank)
 
-pub nothing_read : ReadAs [] []
-nothing_read = record { short = All-nil IsShort; read = tt; few = omega arith }
+-- ---- the lines that aren't blank
 
-reads_one_more : (lines : List Line) (line : Line) (old new : List Event) → ReadAs lines old → Adds line old new → ReadAs (lines ++ line ∷ []) new
+-- there is an element
+pub some_there : {A : Type 0} (x : A) (xs : List A) → (length (x ∷ xs) == 0) ≡ false
+some_there x xs = search (rules, tests)
+
+-- what these lines are read as, apart from their lengths
+pub record AreOf (full : List Line) (script : Script) : Type 0 where
+  pub version : script.version ≡ version_of full
+  pub read : AllZip (LineIs script.version) (after_header full) script.events
+
+pub are_of : (lines : List Line) (script : Script) → ReadAs lines script → AreOf (full_lines lines) script
+are_of lines script reads = record { version = reads.version; read = reads.read }
+
+-- the first is no header, so it holds an event
+not_new : (header : Bool) (version : Version) (line : Line) (full : List Line) (events : List Event) → version ≡ (if header then Two else One)
+    → AllZip (LineIs version) (if header then full else line ∷ full) events → is_new (record { version = version; events = events }) ≡ false
+not_new true Two line full events is read = refl
+not_new true One line full events is read = absurd (let no : ⊥ = cc in no)
+not_new false version line full [] is read = absurd read
+not_new false Two line full (event ∷ events) is read = refl
+not_new false One line full (event ∷ events) is read = some_there event events
+
+-- the script is new only if there is no line
+pub new_of : (full : List Line) (script : Script) → AreOf full script → is_new script ≡ (length full == 0)
+new_of [] script of = new_of_none script.version script.events of.version of.read
+  where
+    new_of_none : (version : Version) (events : List Event) → version ≡ One → AllZip (LineIs version) [] events → is_new (record { version = version; events = events }) ≡ true
+    new_of_none One [] is read = refl
+    new_of_none Two [] is read = absurd (let no : ⊥ = cc in no)
+    new_of_none version (event ∷ events) is read = absurd read
+new_of (line ∷ full) script of = not_new (is_header line) script.version line full script.events of.version of.read ∙ sym (some_there line full)
+
+-- the header
+header_read : (full : List Line) (line : Line) (old : Script) → AreOf full old → begins_with old line ≡ true → AreOf (full ++ line ∷ []) (record { version = Two; events = old.events })
+header_read [] line old of begins = header_first (is_header line) old.version old.events of.read begins refl
+  where
+    header_first : (header : Bool) (version : Version) (events : List Event) → AllZip (LineIs version) [] events → is_new (record { version = version; events = events }) && header ≡ true → is_header line ≡ header
+        → AreOf (line ∷ []) (record { version = Two; events = events })
+    header_first true version [] read begins is = record { version = rw is refl; read = rw is tt }
+    header_first false One [] read begins is = absurd (let no : ⊥ = cc in no)
+    header_first false Two [] read begins is = absurd (let no : ⊥ = cc in no)
+    header_first header version (event ∷ events) read begins is = absurd read
+header_read (first ∷ full) line old of begins =
+    let new : is_new old ≡ false = new_of (first ∷ full) old of ∙ some_there first full in
+    let no : false ≡ true = ap (λ b. b && is_header line) (sym new) ∙ begins in
+    absurd (let none : ⊥ = cc in none)
+
+-- one more event after others
+event_after : (header : Bool) (version : Version) (first line : Line) (full : List Line) (events : List Event) (event : Event) → LineIs version line event
+    → AllZip (LineIs version) (if header then full else first ∷ full) events → AllZip (LineIs version) (if header then full ++ line ∷ [] else first ∷ (full ++ line ∷ [])) (events ++ event ∷ [])
+event_after true version first line full events event is read = pairs_push (LineIs version) full events line event read is
+event_after false version first line full events event is read = pairs_push (LineIs version) (first ∷ full) events line event read is
+
+event_read : (full : List Line) (line : Line) (old : Script) (event : Event) → AreOf full old → begins_with old line ≡ false → LineIs old.version line event
+    → AreOf (full ++ line ∷ []) (record { version = old.version; events = old.events ++ event ∷ [] })
+event_read [] line old event of begins is = event_first (is_header line) old.version old.events of.version of.read begins is refl
+  where
+    event_first : (header : Bool) (version : Version) (events : List Event) → version ≡ One → AllZip (LineIs version) [] events → is_new (record { version = version; events = events }) && header ≡ false
+        → LineIs version line event → is_header line ≡ header → AreOf (line ∷ []) (record { version = version; events = events ++ event ∷ [] })
+    event_first header version (event ∷ events) one read begins is same = absurd read
+    event_first header Two [] one read begins is same = absurd (let no : ⊥ = cc in no)
+    event_first true One [] one read begins is same = absurd (let no : ⊥ = cc in no)
+    event_first false One [] one read begins is same = record { version = rw same refl; read = rw same (is, tt) }
+event_read (first ∷ full) line old event of begins is =
+    record { version = of.version; read = event_after (is_header first) old.version first line full old.events event is of.read }
+
+-- ---- all the lines
+
+pub nothing_read : ReadAs [] nothing
+nothing_read = record { short = All-nil IsShort; version = refl; read = tt; few = omega arith }
+
+-- one more line
+reads_with : (lines : List Line) (line : Line) (new : Script) (full : List Line) → full_lines (lines ++ line ∷ []) ≡ full → All IsShort (lines ++ line ∷ []) → AreOf full new → length new.events ≤ most_events → ReadAs (lines ++ line ∷ []) new
+reads_with lines line new full is short of few =
+    let all : AreOf (full_lines (lines ++ line ∷ [])) new = subst (λ ls. AreOf ls new) (sym is) of in
+    record { short = short; version = all.version; read = all.read; few = few }
+
+reads_one_more : (lines : List Line) (line : Line) (old new : Script) → ReadAs lines old → Adds line old new → ReadAs (lines ++ line ∷ []) new
 reads_one_more lines line old new reads (NoEvent short blank same) =
-    let read : AllZip LineIs (event_lines (lines ++ line ∷ [])) old = subst (λ ls. AllZip LineIs ls old) (sym (push_blank lines line blank)) reads.read in
-    subst (λ events. ReadAs (lines ++ line ∷ []) events) (sym same) (record { short = All-push IsShort lines line reads.short short; read = read; few = reads.few })
-reads_one_more lines line old new reads (OneEvent event short blank room is same) =
-    let pushed : AllZip LineIs (event_lines lines ++ line ∷ []) (old ++ event ∷ []) = pairs_push LineIs (event_lines lines) old line event reads.read is in
-    let read : AllZip LineIs (event_lines (lines ++ line ∷ [])) (old ++ event ∷ []) = subst (λ ls. AllZip LineIs ls (old ++ event ∷ [])) (sym (push_event lines line blank)) pushed in
-    let few : length (old ++ event ∷ []) ≤ most_events = omega (arith, length-append old (event ∷ [])) in
-    subst (λ events. ReadAs (lines ++ line ∷ []) events) (sym same) (record { short = All-push IsShort lines line reads.short short; read = read; few = few })
+    subst (ReadAs (lines ++ line ∷ [])) (sym same)
+    (reads_with lines line old (full_lines lines) (push_blank lines line blank) (All-push IsShort lines line reads.short short) (are_of lines old reads) reads.few)
+reads_one_more lines line old new reads (Header short blank begins same) =
+    subst (ReadAs (lines ++ line ∷ [])) (sym same)
+    (reads_with lines line (record { version = Two; events = old.events }) _ (push_full lines line blank) (All-push IsShort lines line reads.short short) (header_read (full_lines lines) line old (are_of lines old reads) begins) reads.few)
+reads_one_more lines line old new reads (OneEvent event short blank begins room is same) =
+    let few : length (old.events ++ event ∷ []) ≤ most_events = omega (arith, length-append old.events (event ∷ [])) in
+    subst (ReadAs (lines ++ line ∷ [])) (sym same)
+    (reads_with lines line (record { version = old.version; events = old.events ++ event ∷ [] }) _ (push_full lines line blank) (All-push IsShort lines line reads.short short) (event_read (full_lines lines) line old event (are_of lines old reads) begins is) few)
 
 module _ (lines : List Line) (i : ℕ) (line : Line) (within : i < length lines) (is : line ≡ get_or lines i line) where
-  pub line_more : (old new : List Event) → ReadAs (take i lines) old → Adds line old new → ReadAs (take (i + 1) lines) new
+  pub line_more : (old new : Script) → ReadAs (take i lines) old → Adds line old new → ReadAs (take (i + 1) lines) new
   line_more old new reads more =
       let taken : take (i + 1) lines ≡ take i lines ++ line ∷ [] = take_more lines i line within ∙ ap (λ (l : Line). take i lines ++ l ∷ []) (sym is) in
       subst (λ ls. ReadAs ls new) (sym taken) (reads_one_more (take i lines) line old new reads more)
@@ -62,22 +143,23 @@ module _ (lines : List Line) (i : ℕ) (line : Line) (within : i < length lines)
       sym (take-append-drop i lines) ∙ ap (λ (ls : List Line). take i lines ++ ls) (at_drop_more (λ (ls : List Line). ls) lines i line within)
       ∙ ap (λ (l : Line). take i lines ++ l ∷ drop (i + 1) lines) (sym is)
 
-  first_fault : (n : ℕ) (events : List Event) (fault : Fault) → n ≡ i + 1 → ReadAs (take i lines) events → HasFault n line events fault → HasFirstFault lines fault
-  first_fault n events fault number reads has =
+  first_fault : (n : ℕ) (script : Script) (fault : Fault) → n ≡ i + 1 → ReadAs (take i lines) script → HasFault n (begins_with script line) line script fault → HasFirstFault lines fault
+  first_fault n script fault number reads has =
       let place : n ≡ length (take i lines) + 1 = omega (arith, number, length-take-le i lines (omega arith)) in
+      let header : begins_with script line ≡ is_header_after (take i lines) line = ap (λ b. b && is_header line) (new_of (full_lines (take i lines)) script (are_of (take i lines) script reads)) in
       record {
         before = take i lines;
         line = line;
         after = drop (i + 1) lines;
-        events = events;
+        script = script;
         parts = parts;
         read = reads;
-        here = subst (λ m. HasFault m line events fault) place has;
+        here = subst (λ b. HasFault (length (take i lines) + 1) b line script fault) header (subst (λ m. HasFault m (begins_with script line) line script fault) place has);
       }
 
-  pub line_fails : (bytes : List ℕ) (n : ℕ) (events : List Event) (e : ScriptError) → lines ≡ lines_of bytes → n ≡ i + 1 → ReadAs (take i lines) events → IsStop (HasFault n line events) e → IsRefused (ScriptIs bytes) e
-  line_fails bytes n events Memory same number reads has = tt
-  line_fails bytes n events (Refused fault) same number reads has = subst (λ ls. HasFirstFault ls fault) same (first_fault n events fault number reads has)
+  pub line_fails : (bytes : List ℕ) (n : ℕ) (script : Script) (e : ScriptError) → lines ≡ lines_of bytes → n ≡ i + 1 → ReadAs (take i lines) script → IsStop (HasFault n (begins_with script line) line script) e → IsRefused (ScriptIs bytes) e
+  line_fails bytes n script Memory same number reads has = tt
+  line_fails bytes n script (Refused fault) same number reads has = subst (λ ls. HasFirstFault ls fault) same (first_fault n script fault number reads has)
 
-pub line_all : (lines : List Line) (i : ℕ) (events : List Event) → length lines ≤ i → ReadAs (take i lines) events → ReadAs lines events
-line_all lines i events le reads = subst (λ ls. ReadAs ls events) (take_all i lines le) reads
+pub line_all : (lines : List Line) (i : ℕ) (script : Script) → length lines ≤ i → ReadAs (take i lines) script → ReadAs lines script
+line_all lines i script le reads = subst (λ ls. ReadAs ls script) (take_all i lines le) reads

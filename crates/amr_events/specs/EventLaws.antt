@@ -5,6 +5,7 @@ use Rattle.amr_actions.specs.Events.{Act, Event}
 use Rattle.amr_actions.specs.Events as events
 use Rattle.amr_events.specs.Refused.{LineIs}
 use Rattle.amr_posts.specs.declared.posted_alert.PostedAlert.{PostedAlert}
+use Rattle.amr_events.specs.declared.version.Version.{Version}
 
 -- the moment is one that a text can spell
 abbrev pub IsStatable : Moment → Type 0
@@ -20,6 +21,7 @@ ActIsStatable (events.Act.Silence silence) = IsStatable silence.starts_at × IsS
 ActIsStatable (events.Act.Expire id) = Unit {0}
 ActIsStatable (events.Act.Reload config) = Unit {0}
 ActIsStatable events.Act.Tick = Unit {0}
+ActIsStatable (events.Act.Label text) = Unit {0}
 
 -- all the moments of the event are
 pub record EventIsStatable (event : Event) : Type 0 where
@@ -27,4 +29,4 @@ pub record EventIsStatable (event : Event) : Type 0 where
   pub act : ActIsStatable event.act
 
 abbrev pub ReadEventsAreStatable : Type 0
-ReadEventsAreStatable = (line : List ℕ) (event : Event) → LineIs line event → EventIsStatable event
+ReadEventsAreStatable = (version : Version) (line : List ℕ) (event : Event) → LineIs version line event → EventIsStatable event

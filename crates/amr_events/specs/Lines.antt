@@ -3,7 +3,7 @@ use Rattle.std.specs.Prelude.{ℕ, ◌+◌, ◌==◌, List, Bool, true, false, c
 use Rattle.std.specs.Str.{is_utf8}
 use Rattle.serde_json.specs.Data.{Data}
 use Rattle.serde_json.specs.Read.{read}
-use Rattle.serde_json.specs.Find.{get, as_bool}
+use Rattle.serde_json.specs.Find.{get, as_bool, as_str}
 use Rattle.amr_labels.specs.Labels.{Text}
 use Rattle.amr_stated.specs.Config.{Config}
 use Rattle.amr_loading.specs.Refusals.{number_of}
@@ -15,18 +15,30 @@ use Rattle.amr_actions.specs.Events as events
 use Rattle.amr_events.specs.Shapes.{◌>>=◌, moment_under}
 use Rattle.amr_events.specs.Posted.{alerts_of}
 use Rattle.amr_events.specs.PostedSilences.{id_at, silence_of}
+use Rattle.amr_events.specs.declared.version.Version.{Version}
+use Rattle.amr_events.specs.declared.version.Version.TheVariants.{One, Two}
 
 -- the value that a text of JSON spells
 unfoldable pub json_of : List ℕ → Option Data
 json_of line = if is_utf8 line then read line else None
 
--- 1 if the object has the key, whatever its value
+-- 1 if there is a member, whatever its value
+abbrev pub one_if : Option Data → ℕ
+one_if stated = if is_some stated then 1 else 0
+
 abbrev pub count_of : Text → Data → ℕ
-count_of key d = if is_some (get key d) then 1 else 0
+count_of key d = one_if (get key d)
+
+-- the member under `label`, which is an action only in version 2
+abbrev pub label_in : Version → Data → Option Data
+label_in One d = None
+label_in Two d = get (codes "label") d
 
 -- how many actions the object has
-unfoldable pub act_count : Data → ℕ
-act_count d = count_of (codes "alerts") d + count_of (codes "silence") d + count_of (codes "expire") d + count_of (codes "reload") d + count_of (codes "tick") d
+unfoldable pub act_count : Version → Data → ℕ
+act_count version d =
+    count_of (codes "alerts") d + count_of (codes "silence") d + count_of (codes "expire") d + count_of (codes "reload") d
+    + count_of (codes "tick") d + one_if (label_in version d)
 
 -- a post of alerts
 unfoldable pub post_of : Data → Option Act
@@ -63,28 +75,36 @@ tick_if false = None
 unfoldable pub tick_of : Data → Option Act
 tick_of d = as_bool d >>= tick_if
 
--- the action of a line with these members under `alerts`, `silence`, `expire`, `reload` and `tick`
-abbrev pub act_of_stated : Data → Option Data → Option Data → Option Data → Option Data → Option Data → Option Act
-act_of_stated line (Some alerts) silence id config tick = post_of alerts
-act_of_stated line None (Some silence) id config tick = silencing_of line silence
-act_of_stated line None None (Some id) config tick = expiry_of id
-act_of_stated line None None None (Some config) tick = Some (reload_of config)
-act_of_stated line None None None None (Some tick) = tick_of tick
-act_of_stated line None None None None None = None
+-- a label
+unfoldable pub labelling_of : Data → Option Act
+labelling_of d = do
+  text ← as_str d
+  Some (events.Act.Label text)
 
--- the action of the object
-unfoldable pub act_in : Data → Option Act
-act_in d =
-    if act_count d == 1
-    then act_of_stated d (get (codes "alerts") d) (get (codes "silence") d) (get (codes "expire") d) (get (codes "reload") d) (get (codes "tick") d)
+-- the action of a line with these members under `alerts`, `silence`, `expire`, `reload`, `tick` and
+-- `label`
+abbrev pub act_of_stated : Data → Option Data → Option Data → Option Data → Option Data → Option Data → Option Data → Option Act
+act_of_stated line (Some alerts) silence id config tick label = post_of alerts
+act_of_stated line None (Some silence) id config tick label = silencing_of line silence
+act_of_stated line None None (Some id) config tick label = expiry_of id
+act_of_stated line None None None (Some config) tick label = Some (reload_of config)
+act_of_stated line None None None None (Some tick) label = tick_of tick
+act_of_stated line None None None None None (Some label) = labelling_of label
+act_of_stated line None None None None None None = None
+
+-- the action of the object, on a line of this version
+unfoldable pub act_in : Version → Data → Option Act
+act_in version d =
+    if act_count version d == 1
+    then act_of_stated d (get (codes "alerts") d) (get (codes "silence") d) (get (codes "expire") d) (get (codes "reload") d) (get (codes "tick") d) (label_in version d)
     else None
 
-unfoldable pub event_in : Data → Option Event
-event_in d = do
+unfoldable pub event_in : Version → Data → Option Event
+event_in version d = do
   at ← moment_under (codes "at") d
-  act ← act_in d
+  act ← act_in version d
   Some (record { at = at; act = act })
 
--- the event of a line, if all patterns are good
-unfoldable pub event_of_line : List ℕ → Option Event
-event_of_line line = json_of line >>= event_in
+-- the event of a line of this version, if all patterns are good
+unfoldable pub event_of_line : Version → List ℕ → Option Event
+event_of_line version line = json_of line >>= event_in version

@@ -13,6 +13,7 @@ use Rattle.amr_actions.specs.Events as events
 use Rattle.amr_events.specs.Shapes.{moment_under}
 use Rattle.amr_events.specs.Lines.{json_of, numbered, reload_of, act_in}
 use Rattle.amr_posts.specs.declared.posted_silence.PostedSilence.{PostedSilence}
+use Rattle.amr_events.specs.declared.version.Version.{Version}
 
 -- there are matchers, and `regex` may refuse one of them
 pub record MayLack (stated : Option (List Matcher)) : Type 0 where
@@ -37,23 +38,25 @@ abbrev pub ReloadIs : Data → Result Config Reason → Type 0
 ReloadIs d reload = (read : Result Config Refusal) × ConfigIs d read × (reload ≡ numbered read)
 
 -- the action that is read is that of the object, except for what `regex` refuses
-abbrev pub ActIs : Data → Act → Type 0
-ActIs d (events.Act.Post alerts) = act_in d ≡ Some (events.Act.Post alerts)
-ActIs d (events.Act.Silence silence) = (stated : PostedSilence) × (act_in d ≡ Some (events.Act.Silence stated)) × SilenceIs stated silence
-ActIs d (events.Act.Expire id) = act_in d ≡ Some (events.Act.Expire id)
-ActIs d (events.Act.Reload reload) =
-    (config : Data) × (get (codes "reload") d ≡ Some config) × (act_in d ≡ Some (reload_of config)) × ReloadIs config reload
-ActIs d events.Act.Tick = act_in d ≡ Some events.Act.Tick
+abbrev pub ActIs : Version → Data → Act → Type 0
+ActIs version d (events.Act.Post alerts) = act_in version d ≡ Some (events.Act.Post alerts)
+ActIs version d (events.Act.Silence silence) =
+    (stated : PostedSilence) × (act_in version d ≡ Some (events.Act.Silence stated)) × SilenceIs stated silence
+ActIs version d (events.Act.Expire id) = act_in version d ≡ Some (events.Act.Expire id)
+ActIs version d (events.Act.Reload reload) =
+    (config : Data) × (get (codes "reload") d ≡ Some config) × (act_in version d ≡ Some (reload_of config)) × ReloadIs config reload
+ActIs version d events.Act.Tick = act_in version d ≡ Some events.Act.Tick
+ActIs version d (events.Act.Label text) = act_in version d ≡ Some (events.Act.Label text)
 
 -- the event that is read of an object
-pub record EventIs (d : Data) (event : Event) : Type 0 where
+pub record EventIs (version : Version) (d : Data) (event : Event) : Type 0 where
   pub at : moment_under (codes "at") d ≡ Some event.at
-  pub act : ActIs d event.act
+  pub act : ActIs version d event.act
 
--- The event that is read of a line. It is `event_of_line` of the line, except that a silence has no
--- matchers if `regex` refuses one of its patterns, and that a reload is refused if `regex` refuses
--- a pattern of its configuration.
-pub record LineIs (line : List ℕ) (event : Event) : Type 0 where
+-- The event that is read of a line of this version. It is `event_of_line` of the line, except that
+-- a silence has no matchers if `regex` refuses one of its patterns, and that a reload is refused if
+-- `regex` refuses a pattern of its configuration.
+pub record LineIs (version : Version) (line : List ℕ) (event : Event) : Type 0 where
   pub stated : Data
   pub json : json_of line ≡ Some stated
-  pub reads : EventIs stated event
+  pub reads : EventIs version stated event

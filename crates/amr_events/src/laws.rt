@@ -2,8 +2,8 @@
 ghost use Rattle.amr_events.specs.EventLaws.{ReadEventsAreStatable};
 ghost use Rattle.amr_events.specs.ScriptLaws.{AFaultIsTheOnlyAnswer};
 
-/// Says that a script with a first fault has no other first fault and can't be read as events. So a
-/// script is refused exactly if it can't be read.
+/// Says that a script with a first fault has no other first fault and can't be read. So a script is
+/// refused exactly if it can't be read.
 pub fn a_fault_is_the_only_answer()
     ensures { AFaultIsTheOnlyAnswer }
 {}

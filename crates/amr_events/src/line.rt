@@ -7,7 +7,7 @@ ghost use Rattle.amr_loading.specs.Refusals.{number_of};
 ghost use Rattle.amr_events.specs.Answers.{Reads, ReadsSuch};
 ghost use Rattle.amr_actions.specs.Acts.{by_number, act_of};
 ghost use Rattle.amr_actions.specs.Events as events;
-ghost use Rattle.amr_events.specs.Lines.{json_of, count_of as count_in, act_count as count_of_acts, tick_of, act_in, event_in, event_of_line};
+ghost use Rattle.amr_events.specs.Lines.{json_of, count_of as count_in, label_in, act_count as count_of_acts, tick_of, labelling_of, act_in, event_in, event_of_line};
 ghost use Rattle.amr_events.specs.Refused.{ReloadIs, ActIs, EventIs, LineIs};
 
 use crate::error::LineError;
@@ -16,8 +16,10 @@ use crate::posted::alerts;
 use crate::posted_silence::{id, silence};
 use crate::seen_texts::SeenTexts;
 use crate::shapes::moment;
+use crate::version::Version;
 use amr_actions::{Act, Event};
 use amr_config::Config;
+use amr_labels::Text;
 use amr_loading::{ConfigError, Refusal, load_config_sharing};
 use amr_matchers::Patterns;
 use amr_posts::Reason;
@@ -26,12 +28,17 @@ use serde_json::Value;
 use std::alloc::{AllocError, Global};
 
 /// Reads the event of a line that is in no script.
-pub(crate) fn read_single_line(alloc: Global, line: &[u8]) -> Result<Event, LineError>
-    ensures { ReadsSuch (λ event. LineIs line.now event) result (event_of_line line.now) }
+pub(crate) fn read_single_line(
+    alloc: Global,
+    version: Version,
+    line: &[u8],
+) -> Result<Event, LineError>
+    ensures { ReadsSuch (λ event. LineIs version line.now event) result
+        (event_of_line version line.now) }
 {
     let mut scratch = Scratch::new(alloc);
     let mut seen = SeenTexts::new(alloc);
-    read_line(alloc, &mut scratch, &mut seen, line)
+    read_line(alloc, version, &mut scratch, &mut seen, line)
 }
 
 /// Reads the event of a line. It shares the texts of its alerts with those that were seen. A line
@@ -39,36 +46,49 @@ pub(crate) fn read_single_line(alloc: Global, line: &[u8]) -> Result<Event, Line
 #[tactic(auto, unfolding(crate::specs::Lines::event_of_line))]
 pub(crate) fn read_line(
     alloc: Global,
+    version: Version,
     scratch: &mut Scratch,
     seen: &mut SeenTexts,
     line: &[u8],
 ) -> Result<Event, LineError>
-    ensures { ReadsSuch (λ event. LineIs line.now event) result (event_of_line line.now) }
+    ensures { ReadsSuch (λ event. LineIs version line.now event) result
+        (event_of_line version line.now) }
 {
     if let Some(event) = read_post(alloc, scratch, seen, line)? {
         return Ok(event);
     }
     let stated = json(alloc, line)?;
-    event(alloc, seen, &stated)
+    event(alloc, version, seen, &stated)
 }
 
 /// Reads an event from its JSON value.
 #[tactic(auto, unfolding(crate::specs::Lines::event_in))]
-fn event(alloc: Global, seen: &mut SeenTexts, line: &Value) -> Result<Event, LineError>
-    ensures { ReadsSuch (λ event. EventIs (view line.now) event) result (event_in (view line.now)) }
+fn event(
+    alloc: Global,
+    version: Version,
+    seen: &mut SeenTexts,
+    line: &Value,
+) -> Result<Event, LineError>
+    ensures { ReadsSuch (λ event. EventIs version (view line.now) event) result
+        (event_in version (view line.now)) }
 {
     let at = moment(line, "at")?;
-    let act = act(alloc, seen, line)?;
+    let act = act(alloc, version, seen, line)?;
     Ok(Event::new(at, act))
 }
 
 /// Reads the action of the object. It fails unless there is exactly one.
 #[tactic(auto, unfolding(crate::specs::Lines::act_in, crate::specs::Lines::post_of, crate::specs::Lines::silencing_of, crate::specs::Lines::expiry_of))]
-fn act(alloc: Global, seen: &mut SeenTexts, line: &Value) -> Result<Act, LineError>
-    ensures { ReadsSuch (λ act. ActIs (view line.now) (act_of act)) result
-        (act_in (view line.now)) }
+fn act(
+    alloc: Global,
+    version: Version,
+    seen: &mut SeenTexts,
+    line: &Value,
+) -> Result<Act, LineError>
+    ensures { ReadsSuch (λ act. ActIs version (view line.now) (act_of act)) result
+        (act_in version (view line.now)) }
 {
-    if act_count(line) != 1 {
+    if act_count(version, line) != 1 {
         return Err(LineError::Faulty);
     }
     if let Some(stated) = line.get("alerts") {
@@ -83,9 +103,31 @@ fn act(alloc: Global, seen: &mut SeenTexts, line: &Value) -> Result<Act, LineErr
     if let Some(stated) = line.get("reload") {
         return Ok(Act::Reload(reload(alloc, seen.patterns_for_line(), stated)?));
     }
-    let passes = line.get("tick").ok_or(LineError::Faulty)?;
-    tick(passes)?;
-    Ok(Act::Tick)
+    if let Some(stated) = line.get("tick") {
+        tick(stated)?;
+        return Ok(Act::Tick);
+    }
+    let stated = label_member(version, line).ok_or(LineError::Faulty)?;
+    Ok(Act::Label(label(alloc, stated)?))
+}
+
+/// Returns the member under `label`. In version 1 `label` is no action, so there is none.
+fn label_member(version: Version, line: &Value) -> Option<&Value>
+    ensures { option_map (λ v. view v.now) result ≡ label_in version (view line.now) }
+{
+    match version {
+        Version::One => None,
+        Version::Two => line.get("label"),
+    }
+}
+
+/// Reads a label, which is a text.
+#[tactic(auto, unfolding(crate::specs::Lines::labelling_of))]
+fn label(alloc: Global, value: &Value) -> Result<Text, LineError>
+    ensures { Reads (λ text. events.Act.Label text) result (labelling_of (view value.now)) }
+{
+    let text = value.as_str().ok_or(LineError::Faulty)?;
+    Ok(Text::from_str(alloc, text)?)
 }
 
 /// Reads the configuration of a reload, or returns why it can't be loaded.
@@ -129,16 +171,17 @@ fn tick(value: &Value) -> Result<(), LineError>
     }
 }
 
-/// Returns how many actions the object has.
+/// Returns how many actions the object has, on a line of this version.
 #[tactic(auto, unfolding(crate::specs::Lines::act_count))]
-fn act_count(value: &Value) -> u64
-    ensures { result ≡ count_of_acts (view value.now) }
+fn act_count(version: Version, value: &Value) -> u64
+    ensures { result ≡ count_of_acts version (view value.now) }
 {
     count_of(value, "alerts")
         + count_of(value, "silence")
         + count_of(value, "expire")
         + count_of(value, "reload")
         + count_of(value, "tick")
+        + u64::from(label_member(version, value).is_some())
 }
 
 /// Returns 1 if the object has the key, whatever its value, and else 0.

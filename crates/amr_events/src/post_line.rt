@@ -8,6 +8,7 @@ ghost use Rattle.amr_time.specs.MomentRead.{moment_at};
 ghost use Rattle.amr_events.specs.Refused.{LineIs, EventIs};
 ghost use Rattle.amr_events.specs.Posted.{alerts_of};
 ghost use Rattle.amr_events.specs.Tokens.{States};
+ghost use Rattle.amr_events.specs.declared.version.Version.{Version};
 
 use crate::posted_tokens::{
     closes_object, has_key, opens_array, opens_object, string, usual_alert,
@@ -21,16 +22,17 @@ use json::{Reader, Scratch};
 use std::alloc::{AllocError, Global};
 use std::str;
 
-/// Reads the event of a line that has a moment under `at` and then alerts under `alerts`, and no
-/// other key. Returns `None` for a line of another shape. The scratch is the reader's memory, kept
-/// from line to line.
+/// Reads the event of a line, of any version, that has a moment under `at` and then alerts under
+/// `alerts`, and no other key. Returns `None` for a line of another shape. The scratch is the
+/// reader's memory, kept from line to line.
 pub(crate) fn read_post(
     alloc: Global,
     scratch: &mut Scratch,
     seen: &mut SeenTexts,
     line: &[u8],
 ) -> Result<Option<Event>, AllocError>
-    ensures { IfOk result (λ read. IfSome read (λ event. LineIs line.now event)) }
+    ensures { IfOk result (λ read. IfSome read (λ event.
+        (version : Version) → LineIs version line.now event)) }
 {
     let Ok(text) = str::from_utf8(line) else {
         return Ok(None);
@@ -50,7 +52,7 @@ fn post(
     reader: &mut Reader<'_>,
 ) -> Result<Option<Event>, AllocError>
     ensures { IfOk result (λ read. IfSome read (λ event.
-        States (λ d. EventIs d event) 127 reader.old reader.new)) }
+        States (λ d. (version : Version) → EventIs version d event) 127 reader.old reader.new)) }
 {
     if !opens_object(reader) || !has_key(reader, "at") {
         return Ok(None);

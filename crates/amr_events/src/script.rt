@@ -1,24 +1,27 @@
 //! Scripts: JSON lines, each an event. The program reads a whole script before it applies its first
 //! event, so that a faulty one does nothing.
-ghost use Rattle.std.specs.Prelude.{◌≡◌, ◌<◌, ◌==◌, length, Some, OnOk, Err};
+ghost use Rattle.std.specs.Prelude.{◌≡◌, ◌<◌, ◌==◌, length, Some, Err};
 ghost use Rattle.std.specs.List.{slice_get};
 ghost use Rattle.std.specs.Global.{Vec};
 ghost use Rattle.amr_actions.specs.Events.{Event};
-ghost use Rattle.amr_events.specs.Answers.{Answers, Stops};
-ghost use Rattle.amr_events.specs.Scripts.{is_blank as is_blank_line, HasFault, Adds, ScriptIs, OnlyLineIs};
+ghost use Rattle.amr_events.specs.Answers.{Answers};
+ghost use Rattle.amr_events.specs.Scripts.{ScriptIs, OnlyLineIs};
 
+use crate::draft::{Draft, add_line};
 use crate::error::{Fault, LineError, ScriptError};
-use crate::line::{read_line, read_single_line};
+use crate::line::read_single_line;
 use crate::seen_texts::SeenTexts;
+use crate::version::Version;
 use amr_actions::Event;
 use amr_labels::Listing;
 use json::Scratch;
 use std::alloc::Global;
 use std::marker::Model;
 
-/// The events of a script, in order.
+/// A script: its version, and its events in order.
 #[derive(Drop)]
 pub struct Script {
+    version: Version,
     events: Listing<Event>,
 }
 
@@ -27,60 +30,16 @@ impl Model for Script {
     ghost use Rattle.std.specs.Coded.{codes};
     ghost use Rattle.amr_labels.specs.Map as map;
     ghost use Rattle.amr_actions.specs.Events.{Event};
+    ghost use Rattle.amr_events.specs.Scripts.{Script};
 
-    ghost Value = { List Event };
+    ghost Value = { Script };
 
     ghost coded = { Prim.hlevel (codes, map.code) };
 
-    ghost view = { λ script. script.events };
+    ghost view = { λ script. record { version = script.version; events = script.events } };
 }
 
-/// The longest line, in bytes before its line feed.
-const LONGEST_LINE: usize = 1_048_576;
-
-/// The most events of a script.
-const MOST_EVENTS: usize = 1_000_000;
-
-/// Returns whether a line has nothing but JSON's white space.
-fn is_blank(line: &[u8]) -> bool
-    ensures { result ≡ is_blank_line line.now }
-{
-    line.iter()
-        .all(|byte| matches!(*byte, b' ' | b'\t' | b'\n' | b'\r'))
-}
-
-/// Reads one more line, and appends its event unless it is blank.
-fn add_line(
-    alloc: Global,
-    scratch: &mut Scratch,
-    seen: &mut SeenTexts,
-    number: u64,
-    line: &[u8],
-    events: &mut Vec<Event>,
-) -> Result<(), ScriptError>
-    ensures ok { OnOk result (Adds line.now events.old.items events.new.items) }
-    ensures err { Stops (HasFault number line.now events.old.items) result }
-{
-    if line.len() > LONGEST_LINE {
-        return Err(ScriptError::Refused(Fault::LineTooLong { line: number }));
-    }
-    if is_blank(line) {
-        return Ok(());
-    }
-    if events.len() >= MOST_EVENTS {
-        return Err(ScriptError::Refused(Fault::TooManyEvents));
-    }
-    match read_line(alloc, scratch, seen, line) {
-        Ok(event) => {
-            events.push(event)?;
-            Ok(())
-        }
-        Err(LineError::Memory) => Err(ScriptError::Memory),
-        Err(LineError::Faulty) => Err(ScriptError::Refused(Fault::BadLine { line: number })),
-    }
-}
-
-/// Reads one line of a script; its number in a fault is 1.
+/// Reads one line of a script of this version; its number in a fault is 1.
 ///
 /// A line is an object with a moment (RFC 3339) under `at` and exactly one action:
 ///
@@ -96,12 +55,14 @@ fn add_line(
 /// - `expire`, a UUID.
 /// - `reload`, a configuration of any shape. It is validated here, once.
 /// - `tick`, which is `true`.
+/// - `label`, a text, in version 2 only.
 ///
-/// Other keys are ignored. If a name is repeated in an object, the last member counts.
-pub fn read_event(alloc: Global, line: &[u8]) -> Result<Event, ScriptError>
-    ensures { Answers (OnlyLineIs line.now) result }
+/// Other keys are ignored, in version 1 `label` too. If a name is repeated in an object, the last
+/// member counts.
+pub fn read_event(alloc: Global, version: Version, line: &[u8]) -> Result<Event, ScriptError>
+    ensures { Answers (OnlyLineIs version line.now) result }
 {
-    match read_single_line(alloc, line) {
+    match read_single_line(alloc, version, line) {
         Ok(event) => Ok(event),
         Err(LineError::Memory) => Err(ScriptError::Memory),
         Err(LineError::Faulty) => Err(ScriptError::Refused(Fault::BadLine { line: 1 })),
@@ -112,43 +73,52 @@ impl Script {
     /// Reads a script: JSON lines (jsonlines.org), each an event as `read_event` reads it.
     ///
     /// A line feed ends a line; the last line may lack it. Lines of nothing but JSON's white space
-    /// are skipped, but counted. A line has at most 1,048,576 bytes, and a script at most 1,000,000
-    /// events. It fails with the first faulty line: one that is too long, then one event too many,
-    /// then a line that isn't an event.
+    /// are skipped, but counted. The script is of version 2 if the first line that isn't blank is
+    /// the object `{"v":2}`, which is no event, and else of version 1. A line has at most 1,048,576
+    /// bytes, and a script at most 1,000,000 events. It fails with the first faulty line: one that
+    /// is too long, then one event too many, then a line that isn't an event.
     pub fn read(alloc: Global, bytes: &[u8]) -> Result<Script, ScriptError>
         ensures { Answers (ScriptIs bytes.now) result }
     {
         let mut scratch = Scratch::new(alloc);
         let mut seen = SeenTexts::new(alloc);
-        let mut events = Vec::new(alloc);
+        let mut draft = Draft::new(alloc);
         let mut number = 1;
         for line in bytes.split(|byte| *byte == b'\n') {
-            add_line(alloc, &mut scratch, &mut seen, number, line, &mut events)?;
+            add_line(alloc, &mut scratch, &mut seen, number, line, &mut draft)?;
             number += 1;
         }
         Ok(Script {
-            events: Listing::from_vec(events),
+            version: draft.version,
+            events: Listing::from_vec(draft.events),
         })
+    }
+
+    /// Returns the version. It takes no memory.
+    pub fn version(&self) -> Version
+        ensures { result ≡ self.now.version }
+    {
+        self.version
     }
 
     /// Returns the number of events.
     pub fn len(&self) -> usize
-        ensures { result ≡ length self.now }
+        ensures { result ≡ length self.now.events }
     {
         self.events.len()
     }
 
     /// Returns whether there is no event.
     pub fn is_empty(&self) -> bool
-        ensures { result ≡ (length self.now == 0) }
+        ensures { result ≡ (length self.now.events == 0) }
     {
         self.events.is_empty()
     }
 
     /// Returns an event by its number, from 0.
     pub fn event(&self, number: usize) -> &Event
-        requires { number < length self.now }
-        ensures { slice_get self.now number ≡ Some result.now }
+        requires { number < length self.now.events }
+        ensures { slice_get self.now.events number ≡ Some result.now }
     {
         &self.events.as_slice()[number]
     }

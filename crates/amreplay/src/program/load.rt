@@ -39,8 +39,8 @@ pub(crate) fn read_files(
     ensures { FilesAre config.now script.items result }
 {
     let config = read_config(alloc, config)?;
-    let events = Script::read(alloc, script.as_slice())?;
-    Ok((config, events))
+    let script = Script::read(alloc, script.as_slice())?;
+    Ok((config, script))
 }
 
 /// Reads a configuration from the bytes of its file, which must be JSON of at most 1 MiB.

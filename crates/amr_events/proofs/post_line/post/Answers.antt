@@ -12,6 +12,8 @@ use Rattle.amr_events.specs.Shapes.{◌>>=◌, moment_under}
 use Rattle.amr_events.specs.Posted.{alerts_of}
 use Rattle.amr_events.specs.Lines.{act_count, post_of, act_in}
 use Rattle.amr_events.specs.Refused.{EventIs}
+use Rattle.amr_events.specs.declared.version.Version.{Version}
+use Rattle.amr_events.specs.declared.version.Version.TheVariants.{One, Two}
 use Rattle.amr_events.proofs.Stating.{states_object, no_member_read, one_more_member, all_members_read}
 use Rattle.amr_events.proofs.post_line.post.Goals as goal
 
@@ -19,11 +21,15 @@ chosen : {A B : Type 0} (o : Option A) (f : A → Option B) → (o >>= f) ≡ op
 chosen None f = refl
 chosen (Some a) f = refl
 
--- an object with a moment and alerts is a post
+-- an object with a moment and alerts is a post, in both versions
 is_post : (stated_at stated_alerts : Data) (at : Moment) (alerts : List PostedAlert) → option_and_then moment_at (as_str stated_at) ≡ Some at → alerts_of stated_alerts ≡ Some alerts
-    → EventIs (object (put (codes "alerts") stated_alerts (put (codes "at") stated_at no_members))) (record { at = at; act = events.Act.Post alerts })
+    → (version : Version) → EventIs version (object (put (codes "alerts") stated_alerts (put (codes "at") stated_at no_members))) (record { at = at; act = events.Act.Post alerts })
 unfolding moment_under act_count post_of act_in
-is_post stated_at stated_alerts at alerts moment posted = record {
+is_post stated_at stated_alerts at alerts moment posted One = record {
+  at = chosen (as_str stated_at) moment_at ∙ moment;
+  act = ap (λ o. o >>= λ alerts. Some (events.Act.Post alerts)) posted;
+}
+is_post stated_at stated_alerts at alerts moment posted Two = record {
   at = chosen (as_str stated_at) moment_at ∙ moment;
   act = ap (λ o. o >>= λ alerts. Some (events.Act.Post alerts)) posted;
 }

@@ -6,16 +6,17 @@ use Rattle.amr_actions.specs.Events.{Event}
 use Rattle.amr_events.specs.Lines.{json_of}
 use Rattle.amr_events.specs.Refused.{LineIs, EventIs}
 use Rattle.amr_events.specs.Tokens.{States}
+use Rattle.amr_events.specs.declared.version.Version.{Version}
 use Rattle.amr_events.proofs.Stating.{whole_read}
 use Rattle.amr_events.proofs.post_line.read_post.Goals as goal
 
-one_line : (line : List ℕ) (event : Option Event) → is_utf8 line ≡ true → IfSome event (λ event. States (λ d. EventIs d event) 127 (tokens line) []) → IfSome event (λ event. LineIs line event)
+one_line : (line : List ℕ) (event : Option Event) → is_utf8 line ≡ true → IfSome event (λ event. States (λ d. (version : Version) → EventIs version d event) 127 (tokens line) []) → IfSome event (λ event. (version : Version) → LineIs version line event)
 unfolding json_of
 one_line line None text stated = tt
-one_line line (Some event) text stated = record {
+one_line line (Some event) text stated = λ version. record {
   stated = stated.stated;
   json = rw text (whole_read line stated.stated stated.read);
-  reads = stated.such;
+  reads = stated.such version;
 }
 
 pub returns : goal.returns
