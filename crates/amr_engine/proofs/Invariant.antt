@@ -11,7 +11,7 @@ use Rattle.amr_state.specs.declared.due.Due.{Due}
 use Rattle.amr_state.specs.State.{State, start}
 use Rattle.amr_state.specs.Dues.{next_due}
 use Rattle.amr_engine.specs.Moves.{move, Advances}
-use Rattle.amr_engine.specs.Events.{after_act, at_moment, do_within, do_event, after_event, after_events, run_of, move_limit}
+use Rattle.amr_engine.specs.Events.{after_act, at_moment, do_event, after_event, after_events, run_of, move_limit}
 use Rattle.amr_engine.specs.Said.{Acts, Does}
 use Rattle.amr_engine.proofs.MovesLaws.{do_within-Does}
 

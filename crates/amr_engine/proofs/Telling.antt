@@ -1,6 +1,6 @@
 -- After a flush each integration of the group's receiver was notified of each member that fires and
 -- that no stage mutes.
-use Rattle.std.specs.Prelude.{◌≡◌, ℕ, Bool, true, false, not, ◌&&◌, ◌||◌, List, [], ◌∷◌, ◌++◌, Option, Some, None, if◌then◌else◌, cond, map, nat_lt, ◌+◌}
+use Rattle.std.specs.Prelude.{◌≡◌, ℕ, Bool, true, false, not, ◌||◌, List, [], ◌∷◌, ◌++◌, Option, Some, None, if◌then◌else◌, cond, map}
 use Rattle.std.specs.List.{fold, Contains}
 use Rattle.std.specs.Option.{is_none}
 use Rattle.std.specs.Ordering.{eq_by_cmp, is_eq}
@@ -30,7 +30,7 @@ use Rattle.amr_engine.specs.Flush.{Members, firing_of, resolved_of, labels_of, l
 use Rattle.amr_engine.specs.Moves.{move, move_of_kind, Advances}
 use Rattle.amr_engine.specs.Said.{Does}
 use Rattle.amr_engine.specs.Neutral.{Accepts}
-use Rattle.amr_engine.specs.Told.{LogIsNotified, IsNotified, IsToNotify, AllAreNotified, after_moves}
+use Rattle.amr_engine.specs.Told.{LogIsNotified, AllAreNotified, after_moves}
 use Rattle.amr_engine.proofs.MovesLaws.{do_within-Does}
 use Rattle.amr_engine.proofs.Belonging.{notify_config}
 use Rattle.amr_engine.proofs.Told.{fold_holds, drop_holds, move_holds, between_is_notified}
