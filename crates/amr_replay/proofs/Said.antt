@@ -76,7 +76,7 @@ pub labels_change_nothing : LabelsChangeNothing
 labels_change_nothing s event label =
     let is : do_event s event ≡ Ok ([], s) = do_within-label move_limit s event label in (
       outcome_is s event (Ok ([], s)) is
-      ∙ (λ i. Accepted 0 (drop_all (length s.notes) s.notes (omega arith) i) (sym (none_skipped (at_moment event.at s) event.act label) i)),
+          ∙ (λ i. Accepted 0 (drop_all (length s.notes) s.notes (omega arith) i) (sym (none_skipped (at_moment event.at s) event.act label) i)),
       after_done s event [] s is,
     )
 
