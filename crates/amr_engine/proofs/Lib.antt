@@ -15,6 +15,7 @@ pub mod QuietLaws
 pub mod QuietStays
 pub mod NotifiedStays
 pub mod MovesNoted
+pub mod Lasting
 pub mod Remembering
 pub mod Forgetting
 pub mod Unnotified

@@ -13,15 +13,17 @@ ghost use Rattle.amr_engine.specs.QuietMoves.{OnlySets, AreQuietMoves};
 use crate::flush::reset_timer;
 use crate::quiet::QuietGroups;
 use crate::quiet_moves::QuietMoves;
+use crate::too_many::are_too_many;
 use amr_state::{Due, Kind, RouteLabels, Store, next_due};
 use amr_time::Moment;
 use std::alloc::AllocError;
 
 /// The most moves that one event may make. It bounds the work of an event far in the future.
-const MOST_MOVES: usize = 1_000_000;
+pub(crate) const MOST_MOVES: usize = 1_000_000;
 
 /// Makes every move due at or before a moment, and returns how many there were. Returns `None` if
-/// there are more than `MOST_MOVES`; the caller then undoes those that were made. Moves that
+/// there are more than `MOST_MOVES`, which it may find out before it makes so many; the caller then
+/// undoes those that were made. Moves that
 /// `quiet_moves` knows to set a group timer alone do just that, and it learns of the others whether
 /// they do.
 pub(crate) fn advance(
@@ -42,6 +44,9 @@ pub(crate) fn advance(
     ensures quiet { AreQuietMoves quiet_moves.new store.old.state }
 {
     for made in 0..MOST_MOVES {
+        if are_too_many(store, at, made)? {
+            return Ok(None);
+        }
         match next_due(store, at)? {
             None => return Ok(Some(made)),
             Some(due) => {

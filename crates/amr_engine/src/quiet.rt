@@ -637,7 +637,7 @@ fn is_untimed(config: &Config, route: usize) -> bool
 }
 
 /// Returns the earliest end of these members if it is before `until`, and else `until`.
-fn first_end(members: &[Member], until: u128) -> u128
+pub(crate) fn first_end(members: &[Member], until: u128) -> u128
     ensures within { result ≤ until }
     ensures fire { all_fire_until result members.now ≡ true }
 {

@@ -7,6 +7,14 @@ use Rattle.amr_engine.proofs.Cascade.{plus_moves, stops, is_over, goes_on, begin
 use Rattle.amr_engine.proofs.MovesNoted.{known_move, note_move, one_more}
 use Rattle.amr_engine.proofs.moves.advance.Goals as goal
 
+-- too many moves are found to be due
+pub are_too_many-requires : goal.are_too_many-requires
+are_too_many-requires c = omega (arith, limit_is, c.loop-made-test.true)
+
+pub returns-then-branch-clause-ok : goal.returns-then-branch-clause-ok
+returns-then-branch-clause-ok c =
+    sym (c.loop-made.invariant.ok ∙ ap (λ r. plus_moves (counted_run r) c.loop-made.made) (c.in_ok-are_too_many.ensures c.if-branch.true))
+
 pub returns-in-None-clause-ok : goal.returns-in-None-clause-ok
 returns-in-None-clause-ok c =
     stops move_limit c.loop-made.made c.args.at c.loop-made.store.state c.args.store.now.state c.loop-made.invariant.ok (rw c.in-None.is at c.in_ok-next_due.ensures.due)

@@ -1,0 +1,394 @@
+-- More moves are due than the limit if one group alone is flushed more often.
+use Rattle.std.specs.Prelude.{◌≡◌, ℕ, zero, suc, Bool, true, false, List, [], ◌∷◌, ◌++◌, Option, Some, None, length, ◌≤◌, ◌<◌, ◌+◌, ◌-◌, ◌*◌, ◌==◌, nat_le, ◌&&◌, if◌then◌else◌, cond, map, option_map, ◌⊎◌}
+use Rattle.std.specs.List.{fold, filter_map, cons_option}
+use Rattle.std.specs.Option.{option_map_or}
+use Rattle.std.specs.declared.cmp.Ordering.{Ordering}
+use Rattle.std.specs.declared.cmp.Ordering.TheVariants.{Less, Equal, Greater}
+use Rattle.std.specs.Ordering.{eq_by_cmp, is_eq, is_lt}
+use Rattle.std.specs.Cmp.{IsTotalOrder}
+use Rattle.std.specs.FinMap.{IsAntisymmetric}
+use Rattle.std.specs.FinMap.Entries.{find, below_all, is_sorted}
+use Rattle.std.proofs.Common.{T, refl, sym, ap, ◌∙◌, subst, inl, inr, arith}
+use Rattle.std.proofs.lemmas.Bool.{leb-true}
+use Rattle.std.proofs.lemmas.Cmp.{tied_itself}
+use Rattle.amr_labels.specs.Map.{Map, get, insert, remove, entries, get-entries, entries-sorted, get-insert, get-remove}
+use Rattle.amr_labels.specs.Labels.{LabelSet}
+use Rattle.amr_time.specs.Time.{Moment, second, next_multiple_of}
+use Rattle.amr_stated.specs.declared.receiver.Integration.{Integration}
+use Rattle.amr_stated.specs.Config.{Config}
+use Rattle.amr_config.specs.Routing.{integrations_of, group_interval_of}
+use Rattle.amr_rules.specs.declared.alert.Alert.{Alert}
+use Rattle.amr_state.specs.declared.notification.GroupTimer.{GroupTimer}
+use Rattle.amr_state.specs.declared.route_labels.RouteLabels.{RouteLabels}
+use Rattle.amr_state.specs.declared.due.Due.{Due}
+use Rattle.amr_state.specs.declared.due.Kind.TheVariants.{AlertRemoval, GroupRemoval, GroupFlush}
+use Rattle.amr_state.specs.State.{State, on_route, route_labels_cmp, route_labels_cmp_total, route_labels_cmp-IsAntisymmetric, members, members_among}
+use Rattle.amr_state.specs.Dues.{alert_removal_of, group_removal_of, flush_of, least_due, due_by, dues, next_due}
+use Rattle.amr_engine.specs.Flush.{Members, firing_of, resolved_of, let_through, log_key_of, record_notification, notify, notify_all, set_timer, drop_member, mark_if_empty, drop_resolved, run_pipeline, flush}
+use Rattle.amr_engine.specs.Quiet.{all_fire_until, with_timer_reset}
+use Rattle.amr_engine.specs.Runs.{after_step}
+use Rattle.amr_engine.specs.Moves.{move, advance}
+use Rattle.amr_engine.specs.Said.{IsIn}
+use Rattle.amr_engine.specs.Lasting.{Lasts, IsFlushedBeyond}
+use Rattle.amr_engine.proofs.MovesLaws.{least_due-IsLeast, Advances-ends}
+use Rattle.amr_engine.proofs.MovesNoted.{next_is_first}
+use Rattle.amr_engine.proofs.QuietLaws.{firing_all, resolved_none}
+use Rattle.amr_engine.proofs.QuietStays.{apart, equal, flush_leaves}
+use Rattle.amr_engine.proofs.TickLaws.{Judged, move_keeps}
+
+-- ---- the entries of a map
+
+abbrev In : {A : Type 0} → A → List A → Type 0
+In x [] = ⊥
+In x (y ∷ ys) = (x ≡ y) ⊎ In x ys
+
+part_one : (a b : Bool) → T (a && b) → T a
+part_one true b h = tt
+part_one false b h = h
+
+part_two : (a b : Bool) → T (a && b) → T b
+part_two true b h = h
+part_two false b h = absurd h
+
+not_tied : (o p : Ordering) → T (is_lt o) → (p ≡ Equal → o ≡ Equal) → is_eq p ≡ false
+not_tied o Less h same = refl
+not_tied Less Equal h same = absurd (cc (same refl))
+not_tied Equal Equal h same = absurd h
+not_tied Greater Equal h same = absurd h
+not_tied o Greater h same = refl
+
+module _ {K X : Type 0} (R : K → K → Ordering) (total : IsTotalOrder R) (exact : IsAntisymmetric R) where
+  found_in : (es : List (K × X)) (k : K) (v : X) → find R k es ≡ Some v → In (k, v) es
+  found_in [] k v e = absurd (cc)
+  found_in (first ∷ es) k v e =
+      elim (eq_by_cmp R k first.0) as (λ b. eq_by_cmp R k first.0 ≡ b → cond b (Some first.1) (find R k es) ≡ Some v → In (k, v) (first ∷ es)) [
+        | true ↦ λ is e.
+            let key : k ≡ first.0 = exact k first.0 (equal (R k first.0) is) in
+            let value : first.1 ≡ v = cc in
+            inl (λ i. (key i, sym value i))
+        | false ↦ λ is e. inr (found_in es k v e)
+      ] refl e
+
+  is_below : (k : K) (v : X) (x : K) (es : List (K × X)) → T (below_all R x es) → In (k, v) es → T (is_lt (R x k))
+  is_below k v x [] h among = absurd among
+  is_below k v x (e ∷ es) h (inl is) = subst (λ (y : K × X). T (is_lt (R x y.0))) (sym is) (part_one (is_lt (R x e.0)) (below_all R x es) h)
+  is_below k v x (e ∷ es) h (inr among) = is_below k v x es (part_two (is_lt (R x e.0)) (below_all R x es) h) among
+
+  in_found : (es : List (K × X)) (k : K) (v : X) → T (is_sorted R es) → In (k, v) es → find R k es ≡ Some v
+  in_found [] k v sorted among = absurd among
+  in_found (e ∷ es) k v sorted (inl is) =
+      ap (λ (y : K × X). cond (eq_by_cmp R y.0 e.0) (Some e.1) (find R y.0 es)) is
+      ∙ ap (λ o. cond (is_eq o) (Some e.1) (find R e.0 es)) (tied_itself total e.0)
+      ∙ ap (λ (y : K × X). Some y.1) (sym is)
+  in_found (e ∷ es) k v sorted (inr among) =
+      let below = is_below k v e.0 es (part_one (below_all R e.0 es) (is_sorted R es) sorted) among in
+      let other : eq_by_cmp R k e.0 ≡ false =
+      not_tied (R e.0 k) (R k e.0) below (λ tie. ap (λ (x : K). R e.0 x) (exact k e.0 tie) ∙ tied_itself total e.0) in
+      ap (λ b. cond b (Some e.1) (find R k es)) other ∙ in_found es k v (part_two (below_all R e.0 es) (is_sorted R es) sorted) among
+
+abbrev Timers : Type 0
+Timers = Map route_labels_cmp GroupTimer
+
+timer_among : (timers : Timers) (group : RouteLabels) (timer : GroupTimer) → get timers group ≡ Some timer → In (group, timer) (entries timers)
+timer_among timers group timer e =
+    found_in route_labels_cmp route_labels_cmp_total route_labels_cmp-IsAntisymmetric (entries timers) group timer (sym (get-entries timers group) ∙ e)
+
+-- the dues of alerts, of empty groups and of all groups
+abbrev alert_dues : State → List Due
+alert_dues s = map alert_removal_of (entries s.alerts)
+
+abbrev empty_dues : State → List Due
+empty_dues s = filter_map group_removal_of (entries s.timers)
+
+abbrev flush_dues : State → List Due
+flush_dues s = map flush_of (entries s.timers)
+
+dues_are : (s : State) → dues s ≡ (alert_dues s ++ empty_dues s) ++ flush_dues s
+unfolding dues
+dues_are s = refl
+
+timer_got : (timers : Timers) (group : RouteLabels) (timer : GroupTimer) → In (group, timer) (entries timers) → get timers group ≡ Some timer
+timer_got timers group timer among =
+    get-entries timers group
+    ∙ in_found route_labels_cmp route_labels_cmp_total route_labels_cmp-IsAntisymmetric (entries timers) group timer (entries-sorted timers) among
+
+-- ---- where a due comes from
+
+in_right : (d : Due) (xs ys : List Due) → IsIn d ys → IsIn d (xs ++ ys)
+in_right d [] ys h = h
+in_right d (x ∷ xs) ys h = inr (in_right d xs ys h)
+
+in_either : (d : Due) (xs ys : List Due) → IsIn d (xs ++ ys) → IsIn d xs ⊎ IsIn d ys
+in_either d [] ys h = inr h
+in_either d (x ∷ xs) ys (inl e) = inl (inl e)
+in_either d (x ∷ xs) ys (inr h) = elim (in_either d xs ys h) [
+  | inl h ↦ inl (inr h)
+  | inr h ↦ inr h
+]
+
+in_map : {A : Type 0} (f : A → Due) (e : A) (es : List A) → In e es → IsIn (f e) (map f es)
+in_map f e [] h = absurd h
+in_map f e (x ∷ es) (inl is) = inl (ap f is)
+in_map f e (x ∷ es) (inr h) = inr (in_map f e es h)
+
+from_map : {A : Type 0} (f : A → Due) (d : Due) (es : List A) → IsIn d (map f es) → (e : A) × In e es × (d ≡ f e)
+from_map f d [] h = absurd h
+from_map f d (x ∷ es) (inl is) = (x, inl refl, is)
+from_map f d (x ∷ es) (inr h) = let r = from_map f d es h in (r.0, inr r.1, r.2)
+
+from_filter_map : {A : Type 0} (f : A → Option Due) (d : Due) (es : List A) → IsIn d (filter_map f es) → (e : A) × In e es × (f e ≡ Some d)
+from_filter_map f d [] h = absurd h
+from_filter_map {A} f d (x ∷ es) h =
+    elim (f x) as (λ o. f x ≡ o → IsIn d (cons_option o (filter_map f es)) → (e : A) × In e (x ∷ es) × (f e ≡ Some d)) [
+      | None ↦ λ is h. let r = from_filter_map f d es h in (r.0, inr r.1, r.2)
+      | Some y ↦ λ is. elim [
+        | inl same ↦ (x, inl refl, is ∙ ap (λ (z : Due). Some z) (sym same))
+        | inr h ↦ let r = from_filter_map f d es h in (r.0, inr r.1, r.2)
+      ]
+    ] refl h
+
+flush_is_due : (s : State) (group : RouteLabels) (timer : GroupTimer) → get s.timers group ≡ Some timer → IsIn (flush_of (group, timer)) (dues s)
+flush_is_due s group timer timed =
+    subst (IsIn (flush_of (group, timer))) (sym (dues_are s))
+    (in_right (flush_of (group, timer)) (alert_dues s ++ empty_dues s) (flush_dues s)
+    (in_map flush_of (group, timer) (entries s.timers) (timer_among s.timers group timer timed)))
+
+by_moment : (at : Moment) (o : Option Due) (d : Due) → due_by at o ≡ Some d → d.moment ≤ at
+by_moment at None d e = absurd (cc)
+by_moment at (Some least) d e =
+    elim (nat_le least.moment at) as (λ b. nat_le least.moment at ≡ b → (if b then Some least else None) ≡ Some d → d.moment ≤ at) [
+      | true ↦ λ is e. let same : least ≡ d = cc in subst (λ (x : Due). x.moment ≤ at) same (leb-true least.moment at is)
+      | false ↦ λ is e. absurd (cc)
+    ] refl e
+
+next_is_due : (at : Moment) (s : State) (d : Due) → next_due at s ≡ Some d → IsIn d (dues s) × (d.moment ≤ at)
+unfolding next_due
+next_is_due at s d e = ((least_due-IsLeast (dues s) d (next_is_first at s d (sym e))).among, by_moment at (least_due (dues s)) d e)
+
+-- ---- what notifications leave as it is
+
+abbrev Parts : Type 0
+Parts = Config × (Map route_labels_cmp Alert × Timers)
+
+abbrev parts : State → Parts
+parts s = (s.config, (s.placements, s.timers))
+
+chosen_parts : (b : Bool) (x y : State) → parts x ≡ parts y → parts (if b then x else y) ≡ parts y
+chosen_parts true x y e = e
+chosen_parts false x y e = refl
+
+notify_parts : (at : Moment) (group : RouteLabels) (ms : Members) (s : State) (i : Integration) → parts (notify at group ms s i) ≡ parts s
+unfolding notify
+notify_parts at group ms s i = chosen_parts _ (record_notification at group (log_key_of s.config group i) i.send_resolved ms s) s refl
+
+fold_parts : (at : Moment) (group : RouteLabels) (ms : Members) (is : List Integration) (s : State) → parts (fold (notify at group ms) s is) ≡ parts s
+fold_parts at group ms [] s = refl
+fold_parts at group ms (i ∷ is) s = fold_parts at group ms is (notify at group ms s i) ∙ notify_parts at group ms s i
+
+notify_all_parts : (at : Moment) (group : RouteLabels) (ms : Members) (s : State) → parts (notify_all at group ms s) ≡ parts s
+notify_all_parts at group [] s = refl
+notify_all_parts at group (m ∷ ms) s = fold_parts at group (m ∷ ms) (integrations_of s.config group.route) s
+
+-- ---- a group whose members all fire until after the moment
+
+module _ (at : Moment) (group : RouteLabels) where
+  members_by : (s t : State) → t.config ≡ s.config → t.placements ≡ s.placements → members t group ≡ members s group
+  unfolding members
+  members_by s t config placements = λ i. members_among (config i) (placements i) group
+
+  -- the flush of another group leaves it its timer
+  module _ (other : RouteLabels) (differ : group ≡ other → ⊥) where
+    set_other : (change : GroupTimer → GroupTimer) (s : State) → get (set_timer other change s).timers group ≡ get s.timers group
+    set_other change s =
+        elim (get s.timers other) as (λ o. get (option_map_or (λ timer. insert s.timers other (change timer)) o s.timers) group ≡ get s.timers group) [
+          | None ↦ refl
+          | Some timer ↦ get-insert route_labels_cmp_total s.timers other (change timer) group ∙ ap (λ b. cond b (Some (change timer)) (get s.timers group)) (apart route_labels_cmp-IsAntisymmetric group other differ)
+        ]
+
+    drop_other : (ms : Members) (s : State) → get (fold (drop_member other) s ms).timers group ≡ get s.timers group
+    drop_other [] s = refl
+    drop_other (m ∷ ms) s = drop_other ms (drop_member other s m)
+
+    mark_other : (m : Moment) (ms : Members) (s : State) → get (mark_if_empty m other ms s).timers group ≡ get s.timers group
+    mark_other m [] s = set_other (λ timer. record timer { empty_since = Some m }) s
+    mark_other m (x ∷ ms) s = refl
+
+    pipeline_other : (m : Moment) (ms : Members) (s : State) → get (run_pipeline m other ms s).timers group ≡ get s.timers group
+    unfolding drop_resolved
+    pipeline_other m [] s = refl
+    pipeline_other m (x ∷ ms) s =
+        let through : Members = let_through s m other.route (x ∷ ms) in
+        mark_other m (firing_of m (x ∷ ms)) (fold (drop_member other) (notify_all m other through s) (resolved_of m (x ∷ ms)))
+        ∙ drop_other (resolved_of m (x ∷ ms)) (notify_all m other through s)
+        ∙ ap (λ (p : Parts). get p.1.1 group) (notify_all_parts m other through s)
+
+    flush_other : (m : Moment) (s : State) → get (flush m other s).timers group ≡ get s.timers group
+    unfolding flush
+    flush_other m s = pipeline_other m (members s other) (with_timer_reset m other s) ∙ set_other _ s
+
+    lasts_by_other : (m : Moment) (s : State) (timer : GroupTimer) → Lasts s at group timer → Lasts (flush m other s) at group timer
+    lasts_by_other m s timer lasts =
+        let same : members (flush m other s) group ≡ members s group = (flush_leaves other m s).members group differ in
+        record {
+          timed = flush_other m s ∙ lasts.timed;
+          full = lasts.full;
+          some = subst (λ (ms : Members). 0 < length ms) (sym same) lasts.some;
+          fire = ap (all_fire_until (at + 1)) same ∙ lasts.fire;
+        }
+
+  -- its own flush sets its timer, and drops no member
+  abbrev reset : Moment → State → GroupTimer → GroupTimer
+  reset m s timer = record timer { next_flush = m + group_interval_of s.config group.route; flushed = true }
+
+  pipeline_own : (m : Moment) (ms : Members) (s : State) → m ≤ at → 0 < length ms → all_fire_until (at + 1) ms ≡ true → run_pipeline m group ms s ≡ notify_all m group (let_through s m group.route ms) s
+  unfolding drop_resolved
+  pipeline_own m [] s soon some fire = absurd (omega (arith, some))
+  pipeline_own m (x ∷ ms) s soon some fire =
+      let before : m < at + 1 = omega (arith, soon) in
+      let itself : m ≤ m = omega arith in
+      let told : State = notify_all m group (let_through s m group.route (x ∷ ms)) s in
+      λ i. mark_if_empty m group (firing_all m (at + 1) m itself before (x ∷ ms) fire i) (fold (drop_member group) told (resolved_none m (at + 1) m itself before (x ∷ ms) fire i))
+
+  own_parts : (m : Moment) (s : State) (timer : GroupTimer) → m ≤ at → Lasts s at group timer → parts (flush m group s) ≡ parts (with_timer_reset m group s)
+  unfolding flush
+  own_parts m s timer soon lasts =
+      ap parts (pipeline_own m (members s group) (with_timer_reset m group s) soon lasts.some lasts.fire)
+      ∙ notify_all_parts m group (let_through (with_timer_reset m group s) m group.route (members s group)) (with_timer_reset m group s)
+
+  reset_timed : (m : Moment) (s : State) (timer : GroupTimer) → get s.timers group ≡ Some timer → get (with_timer_reset m group s).timers group ≡ Some (reset m s timer)
+  reset_timed m s timer timed =
+      ap (λ (o : Option GroupTimer). get (option_map_or (λ t. insert s.timers group (reset m s t)) o s.timers) group) timed
+      ∙ get-insert route_labels_cmp_total s.timers group (reset m s timer) group
+      ∙ ap (λ o. cond (is_eq o) (Some (reset m s timer)) (get s.timers group)) (tied_itself route_labels_cmp_total group)
+
+  lasts_by_own : (m : Moment) (s : State) (timer : GroupTimer) → m ≤ at → Lasts s at group timer → Lasts (flush m group s) at group (reset m s timer)
+  lasts_by_own m s timer soon lasts =
+      let left = own_parts m s timer soon lasts in
+      let same : members (flush m group s) group ≡ members s group =
+      members_by s (flush m group s) (ap (λ (p : Parts). p.0) left) (ap (λ (p : Parts). p.1.0) left) in
+      record {
+        timed = ap (λ (p : Parts). get p.1.1 group) left ∙ reset_timed m s timer lasts.timed;
+        full = lasts.full;
+        some = subst (λ (ms : Members). 0 < length ms) (sym same) lasts.some;
+        fire = ap (all_fire_until (at + 1)) same ∙ lasts.fire;
+      }
+
+  -- after a move it still lasts, and its next flush is at most one interval later
+  record Next (s : State) (timer : GroupTimer) (d : Due) : Type 0 where
+    after : GroupTimer
+    lasts : Lasts (move d s) at group after
+    soon : after.next_flush ≤ timer.next_flush + group_interval_of s.config group.route
+
+  by_alert : (s : State) (timer : GroupTimer) (alert : LabelSet × Alert) → Lasts s at group timer → Next s timer (alert_removal_of alert)
+  unfolding move members
+  by_alert s timer alert lasts = record {
+    after = timer;
+    lasts = record { timed = lasts.timed; full = lasts.full; some = lasts.some; fire = lasts.fire };
+    soon = omega arith;
+  }
+
+  abbrev removal : Moment → RouteLabels → Due
+  removal m other = record { moment = m; kind = GroupRemoval; route = other.route; labels = other.labels }
+
+  by_removal : (s : State) (timer : GroupTimer) (m : Moment) (other : RouteLabels) → (group ≡ other → ⊥) → Lasts s at group timer → Next s timer (removal m other)
+  unfolding move members
+  by_removal s timer m other differ lasts = record {
+    after = timer;
+    lasts = record {
+      timed = get-remove route_labels_cmp_total s.timers other group
+          ∙ ap (λ b. cond b None (get s.timers group)) (apart route_labels_cmp-IsAntisymmetric group other differ)
+          ∙ lasts.timed;
+      full = lasts.full;
+      some = lasts.some;
+      fire = lasts.fire;
+    };
+    soon = omega arith;
+  }
+
+  by_flush : (s : State) (timer : GroupTimer) (other : RouteLabels) (its : GroupTimer) → get s.timers other ≡ Some its → its.next_flush ≤ at → Lasts s at group timer → Next s timer (flush_of (other, its))
+  unfolding move
+  by_flush s timer other its timed soon lasts =
+      elim (eq_by_cmp route_labels_cmp group other) as (λ b. eq_by_cmp route_labels_cmp group other ≡ b → Next s timer (flush_of (other, its))) [
+        | true ↦ λ is.
+            let same : group ≡ other = route_labels_cmp-IsAntisymmetric group other (equal _ is) in
+            let mine : timer ≡ its =
+            ap (λ (o : Option GroupTimer). option_map_or (λ t. t) o timer) (sym lasts.timed ∙ ap (λ (g : RouteLabels). get s.timers g) same ∙ timed) in
+            subst (λ (x : RouteLabels × GroupTimer). Next s timer (flush_of x)) (λ i. (same i, mine i)) (record {
+              after = reset timer.next_flush s timer;
+              lasts = lasts_by_own timer.next_flush s timer (subst (λ (t : GroupTimer). t.next_flush ≤ at) (sym mine) soon) lasts;
+              soon = omega arith;
+            })
+        | false ↦ λ is. record {
+          after = timer;
+          lasts = lasts_by_other other (λ same. absurd (cc (is, ap is_eq (ap (λ (g : RouteLabels). route_labels_cmp group g) (sym same) ∙ tied_itself route_labels_cmp_total group)))) its.next_flush s timer lasts;
+          soon = omega arith;
+        }
+      ] refl
+
+  removed_empty : (s : State) (timer : GroupTimer) (entry : RouteLabels × GroupTimer) (d : Due) → Lasts s at group timer → get s.timers entry.0 ≡ Some entry.1 → group_removal_of entry ≡ Some d → Next s timer d
+  removed_empty s timer entry d lasts timed is = by entry.1.empty_since refl is
+    where
+      by : (o : Option Moment) → entry.1.empty_since ≡ o
+          → option_map (λ since. record { moment = next_multiple_of since (30 * second); kind = GroupRemoval; route = entry.0.route; labels = entry.0.labels }) o ≡ Some d → Next s timer d
+      by None e is = absurd (cc)
+      by (Some since) e is =
+          let same : removal (next_multiple_of since (30 * second)) entry.0 ≡ d = cc in
+          subst (Next s timer) same (by_removal s timer (next_multiple_of since (30 * second)) entry.0
+          (λ mine. absurd (cc (e, lasts.full, ap (λ (o : Option GroupTimer). option_map_or (λ t. t.empty_since) o None) (sym lasts.timed ∙ ap (λ (g : RouteLabels). get s.timers g) mine ∙ timed)))) lasts)
+
+  by_one : (s : State) (timer : GroupTimer) (d : Due) → Lasts s at group timer → IsIn d (alert_dues s ++ empty_dues s) ⊎ IsIn d (flush_dues s) → d.moment ≤ at → Next s timer d
+  by_one s timer d lasts (inl removal) soon = elim (in_either d (alert_dues s) (empty_dues s) removal) [
+    | inl alert ↦
+        let e = from_map alert_removal_of d (entries s.alerts) alert in
+        subst (Next s timer) (sym e.2) (by_alert s timer e.0 lasts)
+    | inr empty ↦
+        let e = from_filter_map group_removal_of d (entries s.timers) empty in
+        removed_empty s timer e.0 d lasts (timer_got s.timers e.0.0 e.0.1 e.1) e.2
+  ]
+  by_one s timer d lasts (inr flushed) soon =
+      let e = from_map flush_of d (entries s.timers) flushed in
+      subst (Next s timer) (sym e.2) (by_flush s timer e.0.0 e.0.1 (timer_got s.timers e.0.0 e.0.1 e.1) (subst (λ (x : Due). x.moment ≤ at) e.2 soon) lasts)
+
+  after_move : (s : State) (timer : GroupTimer) (d : Due) → Lasts s at group timer → next_due at s ≡ Some d → Next s timer d
+  after_move s timer d lasts next =
+      let due = next_is_due at s d next in
+      by_one s timer d lasts (in_either d (alert_dues s ++ empty_dues s) (flush_dues s) (subst (IsIn d) (dues_are s) due.0)) due.1
+
+  some_due : (s : State) (timer : GroupTimer) → get s.timers group ≡ Some timer → timer.next_flush ≤ at → (d : Due) × (next_due at s ≡ Some d)
+  some_due s timer timed soon = by (next_due at s) refl
+    where
+      by : (o : Option Due) → next_due at s ≡ o → (d : Due) × (next_due at s ≡ Some d)
+      by None e =
+          let later : at < timer.next_flush = Advances-ends at s [] s (e, refl) (flush_of (group, timer)) (flush_is_due s group timer timed) in
+          absurd (omega (arith, later, soon))
+      by (Some d) e = (d, e)
+
+  one_less : (left interval next after at : ℕ) → next + suc left * interval ≤ at → after ≤ next + interval → after + left * interval ≤ at
+  one_less left interval next after at late soon = omega arith
+
+  -- its flushes alone are more than this many
+  pub too_many : (left : ℕ) (s : State) (timer : GroupTimer) → IsFlushedBeyond left s at group timer → advance left at s ≡ None
+  too_many zero s timer (lasts, late) =
+      let soon : timer.next_flush ≤ at = omega (arith, late) in
+      let d = some_due s timer lasts.timed soon in
+      ap (λ (o : Option Due). option_map_or (λ d. None) o (Some ([], s))) d.1
+  too_many (suc left) s timer (lasts, late) =
+      let soon : timer.next_flush ≤ at = omega (arith, late) in
+      let d = some_due s timer lasts.timed soon in
+      let next = after_move s timer d.0 lasts d.1 in
+      let same : (move d.0 s).config ≡ s.config = ap (λ (by : Judged). by.1) (move_keeps d.0 s) in
+      let later : next.after.next_flush + left * group_interval_of (move d.0 s).config group.route ≤ at =
+      subst (λ (c : Config). next.after.next_flush + left * group_interval_of c group.route ≤ at) (sym same)
+      (one_less left (group_interval_of s.config group.route) timer.next_flush next.after.next_flush at late next.soon) in
+      ap (λ (o : Option Due). option_map_or (λ d. option_map (after_step (next_due at) move d) (advance left at (move d s))) o (Some ([], s))) d.1
+      ∙ ap (option_map (after_step (next_due at) move d.0)) (too_many left (move d.0 s) next.after (next.lasts, later))
+
+-- what the code finds of a group
+pub late_enough : (left at next interval its : ℕ) → its ≡ interval → next ≤ at → left * interval ≤ at - next → next + left * its ≤ at
+late_enough left at next interval its same soon late =
+    let all : left * its ≡ left * interval = ap (λ n. left * n) same in
+    omega (arith, all, soon, late)
+
+pub some_members : (ms : Members) → false ≡ (length ms == 0) → 0 < length ms
+some_members [] e = absurd (cc)
+some_members (m ∷ ms) e = omega arith
