@@ -43,7 +43,7 @@ unfolding members
 group_of_members s t group found same is =
     subst (λ (c : Config). IsGroupOf c group found) (sym same) (subst (λ (ms : Members). IsGroupOf s.config group ms) (sym is) (group_of_each s.config group (entries s.placements)))
 
-notify_config : (at : Moment) (group : RouteLabels) (ms : Members) (s : State) (integration : Integration) → (notify at group ms s integration).config ≡ s.config
+pub notify_config : (at : Moment) (group : RouteLabels) (ms : Members) (s : State) (integration : Integration) → (notify at group ms s integration).config ≡ s.config
 unfolding notify
 notify_config at group ms s integration =
     elim (needs_update (get s.log (log_key_of s.config group integration)) (labels_of (firing_of at ms)) (labels_of (resolved_of at ms)) integration.send_resolved at (repeat_interval_of s.config group.route))

@@ -18,3 +18,15 @@ pub mod MovesNoted
 pub mod Remembering
 pub mod Forgetting
 pub mod Unnotified
+pub mod Invariant
+pub mod PlacedLists
+pub mod PlacedPosts
+pub mod PlacedFlush
+pub mod PlacedMoves
+pub mod PlacedRuns
+pub mod PlacedGroups
+pub mod Listed
+pub mod Told
+pub mod Telling
+pub mod Explained
+pub mod Repeating

@@ -1,6 +1,6 @@
 -- Why an alert was or wasn't in a notification.
-use Rattle.std.specs.Prelude.{ℕ, false, List, [], ◌∷◌, Option, Some, None, if◌then◌else◌, map, option_map, unwrap_or}
-use Rattle.std.specs.Option.{option_or}
+use Rattle.std.specs.Prelude.{ℕ, List, [], ◌∷◌, Option, Some, None, if◌then◌else◌, map, option_map, unwrap_or}
+use Rattle.std.specs.Option.{option_or, option_map_or}
 use Rattle.std.specs.List.{flat_map}
 use Rattle.amr_labels.specs.Map.{get}
 use Rattle.amr_labels.specs.Set.{contains}
@@ -43,10 +43,6 @@ abbrev pub asked : List Integration → List (Option Integration)
 asked [] = None ∷ []
 asked (integration ∷ integrations) = map Some (integration ∷ integrations)
 
--- the group timer; a group with a member has one
-abbrev pub timer_of : State → RouteLabels → GroupTimer
-timer_of s group = unwrap_or (get s.timers group) (record { next_flush = 0; flushed = false; empty_since = None })
-
 abbrev pub kind_and_place : Integration → Text × ℕ
 kind_and_place integration = (integration.kind, integration.place)
 
@@ -54,10 +50,16 @@ abbrev pub verdict_at : State → RouteLabels → LabelSet → GroupTimer → Op
 verdict_at s group labels timer integration =
     AtRoute group.route (receiver_name_of s.config group.route) (option_map kind_and_place integration) (finding s group labels integration timer)
 
+-- the answers for a group with this timer
+abbrev pub verdicts_of_group : State → RouteLabels → LabelSet → GroupTimer → List Verdict
+verdicts_of_group s group labels timer = map (verdict_at s group labels timer) (asked (integrations_of s.config group.route))
+
+-- The answers at a route, for the alert's group there. A group that doesn't exist, and so has no
+-- timer, has none; that of a stored alert that isn't resolved exists (`HasTimers`).
 abbrev pub verdicts_at : State → LabelSet → ℕ → List Verdict
 verdicts_at s labels route =
     let group : RouteLabels = on_route route (group_of s.config route labels) in
-    map (verdict_at s group labels (timer_of s group)) (asked (integrations_of s.config route))
+    option_map_or (verdicts_of_group s group labels) (get s.timers group) []
 
 abbrev pub verdicts_of_stored : State → LabelSet → Option Alert → List Verdict
 verdicts_of_stored s labels None = Unknown ∷ []

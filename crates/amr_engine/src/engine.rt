@@ -9,6 +9,8 @@ ghost use Rattle.amr_engine.specs.Outcomes.{outcome_view};
 ghost use Rattle.amr_engine.specs.Kept.{Records, RecordOf};
 ghost use Rattle.amr_engine.specs.QuietMoves.{AreQuietMoves};
 ghost use Rattle.amr_engine.specs.Explain.{verdicts};
+ghost use Rattle.amr_engine.specs.Placed.{ArePlaced, HasTimers, AreListed};
+ghost use Rattle.amr_state.specs.Seen.{groups_of};
 
 use crate::apply::attempt;
 use crate::explain::{self, Verdict};
@@ -18,7 +20,7 @@ use crate::quiet_moves::QuietMoves;
 use amr_actions::Event;
 use amr_config::Config;
 use amr_labels::Labels;
-use amr_state::Store;
+use amr_state::{Group, Store, views};
 use std::alloc::{AllocError, Global};
 use std::marker::Model;
 
@@ -38,6 +40,7 @@ impl Model for Engine {
     ghost use Rattle.amr_state.specs.Records.{befores};
     ghost use Rattle.amr_state.specs.Steps.{Steps};
     ghost use Rattle.amr_engine.specs.Remembered.{IsTrueOf};
+    ghost use Rattle.amr_engine.specs.Placed.{StayPlaced};
 
     ghost Value = { Steps };
 
@@ -45,7 +48,9 @@ impl Model for Engine {
 
     ghost view = { λ engine. record { state = engine.store.state; past = befores engine.store.records engine.store.state; records = engine.store.records } };
 
-    ghost invariant = { λ engine. (engine.store.current ≡ []) × IsTrueOf engine.quiet_groups engine.store.state };
+    ghost invariant = { λ engine. (engine.store.current ≡ [])
+        × IsTrueOf engine.quiet_groups engine.store.state
+        × StayPlaced engine.store.state (befores engine.store.records engine.store.state) };
 }
 
 impl Engine {
@@ -160,12 +165,21 @@ impl Engine {
         self.store.drop_notifications();
     }
 
-    /// Returns the state. `Store` has a getter for each part, and `amr_state::views` lists the
-    /// groups.
+    /// Returns the state. `Store` has a getter for each part.
     pub fn state(&self) -> &Store
         ensures { result.now.state ≡ self.now.state }
     {
         &self.store
+    }
+
+    /// Returns the groups, by route and labels. A stored alert that isn't resolved is in its group
+    /// on exactly the routes that take it, as it is stored.
+    pub fn groups(&self) -> Result<Vec<Group>, AllocError>
+        ensures listed { IfOk result (λ found. found.items ≡ groups_of self.now.state) }
+        ensures placed { ArePlaced self.now.state }
+        ensures members { AreListed self.now.state (groups_of self.now.state) }
+    {
+        views::groups(&self.store)
     }
 
     /// Works out which alerts can inhibit one with these labels, so that `explain` needn't look for
@@ -180,7 +194,9 @@ impl Engine {
     /// verdict if no such alert is stored or the stored one is resolved. Otherwise it returns one
     /// for each route that takes the alert and each integration of the route's receiver.
     pub fn explain(&self, labels: &Labels) -> Result<Vec<Verdict>, AllocError>
-        ensures { IfOk result (λ found. found.items ≡ verdicts self.now.state labels.now) }
+        ensures explained { IfOk result (λ found. found.items
+            ≡ verdicts self.now.state labels.now) }
+        ensures timed { HasTimers self.now.state labels.now }
     {
         explain::verdicts(&self.store, labels)
     }

@@ -4,7 +4,7 @@ ghost use Rattle.std.specs.Prelude.{◌≡◌, ◌++◌, IfOk, OnOk, option_map}
 ghost use Rattle.std.specs.Option.{option_copied};
 ghost use Rattle.std.specs.List.{flat_map};
 ghost use Rattle.amr_config.specs.Routing.{chosen};
-ghost use Rattle.amr_engine.specs.Explain.{waiting, logged, heard, finding, timer_of, kind_and_place, verdict_at, verdicts_at, verdicts_of_stored, verdicts};
+ghost use Rattle.amr_engine.specs.Explain.{waiting, logged, heard, finding, kind_and_place, verdict_at, verdicts_of_group, verdicts_at, verdicts_of_stored, verdicts};
 
 use crate::flush::log_key;
 use crate::stages::taken_away;
@@ -99,7 +99,8 @@ fn verdicts_of_routes(store: &Store, labels: &Labels) -> Result<Vec<Verdict>, Al
     Ok(found)
 }
 
-/// Appends the verdicts for a route: one for each integration, or one if the receiver has none.
+/// Appends the verdicts for a route, if the alert's group exists there. That of a stored alert that
+/// isn't resolved does.
 fn add_verdicts(
     store: &Store,
     labels: &Labels,
@@ -110,31 +111,32 @@ fn add_verdicts(
         ++ verdicts_at store.now.state labels.now route) }
 {
     let group = group_key(store.alloc(), store.config(), route, labels)?;
-    let timer = timer_of(store, &group);
-    let integrations = store.config().integrations(route);
+    match store.timers().get(&group) {
+        Some(timer) => add_verdicts_of_group(store, &group, labels, timer, found),
+        None => Ok(()),
+    }
+}
+
+/// Appends the verdicts for a group: one for each integration, or one if the receiver has none.
+fn add_verdicts_of_group(
+    store: &Store,
+    group: &RouteLabels,
+    labels: &Labels,
+    timer: &GroupTimer,
+    found: &mut Vec<Verdict>,
+) -> Result<(), AllocError>
+    ensures { OnOk result (found.new.items ≡ found.old.items
+        ++ verdicts_of_group store.now.state group.now labels.now timer.now) }
+{
+    let integrations = store.config().integrations(group.route);
     if integrations.is_empty() {
-        found.push(verdict_at(store, &group, labels, &timer, None)?)?;
+        found.push(verdict_at(store, group, labels, timer, None)?)?;
         return Ok(());
     }
     for integration in integrations {
-        found.push(verdict_at(store, &group, labels, &timer, Some(integration))?)?;
+        found.push(verdict_at(store, group, labels, timer, Some(integration))?)?;
     }
     Ok(())
-}
-
-/// Returns the group timer. A group with a member always has one; the timer at 1970 only completes
-/// the match.
-fn timer_of(store: &Store, group: &RouteLabels) -> GroupTimer
-    ensures { result ≡ timer_of store.now.state group.now }
-{
-    match store.timers().get(group) {
-        Some(timer) => *timer,
-        None => GroupTimer {
-            next_flush: Moment::START,
-            flushed: false,
-            empty_since: None,
-        },
-    }
 }
 
 /// Returns the verdict for an integration, or for a receiver without one.

@@ -8,7 +8,7 @@ use Rattle.std.specs.Ordering.{is_gt, ordering_reverse}
 use Rattle.std.proofs.lemmas.Bool.{le-leb, lt-leb, leb-true}
 use Rattle.amr_time.specs.Time.{Moment}
 use Rattle.amr_posts.specs.Reasons.{Reason}
-use Rattle.amr_actions.specs.Events.{Event, Act, is_label}
+use Rattle.amr_actions.specs.Events.{Event, is_label}
 use Rattle.amr_state.specs.declared.due.Due.{Due}
 use Rattle.amr_state.specs.State.{State}
 use Rattle.amr_state.specs.Dues.{due_cmp, due_cmp_total, due_cmp-IsAntisymmetric, due_by, least_due, dues, next_due}
@@ -76,7 +76,7 @@ pub labels_change_nothing : LabelsChangeNothing
 labels_change_nothing s event label =
     let is : do_event s event ≡ Ok ([], s) = do_within-label move_limit s event label in (
       outcome_is s event (Ok ([], s)) is
-      ∙ (λ i. Accepted 0 (drop_all (length s.notes) s.notes (omega arith) i) (none_skipped (at_moment event.at s) event.act label i)),
+          ∙ (λ i. Accepted 0 (drop_all (length s.notes) s.notes (omega arith) i) (sym (none_skipped (at_moment event.at s) event.act label) i)),
       after_done s event [] s is,
     )
 

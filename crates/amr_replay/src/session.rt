@@ -6,6 +6,9 @@ ghost use Rattle.amr_actions.specs.Events.{is_label};
 ghost use Rattle.amr_engine.specs.Events.{Refused, outcome_of};
 ghost use Rattle.amr_engine.specs.Outcomes.{outcome_view};
 ghost use Rattle.amr_engine.specs.Explain.{verdicts};
+ghost use Rattle.amr_engine.specs.Placed.{ArePlaced, HasTimers, AreListed};
+ghost use Rattle.amr_state.specs.Seen.{groups_of};
+ghost use Rattle.amr_engine.specs.Told.{ToldIsNotified};
 ghost use Rattle.amr_replay.specs.Session.{at_cursor, state_at, outcomes_passed, events_until};
 ghost use Rattle.amr_replay.specs.Records.{HasEntries};
 
@@ -15,7 +18,7 @@ use amr_config::Config;
 use amr_engine::{Engine, Outcome, Verdict};
 use amr_events::Script;
 use amr_labels::Labels;
-use amr_state::Store;
+use amr_state::{Group, Store};
 use amr_time::Moment;
 use std::alloc::{AllocError, Global};
 use std::error::Error;
@@ -320,20 +323,34 @@ impl Session {
         self.engine.learn_sources(labels)
     }
 
-    /// Explains why an alert with these labels was or wasn't in a notification, at the cursor. It is
-    /// much faster on a large state if `learn_sources` was called before.
+    /// Explains why an alert with these labels was or wasn't in a notification, at the cursor. An
+    /// alert explained as `Told` is in a notification of the transcript. It is much faster on a large
+    /// state if `learn_sources` was called before.
     pub fn explain(&self, labels: &Labels) -> Result<Vec<Verdict>, AllocError>
-        ensures { IfOk result (λ found. found.items ≡ verdicts self.now.state labels.now) }
+        ensures explained { IfOk result (λ found. found.items
+            ≡ verdicts self.now.state labels.now) }
+        ensures timed { HasTimers self.now.state labels.now }
+        ensures notified { IfOk result (λ found.
+            ToldIsNotified self.now.state labels.now found.items) }
     {
         self.engine.explain(labels)
     }
 
-    /// Returns the state at the cursor. `Store` has a getter for each part, and `amr_state::views`
-    /// lists the groups.
+    /// Returns the state at the cursor. `Store` has a getter for each part.
     pub fn state(&self) -> &Store
         ensures { result.now.state ≡ self.now.state }
     {
         self.engine.state()
+    }
+
+    /// Returns the groups at the cursor, by route and labels. A stored alert that isn't resolved is
+    /// in its group on exactly the routes that take it, as it is stored.
+    pub fn groups(&self) -> Result<Vec<Group>, AllocError>
+        ensures listed { IfOk result (λ found. found.items ≡ groups_of self.now.state) }
+        ensures placed { ArePlaced self.now.state }
+        ensures members { AreListed self.now.state (groups_of self.now.state) }
+    {
+        self.engine.groups()
     }
 }
 

@@ -13,7 +13,6 @@ use amr_lines::lines::{
     verdicts_text,
 };
 use amr_replay::Session;
-use amr_state::views;
 use std::alloc::{AllocError, Global};
 
 /// Returns the lines that a query lists, without its last line.
@@ -27,7 +26,7 @@ fn query_lines(alloc: Global, session: &Session, query: &Query) -> Result<Vec<u8
         }
         Query::Alerts => alert_lines(alloc, state),
         Query::Silences => silence_lines(alloc, state),
-        Query::Groups => group_lines(alloc, views::groups(state)?.as_slice()),
+        Query::Groups => group_lines(alloc, session.groups()?.as_slice()),
         Query::Log => log_lines(alloc, state),
         Query::Transcript => Ok(notes_text(alloc, state.notes())?.into_bytes()),
     }

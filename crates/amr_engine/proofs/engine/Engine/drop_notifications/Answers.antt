@@ -1,5 +1,7 @@
 use Rattle.std.proofs.Common.{sym, subst, ap, ◌∙◌}
 use Rattle.amr_state.specs.Steps.{Steps}
+use Rattle.amr_state.specs.Records.{befores}
+use Rattle.amr_engine.proofs.PlacedRuns.{dropped_stays}
 use Rattle.amr_engine.specs.Remembered.{IsTrueOf}
 use Rattle.amr_engine.proofs.Remembering.{stays_true}
 use Rattle.amr_engine.proofs.Settling.{no_past}
@@ -10,9 +12,11 @@ drop_notifications-requires-clause-records c = ap (λ (v : Steps). v.records) c.
 
 pub invariant_of-self : goal.invariant_of-self
 invariant_of-self c =
-    let s = c.self.inside.store.state in (
+    let s = c.self.inside.store.state in
+    let after = c.drop_notifications.new.self in (
       c.drop_notifications.ensures.current,
       subst (IsTrueOf c.self.inside.quiet_groups) (sym c.drop_notifications.ensures.state) (stays_true s s.moment s.timers _ c.self.inside.quiet_groups c.self.invariant.1),
+      dropped_stays s after.state (befores c.self.inside.store.records s) (befores after.records after.state) c.drop_notifications.ensures.state (no_past after c.drop_notifications.ensures.records) c.self.invariant.2,
     )
 
 pub returns-clause-past : goal.returns-clause-past

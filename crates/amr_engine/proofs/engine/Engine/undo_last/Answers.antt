@@ -1,5 +1,7 @@
 use Rattle.std.proofs.Common.{sym, ap, ◌∙◌, ◌++◌, ◌∷◌, []}
 use Rattle.amr_state.specs.Steps.{Steps}
+use Rattle.amr_state.specs.Records.{befores}
+use Rattle.amr_engine.proofs.PlacedRuns.{undone_stays}
 use Rattle.amr_engine.proofs.Settling.{some_record, is_idle, past_undone, records_undone}
 use Rattle.amr_engine.proofs.engine.Engine.undo_last.Goals as goal
 
@@ -7,7 +9,14 @@ pub reopen-requires-clause-some : goal.reopen-requires-clause-some
 reopen-requires-clause-some c = some_record c.self.inside.store c.args.self.now.past (ap (λ (v : Steps). v.past) c.self.view_is) c.requires
 
 pub invariant_of-self : goal.invariant_of-self
-invariant_of-self c = (is_idle c.reopen.new.self c.undo_open.new.self c.undo_open.ensures, c.clear.ensures c.undo_open.new.self.state)
+invariant_of-self c =
+    let before = c.self.inside.store in
+    let after = c.undo_open.new.self in (
+      is_idle c.reopen.new.self after c.undo_open.ensures,
+      c.clear.ensures after.state,
+      undone_stays before.state after.state (befores before.records before.state) (befores after.records after.state)
+          (past_undone before c.reopen.new.self after c.reopen.ensures.state c.reopen.ensures.records c.undo_open.ensures) c.self.invariant.2,
+    )
 
 pub returns-clause-past : goal.returns-clause-past
 returns-clause-past c =

@@ -1,0 +1,149 @@
+-- An alert that is explained as `Told` is in a notification, if all of the log was notified.
+use Rattle.std.specs.Prelude.{◌≡◌, ℕ, Bool, true, false, List, [], ◌∷◌, Option, Some, None, IsSomeAnd, if◌then◌else◌, option_map, unwrap_or}
+use Rattle.std.specs.Option.{option_or, option_map_or}
+use Rattle.std.specs.List.{Contains, flat_map}
+use Rattle.std.proofs.Common.{refl, sym, ap, ◌∙◌, subst, inl, inr}
+use Rattle.amr_labels.specs.Map.{get}
+use Rattle.amr_labels.specs.Set.{contains}
+use Rattle.amr_labels.specs.Labels.{Text, LabelSet}
+use Rattle.amr_time.specs.Time.{Moment}
+use Rattle.amr_stated.specs.declared.receiver.Integration.{Integration}
+use Rattle.amr_config.specs.Routing.{chosen, group_of, path_of, integrations_of, receiver_name_of, is_active_at, is_muted_at}
+use Rattle.amr_rules.specs.declared.alert.Alert.{Alert}
+use Rattle.amr_rules.specs.declared.dedup.LogEntry.{LogEntry}
+use Rattle.amr_rules.specs.Alerts.{is_resolved_at}
+use Rattle.amr_rules.specs.Muting.{inhibition_from, silencer_of}
+use Rattle.amr_state.specs.declared.notification.GroupTimer.{GroupTimer}
+use Rattle.amr_state.specs.declared.notification.LogKey.{LogKey}
+use Rattle.amr_state.specs.declared.route_labels.RouteLabels.{RouteLabels}
+use Rattle.amr_state.specs.State.{State, on_route}
+use Rattle.amr_engine.specs.Stages.{by_inhibition, by_active_time, by_mute_time, by_silence, taken_away}
+use Rattle.amr_engine.specs.Flush.{log_key_of}
+use Rattle.amr_engine.specs.declared.explain.Finding.{Finding}
+use Rattle.amr_engine.specs.declared.explain.Finding.TheVariants.{Waiting, Inhibited, OutsideActive, TimeMuted, Silenced, Nowhere, Told, Due}
+use Rattle.amr_engine.specs.declared.explain.Verdict.{Verdict}
+use Rattle.amr_engine.specs.declared.explain.Verdict.TheVariants.{Unknown, Ended, AtRoute}
+use Rattle.amr_engine.specs.Explain.{waiting, logged, heard, finding, asked, kind_and_place, verdict_at, verdicts_of_group, verdicts_at, verdicts_of_stored, verdicts}
+use Rattle.amr_engine.specs.Told.{HasNotification, LogIsNotified, ToldIsNotified}
+use Rattle.amr_engine.proofs.Listed.{none_listed, first_or_rest, from_map, from_flat_map}
+
+-- ---- what goes before the log never says `Told`
+
+abbrev IsNoTold : Option Finding → Type 0
+IsNoTold found = (at : Moment) → found ≡ Some (Told at) → ⊥
+
+neither : (o p : Option Finding) → IsNoTold o → IsNoTold p → IsNoTold (option_or o p)
+neither None p first later = later
+neither (Some found) p first later = first
+
+waiting_is_none : (timer : GroupTimer) → IsNoTold (waiting timer)
+waiting_is_none timer = elim timer.flushed as (λ b. IsNoTold (if b then None else Some (Waiting timer.next_flush))) [
+  | true ↦ λ at e. absurd (cc)
+  | false ↦ λ at e. absurd (cc)
+]
+
+inhibition_is_none : (o : Option (ℕ × LabelSet)) → IsNoTold (option_map (λ found. Inhibited found.0 found.1) o)
+inhibition_is_none None at e = absurd (cc)
+inhibition_is_none (Some found) at e = absurd (cc)
+
+active_is_none : (b : Bool) → IsNoTold (if b then None else Some OutsideActive)
+active_is_none true at e = absurd (cc)
+active_is_none false at e = absurd (cc)
+
+muted_is_none : (b : Bool) → IsNoTold (if b then Some TimeMuted else None)
+muted_is_none true at e = absurd (cc)
+muted_is_none false at e = absurd (cc)
+
+silence_is_none : (s : State) (now : Moment) (labels : LabelSet) → IsNoTold (by_silence s now labels)
+silence_is_none s now labels = elim (silencer_of now labels s.silences) as (λ o. IsNoTold (option_map Silenced o)) [
+  | None ↦ λ at e. absurd (cc)
+  | Some id ↦ λ at e. absurd (cc)
+]
+
+stage_is_none : (s : State) (now : Moment) (route : ℕ) (labels : LabelSet) → IsNoTold (taken_away s now route labels)
+unfolding taken_away
+stage_is_none s now route labels =
+    neither (by_inhibition s now labels) _ (inhibition_is_none (inhibition_from 0 now labels s.alerts s.config.rules))
+    (neither (by_active_time s now route) _ (active_is_none (is_active_at s.config route now))
+    (neither (by_mute_time s now route) _ (muted_is_none (is_muted_at s.config route now)) (silence_is_none s now labels)))
+
+last_one : (o : Option Finding) (last : Finding) (at : Moment) → IsNoTold o → unwrap_or o last ≡ Told at → last ≡ Told at
+last_one None last at none e = e
+last_one (Some found) last at none e = absurd (none at (ap (λ (x : Finding). Some x) e))
+
+-- ---- the log says it, and its entry has a notification
+
+module _ (s : State) (labels : LabelSet) (notified : LogIsNotified s) where
+  entry_told : (key : LogKey) (timer : GroupTimer) (at : Moment) (entry : LogEntry) (b : Bool) → get s.log key ≡ Some entry → contains entry.firing labels ≡ b
+      → (if b then Told entry.time else Due timer.next_flush) ≡ Told at → HasNotification s.notes at key labels
+  entry_told key timer at entry true is fires e =
+      let same : entry.time ≡ at = cc in subst (λ t. HasNotification s.notes t key labels) same (notified key entry labels is fires)
+  entry_told key timer at entry false is fires e = absurd (cc)
+
+  log_told : (key : LogKey) (timer : GroupTimer) (at : Moment) (o : Option LogEntry) → get s.log key ≡ o → logged labels timer o ≡ Told at → HasNotification s.notes at key labels
+  log_told key timer at None is e = absurd (cc)
+  log_told key timer at (Some entry) is e = entry_told key timer at entry (contains entry.firing labels) is refl e
+
+  abbrev AtIntegration : ℕ → Text → Option (Text × ℕ) → Moment → Type 0
+  AtIntegration route receiver integration at = IsSomeAnd integration (λ named. HasNotification s.notes at (record {
+    receiver = receiver;
+    kind = named.0;
+    place = named.1;
+    group = group_of s.config route labels;
+    path = path_of s.config route;
+  }) labels)
+
+  heard_told : (route : ℕ) (timer : GroupTimer) (at : Moment) (integration : Option Integration) → heard s (on_route route (group_of s.config route labels)) labels timer integration ≡ Told at
+      → AtIntegration route (receiver_name_of s.config route) (option_map kind_and_place integration) at
+  heard_told route timer at None e = absurd (cc)
+  heard_told route timer at (Some integration) e =
+      let key : LogKey = log_key_of s.config (on_route route (group_of s.config route labels)) integration in log_told key timer at (get s.log key) refl e
+
+  finding_told : (route : ℕ) (timer : GroupTimer) (at : Moment) (integration : Option Integration) → finding s (on_route route (group_of s.config route labels)) labels integration timer ≡ Told at
+      → AtIntegration route (receiver_name_of s.config route) (option_map kind_and_place integration) at
+  finding_told route timer at integration e =
+      heard_told route timer at integration
+      (last_one _ _ at (neither (waiting timer) _ (waiting_is_none timer) (stage_is_none s s.moment route labels)) e)
+
+  verdict_told : (chosen_route : ℕ) (timer : GroupTimer) (asked_of : Option Integration) (route : ℕ) (receiver : Text) (integration : Option (Text × ℕ)) (at : Moment)
+      → verdict_at s (on_route chosen_route (group_of s.config chosen_route labels)) labels timer asked_of ≡ AtRoute route receiver integration (Told at)
+      → AtIntegration route receiver integration at
+  verdict_told chosen_route timer asked_of route receiver integration at e =
+      let group : RouteLabels = on_route chosen_route (group_of s.config chosen_route labels) in
+      let routes : chosen_route ≡ route = cc in
+      let receivers : receiver_name_of s.config chosen_route ≡ receiver = cc in
+      let integrations : option_map kind_and_place asked_of ≡ integration = cc in
+      let found : finding s group labels asked_of timer ≡ Told at = cc in
+      subst (λ (x : ℕ × Text × Option (Text × ℕ)). AtIntegration x.0 x.1 x.2 at) (λ i. (routes i, receivers i, integrations i)) (finding_told chosen_route timer at asked_of found)
+
+  group_told : (chosen_route : ℕ) (o : Option GroupTimer) (route : ℕ) (receiver : Text) (integration : Option (Text × ℕ)) (at : Moment)
+      → Contains (option_map_or (verdicts_of_group s (on_route chosen_route (group_of s.config chosen_route labels)) labels) o []) (AtRoute route receiver integration (Told at))
+      → AtIntegration route receiver integration at
+  group_told chosen_route None route receiver integration at listed = absurd (none_listed (AtRoute route receiver integration (Told at)) listed)
+  group_told chosen_route (Some timer) route receiver integration at listed =
+      let group : RouteLabels = on_route chosen_route (group_of s.config chosen_route labels) in
+      let one = from_map (verdict_at s group labels timer) (asked (integrations_of s.config chosen_route)) (AtRoute route receiver integration (Told at)) listed in
+      verdict_told chosen_route timer one.0 route receiver integration at one.2
+
+  routes_told : (routes : List ℕ) → ToldIsNotified s labels (flat_map (verdicts_at s labels) routes)
+  routes_told routes = λ route receiver integration at listed.
+      let at_route = from_flat_map (verdicts_at s labels) routes (AtRoute route receiver integration (Told at)) listed in
+      group_told at_route.0 (get s.timers (on_route at_route.0 (group_of s.config at_route.0 labels))) route receiver integration at at_route.2
+
+  no_other : (other : Verdict) → ((route : ℕ) (receiver : Text) (integration : Option (Text × ℕ)) (at : Moment) → other ≡ AtRoute route receiver integration (Told at) → ⊥) → ToldIsNotified s labels (other ∷ [])
+  no_other other differs = λ route receiver integration at listed.
+      elim (first_or_rest other (AtRoute route receiver integration (Told at)) [] listed) [
+        | inl same ↦ absurd (differs route receiver integration at same)
+        | inr none ↦ absurd (none_listed (AtRoute route receiver integration (Told at)) none)
+      ]
+
+  stored_told : (o : Option Alert) → ToldIsNotified s labels (verdicts_of_stored s labels o)
+  stored_told None = no_other Unknown (λ route receiver integration at e. absurd (cc))
+  stored_told (Some alert) = elim (is_resolved_at s.moment alert) as (λ b. ToldIsNotified s labels (if b then Ended ∷ [] else flat_map (verdicts_at s labels) (chosen s.config labels))) [
+    | true ↦ no_other Ended (λ route receiver integration at e. absurd (cc))
+    | false ↦ routes_told (chosen s.config labels)
+  ]
+
+  pub told_is_notified : ToldIsNotified s labels (verdicts s labels)
+  unfolding verdicts
+  told_is_notified = stored_told (get s.alerts labels)

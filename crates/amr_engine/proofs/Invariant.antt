@@ -1,0 +1,69 @@
+-- What holds at the start, and what moves, the clock and actions keep, holds after every run.
+use Rattle.std.specs.Prelude.{◌≡◌, ℕ, false, List, [], ◌∷◌, ◌++◌, Some, Result, Ok, Err, ◌≤◌, nat_lt}
+use Rattle.std.specs.List.{fold}
+use Rattle.std.proofs.Common.{refl, sym, subst, arith, inl, inr}
+use Rattle.std.proofs.lemmas.Bool.Decides.{nat_tests}
+use Rattle.amr_time.specs.Time.{Moment}
+use Rattle.amr_stated.specs.Config.{Config}
+use Rattle.amr_posts.specs.Reasons.{Reason}
+use Rattle.amr_actions.specs.Events.{Event, Act}
+use Rattle.amr_state.specs.declared.due.Due.{Due}
+use Rattle.amr_state.specs.State.{State, start}
+use Rattle.amr_state.specs.Dues.{next_due}
+use Rattle.amr_engine.specs.Moves.{move, Advances}
+use Rattle.amr_engine.specs.Events.{after_act, at_moment, do_within, do_event, after_event, after_events, run_of, move_limit}
+use Rattle.amr_engine.specs.Said.{Acts, Does}
+use Rattle.amr_engine.proofs.MovesLaws.{do_within-Does}
+
+not_past : (at now : Moment) → nat_lt at now ≡ false → now ≤ at
+not_past at now e = grind (arith, nat_tests)
+
+-- The property is of a state and a moment, which isn't before the state's clock: while an event
+-- makes its moves, its own moment. It may be told of a later moment, and of the state with its
+-- clock there; a move keeps it that is due by the moment; and an action keeps it, at the clock.
+module _ (P : Moment → State → Type 0)
+    (later : (t u : Moment) (s : State) → t ≤ u → P t s → P u s)
+    (clocked : (at : Moment) (s : State) → P at s → P at (at_moment at s))
+    (moved : (at : Moment) (s : State) (due : Due) → next_due at s ≡ Some due → P at s → P at (move due s))
+    (acted : (s : State) (act : Act) (after : State) → P s.moment s → after_act s act ≡ Ok after → P after.moment after) where
+  -- it holds after the moves of an event
+  pub holds_after_moves : (at : Moment) (moves : List Due) (s end : State) → Advances at s moves end → P at s → P at end
+  holds_after_moves at [] s end run holds = subst (P at) run.1 holds
+  holds_after_moves at (due ∷ moves) s end run holds = holds_after_moves at moves (move due s) end run.1 (moved at s due run.0 holds)
+
+  -- and after those that are made before another one
+  pub holds_between : (at : Moment) (before rest : List Due) (s end : State) → Advances at s (before ++ rest) end → P at s → P at (fold (λ t due. move due t) s before)
+  holds_between at [] rest s end run holds = holds
+  holds_between at (due ∷ before) rest s end run holds = holds_between at before rest (move due s) end run.1 (moved at s due run.0 holds)
+
+  -- it holds of the state at an accepted event, at the moment of the event
+  pub holds_at_event : (s : State) (event : Event) → nat_lt event.at s.moment ≡ false → P s.moment s → P event.at s
+  holds_at_event s event present holds = later s.moment event.at s (not_past event.at s.moment present) holds
+
+  holds_after_act : (limit : ℕ) (s : State) (event : Event) (moves : List Due) (after : State) → Acts limit s event moves after → P s.moment s → P after.moment after
+  holds_after_act limit s event moves after does holds =
+      acted (at_moment event.at does.moved) event.act after
+      (clocked event.at does.moved (holds_after_moves event.at moves s does.moved does.advanced (holds_at_event s event does.not_past holds))) does.acted
+
+  pub holds_after_done : (limit : ℕ) (s : State) (event : Event) (moves : List Due) (after : State) → Does limit s event moves after → P s.moment s → P after.moment after
+  holds_after_done limit s event moves after (inl names) holds = subst (λ (x : State). P x.moment x) (sym names.same) holds
+  holds_after_done limit s event moves after (inr acts) holds = holds_after_act limit s event moves after acts holds
+
+  abbrev HoldsAfter : State → Result (List Due × State) Reason → Type 0
+  HoldsAfter s r = let after : State = elim r as (λ x. State) [ Ok done ↦ done.1 | Err reason ↦ s ] in P after.moment after
+
+  pub holds_after_event : (s : State) (event : Event) → P s.moment s → P (after_event s event).moment (after_event s event)
+  unfolding after_event
+  holds_after_event s event holds = by (do_event s event) refl
+    where
+      by : (r : Result (List Due × State) Reason) → do_event s event ≡ r → HoldsAfter s r
+      by (Ok (moves, after)) is = holds_after_done move_limit s event moves after (do_within-Does move_limit s event moves after is) holds
+      by (Err reason) is = holds
+
+  pub holds_after_events : (events : List Event) (s : State) → P s.moment s → P (after_events s events).moment (after_events s events)
+  holds_after_events [] s holds = holds
+  holds_after_events (event ∷ events) s holds = holds_after_events events (after_event s event) (holds_after_event s event holds)
+
+  -- it holds after every run if it holds at the start
+  pub holds_after_run : (config : Config) (events : List Event) → P 0 (start config) → P (run_of config events).moment (run_of config events)
+  holds_after_run config events holds = holds_after_events events (start config) holds

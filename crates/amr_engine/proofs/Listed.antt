@@ -1,0 +1,108 @@
+-- The items of a list, and of the set that is made of it.
+use Rattle.std.specs.Prelude.{◌≡◌, ◌<◌, ◌⊎◌, Bool, true, false, ◌&&◌, List, [], ◌∷◌, ◌++◌, Option, Some, None, map, cond}
+use Rattle.std.specs.List.{Contains, filter, flat_map, list_all, list_any}
+use Rattle.std.specs.Option.{is_some}
+use Rattle.std.specs.Ordering.{eq_by_cmp}
+use Rattle.std.proofs.Common.{refl, sym, ap, ◌∙◌, subst, inl, inr, arith}
+use Rattle.std.proofs.lemmas.Cmp.{eq_by_cmp_equiv}
+use Rattle.std.proofs.lemmas.List.Elements.{Contains-append_left, Contains-append_right, Contains-append_cases, Contains-push, Contains-push_cases}
+use Rattle.std.proofs.lemmas.Map.Views.{list_any-from_Contains, Contains-from_any}
+use Rattle.amr_labels.specs.Set.{contains, from_list, is_subset}
+use Rattle.amr_labels.specs.Labels.{LabelSet, label_set_cmp, label_set_cmp_total, label_set_cmp-IsAntisymmetric}
+use Rattle.amr_rules.specs.Dedup.{LabelSets}
+use Rattle.amr_rules.proofs.Sets.{get-from_list}
+use Rattle.amr_rules.proofs.Subsets.{all_in}
+use Rattle.amr_engine.proofs.QuietStays.{equal}
+use Rattle.amr_engine.proofs.FewerNotified.{both}
+
+module _ {X : Type 0} where
+  pub none_listed : (x : X) → Contains [] x → ⊥
+  none_listed x h = let before : h.0 < 0 = h.1 in omega (arith, before)
+
+  pub first_or_rest : (x y : X) (xs : List X) → Contains (x ∷ xs) y → (x ≡ y) ⊎ Contains xs y
+  first_or_rest x y xs h =
+      elim (Contains-append_cases (x ∷ []) xs y h) [
+        | inl one ↦ elim (Contains-push_cases [] x y one) [
+          | inl none ↦ absurd (none_listed y none)
+          | inr same ↦ inl same
+        ]
+        | inr rest ↦ inr rest
+      ]
+
+  pub listed_first : (x : X) (xs : List X) → Contains (x ∷ xs) x
+  listed_first x xs = Contains-append_left (x ∷ []) xs x (Contains-push [] x)
+
+  pub listed_later : (x y : X) (xs : List X) → Contains xs y → Contains (x ∷ xs) y
+  listed_later x y xs h = Contains-append_right (x ∷ []) xs y h
+
+  -- what passes the test stays
+  pub listed_filter : (p : X → Bool) (xs : List X) (x : X) → p x ≡ true → Contains xs x → Contains (filter p xs) x
+  listed_filter p [] x passes h = h
+  listed_filter p (y ∷ ys) x passes h =
+      elim (first_or_rest y x ys h) [
+        | inl same ↦ subst (λ b. Contains (cond b (y ∷ filter p ys) (filter p ys)) x) (sym (ap p same ∙ passes))
+            (subst (Contains (y ∷ filter p ys)) same (listed_first y (filter p ys)))
+        | inr rest ↦ elim (p y) as (λ b. Contains (cond b (y ∷ filter p ys) (filter p ys)) x) [
+          | true ↦ listed_later y x (filter p ys) (listed_filter p ys x passes rest)
+          | false ↦ listed_filter p ys x passes rest
+        ]
+      ]
+
+module _ {X Y : Type 0} where
+  pub listed_map : (f : X → Y) (xs : List X) (x : X) → Contains xs x → Contains (map f xs) (f x)
+  listed_map f [] x h = absurd (none_listed x h)
+  listed_map f (y ∷ ys) x h =
+      elim (first_or_rest y x ys h) [
+        | inl same ↦ subst (λ z. Contains (map f (y ∷ ys)) (f z)) same (listed_first (f y) (map f ys))
+        | inr rest ↦ listed_later (f y) (f x) (map f ys) (listed_map f ys x rest)
+      ]
+
+  -- an item of the values is the value of an item
+  pub from_map : (f : X → Y) (xs : List X) (y : Y) → Contains (map f xs) y → (x : X) × Contains xs x × (f x ≡ y)
+  from_map f [] y h = absurd (none_listed y h)
+  from_map f (x ∷ xs) y h =
+      elim (first_or_rest (f x) y (map f xs) h) [
+        | inl same ↦ (x, listed_first x xs, same)
+        | inr rest ↦ let found = from_map f xs y rest in (found.0, listed_later x found.0 xs found.1, found.2)
+      ]
+
+  pub from_flat_map : (f : X → List Y) (xs : List X) (y : Y) → Contains (flat_map f xs) y → (x : X) × Contains xs x × Contains (f x) y
+  from_flat_map f [] y h = absurd (none_listed y h)
+  from_flat_map f (x ∷ xs) y h =
+      elim (Contains-append_cases (f x) (flat_map f xs) y h) [
+        | inl here ↦ (x, listed_first x xs, here)
+        | inr rest ↦ let found = from_flat_map f xs y rest in (found.0, listed_later x found.0 xs found.1, found.2)
+      ]
+
+-- ---- the set of a list
+
+same_labels : (x y : LabelSet) → eq_by_cmp label_set_cmp x y ≡ true → x ≡ y
+same_labels x y e = label_set_cmp-IsAntisymmetric x y (equal (label_set_cmp x y) e)
+
+seen : (b : Bool) → is_some (cond b (Some (tt {0})) None) ≡ b
+seen true = refl
+seen false = refl
+
+set_contains : (ks : List LabelSet) (q : LabelSet) → contains (from_list {R = label_set_cmp} ks) q ≡ list_any (eq_by_cmp label_set_cmp q) ks
+set_contains ks q = ap is_some (get-from_list label_set_cmp_total ks q) ∙ seen (list_any (eq_by_cmp label_set_cmp q) ks)
+
+-- what is in the set is in the list
+pub listed_in_set : (ks : List LabelSet) (q : LabelSet) → contains (from_list {R = label_set_cmp} ks) q ≡ true → Contains ks q
+listed_in_set ks q h = Contains-from_any same_labels q ks (sym (set_contains ks q) ∙ h)
+
+-- what is in the list is in the set
+pub in_set : (ks : List LabelSet) (q : LabelSet) → Contains ks q → contains (from_list {R = label_set_cmp} ks) q ≡ true
+in_set ks q h = set_contains ks q ∙ list_any-from_Contains (eq_by_cmp_equiv label_set_cmp_total) q ks h
+
+passes_each : (f : LabelSet → Bool) (ks : List LabelSet) (q : LabelSet) → list_all f ks ≡ true → Contains ks q → f q ≡ true
+passes_each f [] q all h = absurd (none_listed q h)
+passes_each f (k ∷ ks) q all h =
+    let parts = both (f k) (list_all f ks) all in
+    elim (first_or_rest k q ks h) [
+      | inl same ↦ ap f (sym same) ∙ parts.0
+      | inr rest ↦ passes_each f ks q parts.1 rest
+    ]
+
+-- and in each set of which that set is a subset
+pub in_superset : (ks : List LabelSet) (found : LabelSets) (q : LabelSet) → is_subset (from_list ks) found ≡ true → Contains ks q → contains found q ≡ true
+in_superset ks found q all h = passes_each (contains found) ks q (sym (all_in (contains found) ks) ∙ all) h

@@ -1,0 +1,271 @@
+-- A flush leaves the alerts placed.
+use Rattle.std.specs.Prelude.{◌≡◌, ℕ, Bool, true, false, List, [], ◌∷◌, ◌≤◌, Option, Some, None, map, ◌+◌, if◌then◌else◌}
+use Rattle.std.specs.List.{Contains, filter, fold}
+use Rattle.std.specs.Option.{option_map_or}
+use Rattle.std.specs.Ordering.{eq_by_cmp, is_eq}
+use Rattle.std.proofs.Common.{refl, sym, ap, ◌∙◌, subst, inl, inr, arith}
+use Rattle.std.proofs.lemmas.Cmp.{tied_itself}
+use Rattle.std.proofs.lemmas.Bool.Decides.{nat_tests}
+use Rattle.amr_labels.specs.Map.{Map, get, insert, remove, entries}
+use Rattle.amr_labels.specs.Labels.{LabelSet}
+use Rattle.amr_time.specs.Time.{Moment}
+use Rattle.amr_stated.specs.declared.receiver.Integration.{Integration}
+use Rattle.amr_stated.specs.Config.{Config}
+use Rattle.amr_config.specs.Routing.{chosen, integrations_of, group_interval_of, repeat_interval_of}
+use Rattle.amr_rules.specs.declared.alert.Alert.{Alert}
+use Rattle.amr_rules.specs.Alerts.{is_resolved_at}
+use Rattle.amr_rules.specs.declared.dedup.LogEntry.{LogEntry}
+use Rattle.amr_rules.specs.Dedup.{needs_update}
+use Rattle.amr_state.specs.declared.notification.GroupTimer.{GroupTimer}
+use Rattle.amr_state.specs.declared.notification.LogKey.{LogKey}
+use Rattle.amr_state.specs.declared.notification.Notification.{Notification}
+use Rattle.amr_state.specs.declared.route_labels.RouteLabels.{RouteLabels}
+use Rattle.amr_state.specs.State.{State, on_route, route_labels_cmp, route_labels_cmp_total, route_labels_cmp-IsAntisymmetric, log_key_cmp, group_key, members_among, members}
+use Rattle.amr_engine.specs.Flush.{Members, firing_of, resolved_of, labels_of, log_key_of, let_through, notify, notify_all, record_notification, set_timer, drop_member, mark_if_empty, drop_resolved, run_pipeline, flush}
+use Rattle.amr_engine.specs.Placed.{IsTimed, IsPlaced}
+use Rattle.amr_engine.proofs.QuietStays.{equal}
+use Rattle.amr_engine.proofs.PlacedLists.{Each, IsAmong, each_kept, kept_among, all_pass, get-inserted, get-insert_apart, get-removed, get-remove_apart, get-before_remove, get-remove_none, get-each, among_entries}
+use Rattle.amr_engine.proofs.PlacedPosts.{key_or_apart, timed_as, placed_as}
+
+-- what is resolved stays resolved
+still_resolved : (at later : Moment) (alert : Alert) → at ≤ later → is_resolved_at later alert ≡ false → is_resolved_at at alert ≡ false
+still_resolved at later alert order fires = grind (arith, nat_tests)
+
+-- fewer alerts are unresolved later
+pub placed_later : (at later : Moment) (s : State) → at ≤ later → IsPlaced at s → IsPlaced later s
+placed_later at later s order placed = record {
+  copied = λ labels alert is fires. placed.copied labels alert is (still_resolved at later alert order fires);
+  chosen_only = placed.chosen_only;
+  timed = placed.timed;
+}
+
+-- ---- a flush
+
+module _ (group : RouteLabels) (change : GroupTimer → GroupTimer) (s : State) where
+  -- another group's timer
+  set_timer_apart : (other : RouteLabels) → eq_by_cmp route_labels_cmp other group ≡ false → IsTimed s other → IsTimed (set_timer group change s) other
+  set_timer_apart other apart timed = record {
+    timer = timed.timer;
+    known = by (get s.timers group);
+    not_empty = timed.not_empty;
+  }
+    where
+      by : (o : Option GroupTimer) → get (option_map_or (λ timer. insert s.timers group (change timer)) o s.timers) other ≡ Some timed.timer
+      by None = timed.known
+      by (Some timer) = get-insert_apart route_labels_cmp_total route_labels_cmp-IsAntisymmetric s.timers group (change timer) other apart ∙ timed.known
+
+  set_timer_same : ((timer : GroupTimer) → timer.empty_since ≡ None → (change timer).empty_since ≡ None) → IsTimed s group → IsTimed (set_timer group change s) group
+  set_timer_same keeps timed = record {
+    timer = change timed.timer;
+    known = ap (λ o. get (option_map_or (λ timer. insert s.timers group (change timer)) o s.timers) group) timed.known
+        ∙ get-inserted route_labels_cmp_total route_labels_cmp-IsAntisymmetric s.timers group (change timed.timer);
+    not_empty = keeps timed.timer timed.not_empty;
+  }
+
+  set_timer_keeps : ((timer : GroupTimer) → timer.empty_since ≡ None → (change timer).empty_since ≡ None) → (other : RouteLabels) → IsTimed s other → IsTimed (set_timer group change s) other
+  set_timer_keeps keeps other timed = elim (key_or_apart other group) [
+    | inl same ↦ subst (IsTimed (set_timer group change s)) (sym same) (set_timer_same keeps (subst (IsTimed s) same timed))
+    | inr apart ↦ set_timer_apart other apart.1 timed
+  ]
+
+  timer_reset : (at : Moment) → ((timer : GroupTimer) → timer.empty_since ≡ None → (change timer).empty_since ≡ None) → IsPlaced at s → IsPlaced at (set_timer group change s)
+  timer_reset at keeps placed = record {
+    copied = placed.copied;
+    chosen_only = placed.chosen_only;
+    timed = λ member copy e. set_timer_keeps keeps (group_key s.config member) (placed.timed member copy e);
+  }
+
+-- the state with some other log and other notifications
+record Noted (s t : State) : Type 0 where
+  pub log : Map log_key_cmp LogEntry
+  pub notes : List Notification
+  pub is : t ≡ record s { log = log; notes = notes }
+
+noted_itself : (s : State) → Noted s s
+noted_itself s = record { log = s.log; notes = s.notes; is = refl }
+
+notify_noted : (at : Moment) (group : RouteLabels) (ms : Members) (s : State) (integration : Integration) → Noted s (notify at group ms s integration)
+unfolding notify
+notify_noted at group ms s integration =
+    let key : LogKey = log_key_of s.config group integration in
+    elim (needs_update (get s.log key) (labels_of (firing_of at ms)) (labels_of (resolved_of at ms)) integration.send_resolved at (repeat_interval_of s.config group.route))
+    as (λ b. Noted s (if b then record_notification at group key integration.send_resolved ms s else s)) [
+      | true ↦ record { log = _; notes = _; is = refl }
+      | false ↦ noted_itself s
+    ]
+
+notify_each_noted : (at : Moment) (group : RouteLabels) (ms : Members) (s : State) (integrations : List Integration) → Noted s (fold (notify at group ms) s integrations)
+notify_each_noted at group ms s [] = noted_itself s
+notify_each_noted at group ms s (integration ∷ integrations) =
+    let first : Noted s (notify at group ms s integration) = notify_noted at group ms s integration in
+    let rest : Noted (notify at group ms s integration) (fold (notify at group ms) (notify at group ms s integration) integrations) =
+    notify_each_noted at group ms (notify at group ms s integration) integrations in
+    record { log = rest.log; notes = rest.notes; is = rest.is ∙ ap (λ (x : State). record x { log = rest.log; notes = rest.notes }) first.is }
+
+notify_all_noted : (at : Moment) (group : RouteLabels) (ms : Members) (s : State) → Noted s (notify_all at group ms s)
+notify_all_noted at group [] s = noted_itself s
+notify_all_noted at group (m ∷ ms) s = notify_each_noted at group (m ∷ ms) s (integrations_of s.config group.route)
+
+-- ---- the members that leave
+
+-- the members of a group that a map has, and the map has each of them
+module _ (config : Config) (group : RouteLabels) (placements : Map route_labels_cmp Alert) where
+  abbrev pub IsHad : LabelSet × Alert → Type 0
+  IsHad member = get placements (on_route group.route member.0) ≡ Some member.1
+
+  abbrev is_in_group : RouteLabels × Alert → Bool
+  is_in_group placement = eq_by_cmp route_labels_cmp (group_key config placement.0) group
+
+  in_group : (placement : RouteLabels × Alert) → is_in_group placement ≡ true → group_key config placement.0 ≡ group
+  in_group placement e = route_labels_cmp-IsAntisymmetric (group_key config placement.0) group (equal _ e)
+
+  had : (placement : RouteLabels × Alert) → is_in_group placement ≡ true → get placements placement.0 ≡ Some placement.1 → IsHad (placement.0.labels, placement.1)
+  had placement e is =
+      let route : placement.0.route ≡ group.route = ap (λ (x : RouteLabels). x.route) (in_group placement e) in
+      ap (λ r. get placements (on_route r placement.0.labels)) (sym route) ∙ is
+
+  each_had_of : (es : List (RouteLabels × Alert)) → Each (λ (e : RouteLabels × Alert). IsHad (e.0.labels, e.1)) es → Each IsHad (map (λ placement. (placement.0.labels, placement.1)) es)
+  each_had_of [] h = tt
+  each_had_of (e ∷ es) h = (h.0, each_had_of es h.1)
+
+  pub each_had : Each IsHad (members_among config placements group)
+  each_had = each_had_of (filter is_in_group (entries placements))
+      (each_kept is_in_group (λ (e : RouteLabels × Alert). get placements e.0 ≡ Some e.1) (λ (e : RouteLabels × Alert). IsHad (e.0.labels, e.1)) had
+      (entries placements) (get-each route_labels_cmp_total route_labels_cmp-IsAntisymmetric placements))
+
+  among_of : (q : RouteLabels) (copy : Alert) (es : List (RouteLabels × Alert)) → IsAmong {X = RouteLabels × Alert} (q, copy) es → IsAmong {X = LabelSet × Alert} (q.labels, copy) (map (λ placement. (placement.0.labels, placement.1)) es)
+  among_of q copy [] h = h
+  among_of q copy (e ∷ es) h = elim h [
+    | inl same ↦ inl (ap (λ (x : RouteLabels × Alert). (x.0.labels, x.1)) same)
+    | inr later ↦ inr (among_of q copy es later)
+  ]
+
+  pub among_members : (q : RouteLabels) (copy : Alert) → get placements q ≡ Some copy → group_key config q ≡ group → IsAmong {X = LabelSet × Alert} (q.labels, copy) (members_among config placements group)
+  among_members q copy is of =
+      among_of q copy (filter is_in_group (entries placements))
+      (kept_among is_in_group (q, copy) (entries placements) (ap (λ g. eq_by_cmp route_labels_cmp g group) of ∙ ap is_eq (tied_itself route_labels_cmp_total group))
+      (among_entries route_labels_cmp_total route_labels_cmp-IsAntisymmetric placements q copy is))
+
+module _ (group : RouteLabels) where
+  -- nothing is added
+  dropped_before : (ms : Members) (s : State) (q : RouteLabels) (copy : Alert) → get (fold (drop_member group) s ms).placements q ≡ Some copy → get s.placements q ≡ Some copy
+  dropped_before [] s q copy e = e
+  dropped_before (m ∷ ms) s q copy e =
+      get-before_remove route_labels_cmp_total route_labels_cmp-IsAntisymmetric s.placements (on_route group.route m.0) q copy (dropped_before ms (drop_member group s m) q copy e)
+
+  -- what isn't dropped stays
+  not_dropped : (ms : Members) (s : State) (q : RouteLabels) (copy : Alert) → Each (λ (m : LabelSet × Alert). q ≡ on_route group.route m.0 → ⊥) ms → get s.placements q ≡ Some copy
+      → get (fold (drop_member group) s ms).placements q ≡ Some copy
+  not_dropped [] s q copy differ e = e
+  not_dropped (m ∷ ms) s q copy differ e = not_dropped ms (drop_member group s m) q copy differ.1 (elim (key_or_apart q (on_route group.route m.0)) [
+    | inl same ↦ absurd (differ.0 same)
+    | inr apart ↦ get-remove_apart route_labels_cmp_total route_labels_cmp-IsAntisymmetric s.placements (on_route group.route m.0) q apart.1 ∙ e
+  ])
+
+  still_none : (ms : Members) (s : State) (q : RouteLabels) → get s.placements q ≡ None → get (fold (drop_member group) s ms).placements q ≡ None
+  still_none [] s q e = e
+  still_none (m ∷ ms) s q e = still_none ms (drop_member group s m) q (get-remove_none route_labels_cmp_total route_labels_cmp-IsAntisymmetric s.placements (on_route group.route m.0) q e)
+
+  all_dropped : (ms : Members) (s : State) (m : LabelSet × Alert) → IsAmong m ms → get (fold (drop_member group) s ms).placements (on_route group.route m.0) ≡ None
+  all_dropped [] s m h = absurd h
+  all_dropped (x ∷ xs) s m h = elim h [
+    | inl same ↦ still_none xs (drop_member group s x) (on_route group.route m.0)
+        (subst (λ (y : LabelSet × Alert). get (remove s.placements (on_route group.route x.0)) (on_route group.route y.0) ≡ None) (sym same)
+        (get-removed route_labels_cmp_total route_labels_cmp-IsAntisymmetric s.placements (on_route group.route x.0)))
+    | inr later ↦ all_dropped xs (drop_member group s x) m later
+  ]
+
+  dropped_alerts : (ms : Members) (s : State) → (fold (drop_member group) s ms).alerts ≡ s.alerts
+  dropped_alerts [] s = refl
+  dropped_alerts (m ∷ ms) s = dropped_alerts ms (drop_member group s m)
+
+  dropped_config : (ms : Members) (s : State) → (fold (drop_member group) s ms).config ≡ s.config
+  dropped_config [] s = refl
+  dropped_config (m ∷ ms) s = dropped_config ms (drop_member group s m)
+
+  dropped_timers : (ms : Members) (s : State) → (fold (drop_member group) s ms).timers ≡ s.timers
+  dropped_timers [] s = refl
+  dropped_timers (m ∷ ms) s = dropped_timers ms (drop_member group s m)
+
+module _ (at now : Moment) (group : RouteLabels) (s : State) (order : now ≤ at) (placed : IsPlaced at s) where
+  abbrev ms : Members
+  ms = members_among s.config s.placements group
+
+  abbrev dropped : State
+  dropped = fold (drop_member group) s (resolved_of now ms)
+
+  -- an alert that isn't resolved is none of the members that leave
+  stays : (labels : LabelSet) (alert : Alert) (route : ℕ) → is_resolved_at at alert ≡ false → get s.placements (on_route route labels) ≡ Some alert
+      → Each (λ (m : LabelSet × Alert). on_route route labels ≡ on_route group.route m.0 → ⊥) (resolved_of now ms)
+  stays labels alert route fires is = each_kept (λ member. is_resolved_at now member.1) (IsHad s.config group s.placements)
+      (λ (m : LabelSet × Alert). on_route route labels ≡ on_route group.route m.0 → ⊥)
+      (λ m over has same.
+      let value : ◌≡◌ {A = Option Alert} (Some m.1) (Some alert) = sym has ∙ ap (get s.placements) (sym same) ∙ is in
+      let values : m.1 ≡ alert = cc in
+      let no : true ≡ false = sym over ∙ ap (is_resolved_at now) values ∙ still_resolved now at alert order fires in absurd (cc))
+      ms (each_had s.config group s.placements)
+
+  dropped_copied : (labels : LabelSet) (alert : Alert) → get dropped.alerts labels ≡ Some alert → is_resolved_at at alert ≡ false → (route : ℕ) → Contains (chosen dropped.config labels) route
+      → get dropped.placements (on_route route labels) ≡ Some alert
+  dropped_copied labels alert is fires route takes =
+      let before : get s.placements (on_route route labels) ≡ Some alert =
+      placed.copied labels alert (ap (λ m. get m labels) (sym (dropped_alerts group (resolved_of now ms) s)) ∙ is) fires route
+      (subst (λ (c : Config). Contains (chosen c labels) route) (dropped_config group (resolved_of now ms) s) takes) in
+      not_dropped group (resolved_of now ms) s (on_route route labels) alert (stays labels alert route fires before) before
+
+  dropped_chosen : (member : RouteLabels) (copy : Alert) → get dropped.placements member ≡ Some copy → Contains (chosen dropped.config member.labels) member.route
+  dropped_chosen member copy e =
+      subst (λ (c : Config). Contains (chosen c member.labels) member.route) (sym (dropped_config group (resolved_of now ms) s))
+      (placed.chosen_only member copy (dropped_before group (resolved_of now ms) s member copy e))
+
+  dropped_timed : (member : RouteLabels) (copy : Alert) → get dropped.placements member ≡ Some copy → IsTimed dropped (group_key dropped.config member)
+  dropped_timed member copy e =
+      subst (λ (c : Config). IsTimed dropped (group_key c member)) (sym (dropped_config group (resolved_of now ms) s))
+      (timed_as s dropped (group_key s.config member) (dropped_timers group (resolved_of now ms) s) (placed.timed member copy (dropped_before group (resolved_of now ms) s member copy e)))
+
+  -- where all members of the group are resolved, none is left
+  none_left : firing_of now ms ≡ [] → (member : RouteLabels) (copy : Alert) → get dropped.placements member ≡ Some copy → group_key dropped.config member ≡ group → ⊥
+  none_left none member copy e of =
+      let owner : group_key s.config member ≡ group = ap (λ c. group_key c member) (sym (dropped_config group (resolved_of now ms) s)) ∙ of in
+      let route : group.route ≡ member.route = ap (λ (x : RouteLabels). x.route) (sym owner) in
+      let among : IsAmong {X = LabelSet × Alert} (member.labels, copy) ms = among_members s.config group s.placements member copy (dropped_before group (resolved_of now ms) s member copy e) owner in
+      let over : is_resolved_at now copy ≡ true = all_pass (λ m. is_resolved_at now m.1) (member.labels, copy) ms none among in
+      let gone : get dropped.placements (on_route group.route member.labels) ≡ None =
+      all_dropped group (resolved_of now ms) s (member.labels, copy) (kept_among (λ m. is_resolved_at now m.1) (member.labels, copy) ms over among) in
+      let no : ◌≡◌ {A = Option Alert} None (Some copy) = sym gone ∙ ap (λ r. get dropped.placements (on_route r member.labels)) route ∙ e in absurd (cc)
+
+  marked : (firing : Members) → firing_of now ms ≡ firing → IsPlaced at (mark_if_empty now group firing dropped)
+  marked (m ∷ rest) is = record { copied = dropped_copied; chosen_only = dropped_chosen; timed = dropped_timed }
+  marked [] is = record {
+    copied = dropped_copied;
+    chosen_only = dropped_chosen;
+    timed = λ member copy e. elim (key_or_apart (group_key dropped.config member) group) [
+      | inl same ↦ absurd (none_left is member copy e same)
+      | inr apart ↦ set_timer_apart group (λ timer. record timer { empty_since = Some now }) dropped (group_key dropped.config member) apart.1 (dropped_timed member copy e)
+    ];
+  }
+
+  resolved_dropped : IsPlaced at (drop_resolved now group ms s)
+  unfolding drop_resolved
+  resolved_dropped = marked (firing_of now ms) refl
+
+module _ (at now : Moment) (group : RouteLabels) (s : State) (order : now ≤ at) where
+  noted_placed : (t : State) → Noted s t → IsPlaced at s → IsPlaced at t
+  noted_placed t noted = placed_as at s t (ap (λ (x : State). x.config) noted.is) (ap (λ (x : State). x.alerts) noted.is) (ap (λ (x : State). x.placements) noted.is) (ap (λ (x : State). x.timers) noted.is)
+
+  -- the members are those before the notifications
+  noted_members : (t : State) → Noted s t → members_among t.config t.placements group ≡ members_among s.config s.placements group
+  noted_members t noted = ap (λ (x : State). members_among x.config x.placements group) noted.is
+
+  pipeline_placed : (found : Members) → found ≡ members_among s.config s.placements group → IsPlaced at s → IsPlaced at (run_pipeline now group found s)
+  pipeline_placed [] is placed = placed
+  pipeline_placed (m ∷ rest) is placed =
+      let t : State = notify_all now group (let_through s now group.route (m ∷ rest)) s in
+      let noted : Noted s t = notify_all_noted now group (let_through s now group.route (m ∷ rest)) s in
+      subst (λ (found : Members). IsPlaced at (drop_resolved now group found t)) (noted_members t noted ∙ sym is) (resolved_dropped at now group t order (noted_placed t noted placed))
+
+pub flush_placed : (at now : Moment) (group : RouteLabels) (s : State) → now ≤ at → IsPlaced at s → IsPlaced at (flush now group s)
+unfolding flush members
+flush_placed at now group s order placed =
+    let reset : GroupTimer → GroupTimer = λ timer. record timer { next_flush = now + group_interval_of s.config group.route; flushed = true } in
+    pipeline_placed at now group (set_timer group reset s) order (members s group) refl (timer_reset group reset s at (λ timer none. none) placed)

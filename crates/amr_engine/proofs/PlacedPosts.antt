@@ -1,0 +1,301 @@
+-- Posts and reloads leave the alerts placed.
+use Rattle.std.specs.Prelude.{◌≡◌, ℕ, false, List, [], ◌∷◌, ◌⊎◌, Option, Some, None}
+use Rattle.std.specs.List.{Contains, fold}
+use Rattle.std.specs.Ordering.{eq_by_cmp}
+use Rattle.std.proofs.Common.{refl, sym, ap, ◌∙◌, subst, inl, inr}
+use Rattle.amr_labels.specs.Map.{get, insert, entries, empty, get-empty}
+use Rattle.amr_labels.specs.Labels.{LabelSet, label_set_cmp, label_set_cmp_total, label_set_cmp-IsAntisymmetric}
+use Rattle.amr_time.specs.Time.{Moment, Span}
+use Rattle.amr_stated.specs.Config.{Config}
+use Rattle.amr_config.specs.Routing.{chosen, group_wait_of}
+use Rattle.amr_rules.specs.declared.alert.Alert.{Alert}
+use Rattle.amr_rules.specs.Alerts.{joined, is_resolved_at}
+use Rattle.amr_state.specs.declared.notification.GroupTimer.{GroupTimer}
+use Rattle.amr_state.specs.declared.route_labels.RouteLabels.{RouteLabels}
+use Rattle.amr_state.specs.State.{State, on_route, route_labels_cmp, route_labels_cmp_total, route_labels_cmp-IsAntisymmetric, group_key, timer_with, place_on, place}
+use Rattle.amr_engine.specs.Events.{put, with_config}
+use Rattle.amr_engine.specs.Placed.{IsTimed, IsPlaced}
+use Rattle.amr_engine.proofs.PlacedLists.{Each, IsAmong, among_entries, each_weaker, contains_cases, contains_none, each_contained, same_or_apart, get-inserted, get-insert_apart, get-each}
+
+-- two keys are the same, or they differ and compare as different
+pub key_or_apart : (q k : RouteLabels) → (q ≡ k) ⊎ ((q ≡ k → ⊥) × (eq_by_cmp route_labels_cmp q k ≡ false))
+key_or_apart = same_or_apart route_labels_cmp_total route_labels_cmp-IsAntisymmetric
+
+labels_or_apart : (q k : LabelSet) → (q ≡ k) ⊎ ((q ≡ k → ⊥) × (eq_by_cmp label_set_cmp q k ≡ false))
+labels_or_apart = same_or_apart label_set_cmp_total label_set_cmp-IsAntisymmetric
+
+-- what holds of the members of all groups, whatever is stored
+pub record AreInGroups (s : State) : Type 0 where
+  pub chosen_only : (member : RouteLabels) (copy : Alert) → get s.placements member ≡ Some copy → Contains (chosen s.config member.labels) member.route
+  pub timed : (member : RouteLabels) (copy : Alert) → get s.placements member ≡ Some copy → IsTimed s (group_key s.config member)
+
+-- the timers of another state
+pub timed_as : (s t : State) (group : RouteLabels) → t.timers ≡ s.timers → IsTimed s group → IsTimed t group
+timed_as s t group same timed = record { timer = timed.timer; known = ap (λ m. get m group) same ∙ timed.known; not_empty = timed.not_empty }
+
+-- alerts are placed in every state with the same configuration, alerts, members and timers
+pub placed_as : (at : Moment) (s t : State) → t.config ≡ s.config → t.alerts ≡ s.alerts → t.placements ≡ s.placements → t.timers ≡ s.timers → IsPlaced at s → IsPlaced at t
+placed_as at s t config alerts placements timers placed = record {
+  copied = λ labels alert is fires route takes.
+      ap (λ m. get m (on_route route labels)) placements
+      ∙ placed.copied labels alert (ap (λ m. get m labels) (sym alerts) ∙ is) fires route (subst (λ (c : Config). Contains (chosen c labels) route) config takes);
+  chosen_only = λ member copy is.
+      subst (λ (c : Config). Contains (chosen c member.labels) member.route) (sym config) (placed.chosen_only member copy (ap (λ m. get m member) (sym placements) ∙ is));
+  timed = λ member copy is.
+      subst (λ (c : Config). IsTimed t (group_key c member)) (sym config)
+      (timed_as s t (group_key s.config member) timers (placed.timed member copy (ap (λ m. get m member) (sym placements) ∙ is)));
+}
+
+timer_opened : (now : Moment) (wait : Span) (alert : Alert) (timer : Option GroupTimer) → (timer_with now wait alert timer).empty_since ≡ None
+timer_opened now wait alert None = refl
+timer_opened now wait alert (Some timer) = refl
+
+-- ---- an alert on a route
+
+module _ (labels : LabelSet) (alert : Alert) (s : State) (route : ℕ) where
+  abbrev own_timer : GroupTimer
+  own_timer = timer_with s.moment (group_wait_of s.config route) alert (get s.timers (group_key s.config (on_route route labels)))
+
+  own_group_timed : IsTimed (place_on labels alert s route) (group_key s.config (on_route route labels))
+  own_group_timed = record {
+    timer = own_timer;
+    known = get-inserted route_labels_cmp_total route_labels_cmp-IsAntisymmetric s.timers (group_key s.config (on_route route labels)) own_timer;
+    not_empty = timer_opened s.moment (group_wait_of s.config route) alert (get s.timers (group_key s.config (on_route route labels)));
+  }
+
+  still_timed : (group : RouteLabels) → IsTimed s group → IsTimed (place_on labels alert s route) group
+  still_timed group before = elim (key_or_apart group (group_key s.config (on_route route labels))) [
+    | inl same ↦ subst (IsTimed (place_on labels alert s route)) (sym same) own_group_timed
+    | inr apart ↦ record {
+      timer = before.timer;
+      known = get-insert_apart route_labels_cmp_total route_labels_cmp-IsAntisymmetric s.timers (group_key s.config (on_route route labels)) own_timer group apart.1 ∙ before.known;
+      not_empty = before.not_empty;
+    }
+  ]
+
+  placed_here : get (place_on labels alert s route).placements (on_route route labels) ≡ Some alert
+  placed_here = get-inserted route_labels_cmp_total route_labels_cmp-IsAntisymmetric s.placements (on_route route labels) alert
+
+  placed_elsewhere : (q : RouteLabels) → eq_by_cmp route_labels_cmp q (on_route route labels) ≡ false → get (place_on labels alert s route).placements q ≡ get s.placements q
+  placed_elsewhere q apart = get-insert_apart route_labels_cmp_total route_labels_cmp-IsAntisymmetric s.placements (on_route route labels) alert q apart
+
+  place_on_in_groups : Contains (chosen s.config labels) route → AreInGroups s → AreInGroups (place_on labels alert s route)
+  place_on_in_groups takes before = record {
+    chosen_only = λ member copy e. elim (key_or_apart member (on_route route labels)) [
+      | inl same ↦ subst (λ (m : RouteLabels). Contains (chosen s.config m.labels) m.route) (sym same) takes
+      | inr apart ↦ before.chosen_only member copy (sym (placed_elsewhere member apart.1) ∙ e)
+    ];
+    timed = λ member copy e. elim (key_or_apart member (on_route route labels)) [
+      | inl same ↦ subst (λ (m : RouteLabels). IsTimed (place_on labels alert s route) (group_key s.config m)) (sym same) own_group_timed
+      | inr apart ↦ still_timed (group_key s.config member) (before.timed member copy (sym (placed_elsewhere member apart.1) ∙ e))
+    ];
+  }
+
+  -- the copy on a route stays, since only equal ones are inserted
+  still_placed : (n : ℕ) → get s.placements (on_route n labels) ≡ Some alert → get (place_on labels alert s route).placements (on_route n labels) ≡ Some alert
+  still_placed n e = elim (key_or_apart (on_route n labels) (on_route route labels)) [
+    | inl same ↦ ap (get (place_on labels alert s route).placements) same ∙ placed_here
+    | inr apart ↦ placed_elsewhere (on_route n labels) apart.1 ∙ e
+  ]
+
+  -- alerts with other labels stay as they are
+  others_stay : (q : RouteLabels) → (q.labels ≡ labels → ⊥) → get (place_on labels alert s route).placements q ≡ get s.placements q
+  others_stay q differ = elim (key_or_apart q (on_route route labels)) [
+    | inl same ↦ absurd (differ (ap (λ (x : RouteLabels). x.labels) same))
+    | inr apart ↦ placed_elsewhere q apart.1
+  ]
+
+-- ---- an alert on all its routes
+
+module _ (labels : LabelSet) (alert : Alert) where
+  on_each_in_groups : (rs : List ℕ) (s : State) → Each (Contains (chosen s.config labels)) rs → AreInGroups s → AreInGroups (fold (place_on labels alert) s rs)
+  on_each_in_groups [] s take before = before
+  on_each_in_groups (r ∷ rs) s take before = on_each_in_groups rs (place_on labels alert s r) take.1 (place_on_in_groups labels alert s r take.0 before)
+
+  on_each_still : (rs : List ℕ) (s : State) (n : ℕ) → get s.placements (on_route n labels) ≡ Some alert → get (fold (place_on labels alert) s rs).placements (on_route n labels) ≡ Some alert
+  on_each_still [] s n e = e
+  on_each_still (r ∷ rs) s n e = on_each_still rs (place_on labels alert s r) n (still_placed labels alert s r n e)
+
+  on_each_placed : (rs : List ℕ) (s : State) (n : ℕ) → Contains rs n → get (fold (place_on labels alert) s rs).placements (on_route n labels) ≡ Some alert
+  on_each_placed [] s n has = absurd (contains_none n has)
+  on_each_placed (r ∷ rs) s n has = elim (contains_cases r rs n has) [
+    | inl same ↦ on_each_still rs (place_on labels alert s r) n (subst (λ (x : ℕ). get (place_on labels alert s r).placements (on_route x labels) ≡ Some alert) same (placed_here labels alert s r))
+    | inr later ↦ on_each_placed rs (place_on labels alert s r) n later
+  ]
+
+  on_each_others : (rs : List ℕ) (s : State) (q : RouteLabels) → (q.labels ≡ labels → ⊥) → get (fold (place_on labels alert) s rs).placements q ≡ get s.placements q
+  on_each_others [] s q differ = refl
+  on_each_others (r ∷ rs) s q differ = on_each_others rs (place_on labels alert s r) q differ ∙ others_stay labels alert s r q differ
+
+  on_each_alerts : (rs : List ℕ) (s : State) → (fold (place_on labels alert) s rs).alerts ≡ s.alerts
+  on_each_alerts [] s = refl
+  on_each_alerts (r ∷ rs) s = on_each_alerts rs (place_on labels alert s r)
+
+  on_each_config : (rs : List ℕ) (s : State) → (fold (place_on labels alert) s rs).config ≡ s.config
+  on_each_config [] s = refl
+  on_each_config (r ∷ rs) s = on_each_config rs (place_on labels alert s r)
+
+  on_each_moment : (rs : List ℕ) (s : State) → (fold (place_on labels alert) s rs).moment ≡ s.moment
+  on_each_moment [] s = refl
+  on_each_moment (r ∷ rs) s = on_each_moment rs (place_on labels alert s r)
+
+module _ (s : State) (labels : LabelSet) (alert : Alert) where
+  place_in_groups : AreInGroups s → AreInGroups (place s (labels, alert))
+  unfolding place
+  place_in_groups = on_each_in_groups labels alert (chosen s.config labels) s (each_contained (chosen s.config labels) (chosen s.config labels) (λ y c. c))
+
+  place_still : (n : ℕ) → get s.placements (on_route n labels) ≡ Some alert → get (place s (labels, alert)).placements (on_route n labels) ≡ Some alert
+  unfolding place
+  place_still = on_each_still labels alert (chosen s.config labels) s
+
+  place_placed : (n : ℕ) → Contains (chosen s.config labels) n → get (place s (labels, alert)).placements (on_route n labels) ≡ Some alert
+  unfolding place
+  place_placed = on_each_placed labels alert (chosen s.config labels) s
+
+  place_others : (q : RouteLabels) → (q.labels ≡ labels → ⊥) → get (place s (labels, alert)).placements q ≡ get s.placements q
+  unfolding place
+  place_others = on_each_others labels alert (chosen s.config labels) s
+
+  place_alerts : (place s (labels, alert)).alerts ≡ s.alerts
+  unfolding place
+  place_alerts = on_each_alerts labels alert (chosen s.config labels) s
+
+  place_config : (place s (labels, alert)).config ≡ s.config
+  unfolding place
+  place_config = on_each_config labels alert (chosen s.config labels) s
+
+  place_moment : (place s (labels, alert)).moment ≡ s.moment
+  unfolding place
+  place_moment = on_each_moment labels alert (chosen s.config labels) s
+
+pub in_groups : (at : Moment) (s : State) → IsPlaced at s → AreInGroups s
+in_groups at s placed = record { chosen_only = placed.chosen_only; timed = placed.timed }
+
+-- ---- a post
+
+module _ (at : Moment) (s : State) (labels : LabelSet) (stored : Alert) where
+  abbrev with_stored : State
+  with_stored = record s { alerts = insert s.alerts labels stored }
+
+  abbrev after : State
+  after = place with_stored (labels, stored)
+
+  -- the alert itself is on its routes, and the others are where they were
+  store_copied : IsPlaced at s → (asked : LabelSet) (found : Alert) → get (insert s.alerts labels stored) asked ≡ Some found → is_resolved_at at found ≡ false
+      → (route : ℕ) → Contains (chosen s.config asked) route → get after.placements (on_route route asked) ≡ Some found
+  store_copied placed asked found e fires route takes = elim (labels_or_apart asked labels) [
+    | inl same ↦
+        let value : ◌≡◌ {A = Option Alert} (Some stored) (Some found) =
+        sym (get-inserted label_set_cmp_total label_set_cmp-IsAntisymmetric s.alerts labels stored) ∙ ap (get (insert s.alerts labels stored)) (sym same) ∙ e in
+        subst (λ (l : LabelSet). get after.placements (on_route route l) ≡ Some found) (sym same)
+        (place_placed with_stored labels stored route (subst (λ (l : LabelSet). Contains (chosen s.config l) route) same takes) ∙ value)
+    | inr apart ↦
+        place_others with_stored labels stored (on_route route asked) apart.0
+        ∙ placed.copied asked found (sym (get-insert_apart label_set_cmp_total label_set_cmp-IsAntisymmetric s.alerts labels stored asked apart.1) ∙ e) fires route takes
+  ]
+
+  stored_is_placed : IsPlaced at s → IsPlaced at after
+  stored_is_placed placed = record {
+    copied = λ asked found e fires route takes.
+        store_copied placed asked found (ap (λ m. get m asked) (sym (place_alerts with_stored labels stored)) ∙ e) fires route
+        (subst (λ (c : Config). Contains (chosen c asked) route) (place_config with_stored labels stored) takes);
+    chosen_only = then.chosen_only;
+    timed = then.timed;
+  }
+    where
+      then : AreInGroups after
+      then = place_in_groups with_stored labels stored (record { chosen_only = placed.chosen_only; timed = λ member copy e. timed_as s with_stored (group_key s.config member) refl (placed.timed member copy e) })
+
+pub put_placed : (at : Moment) (s : State) (alert : LabelSet × Alert) → IsPlaced at s → IsPlaced at (put s alert)
+unfolding put
+put_placed at s alert = stored_is_placed at s alert.0 (joined s.moment (get s.alerts alert.0) alert.1)
+
+pub put_moment : (s : State) (alert : LabelSet × Alert) → (put s alert).moment ≡ s.moment
+unfolding put
+put_moment s alert = place_moment (record s { alerts = insert s.alerts alert.0 (joined s.moment (get s.alerts alert.0) alert.1) }) alert.0 (joined s.moment (get s.alerts alert.0) alert.1)
+
+pub post_placed : (at : Moment) (alerts : List (LabelSet × Alert)) (s : State) → IsPlaced at s → IsPlaced at (fold put s alerts)
+post_placed at [] s placed = placed
+post_placed at (alert ∷ alerts) s placed = post_placed at alerts (put s alert) (put_placed at s alert placed)
+
+pub post_moment : (alerts : List (LabelSet × Alert)) (s : State) → (fold put s alerts).moment ≡ s.moment
+post_moment [] s = refl
+post_moment (alert ∷ alerts) s = post_moment alerts (put s alert) ∙ put_moment s alert
+
+-- ---- a reload
+
+pair_of : (k l : LabelSet) (a b : Alert) → k ≡ l → a ≡ b → ◌≡◌ {A = LabelSet × Alert} (k, a) (l, b)
+pair_of k l a b p q = λ i. (p i, q i)
+
+fold_in_groups : (es : List (LabelSet × Alert)) (s : State) → AreInGroups s → AreInGroups (fold place s es)
+fold_in_groups [] s before = before
+fold_in_groups (e ∷ es) s before = fold_in_groups es (place s e) (place_in_groups s e.0 e.1 before)
+
+fold_alerts : (es : List (LabelSet × Alert)) (s : State) → (fold place s es).alerts ≡ s.alerts
+fold_alerts [] s = refl
+fold_alerts (e ∷ es) s = fold_alerts es (place s e) ∙ place_alerts s e.0 e.1
+
+fold_config : (es : List (LabelSet × Alert)) (s : State) → (fold place s es).config ≡ s.config
+fold_config [] s = refl
+fold_config (e ∷ es) s = fold_config es (place s e) ∙ place_config s e.0 e.1
+
+fold_moment : (es : List (LabelSet × Alert)) (s : State) → (fold place s es).moment ≡ s.moment
+fold_moment [] s = refl
+fold_moment (e ∷ es) s = fold_moment es (place s e) ∙ place_moment s e.0 e.1
+
+module _ (labels : LabelSet) (alert : Alert) where
+  -- an entry with these labels has this alert
+  abbrev Agrees : LabelSet × Alert → Type 0
+  Agrees e = e.0 ≡ labels → e.1 ≡ alert
+
+  placed_again : (s : State) (e : LabelSet × Alert) (n : ℕ) → Agrees e → get s.placements (on_route n labels) ≡ Some alert → get (place s e).placements (on_route n labels) ≡ Some alert
+  placed_again s e n agrees is = elim (labels_or_apart labels e.0) [
+    | inl same ↦ subst (λ (x : LabelSet × Alert). get (place s x).placements (on_route n labels) ≡ Some alert) (pair_of labels e.0 alert e.1 same (sym (agrees (sym same)))) (place_still s labels alert n is)
+    | inr apart ↦ place_others s e.0 e.1 (on_route n labels) apart.0 ∙ is
+  ]
+
+  fold_again : (es : List (LabelSet × Alert)) (s : State) (n : ℕ) → Each Agrees es → get s.placements (on_route n labels) ≡ Some alert → get (fold place s es).placements (on_route n labels) ≡ Some alert
+  fold_again [] s n agree is = is
+  fold_again (e ∷ es) s n agree is = fold_again es (place s e) n agree.1 (placed_again s e n agree.0 is)
+
+  fold_placed : (es : List (LabelSet × Alert)) (s : State) (n : ℕ) → Each Agrees es → IsAmong (labels, alert) es → Contains (chosen s.config labels) n → get (fold place s es).placements (on_route n labels) ≡ Some alert
+  fold_placed [] s n agree among takes = absurd among
+  fold_placed (e ∷ es) s n agree among takes = elim among [
+    | inl same ↦ fold_again es (place s e) n agree.1 (subst (λ (x : LabelSet × Alert). get (place s x).placements (on_route n labels) ≡ Some alert) same (place_placed s labels alert n takes))
+    | inr later ↦ fold_placed es (place s e) n agree.1 later (subst (λ (c : Config). Contains (chosen c labels) n) (sym (place_config s e.0 e.1)) takes)
+  ]
+
+module _ (at : Moment) (s : State) (config : Config) where
+  abbrev emptied : State
+  emptied = record s { config = config; placements = empty; timers = empty }
+
+  none_in_groups : AreInGroups emptied
+  none_in_groups = record {
+    chosen_only = λ member copy e. let no : ◌≡◌ {A = Option Alert} None (Some copy) = sym (get-empty route_labels_cmp member) ∙ e in absurd (cc);
+    timed = λ member copy e. let no : ◌≡◌ {A = Option Alert} None (Some copy) = sym (get-empty route_labels_cmp member) ∙ e in absurd (cc);
+  }
+
+  entries_agree : (labels : LabelSet) (alert : Alert) → get s.alerts labels ≡ Some alert → Each (Agrees labels alert) (entries s.alerts)
+  entries_agree labels alert is = each_weaker (λ (e : LabelSet × Alert). get s.alerts e.0 ≡ Some e.1) (Agrees labels alert)
+      (λ e found same. let value : ◌≡◌ {A = Option Alert} (Some e.1) (Some alert) = sym found ∙ ap (get s.alerts) same ∙ is in let values : e.1 ≡ alert = cc in values)
+      (entries s.alerts) (get-each label_set_cmp_total label_set_cmp-IsAntisymmetric s.alerts)
+
+  -- a reload places the stored alerts anew, those that are resolved too
+  pub reload_placed : IsPlaced at (with_config s config)
+  unfolding with_config
+  reload_placed = record {
+    copied = λ labels alert is fires n takes.
+        let stored : get s.alerts labels ≡ Some alert = ap (λ m. get m labels) (sym (fold_alerts (entries s.alerts) emptied)) ∙ is in
+        fold_placed labels alert (entries s.alerts) emptied n (entries_agree labels alert stored)
+        (among_entries label_set_cmp_total label_set_cmp-IsAntisymmetric s.alerts labels alert stored)
+        (subst (λ (c : Config). Contains (chosen c labels) n) (fold_config (entries s.alerts) emptied) takes);
+    chosen_only = then.chosen_only;
+    timed = then.timed;
+  }
+    where
+      then : AreInGroups (fold place emptied (entries s.alerts))
+      then = fold_in_groups (entries s.alerts) emptied none_in_groups
+
+  pub reload_moment : (with_config s config).moment ≡ s.moment
+  unfolding with_config
+  reload_moment = fold_moment (entries s.alerts) emptied

@@ -1,0 +1,154 @@
+-- Events leave the alerts placed, and so does a run.
+use Rattle.std.specs.Prelude.{◌≡◌, ◌≤◌, Bool, true, false, List, [], ◌∷◌, ◌++◌, Option, Some, None, Result, Ok, Err, nat_le, if◌then◌else◌}
+use Rattle.std.specs.List.{fold, All}
+use Rattle.std.proofs.Common.{refl, sym, ◌∙◌, subst, arith}
+use Rattle.std.proofs.lemmas.Bool.Decides.{nat_tests}
+use Rattle.std.proofs.lemmas.List.Elements.{All-nil, All-push, All-pop}
+use Rattle.amr_labels.specs.Map.{get-empty}
+use Rattle.amr_labels.specs.Labels.{LabelSet, label_set_cmp}
+use Rattle.amr_time.specs.Time.{Moment}
+use Rattle.amr_stated.specs.Config.{Config}
+use Rattle.amr_rules.specs.declared.alert.Alert.{Alert}
+use Rattle.amr_rules.specs.Silences.{Silences, after_post, after_expiry}
+use Rattle.amr_posts.specs.Reasons.{Reason}
+use Rattle.amr_actions.specs.Events.{Event, Act}
+use Rattle.amr_state.specs.declared.due.Due.{Due}
+use Rattle.amr_state.specs.State.{State, start, on_route, route_labels_cmp}
+use Rattle.amr_state.specs.Dues.{least_due, due_by, dues, next_due}
+use Rattle.amr_engine.specs.Moves.{move}
+use Rattle.amr_engine.specs.Events.{put_all, valid_alerts, with_config, with_silences, on_ok, after_act, at_moment, put, after_event, run_of, without_notifications}
+use Rattle.amr_engine.specs.Said.{IsIn}
+use Rattle.amr_engine.specs.Placed.{IsPlaced, ArePlaced, StayPlaced, HasTimers}
+use Rattle.amr_engine.proofs.MovesLaws.{least_due-IsLeast}
+use Rattle.amr_engine.proofs.Invariant.{holds_after_event, holds_after_run}
+use Rattle.amr_engine.proofs.PlacedPosts.{placed_as, post_placed, post_moment, reload_placed, reload_moment}
+use Rattle.amr_engine.proofs.PlacedFlush.{placed_later}
+use Rattle.amr_engine.proofs.PlacedMoves.{move_placed}
+
+-- ---- moves
+
+-- the next move is pending, and due by the moment
+next_is : (at : Moment) (s : State) (due : Due) → next_due at s ≡ Some due → IsIn due (dues s) × (due.moment ≤ at)
+unfolding next_due
+next_is at s due e = by (least_due (dues s)) refl e
+  where
+    within : (least : Due) (b : Bool) → least_due (dues s) ≡ Some least → nat_le least.moment at ≡ b → (if b then Some least else None) ≡ Some due → IsIn due (dues s) × (due.moment ≤ at)
+    within least true is order e =
+        let same : least ≡ due = cc in
+        let before : least.moment ≤ at = grind (arith, nat_tests) in
+        subst (λ (d : Due). IsIn d (dues s) × (d.moment ≤ at)) same ((least_due-IsLeast (dues s) least is).among, before)
+    within least false is order e = absurd (cc)
+
+    by : (o : Option Due) → least_due (dues s) ≡ o → due_by at o ≡ Some due → IsIn due (dues s) × (due.moment ≤ at)
+    by None is e = absurd (cc)
+    by (Some least) is e = within least (nat_le least.moment at) is refl e
+
+-- the next move leaves the alerts placed
+due_placed : (at : Moment) (s : State) (due : Due) → next_due at s ≡ Some due → IsPlaced at s → IsPlaced at (move due s)
+due_placed at s due e = let next = next_is at s due e in move_placed at s due next.0 next.1
+
+-- ---- actions
+
+-- the alerts are still placed, and the clock stands still
+record Follows (at : Moment) (s after : State) : Type 0 where
+  pub placed : IsPlaced at s → IsPlaced at after
+  pub moment : after.moment ≡ s.moment
+
+follows_itself : (at : Moment) (s after : State) → s ≡ after → Follows at s after
+follows_itself at s after same = subst (Follows at s) same (record { placed = λ placed. placed; moment = refl })
+
+module _ (at : Moment) (s after : State) where
+  put_follows : (valid : List (LabelSet × Alert)) → put_all s valid ≡ Ok after → Follows at s after
+  put_follows [] e = absurd (cc)
+  put_follows (alert ∷ alerts) e =
+      let same : fold put s (alert ∷ alerts) ≡ after = cc in
+      subst (Follows at s) same (record { placed = post_placed at (alert ∷ alerts) s; moment = post_moment (alert ∷ alerts) s })
+
+  silences_follow : (r : Result Silences Reason) → on_ok (with_silences s) r ≡ Ok after → Follows at s after
+  silences_follow (Err reason) e = absurd (cc)
+  silences_follow (Ok silences) e =
+      let same : with_silences s silences ≡ after = cc in
+      subst (Follows at s) same (record { placed = placed_as at s (with_silences s silences) refl refl refl refl; moment = refl })
+
+  reload_follows : (r : Result Config Reason) → on_ok (with_config s) r ≡ Ok after → Follows at s after
+  reload_follows (Err reason) e = absurd (cc)
+  reload_follows (Ok config) e =
+      let same : with_config s config ≡ after = cc in
+      subst (Follows at s) same (record { placed = λ placed. reload_placed at s config; moment = reload_moment at s config })
+
+  act_follows : (act : Act) → after_act s act ≡ Ok after → Follows at s after
+  unfolding after_act
+  act_follows (Act.Post posted) e = put_follows (valid_alerts s posted) e
+  act_follows (Act.Silence posted) e = silences_follow (after_post s.moment posted s.silences) e
+  act_follows (Act.Expire id) e = silences_follow (after_expiry s.moment id s.silences) e
+  act_follows (Act.Reload config) e = reload_follows config e
+  act_follows (Act.Label text) e = let same : s ≡ after = cc in follows_itself at s after same
+  act_follows Act.Tick e = let same : s ≡ after = cc in follows_itself at s after same
+
+act_placed : (s : State) (act : Act) (after : State) → ArePlaced s → after_act s act ≡ Ok after → ArePlaced after
+act_placed s act after placed e =
+    let follows : Follows s.moment s after = act_follows s.moment s after act e in
+    subst (λ (at : Moment). IsPlaced at after) (sym follows.moment) (follows.placed placed)
+
+-- ---- events
+
+clock_placed : (at : Moment) (s : State) → IsPlaced at s → IsPlaced at (at_moment at s)
+clock_placed at s = placed_as at s (at_moment at s) refl refl refl refl
+
+pub event_placed : (s : State) (event : Event) → ArePlaced s → ArePlaced (after_event s event)
+event_placed = holds_after_event IsPlaced placed_later clock_placed due_placed act_placed
+
+-- ---- runs
+
+pub start_placed : (config : Config) → ArePlaced (start config)
+start_placed config = record {
+  copied = λ labels alert e. let no : ◌≡◌ {A = Option Alert} None (Some alert) = sym (get-empty label_set_cmp labels) ∙ e in absurd (cc);
+  chosen_only = λ member copy e. let no : ◌≡◌ {A = Option Alert} None (Some copy) = sym (get-empty route_labels_cmp member) ∙ e in absurd (cc);
+  timed = λ member copy e. let no : ◌≡◌ {A = Option Alert} None (Some copy) = sym (get-empty route_labels_cmp member) ∙ e in absurd (cc);
+}
+
+-- after every run, the alerts that aren't resolved are placed
+pub run_placed : (config : Config) (events : List Event) → ArePlaced (run_of config events)
+run_placed config events = holds_after_run IsPlaced placed_later clock_placed due_placed act_placed config events (start_placed config)
+
+-- ---- an engine's state, and those before it
+
+-- at the start
+pub start_stays : (config : Config) (s : State) (past : List State) → s ≡ start config → past ≡ [] → StayPlaced s past
+start_stays config s past is none = record {
+  now = subst ArePlaced (sym is) (start_placed config);
+  before = subst (All ArePlaced) (sym none) (All-nil ArePlaced);
+}
+
+-- after an event
+pub applied_stays : (s after : State) (before past : List State) (event : Event) → after ≡ after_event s event → past ≡ before ++ s ∷ [] → StayPlaced s before → StayPlaced after past
+applied_stays s after before past event is added placed = record {
+  now = subst ArePlaced (sym is) (event_placed s event placed.now);
+  before = subst (All ArePlaced) (sym added) (All-push ArePlaced before s placed.before placed.now);
+}
+
+-- after an event that is undone
+pub undone_stays : (s after : State) (before past : List State) → before ≡ past ++ after ∷ [] → StayPlaced s before → StayPlaced after past
+undone_stays s after before past is placed =
+    let parts = All-pop ArePlaced before past (Some after) is placed.before in record { now = parts.1; before = parts.0 }
+
+-- after the events are forgotten
+pub forgotten_stays : (s after : State) (before past : List State) → after ≡ s → past ≡ [] → StayPlaced s before → StayPlaced after past
+forgotten_stays s after before past is none placed = record {
+  now = subst ArePlaced (sym is) placed.now;
+  before = subst (All ArePlaced) (sym none) (All-nil ArePlaced);
+}
+
+-- after the notifications are dropped
+pub dropped_stays : (s after : State) (before past : List State) → after ≡ without_notifications s → past ≡ [] → StayPlaced s before → StayPlaced after past
+dropped_stays s after before past is none placed = record {
+  now = subst ArePlaced (sym is) (placed_as s.moment s (without_notifications s) refl refl refl refl placed.now);
+  before = subst (All ArePlaced) (sym none) (All-nil ArePlaced);
+}
+
+-- ---- the groups of an alert
+
+-- where the alerts are placed, the groups of each have timers
+pub has_timers : (s : State) (labels : LabelSet) → ArePlaced s → HasTimers s labels
+has_timers s labels placed alert is fires route takes =
+    placed.timed (on_route route labels) alert (placed.copied labels alert is fires route takes)

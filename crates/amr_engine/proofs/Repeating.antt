@@ -1,0 +1,133 @@
+-- A flush writes an entry again with the same sets only after the repeat interval.
+use Rattle.std.specs.Prelude.{◌≡◌, ℕ, ◌⊎◌, ◌<◌, ◌+◌, Bool, true, false, not, ◌&&◌, ◌||◌, List, [], ◌∷◌, ◌++◌, Option, Some, if◌then◌else◌, cond, map, nat_lt}
+use Rattle.std.specs.List.{fold, list_all}
+use Rattle.std.specs.Ordering.{eq_by_cmp}
+use Rattle.std.proofs.Common.{refl, sym, ap, ◌∙◌, subst, inl, inr, arith}
+use Rattle.std.proofs.lemmas.Bool.Decides.{nat_tests}
+use Rattle.std.proofs.lemmas.List.Folds.{list_all-map}
+use Rattle.amr_labels.specs.Map.{get, entries, get-insert}
+use Rattle.amr_labels.specs.Set.{contains, is_subset, is_empty}
+use Rattle.amr_time.specs.Time.{Moment, Span}
+use Rattle.amr_stated.specs.declared.receiver.Integration.{Integration}
+use Rattle.amr_stated.specs.Config.{Config}
+use Rattle.amr_config.specs.Routing.{integrations_of, repeat_interval_of}
+use Rattle.amr_rules.specs.declared.dedup.LogEntry.{LogEntry}
+use Rattle.amr_rules.specs.Dedup.{LabelSets, differs, needs_update}
+use Rattle.amr_rules.proofs.Subsets.{items_contained}
+use Rattle.amr_state.specs.declared.notification.LogKey.{LogKey}
+use Rattle.amr_state.specs.declared.route_labels.RouteLabels.{RouteLabels}
+use Rattle.amr_state.specs.declared.due.Due.{Due}
+use Rattle.amr_state.specs.declared.due.Kind.{Kind}
+use Rattle.amr_state.specs.declared.due.Kind.TheVariants.{GroupFlush}
+use Rattle.amr_state.specs.State.{State, on_route, log_key_cmp, log_key_cmp_total, log_key_cmp-IsAntisymmetric, members}
+use Rattle.amr_engine.specs.Flush.{Members, firing_of, resolved_of, labels_of, log_key_of, let_through, record_notification, notify, notify_all, run_pipeline, flush}
+use Rattle.amr_engine.specs.Told.{RepeatsWait}
+use Rattle.amr_engine.specs.Moves.{move, move_of_kind}
+use Rattle.amr_engine.proofs.QuietStays.{equal}
+use Rattle.amr_engine.proofs.Told.{fold_holds, drop_holds}
+
+-- ---- the dedup check of the sets that are there already
+
+all_contained : (found : LabelSets) → is_subset found found ≡ true
+all_contained found = list_all-map (contains found) (λ e. e.0) (entries found) ∙ items_contained found
+
+only_late : (all ended none sent all_resolved late : Bool) → all ≡ true → ended ≡ none → all_resolved ≡ true
+    → (not all || (none && not ended) || (not none && ((sent && not all_resolved) || late))) ≡ true → late ≡ true
+only_late true true true sent true late e f g due = absurd (cc)
+only_late true false false true true late e f g due = due
+only_late true false false false true late e f g due = due
+only_late all ended none sent all_resolved late e f g due = absurd (cc)
+
+is_less : (a b : ℕ) → nat_lt a b ≡ true → a < b
+is_less a b e = grind (arith, nat_tests)
+
+same_again : (old : LogEntry) (send_resolved : Bool) (now : Moment) (interval : Span) → needs_update (Some old) old.firing old.resolved send_resolved now interval ≡ true → old.time + interval < now
+unfolding needs_update
+same_again old send_resolved now interval due =
+    is_less (old.time + interval) now
+    (only_late (is_subset old.firing old.firing) (is_empty old.firing) (is_empty old.firing) send_resolved (is_subset old.resolved old.resolved) (nat_lt (old.time + interval) now)
+    (all_contained old.firing) refl (all_contained old.resolved) due)
+
+-- ---- the turns of the integrations
+
+module _ (at : Moment) (group : RouteLabels) (ms : Members) (config : Config) (key : LogKey) (old : LogEntry) where
+  abbrev written : LogEntry
+  written = record { time = at; firing = labels_of (firing_of at ms); resolved = labels_of (resolved_of at ms) }
+
+  -- the entry is the old one, or the new one, for which it was due
+  abbrev IsOldOrDue : State → Type 0
+  IsOldOrDue s = (s.config ≡ config) × ((get s.log key ≡ Some old) ⊎ ((get s.log key ≡ Some written)
+      × ((send_resolved : Bool) × (needs_update (Some old) written.firing written.resolved send_resolved at (repeat_interval_of config group.route) ≡ true))))
+
+  -- an entry is written at a key
+  module _ (s : State) (at_key : LogKey) (send_resolved : Bool) (due : needs_update (get s.log at_key) written.firing written.resolved send_resolved at (repeat_interval_of s.config group.route) ≡ true) where
+    after_due : (b : Bool) → eq_by_cmp log_key_cmp key at_key ≡ b → IsOldOrDue s → IsOldOrDue (record_notification at group at_key send_resolved ms s)
+    after_due true match is =
+        let found : get (record_notification at group at_key send_resolved ms s).log key ≡ Some written =
+        get-insert log_key_cmp_total s.log at_key written key ∙ ap (λ b. cond b (Some written) (get s.log key)) match in
+        let same_key : at_key ≡ key = sym (log_key_cmp-IsAntisymmetric key at_key (equal (log_key_cmp key at_key) match)) in (
+          is.0,
+          inr (
+            found,
+            elim is.1 [
+              | inl was ↦ (send_resolved, sym (λ i. needs_update (((ap (get s.log) same_key) ∙ was) i) written.firing written.resolved send_resolved at (repeat_interval_of (is.0 i) group.route)) ∙ due)
+              | inr now ↦ now.1
+            ],
+          ),
+        )
+    after_due false other is =
+        let found : get (record_notification at group at_key send_resolved ms s).log key ≡ get s.log key =
+        get-insert log_key_cmp_total s.log at_key written key ∙ ap (λ b. cond b (Some written) (get s.log key)) other in (
+          is.0,
+          elim is.1 [
+            | inl was ↦ inl (found ∙ was)
+            | inr now ↦ inr (found ∙ now.0, now.1)
+          ],
+        )
+
+  notify_due : (s : State) (integration : Integration) → IsOldOrDue s → IsOldOrDue (notify at group ms s integration)
+  unfolding notify
+  notify_due s integration is =
+      let at_key : LogKey = log_key_of s.config group integration in
+      elim (needs_update (get s.log at_key) written.firing written.resolved integration.send_resolved at (repeat_interval_of s.config group.route))
+      as (λ b. needs_update (get s.log at_key) written.firing written.resolved integration.send_resolved at (repeat_interval_of s.config group.route) ≡ b
+      → IsOldOrDue (if b then record_notification at group at_key integration.send_resolved ms s else s)) [
+        | true ↦ λ due. after_due s at_key integration.send_resolved due (eq_by_cmp log_key_cmp key at_key) refl is
+        | false ↦ λ not_due. is
+      ] refl
+
+  -- and then it has the old sets only if the interval is over
+  waits : (s : State) (new : LogEntry) → IsOldOrDue s → get s.log key ≡ Some new → new.firing ≡ old.firing → new.resolved ≡ old.resolved
+      → (new ≡ old) ⊎ (old.time + repeat_interval_of config group.route < new.time)
+  waits s new is found firing resolved = elim is.1 [
+    | inl was ↦ let same : new ≡ old = cc in inl same
+    | inr now ↦
+        let same : written ≡ new = cc in
+        let due : needs_update (Some old) old.firing old.resolved now.1.0 at (repeat_interval_of config group.route) ≡ true =
+        (λ i. needs_update (Some old) (sym (ap (λ (x : LogEntry). x.firing) same ∙ firing) i) (sym (ap (λ (x : LogEntry). x.resolved) same ∙ resolved) i) now.1.0 at (repeat_interval_of config group.route)) ∙ now.1.1 in
+        inr (subst (λ t. old.time + repeat_interval_of config group.route < t) (ap (λ (x : LogEntry). x.time) same) (same_again old now.1.0 at (repeat_interval_of config group.route) due))
+  ]
+
+-- ---- a flush
+
+notify_all_due : (at : Moment) (group : RouteLabels) (ms : Members) (s : State) (key : LogKey) (old : LogEntry) → get s.log key ≡ Some old → IsOldOrDue at group ms s.config key old (notify_all at group ms s)
+notify_all_due at group [] s key old was = (refl, inl was)
+notify_all_due at group (m ∷ ms) s key old was =
+    fold_holds (IsOldOrDue at group (m ∷ ms) s.config key old) (notify at group (m ∷ ms)) (notify_due at group (m ∷ ms) s.config key old) (integrations_of s.config group.route) s (refl, inl was)
+
+pipeline_due : (at : Moment) (group : RouteLabels) (ms : Members) (s : State) (key : LogKey) (old : LogEntry) → get s.log key ≡ Some old
+    → (through : Members) × IsOldOrDue at group through s.config key old (run_pipeline at group ms s)
+pipeline_due at group [] s key old was = ([], (refl, inl was))
+pipeline_due at group (m ∷ ms) s key old was =
+    let through : Members = let_through s at group.route (m ∷ ms) in
+    (through, drop_holds (IsOldOrDue at group through s.config key old) (λ group at s is. is) (λ group s member is. is) at group (m ∷ ms) (notify_all at group through s) (notify_all_due at group through s key old was))
+
+flush_waits : (at : Moment) (group : RouteLabels) (s : State) → RepeatsWait s group.route (flush at group s)
+unfolding flush
+flush_waits at group s = λ key last entry was found firing resolved.
+    let due = pipeline_due at group (members s group) _ key last was in waits at group due.0 s.config key last (flush at group s) entry due.1 found firing resolved
+
+-- a flush writes an entry with the sets of the last one only after the repeat interval
+pub repeats_wait : (due : Due) (s : State) → due.kind ≡ GroupFlush → RepeatsWait s due.route (move due s)
+unfolding move
+repeats_wait due s is_flush = subst (λ (kind : Kind). RepeatsWait s due.route (move_of_kind kind due s)) (sym is_flush) (flush_waits due.moment (on_route due.route due.labels) s)

@@ -1,0 +1,178 @@
+-- After a flush each integration of the group's receiver was notified of each member that fires and
+-- that no stage mutes.
+use Rattle.std.specs.Prelude.{◌≡◌, ℕ, Bool, true, false, not, ◌&&◌, ◌||◌, List, [], ◌∷◌, ◌++◌, Option, Some, None, if◌then◌else◌, cond, map, nat_lt, ◌+◌}
+use Rattle.std.specs.List.{fold, Contains}
+use Rattle.std.specs.Option.{is_none}
+use Rattle.std.specs.Ordering.{eq_by_cmp, is_eq}
+use Rattle.std.proofs.Common.{refl, sym, ap, ◌∙◌, subst, inl, inr}
+use Rattle.std.proofs.lemmas.Cmp.{tied_itself}
+use Rattle.amr_labels.specs.Map.{get, get-insert}
+use Rattle.amr_labels.specs.Set.{contains, is_subset, is_empty}
+use Rattle.amr_labels.specs.Labels.{LabelSet}
+use Rattle.amr_time.specs.Time.{Moment}
+use Rattle.amr_stated.specs.declared.receiver.Integration.{Integration}
+use Rattle.amr_stated.specs.Config.{Config}
+use Rattle.amr_config.specs.Routing.{integrations_of, repeat_interval_of}
+use Rattle.amr_rules.specs.declared.alert.Alert.{Alert}
+use Rattle.amr_rules.specs.declared.dedup.LogEntry.{LogEntry}
+use Rattle.amr_rules.specs.Alerts.{is_resolved_at}
+use Rattle.amr_rules.specs.Dedup.{LabelSets, needs_update}
+use Rattle.amr_rules.proofs.Subsets.{some_listed}
+use Rattle.amr_actions.specs.Events.{Event}
+use Rattle.amr_state.specs.declared.due.Due.{Due}
+use Rattle.amr_state.specs.declared.due.Kind.{Kind}
+use Rattle.amr_state.specs.declared.due.Kind.TheVariants.{GroupFlush}
+use Rattle.amr_state.specs.declared.notification.LogKey.{LogKey}
+use Rattle.amr_state.specs.declared.route_labels.RouteLabels.{RouteLabels}
+use Rattle.amr_state.specs.State.{State, on_route, log_key_cmp, log_key_cmp_total, members}
+use Rattle.amr_engine.specs.Stages.{taken_away}
+use Rattle.amr_engine.specs.Flush.{Members, firing_of, resolved_of, labels_of, log_key_of, let_through, record_notification, notify, notify_all, run_pipeline, flush}
+use Rattle.amr_engine.specs.Moves.{move, move_of_kind, Advances}
+use Rattle.amr_engine.specs.Said.{Does}
+use Rattle.amr_engine.specs.Neutral.{Accepts}
+use Rattle.amr_engine.specs.Told.{LogIsNotified, IsNotified, IsToNotify, AllAreNotified, after_moves}
+use Rattle.amr_engine.proofs.MovesLaws.{do_within-Does}
+use Rattle.amr_engine.proofs.Belonging.{notify_config}
+use Rattle.amr_engine.proofs.Told.{fold_holds, drop_holds, move_holds, between_is_notified}
+use Rattle.amr_engine.proofs.Listed.{none_listed, first_or_rest, listed_filter, listed_map, in_set, in_superset, listed_in_set}
+
+-- the log has an entry of the key with the alert among those that fire
+abbrev HasLogged : LogKey → LabelSet → State → Type 0
+HasLogged key labels s = (entry : LogEntry) × (get s.log key ≡ Some entry) × (contains entry.firing labels ≡ true)
+
+-- ---- the dedup check
+
+all_known : (all ended late : Bool) → (not all || ended || late) ≡ false → all ≡ true
+all_known true ended late e = refl
+all_known false ended late e = absurd (cc)
+
+some_fire : (ms : Members) (labels : LabelSet) → contains (labels_of ms) labels ≡ true → is_empty (labels_of ms) ≡ false
+some_fire [] labels fires = absurd (none_listed labels (listed_in_set [] labels fires))
+some_fire (m ∷ ms) labels fires = some_listed m.0 (map (λ member. member.0) ms)
+
+module _ (at : Moment) (group : RouteLabels) (ms : Members) (labels : LabelSet) (fires : contains (labels_of (firing_of at ms)) labels ≡ true) where
+  abbrev firing : LabelSets
+  firing = labels_of (firing_of at ms)
+
+  abbrev resolved : LabelSets
+  resolved = labels_of (resolved_of at ms)
+
+  abbrev key_at : State → Integration → LogKey
+  key_at s integration = log_key_of s.config group integration
+
+  -- without a new entry, the last one has it
+  was_logged : (s : State) (integration : Integration) (o : Option LogEntry) → get s.log (key_at s integration) ≡ o
+      → needs_update o firing resolved integration.send_resolved at (repeat_interval_of s.config group.route) ≡ false → HasLogged (key_at s integration) labels s
+  unfolding needs_update
+  was_logged s integration None is e = absurd (cc (ap not (some_fire (firing_of at ms) labels fires), e))
+  was_logged s integration (Some entry) is e = (
+    entry,
+    is,
+    in_superset (map (λ member. member.0) (firing_of at ms)) entry.firing labels (all_known (is_subset firing entry.firing) _ _ e)
+        (listed_in_set (map (λ member. member.0) (firing_of at ms)) labels fires),
+  )
+
+  logs_at : (s : State) (key : LogKey) (send_resolved : Bool) (asked : LogKey) (b : Bool) → eq_by_cmp log_key_cmp asked key ≡ b → HasLogged asked labels s
+      → HasLogged asked labels (record_notification at group key send_resolved ms s)
+  logs_at s key send_resolved asked true same has =
+      (record { time = at; firing = firing; resolved = resolved }, get-insert log_key_cmp_total s.log key _ asked ∙ ap (λ b. cond b (Some (record { time = at; firing = firing; resolved = resolved })) (get s.log asked)) same, fires)
+  logs_at s key send_resolved asked false other has =
+      (has.0, get-insert log_key_cmp_total s.log key _ asked ∙ ap (λ b. cond b (Some (record { time = at; firing = firing; resolved = resolved })) (get s.log asked)) other ∙ has.1, has.2)
+
+  logs_now : (s : State) (key : LogKey) (send_resolved : Bool) → HasLogged key labels (record_notification at group key send_resolved ms s)
+  logs_now s key send_resolved = (
+    record { time = at; firing = firing; resolved = resolved },
+    get-insert log_key_cmp_total s.log key _ key
+        ∙ ap (λ r. cond (is_eq r) (Some (record { time = at; firing = firing; resolved = resolved })) (get s.log key)) (tied_itself log_key_cmp_total key),
+    fires,
+  )
+
+  -- the integration's entry has it after its turn
+  notify_logs : (s : State) (integration : Integration) → HasLogged (key_at s integration) labels (notify at group ms s integration)
+  unfolding notify
+  notify_logs s integration =
+      elim (needs_update (get s.log (key_at s integration)) firing resolved integration.send_resolved at (repeat_interval_of s.config group.route))
+      as (λ b. needs_update (get s.log (key_at s integration)) firing resolved integration.send_resolved at (repeat_interval_of s.config group.route) ≡ b
+      → HasLogged (key_at s integration) labels (if b then record_notification at group (key_at s integration) integration.send_resolved ms s else s)) [
+        | true ↦ λ due. logs_now s (key_at s integration) integration.send_resolved
+        | false ↦ λ not_due. was_logged s integration (get s.log (key_at s integration)) refl not_due
+      ] refl
+
+  -- and after the turns of others
+  notify_leaves : (key : LogKey) (s : State) (integration : Integration) → HasLogged key labels s → HasLogged key labels (notify at group ms s integration)
+  unfolding notify
+  notify_leaves key s integration has =
+      elim (needs_update (get s.log (key_at s integration)) firing resolved integration.send_resolved at (repeat_interval_of s.config group.route))
+      as (λ b. HasLogged key labels (if b then record_notification at group (key_at s integration) integration.send_resolved ms s else s)) [
+        | true ↦ logs_at s (key_at s integration) integration.send_resolved key (eq_by_cmp log_key_cmp key (key_at s integration)) refl has
+        | false ↦ has
+      ]
+
+  each_logs : (integrations : List Integration) (s : State) (integration : Integration) → Contains integrations integration
+      → HasLogged (key_at s integration) labels (fold (notify at group ms) s integrations)
+  each_logs [] s integration listed = absurd (none_listed integration listed)
+  each_logs (first ∷ rest) s integration listed =
+      elim (first_or_rest first integration rest listed) [
+        | inl same ↦ fold_holds (HasLogged (key_at s integration) labels) (notify at group ms) (notify_leaves (key_at s integration)) rest (notify at group ms s first)
+            (subst (λ (i : Integration). HasLogged (key_at s i) labels (notify at group ms s first)) same (notify_logs s first))
+        | inr later ↦ subst (λ (c : Config). HasLogged (log_key_of c group integration) labels (fold (notify at group ms) (notify at group ms s first) rest)) (notify_config at group ms s first)
+            (each_logs rest (notify at group ms s first) integration later)
+      ]
+
+-- ---- a flush
+
+module _ (at : Moment) (group : RouteLabels) (member : LabelSet × Alert) (fires : is_resolved_at at member.1 ≡ false) where
+  among_firing : (ms : Members) → Contains ms member → contains (labels_of (firing_of at ms)) member.0 ≡ true
+  among_firing ms listed =
+      in_set (map (λ member. member.0) (firing_of at ms)) member.0
+      (listed_map (λ member. member.0) (firing_of at ms) member (listed_filter (λ member. not (is_resolved_at at member.1)) ms member (ap not fires) listed))
+
+  notify_all_logs : (ms : Members) (s : State) (integration : Integration) → Contains ms member → Contains (integrations_of s.config group.route) integration
+      → HasLogged (log_key_of s.config group integration) member.0 (notify_all at group ms s)
+  notify_all_logs [] s integration listed of = absurd (none_listed member listed)
+  notify_all_logs (m ∷ ms) s integration listed of =
+      each_logs at group (m ∷ ms) member.0 (among_firing (m ∷ ms) listed) (integrations_of s.config group.route) s integration of
+
+  pipeline_logs : (ms : Members) (s : State) (integration : Integration) → Contains ms member → taken_away s at group.route member.0 ≡ None → Contains (integrations_of s.config group.route) integration
+      → HasLogged (log_key_of s.config group integration) member.0 (run_pipeline at group ms s)
+  pipeline_logs [] s integration listed unmuted of = absurd (none_listed member listed)
+  pipeline_logs (m ∷ ms) s integration listed unmuted of =
+      let through : Members = let_through s at group.route (m ∷ ms) in
+      drop_holds (HasLogged (log_key_of s.config group integration) member.0) (λ group at s has. has) (λ group s member has. has) at group (m ∷ ms) (notify_all at group through s)
+      (notify_all_logs through s integration (listed_filter (λ other. is_none (taken_away s at group.route other.0)) (m ∷ ms) member (ap is_none unmuted) listed) of)
+
+  flush_logs : (s : State) (integration : Integration) → Contains (members s group) member → taken_away s at group.route member.0 ≡ None → Contains (integrations_of s.config group.route) integration
+      → HasLogged (log_key_of s.config group integration) member.0 (flush at group s)
+  unfolding flush taken_away
+  flush_logs s integration listed unmuted of = pipeline_logs (members s group) _ integration listed unmuted of
+
+-- a flush among the moves notifies all integrations, if all of the log was notified before
+pub flush_notifies : (due : Due) (s : State) → due.kind ≡ GroupFlush → LogIsNotified s → AllAreNotified s due.moment (on_route due.route due.labels) (move due s)
+unfolding move
+flush_notifies due s is_flush notified = λ member to_notify integration of.
+    let group : RouteLabels = on_route due.route due.labels in
+    let has : HasLogged (log_key_of s.config group integration) member.0 (move due s) =
+    subst (λ (kind : Kind). HasLogged (log_key_of s.config group integration) member.0 (move_of_kind kind due s)) (sym is_flush)
+    (flush_logs due.moment group member to_notify.fires s integration to_notify.listed to_notify.unmuted of) in
+    record {
+      entry = has.0;
+      logged = has.1;
+      fires = has.2;
+      notified = move_holds due s notified (log_key_of s.config group integration) has.0 member.0 has.1 has.2;
+    }
+
+no_part : (before later : List Due) (due : Due) → before ++ due ∷ later ≡ [] → ⊥
+no_part [] later due e = absurd (cc)
+no_part (first ∷ before) later due e = absurd (cc)
+
+-- so does each flush among the moves of an accepted event
+pub flushes_notify : (limit : ℕ) (s : State) (event : Event) (moves : List Due) (after : State) → LogIsNotified s → Accepts limit s event moves after
+    → (before later : List Due) (due : Due) → moves ≡ before ++ due ∷ later → due.kind ≡ GroupFlush
+    → AllAreNotified (after_moves s before) due.moment (on_route due.route due.labels) (move due (after_moves s before))
+flushes_notify limit s event moves after notified accepted before later due parts is_flush = by (do_within-Does limit s event moves after accepted)
+  where
+    by : Does limit s event moves after → AllAreNotified (after_moves s before) due.moment (on_route due.route due.labels) (move due (after_moves s before))
+    by (inl names) = absurd (no_part before later due (sym parts ∙ names.none))
+    by (inr acts) =
+        let run : Advances event.at s (before ++ due ∷ later) acts.moved = subst (λ (ds : List Due). Advances event.at s ds acts.moved) parts acts.advanced in
+        flush_notifies due (after_moves s before) is_flush (between_is_notified event.at before (due ∷ later) s acts.moved run notified)

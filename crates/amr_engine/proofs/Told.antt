@@ -1,0 +1,190 @@
+-- In every run, each alert that an entry of the log has among those that fire is in the entry's
+-- notification.
+use Rattle.std.specs.Prelude.{◌≡◌, Bool, true, false, List, [], ◌∷◌, ◌++◌, Some, Result, Ok, Err, if◌then◌else◌, cond, map}
+use Rattle.std.specs.List.{fold, Contains}
+use Rattle.std.specs.Ordering.{eq_by_cmp}
+use Rattle.std.proofs.Common.{refl, sym, ap, ◌∙◌, subst}
+use Rattle.std.proofs.lemmas.List.Elements.{Contains-append_left, Contains-append_right}
+use Rattle.amr_labels.specs.Map.{get, entries, empty, get-empty, get-insert}
+use Rattle.amr_labels.specs.Set.{contains}
+use Rattle.amr_labels.specs.Labels.{LabelSet}
+use Rattle.amr_time.specs.Time.{Moment}
+use Rattle.amr_stated.specs.declared.receiver.Integration.{Integration}
+use Rattle.amr_stated.specs.Config.{Config}
+use Rattle.amr_config.specs.Routing.{chosen, integrations_of, repeat_interval_of}
+use Rattle.amr_rules.specs.declared.alert.Alert.{Alert}
+use Rattle.amr_rules.specs.declared.dedup.LogEntry.{LogEntry}
+use Rattle.amr_rules.specs.Dedup.{needs_update}
+use Rattle.amr_rules.specs.Silences.{after_post, after_expiry}
+use Rattle.amr_posts.specs.Reasons.{Reason}
+use Rattle.amr_actions.specs.Events.{Event, Act}
+use Rattle.amr_state.specs.declared.due.Due.{Due}
+use Rattle.amr_state.specs.declared.due.Kind.{Kind}
+use Rattle.amr_state.specs.declared.due.Kind.TheVariants.{AlertRemoval, GroupRemoval, GroupFlush}
+use Rattle.amr_state.specs.declared.notification.LogKey.{LogKey}
+use Rattle.amr_state.specs.declared.notification.Notification.{Notification}
+use Rattle.amr_state.specs.declared.route_labels.RouteLabels.{RouteLabels}
+use Rattle.amr_state.specs.State.{State, start, on_route, log_key_cmp, log_key_cmp_total, log_key_cmp-IsAntisymmetric, members, place, place_on}
+use Rattle.amr_engine.specs.Flush.{Members, firing_of, resolved_of, labels_of, log_key_of, let_through, notified_firing, notified_resolved, notifications_of, record_notification, notify, notify_all, set_timer, drop_member, mark_if_empty, drop_resolved, run_pipeline, flush}
+use Rattle.amr_engine.specs.Moves.{move, move_of_kind, Advances}
+use Rattle.amr_engine.specs.Events.{put, put_all, valid_alerts, with_config, with_silences, on_ok, after_act, run_of}
+use Rattle.amr_engine.specs.Told.{HasNotification, LogIsNotified, after_moves}
+use Rattle.amr_engine.proofs.QuietStays.{equal}
+use Rattle.amr_engine.proofs.Invariant.{holds_after_run, holds_between}
+use Rattle.amr_engine.proofs.Listed.{none_listed, listed_first, listed_in_set}
+
+-- what each step keeps holds after all of them
+pub fold_holds : {A : Type 0} (P : State → Type 0) (f : State → A → State) → ((s : State) (a : A) → P s → P (f s a)) → (items : List A) (s : State) → P s → P (fold f s items)
+fold_holds P f step [] s holds = holds
+fold_holds P f step (a ∷ items) s holds = fold_holds P f step items (f s a) (step s a holds)
+
+-- ---- the notification of an entry
+
+module _ (at : Moment) (key : LogKey) (labels : LabelSet) (notes more : List Notification) where
+  notified_before : HasNotification notes at key labels → HasNotification (notes ++ more) at key labels
+  notified_before has = record {
+    notification = has.notification;
+    listed = Contains-append_left notes more has.notification has.listed;
+    moment = has.moment;
+    of_key = has.of_key;
+    fires = has.fires;
+  }
+
+  notified_now : HasNotification more at key labels → HasNotification (notes ++ more) at key labels
+  notified_now has = record {
+    notification = has.notification;
+    listed = Contains-append_right notes more has.notification has.listed;
+    moment = has.moment;
+    of_key = has.of_key;
+    fires = has.fires;
+  }
+
+same_labels : (ms : Members) → map (λ alert. alert.labels) (map notified_firing ms) ≡ map (λ member. member.0) ms
+same_labels [] = refl
+same_labels (m ∷ ms) = ap (λ (rest : List LabelSet). m.0 ∷ rest) (same_labels ms)
+
+module _ (at : Moment) (group : RouteLabels) (key : LogKey) (send_resolved : Bool) where
+  -- if something fires, a notification is appended, which says so
+  has_fired : (firing resolved : Members) (labels : LabelSet) → contains (labels_of firing) labels ≡ true → HasNotification (notifications_of at group key send_resolved firing resolved) at key labels
+  has_fired [] resolved labels fires = absurd (none_listed labels (listed_in_set [] labels fires))
+  has_fired (m ∷ ms) resolved labels fires =
+      let notification : Notification = record { at = at; route = group.route; key = key; firing = map notified_firing (m ∷ ms); resolved = if send_resolved then map notified_resolved resolved else [] } in
+      record {
+        notification = notification;
+        listed = listed_first notification [];
+        moment = refl;
+        of_key = refl;
+        fires = subst (λ (ls : List LabelSet). Contains ls labels) (sym (same_labels (m ∷ ms))) (listed_in_set (map (λ member. member.0) (m ∷ ms)) labels fires);
+      }
+
+  module _ (ms : Members) (s : State) where
+    abbrev written : LogEntry
+    written = record { time = at; firing = labels_of (firing_of at ms); resolved = labels_of (resolved_of at ms) }
+
+    abbrev appended : List Notification
+    appended = notifications_of at group key send_resolved (firing_of at ms) (resolved_of at ms)
+
+    recorded_entry : LogIsNotified s → (asked : LogKey) (entry : LogEntry) (labels : LabelSet) (b : Bool) → eq_by_cmp log_key_cmp asked key ≡ b
+        → cond b (Some written) (get s.log asked) ≡ Some entry → contains entry.firing labels ≡ true → HasNotification (s.notes ++ appended) entry.time asked labels
+    recorded_entry holds asked entry labels true same logged fires =
+        let is : written ≡ entry = cc in
+        let asked_is : key ≡ asked = sym (log_key_cmp-IsAntisymmetric asked key (equal (log_key_cmp asked key) same)) in
+        subst (λ (x : LogEntry × LogKey). HasNotification (s.notes ++ appended) x.0.time x.1 labels) (λ i. (is i, asked_is i))
+        (notified_now at key labels s.notes appended (has_fired (firing_of at ms) (resolved_of at ms) labels (ap (λ (x : LogEntry). contains x.firing labels) is ∙ fires)))
+    recorded_entry holds asked entry labels false other logged fires = notified_before entry.time asked labels s.notes appended (holds asked entry labels logged fires)
+
+    recorded : LogIsNotified s → LogIsNotified (record_notification at group key send_resolved ms s)
+    recorded holds = λ asked entry labels logged fires.
+        recorded_entry holds asked entry labels (eq_by_cmp log_key_cmp asked key) refl (sym (get-insert log_key_cmp_total s.log key written asked) ∙ logged) fires
+
+-- ---- a flush
+
+notify_holds : (at : Moment) (group : RouteLabels) (ms : Members) (s : State) (integration : Integration) → LogIsNotified s → LogIsNotified (notify at group ms s integration)
+unfolding notify
+notify_holds at group ms s integration holds =
+    elim (needs_update (get s.log (log_key_of s.config group integration)) (labels_of (firing_of at ms)) (labels_of (resolved_of at ms)) integration.send_resolved at (repeat_interval_of s.config group.route))
+    as (λ b. LogIsNotified (if b then record_notification at group (log_key_of s.config group integration) integration.send_resolved ms s else s)) [
+      | true ↦ recorded at group (log_key_of s.config group integration) integration.send_resolved ms s holds
+      | false ↦ holds
+    ]
+
+notify_all_holds : (at : Moment) (group : RouteLabels) (ms : Members) (s : State) → LogIsNotified s → LogIsNotified (notify_all at group ms s)
+notify_all_holds at group [] s holds = holds
+notify_all_holds at group (m ∷ ms) s holds = fold_holds LogIsNotified (notify at group (m ∷ ms)) (notify_holds at group (m ∷ ms)) (integrations_of s.config group.route) s holds
+
+-- what group timers and members leaving don't change holds after they leave
+module _ (P : State → Type 0) (timed : (group : RouteLabels) (at : Moment) (s : State) → P s → P (mark_if_empty at group [] s))
+    (dropped : (group : RouteLabels) (s : State) (member : LabelSet × Alert) → P s → P (drop_member group s member)) where
+  mark_holds : (at : Moment) (group : RouteLabels) (ms : Members) (s : State) → P s → P (mark_if_empty at group ms s)
+  mark_holds at group [] s holds = timed group at s holds
+  mark_holds at group (m ∷ ms) s holds = holds
+
+  pub drop_holds : (at : Moment) (group : RouteLabels) (ms : Members) (s : State) → P s → P (drop_resolved at group ms s)
+  unfolding drop_resolved
+  drop_holds at group ms s holds =
+      mark_holds at group (firing_of at ms) (fold (drop_member group) s (resolved_of at ms)) (fold_holds P (drop_member group) (dropped group) (resolved_of at ms) s holds)
+
+pipeline_holds : (at : Moment) (group : RouteLabels) (ms : Members) (s : State) → LogIsNotified s → LogIsNotified (run_pipeline at group ms s)
+pipeline_holds at group [] s holds = holds
+pipeline_holds at group (m ∷ ms) s holds =
+    let through : Members = let_through s at group.route (m ∷ ms) in
+    drop_holds LogIsNotified (λ group at s holds. holds) (λ group s member holds. holds) at group (m ∷ ms) (notify_all at group through s) (notify_all_holds at group through s holds)
+
+flush_holds : (at : Moment) (group : RouteLabels) (s : State) → LogIsNotified s → LogIsNotified (flush at group s)
+unfolding flush
+flush_holds at group s holds = pipeline_holds at group (members s group) _ holds
+
+kind_holds : (kind : Kind) (due : Due) (s : State) → LogIsNotified s → LogIsNotified (move_of_kind kind due s)
+kind_holds AlertRemoval due s holds = holds
+kind_holds GroupRemoval due s holds = holds
+kind_holds GroupFlush due s holds = flush_holds due.moment (on_route due.route due.labels) s holds
+
+pub move_holds : (due : Due) (s : State) → LogIsNotified s → LogIsNotified (move due s)
+unfolding move
+move_holds due s holds = kind_holds due.kind due s holds
+
+-- ---- an action
+
+place_holds : (s : State) (alert : LabelSet × Alert) → LogIsNotified s → LogIsNotified (place s alert)
+unfolding place
+place_holds s alert holds = fold_holds LogIsNotified (place_on alert.0 alert.1) (λ s route holds. holds) (chosen s.config alert.0) s holds
+
+put_holds : (s : State) (alert : LabelSet × Alert) → LogIsNotified s → LogIsNotified (put s alert)
+unfolding put
+put_holds s alert holds = place_holds _ _ holds
+
+put_all_holds : (s : State) (alerts : List (LabelSet × Alert)) (after : State) → LogIsNotified s → put_all s alerts ≡ Ok after → LogIsNotified after
+put_all_holds s [] after holds e = absurd (cc)
+put_all_holds s (alert ∷ alerts) after holds e =
+    let is : fold put s (alert ∷ alerts) ≡ after = cc in subst LogIsNotified is (fold_holds LogIsNotified put put_holds (alert ∷ alerts) s holds)
+
+ok_holds : {A : Type 0} (f : A → State) → ((x : A) → LogIsNotified (f x)) → (r : Result A Reason) (after : State) → on_ok f r ≡ Ok after → LogIsNotified after
+ok_holds f holds (Ok x) after e = let is : f x ≡ after = cc in subst LogIsNotified is (holds x)
+ok_holds f holds (Err reason) after e = absurd (cc)
+
+with_config_holds : (s : State) (config : Config) → LogIsNotified s → LogIsNotified (with_config s config)
+unfolding with_config
+with_config_holds s config holds = fold_holds LogIsNotified place place_holds (entries s.alerts) (record s { config = config; placements = empty; timers = empty }) holds
+
+act_holds : (s : State) (act : Act) (after : State) → LogIsNotified s → after_act s act ≡ Ok after → LogIsNotified after
+unfolding after_act
+act_holds s (Act.Post posted) after holds e = put_all_holds s (valid_alerts s posted) after holds e
+act_holds s (Act.Silence posted) after holds e = ok_holds (with_silences s) (λ silences. holds) (after_post s.moment posted s.silences) after e
+act_holds s (Act.Expire id) after holds e = ok_holds (with_silences s) (λ silences. holds) (after_expiry s.moment id s.silences) after e
+act_holds s (Act.Reload config) after holds e = ok_holds (with_config s) (λ config. with_config_holds s config holds) config after e
+act_holds s Act.Tick after holds e = let is : s ≡ after = cc in subst LogIsNotified is holds
+act_holds s (Act.Label text) after holds e = let is : s ≡ after = cc in subst LogIsNotified is holds
+
+-- ---- a run
+
+start_holds : (config : Config) → LogIsNotified (start config)
+start_holds config = λ key entry labels logged fires. absurd (cc (get-empty log_key_cmp key, logged))
+
+pub log_is_notified : (config : Config) (events : List Event) → LogIsNotified (run_of config events)
+log_is_notified config events =
+    holds_after_run (λ at s. LogIsNotified s) (λ t u s order holds. holds) (λ at s holds. holds) (λ at s due is holds. move_holds due s holds) act_holds config events (start_holds config)
+
+-- and inside the moves of an event, after those that are made before another one
+pub between_is_notified : (at : Moment) (before rest : List Due) (s end : State) → Advances at s (before ++ rest) end → LogIsNotified s → LogIsNotified (after_moves s before)
+between_is_notified =
+    holds_between (λ at s. LogIsNotified s) (λ t u s order holds. holds) (λ at s holds. holds) (λ at s due is holds. move_holds due s holds) act_holds
