@@ -1,14 +1,14 @@
 -- The lines that are written part by part are those of their values.
 use Rattle.std.proofs.Common.{◌≡◌, ◌++◌, ℕ, List, codes, decimal, map, refl, sym, ap, ◌∙◌, append_assoc}
 use Rattle.std.specs.Fmt.{digits}
-use Rattle.json.specs.Print.{escape}
+use Rattle.json.specs.Print.{escape, quoted}
 use Rattle.serde_json.proofs.OnLiterals.{serde_json_on_literals}
 use Rattle.serde_json.specs.Data.{array}
 use Rattle.serde_json.specs.View.{items_of}
 use Rattle.serde_json.specs.Written.{compact_text}
 use Rattle.amr_time.specs.Time.{Moment}
 use Rattle.amr_time.specs.MomentText.{moment_text}
-use Rattle.amr_lines.specs.Lines.Printed.{number_data, skipped_line, refused_event_line}
+use Rattle.amr_lines.specs.Lines.Printed.{number_data, skipped_line, refused_event_line, label_line}
 use Rattle.amr_lines.specs.Lines.LastLines.{word_text, moves_line, cursor_line, place_data, place_line, refused_line}
 use Rattle.amr_lines.specs.declared.lines.word.Word.{Word}
 use Rattle.amr_lines.specs.declared.lines.word.Word.TheVariants.{Step, Back, Seek, SeekTime, Trial, Explain, Alerts, Silences, Groups, Log, Transcript, Cursor, Unknown}
@@ -67,3 +67,8 @@ pub skipped_line-parts : (event : ℕ) (places : List ℕ)
     → (codes "{\"event\":" ++ (decimal event ++ codes ",\"skipped\":")) ++ (compact_text (array (items_of (map number_data places))) ++ codes "}\n") ≡ skipped_line event places
 unfolding serde_json_on_literals
 skipped_line-parts event places = simp append_assoc
+
+pub label_line-parts : (event : ℕ) (text : List ℕ)
+    → (codes "{\"event\":" ++ (decimal event ++ codes ",\"label\":")) ++ (quoted text ++ codes "}\n") ≡ label_line event text
+unfolding serde_json_on_literals
+label_line-parts event text = simp append_assoc

@@ -12,6 +12,7 @@ use Rattle.amr_lines.specs.declared.lines.word.Word.TheVariants as word
 use Rattle.amr_lines.specs.Lines.LastLines.{word_text}
 use Rattle.amr_lines.specs.CommandLines.Parts.{trimmed, word_in, argument_in, is_digit, number_within}
 use Rattle.amr_events.specs.LabelTexts.{labels_in}
+use Rattle.amr_events.specs.declared.version.Version.{Version}
 use Rattle.amr_lines.specs.declared.command_lines.command.Move.{Move}
 use Rattle.amr_lines.specs.declared.command_lines.command.Move.TheVariants.{Step, Back, Seek, SeekTime}
 use Rattle.amr_lines.specs.declared.command_lines.command.Query.{Query}
@@ -74,32 +75,32 @@ moment_in text = if is_utf8 text then moment_at text else None
 abbrev pub seek_time_said : Text → ParsedLine
 seek_time_said argument = option_map_or (λ moment. Asks (command.Move (SeekTime moment))) (moment_in argument) BadMoment
 
-abbrev pub trial_said : Text → ParsedLine
-trial_said argument = option_map_or (λ event. Asks (command.Trial event)) (event_of_line argument) (BadArgument word.Trial)
+abbrev pub trial_said : Version → Text → ParsedLine
+trial_said version argument = option_map_or (λ event. Asks (command.Trial event)) (event_of_line version argument) (BadArgument word.Trial)
 
 abbrev pub explain_said : Text → ParsedLine
 explain_said argument = option_map_or (λ labels. Asks (command.Query (Explain labels))) (labels_in argument) (BadArgument word.Explain)
 
--- what a word is parsed as, with what follows it
-unfoldable pub said_by : Word → Text → ParsedLine
-said_by word.Step argument = said_alone (command.Move Step) argument
-said_by word.Back argument = said_alone (command.Move Back) argument
-said_by word.Seek argument = with_argument word.Seek seek_said argument
-said_by word.SeekTime argument = with_argument word.SeekTime seek_time_said argument
-said_by word.Trial argument = with_argument word.Trial trial_said argument
-said_by word.Explain argument = with_argument word.Explain explain_said argument
-said_by word.Alerts argument = said_alone (command.Query Alerts) argument
-said_by word.Silences argument = said_alone (command.Query Silences) argument
-said_by word.Groups argument = said_alone (command.Query Groups) argument
-said_by word.Log argument = said_alone (command.Query Log) argument
-said_by word.Transcript argument = said_alone (command.Query Transcript) argument
-said_by word.Cursor argument = said_alone command.Cursor argument
-said_by word.Unknown argument = Malformed word.Unknown
+-- what a word is parsed as, with what follows it, in a session of a script of this version
+unfoldable pub said_by : Version → Word → Text → ParsedLine
+said_by version word.Step argument = said_alone (command.Move Step) argument
+said_by version word.Back argument = said_alone (command.Move Back) argument
+said_by version word.Seek argument = with_argument word.Seek seek_said argument
+said_by version word.SeekTime argument = with_argument word.SeekTime seek_time_said argument
+said_by version word.Trial argument = with_argument word.Trial (trial_said version) argument
+said_by version word.Explain argument = with_argument word.Explain explain_said argument
+said_by version word.Alerts argument = said_alone (command.Query Alerts) argument
+said_by version word.Silences argument = said_alone (command.Query Silences) argument
+said_by version word.Groups argument = said_alone (command.Query Groups) argument
+said_by version word.Log argument = said_alone (command.Query Log) argument
+said_by version word.Transcript argument = said_alone (command.Query Transcript) argument
+said_by version word.Cursor argument = said_alone command.Cursor argument
+said_by version word.Unknown argument = Malformed word.Unknown
 
 -- what a text without white space at its ends is parsed as
-unfoldable pub said_in : Text → ParsedLine
-said_in text = if length text == 0 then Nothing else said_by (word_named (word_in text)) (argument_in text)
+unfoldable pub said_in : Version → Text → ParsedLine
+said_in version text = if length text == 0 then Nothing else said_by version (word_named (word_in text)) (argument_in text)
 
 -- what a line is parsed as
-unfoldable pub said_of : Text → ParsedLine
-said_of line = if is_utf8 line then said_in (trimmed line) else Malformed word.Unknown
+unfoldable pub said_of : Version → Text → ParsedLine
+said_of version line = if is_utf8 line then said_in version (trimmed line) else Malformed word.Unknown

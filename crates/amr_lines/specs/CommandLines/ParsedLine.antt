@@ -4,6 +4,7 @@ use Rattle.std.specs.Str.{is_utf8}
 use Rattle.amr_labels.specs.Labels.{Text}
 use Rattle.amr_actions.specs.Events.{Event}
 use Rattle.amr_events.specs.Refused.{LineIs}
+use Rattle.amr_events.specs.declared.version.Version.{Version}
 use Rattle.amr_lines.specs.declared.lines.word.Word.{Word}
 use Rattle.amr_lines.specs.declared.lines.word.Word.TheVariants as word
 use Rattle.amr_lines.specs.declared.command_lines.command.Query.TheVariants.{Explain}
@@ -16,21 +17,23 @@ use Rattle.amr_lines.specs.CommandLines.Parts.{trimmed, word_in, argument_in}
 use Rattle.amr_lines.specs.CommandLines.Command.{word_named, word_of_command, said_by, said_in, said_of}
 
 -- the event of a trial is one that its text may be read as, given what `regex` refuses in it
-abbrev pub Tries : Text → ParsedLine → Type 0
-Tries argument parsed = (event : Event) × (parsed ≡ Asks (command.Trial event)) × LineIs argument event
+abbrev pub Tries : Version → Text → ParsedLine → Type 0
+Tries version argument parsed = (event : Event) × (parsed ≡ Asks (command.Trial event)) × LineIs version argument event
 
 -- a word may be parsed as this, with what follows it
-abbrev pub WordSays : Word → Text → ParsedLine → Type 0
-WordSays name argument parsed = (parsed ≡ said_by name argument) ⊎ ((name ≡ word.Trial) × Tries argument parsed)
+abbrev pub WordSays : Version → Word → Text → ParsedLine → Type 0
+WordSays version name argument parsed = (parsed ≡ said_by version name argument) ⊎ ((name ≡ word.Trial) × Tries version argument parsed)
 
 -- a text without white space at its ends may be parsed as this
-abbrev pub TextSays : Text → ParsedLine → Type 0
-TextSays text parsed = (parsed ≡ said_in text) ⊎ ((word_named (word_in text) ≡ word.Trial) × Tries (argument_in text) parsed)
+abbrev pub TextSays : Version → Text → ParsedLine → Type 0
+TextSays version text parsed = (parsed ≡ said_in version text) ⊎ ((word_named (word_in text) ≡ word.Trial) × Tries version (argument_in text) parsed)
 
--- The line may be parsed as this. It is `said_of` of the line, except that the event of a trial is
--- any that its text may be read as.
-abbrev pub LineSays : Text → ParsedLine → Type 0
-LineSays line parsed = (parsed ≡ said_of line) ⊎ ((is_utf8 line ≡ true) × (word_named (word_in (trimmed line)) ≡ word.Trial) × Tries (argument_in (trimmed line)) parsed)
+-- The line may be parsed as this, in a session of a script of this version. It is `said_of` of the
+-- line, except that the event of a trial is any that its text may be read as.
+abbrev pub LineSays : Version → Text → ParsedLine → Type 0
+LineSays version line parsed =
+    (parsed ≡ said_of version line)
+    ⊎ ((is_utf8 line ≡ true) × (word_named (word_in (trimmed line)) ≡ word.Trial) × Tries version (argument_in (trimmed line)) parsed)
 
 -- the word that a refusal names
 abbrev pub word_of : ParsedLine → Word
@@ -63,8 +66,8 @@ abbrev pub ReadsSuch : (ParsedLine → Type 0) → ParsedLine → Result ParsedL
 ReadsSuch IsSuch parsed result = MatchResult result IsSuch (λ unread. ReadingTakesMemory parsed × (word_of parsed ≡ unread.word))
 
 -- the line has this word, and an argument for which memory may run out
-pub record FailsToRead (line : Text) (word : Word) : Type 0 where
+pub record FailsToRead (version : Version) (line : Text) (word : Word) : Type 0 where
   pub parsed : ParsedLine
-  pub says : LineSays line parsed
+  pub says : LineSays version line parsed
   pub takes : ReadingTakesMemory parsed
   pub named : word_of parsed ≡ word

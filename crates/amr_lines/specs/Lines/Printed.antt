@@ -12,6 +12,8 @@ use Rattle.amr_labels.specs.Set.{items}
 use Rattle.amr_labels.specs.Labels.{Text, LabelSet}
 use Rattle.amr_matchers.specs.Matchers.{Matcher}
 use Rattle.amr_time.specs.Time.{Moment}
+use Rattle.amr_actions.specs.Events.{Act, Event}
+use Rattle.amr_actions.specs.Events as events
 use Rattle.amr_rules.specs.declared.alert.Alert.{Alert}
 use Rattle.amr_rules.specs.declared.silence.Silence.{Silence}
 use Rattle.amr_rules.specs.declared.dedup.LogEntry.{LogEntry}
@@ -111,11 +113,30 @@ abbrev pub skipped_lines : ℕ → List ℕ → Text
 skipped_lines event [] = []
 skipped_lines event (place ∷ places) = skipped_line event (place ∷ places)
 
--- the lines of an event's outcome: its notifications in order, then the skipped alerts; or its
--- refusal
-abbrev pub event_lines : ℕ → Outcome → Text
-event_lines event (Accepted moves notes skipped) = flat_map notification_line notes ++ skipped_lines event skipped
-event_lines event (Refused reason) = refused_event_line event reason
+-- the lines of an outcome: its notifications in order, then the skipped alerts; or its refusal
+abbrev pub outcome_lines : ℕ → Outcome → Text
+outcome_lines event (Accepted moves notes skipped) = flat_map notification_line notes ++ skipped_lines event skipped
+outcome_lines event (Refused reason) = refused_event_line event reason
+
+abbrev pub label_data : ℕ → Text → Data
+label_data event text = object (object_of ((codes "event", number_data event) ∷ (codes "label", string text) ∷ []))
+
+-- a label, which names a moment of the script
+abbrev pub label_line : ℕ → Text → Text
+label_line event text = data_line (label_data event text)
+
+-- a line if the action is a label
+abbrev pub label_lines : ℕ → Act → Text
+label_lines event (events.Act.Label text) = label_line event text
+label_lines event (events.Act.Post alerts) = []
+label_lines event (events.Act.Silence silence) = []
+label_lines event (events.Act.Expire id) = []
+label_lines event (events.Act.Reload config) = []
+label_lines event events.Act.Tick = []
+
+-- the lines of event number n, which had this outcome
+abbrev pub event_lines : ℕ → Event → Outcome → Text
+event_lines n event outcome = outcome_lines n outcome ++ label_lines n event.act
 
 abbrev pub alert_members : LabelSet × Alert → List (Text × Data)
 alert_members alert =

@@ -9,7 +9,7 @@ use crate::command_lines::digits::{all_digits, number};
 use crate::command_lines::parts::{argument, trimmed, word};
 use crate::lines::{Word, word_text};
 use amr_actions::Event;
-use amr_events::{LineError, ScriptError, read_event, read_labels};
+use amr_events::{LineError, ScriptError, Version, read_event, read_labels};
 use amr_labels::Labels;
 use amr_time::{Moment, read_moment};
 use std::alloc::Global;
@@ -138,13 +138,13 @@ const KNOWN_WORDS: [Word; 12] = [
 
 /// Parses a text without white space at its ends.
 #[tactic(auto, unfolding(crate::specs::CommandLines::Command::said_in))]
-fn read_text(alloc: Global, text: &[u8]) -> Result<ParsedLine, Unread>
-    ensures { ReadsSuch (TextSays text.now) (said_in text.now) result }
+fn read_text(alloc: Global, version: Version, text: &[u8]) -> Result<ParsedLine, Unread>
+    ensures { ReadsSuch (TextSays version text.now) (said_in version text.now) result }
 {
     if text.is_empty() {
         return Ok(ParsedLine::Nothing);
     }
-    read_argument(alloc, word_of(word(text)), argument(text))
+    read_argument(alloc, version, word_of(word(text)), argument(text))
 }
 
 /// Returns whether the bytes are UTF-8.
@@ -159,15 +159,21 @@ fn is_text(line: &[u8]) -> bool
 
 /// Parses a word's argument.
 #[tactic(auto, unfolding(crate::specs::CommandLines::Command::said_by))]
-fn read_argument(alloc: Global, word: Word, argument: &[u8]) -> Result<ParsedLine, Unread>
-    ensures { ReadsSuch (WordSays word argument.now) (said_by word argument.now) result }
+fn read_argument(
+    alloc: Global,
+    version: Version,
+    word: Word,
+    argument: &[u8],
+) -> Result<ParsedLine, Unread>
+    ensures { ReadsSuch (WordSays version word argument.now) (said_by version word argument.now)
+        result }
 {
     match word {
         Word::Step => Ok(alone(Command::Move(Move::Step), argument)),
         Word::Back => Ok(alone(Command::Move(Move::Back), argument)),
         Word::Seek => Ok(seek(argument)),
         Word::SeekTime => Ok(seek_time(argument)),
-        Word::Trial => trial(alloc, argument),
+        Word::Trial => trial(alloc, version, argument),
         Word::Explain => explain(alloc, argument),
         Word::Alerts => Ok(alone(Command::Query(Query::Alerts), argument)),
         Word::Silences => Ok(alone(Command::Query(Query::Silences), argument)),
@@ -195,16 +201,16 @@ fn explain(alloc: Global, argument: &[u8]) -> Result<ParsedLine, Unread>
     }
 }
 
-/// Parses the argument of `trial`, which is an event as on a line of a script.
+/// Parses the argument of `trial`, which is an event as on a line of a script of this version.
 #[tactic(auto, unfolding(crate::specs::CommandLines::Command::said_by))]
-fn trial(alloc: Global, argument: &[u8]) -> Result<ParsedLine, Unread>
-    ensures { ReadsSuch (WordSays Word.Trial argument.now) (said_by Word.Trial argument.now)
-        result }
+fn trial(alloc: Global, version: Version, argument: &[u8]) -> Result<ParsedLine, Unread>
+    ensures { ReadsSuch (WordSays version Word.Trial argument.now)
+        (said_by version Word.Trial argument.now) result }
 {
     if argument.is_empty() {
         return Ok(ParsedLine::Malformed(Word::Trial));
     }
-    match read_event(alloc, argument) {
+    match read_event(alloc, version, argument) {
         Ok(event) => Ok(ParsedLine::Asks(Command::Trial(event))),
         Err(ScriptError::Refused(_)) => Ok(ParsedLine::BadArgument(Word::Trial)),
         Err(ScriptError::Memory) => Err(Unread { word: Word::Trial }),
@@ -270,15 +276,16 @@ fn word_of(text: &[u8]) -> Word
 }
 
 impl ParsedLine {
-    /// Parses the bytes of a line. Only the arguments of `trial` and `explain` take memory.
+    /// Parses the bytes of a line, in a session of a script of this version. Only the arguments of
+    /// `trial` and `explain` take memory.
     #[tactic(auto, unfolding(crate::specs::CommandLines::Command::said_of))]
-    pub fn read(alloc: Global, line: &[u8]) -> Result<ParsedLine, Unread>
-        ensures { MatchResult result (LineSays line.now)
-            (λ unread. FailsToRead line.now unread.word) }
+    pub fn read(alloc: Global, version: Version, line: &[u8]) -> Result<ParsedLine, Unread>
+        ensures { MatchResult result (LineSays version line.now)
+            (λ unread. FailsToRead version line.now unread.word) }
     {
         if !is_text(line) {
             return Ok(ParsedLine::Malformed(Word::Unknown));
         }
-        read_text(alloc, trimmed(line))
+        read_text(alloc, version, trimmed(line))
     }
 }

@@ -1,26 +1,46 @@
-//! The lines of an event: its notifications, then the alerts that it skipped; or its refusal.
-//! Notifications are written in `notification_text.rt`, the others here.
+//! The lines of an event: its notifications and then the alerts that it skipped, or its refusal, or
+//! its label. Notifications are written in `notification_text.rt`, the others here.
 ghost use Rattle.std.specs.Prelude.{◌≡◌, ◌++◌, IfOk, OnOk, string_bytes};
 ghost use Rattle.std.specs.List.{flat_map};
-ghost use Rattle.amr_lines.specs.Lines.Printed.{notification_line, skipped_line, skipped_lines, refused_event_line, event_lines};
+ghost use Rattle.amr_lines.specs.Lines.Printed.{notification_line, skipped_line, skipped_lines, refused_event_line, outcome_lines, label_line, label_lines, event_lines};
+ghost use Rattle.amr_actions.specs.Acts.{act_of};
 ghost use Rattle.amr_engine.specs.Outcomes.{outcome_view};
 
 use crate::lines::notification_text::push_notification_line;
-use crate::lines::pushed_text::push_numbers;
+use crate::lines::pushed_text::{push_numbers, push_string};
+use amr_actions::{Act, Event};
 use amr_engine::Outcome;
 use amr_labels::Shared;
 use amr_state::Notification;
 use std::alloc::{AllocError, Global};
 use std::fmt::Write;
 
-/// The room that is made at once for each notification's line, in bytes: most are shorter.
+/// The room that is made at once for the line of a notification, in bytes: most are shorter.
 const LINE_ROOM: usize = 1024;
 
-/// Returns the lines of an event's outcome. Events are numbered from 1; an event that is only tried
-/// has number 0.
-pub fn event_text(alloc: Global, event: u64, outcome: &Outcome) -> Result<String, AllocError>
+/// For this many notifications room is made at once. More than that are rare, and the text grows.
+const LINES_WITH_ROOM: usize = 64;
+
+/// Returns the lines of an event that had this outcome. Events are numbered from 1; an event that
+/// is only tried has number 0.
+pub fn event_text(
+    alloc: Global,
+    number: u64,
+    event: &Event,
+    outcome: &Outcome,
+) -> Result<String, AllocError>
     ensures { IfOk result (λ text. string_bytes text
-        ≡ event_lines event (outcome_view outcome.now)) }
+        ≡ event_lines number event.now (outcome_view outcome.now)) }
+{
+    let mut text = outcome_text(alloc, number, outcome)?;
+    push_label_lines(&mut text, alloc, number, event.act())?;
+    Ok(text)
+}
+
+/// Returns the lines of an outcome.
+fn outcome_text(alloc: Global, event: u64, outcome: &Outcome) -> Result<String, AllocError>
+    ensures { IfOk result (λ text. string_bytes text
+        ≡ outcome_lines event (outcome_view outcome.now)) }
 {
     match outcome {
         Outcome::Accepted {
@@ -36,11 +56,42 @@ pub fn event_text(alloc: Global, event: u64, outcome: &Outcome) -> Result<String
 pub fn notes_text(alloc: Global, notes: &[Shared<Notification>]) -> Result<String, AllocError>
     ensures { IfOk result (λ text. string_bytes text ≡ flat_map notification_line notes.now) }
 {
-    let mut lines = String::with_capacity(alloc, notes.len().saturating_mul(LINE_ROOM))?;
+    let mut lines = String::with_capacity(alloc, notes.len().min(LINES_WITH_ROOM) * LINE_ROOM)?;
     for notification in notes {
         push_notification_line(&mut lines, alloc, notification.get())?;
     }
     Ok(lines)
+}
+
+/// Appends the line of an action that is a label.
+fn push_label_lines(
+    out: &mut String,
+    alloc: Global,
+    event: u64,
+    act: &Act,
+) -> Result<(), AllocError>
+    ensures { OnOk result (string_bytes out.new
+        ≡ string_bytes out.old ++ label_lines event (act_of act.now)) }
+{
+    match act {
+        Act::Label(text) => push_label_line(out, alloc, event, text.as_str()),
+        _ => Ok(()),
+    }
+}
+
+/// Appends the line of a label.
+fn push_label_line(
+    out: &mut String,
+    alloc: Global,
+    event: u64,
+    text: &str,
+) -> Result<(), AllocError>
+    ensures { OnOk result (string_bytes out.new
+        ≡ string_bytes out.old ++ label_line event text.now) }
+{
+    write!(out, "{{\"event\":{event},\"label\":")?;
+    push_string(out, alloc, text)?;
+    out.push_str("}\n")
 }
 
 /// Returns the lines of an accepted event: its notifications, and the line of its skipped alerts if
