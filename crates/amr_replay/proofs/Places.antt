@@ -5,6 +5,7 @@ use Rattle.std.proofs.lemmas.Option.{slice_get_within, get_or_from_slice_get, sl
 use Rattle.std.proofs.lemmas.List.Sums.{fold-append}
 use Rattle.amr_stated.specs.Config.{Config}
 use Rattle.amr_actions.specs.Events.{Event}
+use Rattle.amr_events.specs.declared.version.Version.{Version}
 use Rattle.amr_state.specs.State.{State, start}
 use Rattle.amr_engine.specs.Events.{after_event, after_events, run_of}
 use Rattle.amr_replay.specs.Session.{View, at_cursor, states_before}
@@ -33,28 +34,28 @@ run_more c es n e at = ap (run_of c) (front es n e at) ∙ fold-append after_eve
 before_more : (c : Config) (es : List Event) (n : ℕ) (e : Event) → slice_get es n ≡ Some e → states_before (start c) (take (n + 1) es) ≡ states_before (start c) (take n es) ++ run_of c (take n es) ∷ []
 before_more c es n e at = ap (states_before (start c)) (front es n e at) ∙ before_push (start c) (take n es) e
 
-abbrev view_at : Config → List Event → ℕ → State → List State → View
-view_at c es n s past = record { config = c; events = es; cursor = n; state = s; past = past }
+abbrev view_at : Config → Version → List Event → ℕ → State → List State → View
+view_at c version es n s past = record { config = c; version = version; events = es; cursor = n; state = s; past = past }
 
 -- one event on
-pub at_next : (c : Config) (es : List Event) (n : ℕ) (s s' : State) (past past' : List State) (e : Event) → view_at c es n s past ≡ at_cursor c es n → slice_get es n ≡ Some e → s' ≡ after_event s e → past' ≡ past ++ s ∷ [] → view_at c es (n + 1) s' past' ≡ at_cursor c es (n + 1)
-at_next c es n s s' past past' e v at is grown =
+pub at_next : (c : Config) (version : Version) (es : List Event) (n : ℕ) (s s' : State) (past past' : List State) (e : Event) → view_at c version es n s past ≡ at_cursor c version es n → slice_get es n ≡ Some e → s' ≡ after_event s e → past' ≡ past ++ s ∷ [] → view_at c version es (n + 1) s' past' ≡ at_cursor c version es (n + 1)
+at_next c version es n s s' past past' e v at is grown =
     let same : s ≡ run_of c (take n es) = ap (λ (w : View). w.state) v in
     let before : past ≡ states_before (start c) (take n es) = ap (λ (w : View). w.past) v in
     let state : s' ≡ run_of c (take (n + 1) es) = is ∙ ap (λ t. after_event t e) same ∙ sym (run_more c es n e at) in
     let older : past' ≡ states_before (start c) (take (n + 1) es) = grown ∙ ap (λ t. t ++ s ∷ []) before ∙ ap (λ t. states_before (start c) (take n es) ++ t ∷ []) same ∙ sym (before_more c es n e at) in
-    λ i. view_at c es (n + 1) (state i) (older i)
+    λ i. view_at c version es (n + 1) (state i) (older i)
 
 -- one event back
-at_last : (c : Config) (es : List Event) (n : ℕ) (s s' : State) (past past' : List State) (e : Event) → view_at c es (n + 1) s past ≡ at_cursor c es (n + 1) → slice_get es n ≡ Some e → past ≡ past' ++ s' ∷ [] → view_at c es n s' past' ≡ at_cursor c es n
-at_last c es n s s' past past' e v at popped =
+at_last : (c : Config) (version : Version) (es : List Event) (n : ℕ) (s s' : State) (past past' : List State) (e : Event) → view_at c version es (n + 1) s past ≡ at_cursor c version es (n + 1) → slice_get es n ≡ Some e → past ≡ past' ++ s' ∷ [] → view_at c version es n s' past' ≡ at_cursor c version es n
+at_last c version es n s s' past past' e v at popped =
     let both = same_push past' (states_before (start c) (take n es)) s' (run_of c (take n es)) (sym popped ∙ ap (λ (w : View). w.past) v ∙ before_more c es n e at) in
-    λ i. view_at c es n (both.1 i) (both.0 i)
+    λ i. view_at c version es n (both.1 i) (both.0 i)
 
 pub item : (es : List Event) (n : ℕ) → n < length es → (e : Event) × (slice_get es n ≡ Some e)
 item es n h = ⊎_elim (λ w. (w.0, w.2)) (λ w. absurd (omega (arith, w.0))) (slice_get_cases es n).1
 
-pub at_before : (c : Config) (es : List Event) (m n : ℕ) (s s' : State) (past past' : List State) → m ≡ n + 1 → m ≤ length es → view_at c es m s past ≡ at_cursor c es m → past ≡ past' ++ s' ∷ [] → view_at c es n s' past' ≡ at_cursor c es n
-at_before c es m n s s' past past' one within v popped =
+pub at_before : (c : Config) (version : Version) (es : List Event) (m n : ℕ) (s s' : State) (past past' : List State) → m ≡ n + 1 → m ≤ length es → view_at c version es m s past ≡ at_cursor c version es m → past ≡ past' ++ s' ∷ [] → view_at c version es n s' past' ≡ at_cursor c version es n
+at_before c version es m n s s' past past' one within v popped =
     let e = item es n (omega arith) in
-    at_last c es n s s' past past' e.0 (subst (λ k. view_at c es k s past ≡ at_cursor c es k) one v) e.1 popped
+    at_last c version es n s s' past past' e.0 (subst (λ k. view_at c version es k s past ≡ at_cursor c version es k) one v) e.1 popped

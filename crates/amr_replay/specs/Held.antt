@@ -9,7 +9,8 @@ use Rattle.amr_replay.specs.declared.session.Session.TheInside.{Inside}
 abbrev pub view_of : Inside → View
 view_of session = record {
   config = session.config;
-  events = session.script;
+  version = session.script.version;
+  events = session.script.events;
   cursor = session.cursor;
   state = session.engine.state;
   past = session.engine.past;
@@ -18,7 +19,7 @@ view_of session = record {
 -- The session shows the run of the events before its cursor, and has one record for each of them.
 -- What it notes of moves holds.
 pub record IsAtCursor (session : Inside) : Type 0 where
-  pub view : view_of session ≡ at_cursor session.config session.script session.cursor
-  pub within : session.cursor ≤ length session.script
-  pub records : AreRecords (start session.config) (take session.cursor session.script) session.engine.records
-  pub quiet : AreNoted session.config session.script session.quiet_events
+  pub view : view_of session ≡ at_cursor session.config session.script.version session.script.events session.cursor
+  pub within : session.cursor ≤ length session.script.events
+  pub records : AreRecords (start session.config) (take session.cursor session.script.events) session.engine.records
+  pub quiet : AreNoted session.config session.script.events session.quiet_events

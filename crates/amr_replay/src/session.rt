@@ -16,7 +16,7 @@ use crate::quiet_events::QuietEvents;
 use amr_actions::Event;
 use amr_config::Config;
 use amr_engine::{Engine, Outcome, Verdict};
-use amr_events::Script;
+use amr_events::{Script, Version};
 use amr_labels::Labels;
 use amr_state::{Group, Store};
 use amr_time::Moment;
@@ -102,7 +102,8 @@ impl Model for Session {
 impl Session {
     /// Returns a session with the cursor at the start of the script.
     pub fn new(alloc: Global, config: Config, script: Script) -> Result<Session, SessionError>
-        ensures ok { IfOk result (λ session. session ≡ at_cursor config script 0) }
+        ensures ok { IfOk result (λ session. session
+            ≡ at_cursor config script.version script.events 0) }
         ensures memory { IfErr result (λ error. error ≡ SessionError.Memory) }
     {
         let engine = Engine::new(alloc, config.clone()?);
@@ -121,9 +122,17 @@ impl Session {
     pub fn cursor(&self) -> usize
         ensures cursor { result ≡ self.now.cursor }
         ensures within { self.now.cursor ≤ length self.now.events }
-        ensures view { self.now ≡ at_cursor self.now.config self.now.events self.now.cursor }
+        ensures view { self.now
+            ≡ at_cursor self.now.config self.now.version self.now.events self.now.cursor }
     {
         self.cursor
+    }
+
+    /// Returns the version of the script. It takes no memory.
+    pub fn version(&self) -> Version
+        ensures { result ≡ self.now.version }
+    {
+        self.script.version()
     }
 
     /// Returns the number of events in the script.
@@ -170,7 +179,7 @@ impl Session {
             ≡ outcome_of self.old.state event) }
         ensures inside { OnOk result (self.old.cursor < length self.old.events) }
         ensures ok { OnOk result (self.new
-            ≡ at_cursor self.old.config self.old.events (self.old.cursor + 1)) }
+            ≡ at_cursor self.old.config self.old.version self.old.events (self.old.cursor + 1)) }
         ensures err { OnErr result (self.new ≡ self.old) }
         ensures at_end { self.old.cursor ≡ length self.old.events → result
             ≡ Err SessionError.AtEnd }
@@ -193,7 +202,8 @@ impl Session {
     pub fn back(&mut self) -> Result<(), AtStart>
         ensures at_start { self.old.cursor ≡ 0 → IsErr result × (self.new ≡ self.old) }
         ensures back { 0 < self.old.cursor → IsOk result
-            × (self.new ≡ at_cursor self.old.config self.old.events (self.old.cursor - 1)) }
+            × (self.new
+            ≡ at_cursor self.old.config self.old.version self.old.events (self.old.cursor - 1)) }
     {
         if self.cursor == 0 {
             return Err(AtStart);
@@ -205,7 +215,8 @@ impl Session {
     /// Goes back by one event.
     fn unstep(&mut self)
         requires { 0 < self.old.cursor }
-        ensures { self.new ≡ at_cursor self.old.config self.old.events (self.old.cursor - 1) }
+        ensures { self.new
+            ≡ at_cursor self.old.config self.old.version self.old.events (self.old.cursor - 1) }
     {
         self.engine.undo_last();
         self.cursor -= 1;
@@ -217,7 +228,8 @@ impl Session {
         ensures outcomes { IfOk result (λ outcomes. map outcome_view outcomes.items
             ≡ outcomes_passed self.old.config self.old.events self.old.cursor to) }
         ensures inside { OnOk result (to ≤ length self.old.events) }
-        ensures ok { OnOk result (self.new ≡ at_cursor self.old.config self.old.events to) }
+        ensures ok { OnOk result (self.new
+            ≡ at_cursor self.old.config self.old.version self.old.events to) }
         ensures err { OnErr result (self.new ≡ self.old) }
         ensures back { to ≤ self.old.cursor → IsOkAnd result (λ outcomes. outcomes.items ≡ []) }
         ensures out_of_range { length self.old.events < to → result ≡ Err SessionError.OutOfRange }
@@ -237,7 +249,8 @@ impl Session {
             ≡ outcomes_passed self.old.config self.old.events self.old.cursor
             (events_until at self.old.events)) }
         ensures ok { OnOk result (self.new
-            ≡ at_cursor self.old.config self.old.events (events_until at self.old.events)) }
+            ≡ at_cursor self.old.config self.old.version self.old.events
+            (events_until at self.old.events)) }
         ensures err { OnErr result (self.new ≡ self.old) }
         ensures back { events_until at self.old.events ≤ self.old.cursor
             → IsOkAnd result (λ outcomes. outcomes.items ≡ []) }
@@ -251,7 +264,8 @@ impl Session {
         requires { to ≤ length self.old.events }
         ensures outcomes { IfOk result (λ outcomes. map outcome_view outcomes.items
             ≡ outcomes_passed self.old.config self.old.events self.old.cursor to) }
-        ensures ok { OnOk result (self.new ≡ at_cursor self.old.config self.old.events to) }
+        ensures ok { OnOk result (self.new
+            ≡ at_cursor self.old.config self.old.version self.old.events to) }
         ensures err { OnErr result (self.new ≡ self.old) }
         ensures back { to ≤ self.old.cursor → IsOkAnd result (λ outcomes. outcomes.items ≡ []) }
     {
@@ -272,7 +286,8 @@ impl Session {
     /// Moves the cursor back to an earlier place.
     fn rewind(&mut self, to: usize)
         requires { to ≤ self.old.cursor }
-        ensures { self.new ≡ at_cursor self.old.config self.old.events to }
+        ensures { self.new
+            ≡ at_cursor self.old.config self.old.version self.old.events to }
     {
         while to < self.cursor() {
             self.unstep();
@@ -285,8 +300,10 @@ impl Session {
         requires inside { to ≤ length self.old.events }
         ensures outcomes { IfOk result (λ outcomes. map outcome_view outcomes.items
             ≡ outcomes_passed self.old.config self.old.events self.old.cursor to) }
-        ensures ok { OnOk result (self.new ≡ at_cursor self.old.config self.old.events to) }
+        ensures ok { OnOk result (self.new
+            ≡ at_cursor self.old.config self.old.version self.old.events to) }
         ensures config { self.new.config ≡ self.old.config }
+        ensures version { self.new.version ≡ self.old.version }
         ensures events { self.new.events ≡ self.old.events }
         ensures cursor { self.old.cursor ≤ self.new.cursor }
     {
@@ -356,8 +373,8 @@ impl Session {
 
 /// Returns how many events at the front of a script are all at or before a moment.
 fn events_until(script: &Script, at: Moment) -> usize
-    ensures count { result ≡ events_until at script.now }
-    ensures within { result ≤ length script.now }
+    ensures count { result ≡ events_until at script.now.events }
+    ensures within { result ≤ length script.now.events }
 {
     for n in 0..script.len() {
         if at.nanoseconds() < script.event(n).at().nanoseconds() {

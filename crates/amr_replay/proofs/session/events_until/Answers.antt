@@ -7,12 +7,12 @@ pub returns-then-nanoseconds-clause-count : goal.returns-then-nanoseconds-clause
 returns-then-nanoseconds-clause-count c =
     let e = c.event.result.now in
     let late : c.args.at < e.at = omega arith in
-    let none : events_until c.args.at (drop c.loop-n.n c.args.script.now) ≡ 0 = until_none c.args.at c.args.script.now c.loop-n.n e c.event.ensures late in
+    let none : events_until c.args.at (drop c.loop-n.n c.args.script.now.events) ≡ 0 = until_none c.args.at c.args.script.now.events c.loop-n.n e c.event.ensures late in
     omega (arith, none, c.loop-n.invariant)
 
 pub loop-n-preserved : goal.loop-n-preserved
 loop-n-preserved c =
     let e = c.event.result.now in
     let early : e.at ≤ c.args.at = omega arith in
-    let one : events_until c.args.at (drop c.loop-n.n c.args.script.now) ≡ events_until c.args.at (drop (c.loop-n.n + 1) c.args.script.now) + 1 = until_one c.args.at c.args.script.now c.loop-n.n e c.event.ensures early in
+    let one : events_until c.args.at (drop c.loop-n.n c.args.script.now.events) ≡ events_until c.args.at (drop (c.loop-n.n + 1) c.args.script.now.events) + 1 = until_one c.args.at c.args.script.now.events c.loop-n.n e c.event.ensures early in
     omega (arith, one, c.loop-n.invariant)

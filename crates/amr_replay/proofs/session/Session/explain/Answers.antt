@@ -10,6 +10,6 @@ pub returns-clause-notified : goal.returns-clause-notified
 returns-clause-notified c =
     let a = c.self.inside in
     let labels = c.args.labels.now in
-    let all : LogIsNotified a.engine.state = subst LogIsNotified (sym (ap (λ (v : View). v.state) c.self.invariant.view)) (log_is_notified a.config (take a.cursor a.script)) in
+    let all : LogIsNotified a.engine.state = subst LogIsNotified (sym (ap (λ (v : View). v.state) c.self.invariant.view)) (log_is_notified a.config (take a.cursor a.script.events)) in
     subst (λ (v : View). IfOk c.explain.result (λ found. ToldIsNotified v.state labels found.items)) c.self.view_is
     (IfOk-weaker c.explain.result _ _ (λ found is. subst (ToldIsNotified a.engine.state labels) (sym is) (told_is_notified a.engine.state labels all)) c.explain.ensures.explained)

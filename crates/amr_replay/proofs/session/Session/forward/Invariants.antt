@@ -7,6 +7,7 @@ use Rattle.amr_replay.proofs.session.Session.forward.Given as goal
 abbrev pub invariant-loop-self : goal.invariant-loop-self
 invariant-loop-self l = record {
   config : l.self.config ≡ l.fn.self.config;
+  version : l.self.version ≡ l.fn.self.version;
   events : l.self.events ≡ l.fn.self.events;
   from : l.fn.self.cursor ≤ l.self.cursor;
   to : l.self.cursor ≤ l.to;

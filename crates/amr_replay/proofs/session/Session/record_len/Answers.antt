@@ -12,7 +12,7 @@ record_len-requires c =
       arith,
       c.requires,
       ap (λ (v : View). v.cursor) c.self.view_is,
-      records_count a.config a.script a.cursor a.engine.records c.self.invariant.records c.self.invariant.within,
+      records_count a.config a.script.events a.cursor a.engine.records c.self.invariant.records c.self.invariant.within,
     )
 
 pub returns-clause-entries : goal.returns-clause-entries
@@ -20,7 +20,7 @@ returns-clause-entries c =
     let a = c.self.inside in
     let before : c.args.index < a.cursor = omega (arith, c.requires, ap (λ (v : View). v.cursor) c.self.view_is) in
     subst (λ (v : View). (event : Event) → slice_get v.events c.args.index ≡ Some event → HasEntries (state_at v.config v.events c.args.index) event c.record_len.result) c.self.view_is
-    (λ event at. record_has a.config a.script a.cursor a.engine.records c.args.index event c.record_len.result c.self.invariant.records before at c.record_len.ensures)
+    (λ event at. record_has a.config a.script.events a.cursor a.engine.records c.args.index event c.record_len.result c.self.invariant.records before at c.record_len.ensures)
 
 pub returns-clause-refused : goal.returns-clause-refused
 returns-clause-refused c = λ event reason at refused. refused_has_none _ event c.record_len.result reason (returns-clause-entries c event at) refused

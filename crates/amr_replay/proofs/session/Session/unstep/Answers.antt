@@ -9,9 +9,9 @@ invariant_of-self c =
     let a = c.self.inside in
     let some = ap (λ v. v.cursor) c.self.view_is in
     record {
-      view = at_before a.config a.script a.cursor (a.cursor - 1) a.engine.state _ a.engine.past _ (omega arith) c.self.invariant.within c.self.invariant.view c.undo_last.ensures.past;
+      view = at_before a.config a.script.version a.script.events a.cursor (a.cursor - 1) a.engine.state _ a.engine.past _ (omega arith) c.self.invariant.within c.self.invariant.view c.undo_last.ensures.past;
       within = omega (arith, c.self.invariant.within);
-      records = records_last a.config a.script a.cursor (a.cursor - 1) a.engine.records _ c.undo_last.ensures.records.0 (omega arith) c.self.invariant.within c.self.invariant.records c.undo_last.ensures.records.1;
+      records = records_last a.config a.script.events a.cursor (a.cursor - 1) a.engine.records _ c.undo_last.ensures.records.0 (omega arith) c.self.invariant.within c.self.invariant.records c.undo_last.ensures.records.1;
       quiet = c.self.invariant.quiet;
     }
 
@@ -19,5 +19,5 @@ pub returns : goal.returns
 returns c =
     let a = c.self.inside in
     let some = ap (λ v. v.cursor) c.self.view_is in
-    at_before a.config a.script a.cursor (a.cursor - 1) a.engine.state _ a.engine.past _ (omega arith) c.self.invariant.within c.self.invariant.view c.undo_last.ensures.past
-    ∙ ap (λ v. at_cursor v.config v.events (v.cursor - 1)) c.self.view_is
+    at_before a.config a.script.version a.script.events a.cursor (a.cursor - 1) a.engine.state _ a.engine.past _ (omega arith) c.self.invariant.within c.self.invariant.view c.undo_last.ensures.past
+    ∙ ap (λ v. at_cursor v.config v.version v.events (v.cursor - 1)) c.self.view_is
