@@ -47,7 +47,9 @@ def derive(prometheus: Prometheus, start: int, end: int) -> Derived:
         named.setdefault(rule.name, []).append(rule)
     ruled = [(series, _rule_of(series, named, prometheus, derived)) for series in prometheus.series]
     firsts = _first_samples(ruled, derived.life)
-    with time_limit(RELABELLING_SECONDS, f"{prometheus.name}: relabelling takes more than {RELABELLING_SECONDS} seconds"):
+    with time_limit(
+        RELABELLING_SECONDS, f"{prometheus.name}: relabelling takes more than {RELABELLING_SECONDS} seconds"
+    ):
         for series, rule in ruled:
             if series.firing:
                 derived.posted += _posted(series, rule, prometheus, derived, firsts[rule.group])

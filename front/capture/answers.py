@@ -93,7 +93,10 @@ class Answer:
 
     def texts(self) -> dict[str, str]:
         """Returns the value as an object of texts."""
-        return {Answer(key, self.place).text(): Answer(text, f"{self.place}.{key}").text() for key, text in self.object().items()}
+        return {
+            Answer(key, self.place).text(): Answer(text, f"{self.place}.{key}").text()
+            for key, text in self.object().items()
+        }
 
     def moment(self) -> int:
         """Returns the value as a moment."""

@@ -14,13 +14,20 @@ from .script import Line, alert_lines, in_order, label_line, other_lines, silenc
 STARTS_TAKE = 10 * SECOND
 
 
-@dataclass
-class Assembly:
-    """The lines of the script, and what was found."""
+@dataclass(frozen=True)
+class Span:
+    """The span that was asked for, and the start of what is read before it."""
 
     history: int
     start: int
     end: int
+
+
+@dataclass
+class Assembly:
+    """The lines of the script, and what was found."""
+
+    span: Span
     config: Any
     zones: list[str]
     alertmanager: Alertmanager | None
@@ -43,22 +50,26 @@ class Assembly:
 
 
 def assemble(
-    found: list[Prometheus], alertmanager: Alertmanager | None, span: tuple[int, int, int], config: Any, zones: list[str]
+    found: list[Prometheus], alertmanager: Alertmanager | None, span: Span, config: Any, zones: list[str]
 ) -> Assembly:
-    """Returns the script of a span: the start of the history, the start, and the end."""
-    history, start, end = span
+    """Returns the script of a span, with what was found."""
+    history, end = span.history, span.end
     derived = [derive(each, history, end) for each in found]
     known = {_key(each.labels) for one in derived for each in one.posted}
     stored = alertmanager.alerts if alertmanager else []
     others = [alert for alert in stored if _key(alert.labels) not in known and alert.starts_at <= end]
-    silences = [each for each in alertmanager.silences if each.starts_at <= end and each.ends_at > history] if alertmanager else []
+    silences = (
+        [each for each in alertmanager.silences if each.starts_at <= end and each.ends_at > history]
+        if alertmanager
+        else []
+    )
     changes = _changes(found, alertmanager, history, end)
-    assembly = Assembly(history, start, end, config, zones, alertmanager, found, derived, changes, others, len(silences), [])
+    assembly = Assembly(span, config, zones, alertmanager, found, derived, changes, others, len(silences), [])
     assembly.delays = _delays(assembly.posted, stored)
     lines = [silence_line(each, history) for each in silences]
     lines += [line for one in derived for line in alert_lines(one.posted)]
     lines += [line for alert in others for line in other_lines(alert, history, end)]
-    lines += _labels(changes, history, start)
+    lines += _labels(changes, span)
     assembly.lines = in_order(lines, end)
     return assembly
 
@@ -73,8 +84,12 @@ def _changes(found: list[Prometheus], alertmanager: Alertmanager | None, start: 
     if alertmanager and alertmanager.started is not None and not _is_known(alertmanager.started, changes):
         changes.add(Change(alertmanager.started, "start", "alertmanager", alertmanager.name))
     starts = [change for change in changes if change.kind == "start"]
-    kept = [change for change in changes if change.kind == "start" or not any(_is_part_of(change, each) for each in starts)]
-    return sorted((each for each in kept if start <= each.at <= end), key=lambda each: (each.at, each.process, each.instance))
+    kept = [
+        change for change in changes if change.kind == "start" or not any(_is_part_of(change, each) for each in starts)
+    ]
+    return sorted(
+        (each for each in kept if start <= each.at <= end), key=lambda each: (each.at, each.process, each.instance)
+    )
 
 
 def _is_known(started: int, changes: set[Change]) -> bool:
@@ -86,9 +101,12 @@ def _is_part_of(change: Change, start: Change) -> bool:
     return is_same and 0 <= change.at - start.at < STARTS_TAKE
 
 
-def _labels(changes: list[Change], history: int, start: int) -> Iterator[Line]:
-    if history < start:
-        yield label_line(start, "the span that was asked for begins; what is before it was captured to begin from the right state")
+def _labels(changes: list[Change], span: Span) -> Iterator[Line]:
+    if span.history < span.start:
+        yield label_line(
+            span.start,
+            "the span that was asked for begins; what is before it was captured to begin from the right state",
+        )
     for change in changes:
         yield label_line(change.at, label_of(change))
 

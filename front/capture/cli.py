@@ -3,9 +3,8 @@
 from __future__ import annotations
 
 import argparse
-import os
 import sys
-import tempfile
+from contextlib import nullcontext
 from dataclasses import dataclass
 from pathlib import Path
 
@@ -13,25 +12,17 @@ from ..config.yaml_config import BadConfiguration, Reading, read_config
 from ..config.zones import BadZone, in_utc
 from ..moments import HOUR, length_of, nanoseconds
 from .alertmanager import Alertmanager, alertmanager_of
-from .assembly import Assembly, assemble
+from .assembly import Assembly, Span, assemble
 from .faults import fault
+from .folders import appearing, free_folder
 from .progress import Progress
-from .prometheus import Prometheus, prometheus_of
+from .prometheus import prometheus_of
 from .report import report
 from .servers import Headers, HttpServer, SavedServer, Server, TooLarge, url_of
 
 CONFIG_NAME, SCRIPT_NAME, REPORT_NAME = "config.json", "script.jsonl", "captured.md"
 CONFIG_BYTES_AT_MOST = 1024 * 1024
 LAST_MOMENT = nanoseconds("8999-12-31T23:59:59Z")
-
-
-@dataclass(frozen=True)
-class Span:
-    """The span that was asked for, and the start of what is read before it."""
-
-    history: int
-    start: int
-    end: int
 
 
 @dataclass
@@ -46,16 +37,26 @@ def main(arguments: list[str]) -> int:
     """Makes the files that the words ask for, whole or not at all, and returns the status."""
     options = _options(arguments)
     span = _span(options)
-    output = _free_folder(options.output)
+    output = appearing(free_folder(options.output))
+    kept = appearing(free_folder(options.keep_responses)) if options.keep_responses else nullcontext(None)
+    with output as files, kept as responses:
+        text = _make(files, _servers(options, responses), span, options.config)
+    print(text, file=sys.stderr, end="")
+    return 0
+
+
+def _make(folder: Path, servers: Servers, span: Span, config: str | None) -> str:
+    """Writes the files into a folder, and returns the report."""
     progress = Progress()
     try:
-        assembly, reading = _captured(_servers(options), span, options.config, progress)
+        assembly, reading = _captured(servers, span, config, progress)
     finally:
         progress.clear()
     text = report(assembly, reading)
-    _write(output, {CONFIG_NAME: reading.as_json(), SCRIPT_NAME: assembly.script(), REPORT_NAME: text.encode()})
-    print(text, file=sys.stderr, end="")
-    return 0
+    files = {CONFIG_NAME: reading.as_json(), SCRIPT_NAME: assembly.script(), REPORT_NAME: text.encode()}
+    for name, data in files.items():
+        (folder / name).write_bytes(data)
+    return text
 
 
 def _captured(servers: Servers, span: Span, config: str | None, progress: Progress) -> tuple[Assembly, Reading]:
@@ -65,13 +66,7 @@ def _captured(servers: Servers, span: Span, config: str | None, progress: Progre
     except TooLarge:
         raise fault("an answer of a server is too large") from None
     reading, zones = _configuration(config, alertmanager, span)
-    return _assembled(found, alertmanager, span, reading, zones), reading
-
-
-def _assembled(
-    found: list[Prometheus], alertmanager: Alertmanager | None, span: Span, reading: Reading, zones: list[str]
-) -> Assembly:
-    return assemble(found, alertmanager, (span.history, span.start, span.end), reading.value, zones)
+    return assemble(found, alertmanager, span, reading.value, zones), reading
 
 
 def _configuration(file: str | None, alertmanager: Alertmanager | None, span: Span) -> tuple[Reading, list[str]]:
@@ -86,7 +81,9 @@ def _configuration(file: str | None, alertmanager: Alertmanager | None, span: Sp
     if zones:
         reading = Reading(value, reading.lines, reading.unread, original=reading.original)
     if len(reading.as_json()) > CONFIG_BYTES_AT_MOST:
-        raise fault(f"{name}: more than {CONFIG_BYTES_AT_MOST} bytes as JSON, with {len(zones)} intervals written in UTC")
+        raise fault(
+            f"{name}: more than {CONFIG_BYTES_AT_MOST} bytes as JSON, with {len(zones)} intervals written in UTC"
+        )
     return reading, zones
 
 
@@ -109,13 +106,17 @@ def _options(arguments: list[str]) -> argparse.Namespace:
     servers.add_argument("--responses", metavar="DIR", help="saved responses, in place of the two")
     servers.add_argument("--config", metavar="FILE", help="the alertmanager.yml that was in force")
     servers.add_argument("--header-file", metavar="FILE", help="headers to send, as lines NAME: VALUE")
-    parser.add_argument("--from", dest="start", metavar="MOMENT", required=True, help="2024-05-01T10:00:00Z, or with +02:00")
+    parser.add_argument(
+        "--from", dest="start", metavar="MOMENT", required=True, help="2024-05-01T10:00:00Z, or with +02:00"
+    )
     parser.add_argument("--to", dest="end", metavar="MOMENT", required=True, help="the end of the span")
     parser.add_argument("--history", metavar="LENGTH", default="6h", help="how much before --from is read too (6h)")
     parser.add_argument("--output", metavar="DIR", required=True, help="a new folder for the three files")
     parser.add_argument("--keep-responses", metavar="DIR", help="keep the answers in a new folder, for --responses")
     options = parser.parse_args(arguments)
-    if options.responses and (options.prometheus or options.alertmanager or options.header_file or options.keep_responses):
+    if options.responses and (
+        options.prometheus or options.alertmanager or options.header_file or options.keep_responses
+    ):
         parser.error("--responses takes the place of servers, --header-file and --keep-responses")
     if not options.responses and not options.prometheus and not options.alertmanager:
         parser.error("give --prometheus URL and --alertmanager URL, or --responses DIR")
@@ -144,13 +145,14 @@ def _moment(text: str, word: str) -> int:
     return moment
 
 
-def _servers(options: argparse.Namespace) -> Servers:
+def _servers(options: argparse.Namespace, kept: Path | None) -> Servers:
     if options.responses:
         return _saved_servers(Path(options.responses))
     headers = Headers.read(options.header_file) if options.header_file else Headers()
-    kept = _free_folder(options.keep_responses) if options.keep_responses else None
     urls = [_url(text) for text in options.prometheus]
-    found: list[Server] = [HttpServer(url, headers, kept and kept / f"prometheus-{i + 1}") for i, url in enumerate(urls)]
+    found: list[Server] = [
+        HttpServer(url, headers, kept and kept / f"prometheus-{i + 1}") for i, url in enumerate(urls)
+    ]
     if not options.alertmanager:
         return Servers(found, None)
     return Servers(found, HttpServer(_url(options.alertmanager), headers, kept and kept / "alertmanager"))
@@ -172,25 +174,3 @@ def _saved_servers(folder: Path) -> Servers:
     if not found and not alertmanager.is_dir():
         raise fault(f"{folder} has neither a folder prometheus nor a folder alertmanager", 2)
     return Servers(found, SavedServer(alertmanager) if alertmanager.is_dir() else None)
-
-
-def _free_folder(text: str) -> Path:
-    """Returns the path of a folder that isn't there yet, or is empty."""
-    path = Path(text)
-    if path.exists() and (not path.is_dir() or any(path.iterdir())):
-        raise fault(f"{path} is there already; name a new folder", 2)
-    return path
-
-
-def _write(folder: Path, files: dict[str, bytes]) -> None:
-    """Writes all files, or none: they are written beside the folder, which then takes its name."""
-    try:
-        folder.parent.mkdir(parents=True, exist_ok=True)
-        with tempfile.TemporaryDirectory(prefix=f".{folder.name}-", dir=folder.parent) as room:
-            beside = Path(room) / folder.name
-            beside.mkdir()
-            for name, data in files.items():
-                (beside / name).write_bytes(data)
-            os.replace(beside, folder)
-    except OSError as error:
-        raise fault(f"cannot write {folder}: {error.strerror}") from None

@@ -98,7 +98,9 @@ def _run(moments: list[int], interval: int, life: Life) -> Run:
     return Run(moments, life.outage_between(moments[-1], following) is not None, following > life.end)
 
 
-def posts_of(firing: list[int], pending: list[int], timing: Timing, life: Life, first_samples: set[int]) -> Iterator[Post]:
+def posts_of(
+    firing: list[int], pending: list[int], timing: Timing, life: Life, first_samples: set[int]
+) -> Iterator[Post]:
     """Yields the posts of an alert, given the moments at which its samples say that it fired and was pending.
 
     `first_samples` are the first samples of its group after each outage.
@@ -160,7 +162,9 @@ def life_of(pulses: list[int], starts: list[int], signs: list[int], usual: int, 
     Without scrapes and samples up to the end nothing is known of the rest.
     """
     alive = sorted({*pulses, *signs})
-    outages = [_narrowed(left, right, starts) for left, right in zip(pulses, pulses[1:]) if right - left > usual * 5 // 2]
+    outages = [
+        _narrowed(left, right, starts) for left, right in zip(pulses, pulses[1:]) if right - left > usual * 5 // 2
+    ]
     for start in starts:
         place = bisect_left(alive, start)
         is_within = any(outage.after < start <= outage.before for outage in outages)

@@ -131,7 +131,7 @@ def _alerts(rule: Answer) -> bool:
 
 
 def _rule(rule: Answer, group: Group) -> Rule:
-    hold, labels, annotations = rule.optional("duration"), rule.optional("labels"), rule.optional("annotations")
+    hold, labels, annotations = (rule.optional("duration"), rule.optional("labels"), rule.optional("annotations"))
     return Rule(
         group,
         rule.member("name").text(),

@@ -4,6 +4,7 @@ from __future__ import annotations
 
 import hashlib
 import re
+import warnings
 from dataclasses import dataclass
 from typing import Callable, Mapping
 
@@ -12,6 +13,10 @@ from .faults import fault
 Labels = dict[str, str]
 LABEL_NAME = re.compile(r"[a-zA-Z_][a-zA-Z0-9_]*")
 REFERENCE = re.compile(r"\$(?:(\$)|(\w+)|\{(\w+)\})", re.ASCII)
+CLASSES = {
+    "[:alnum:]": "0-9A-Za-z", "[:alpha:]": "A-Za-z", "[:digit:]": "0-9", "[:lower:]": "a-z", "[:upper:]": "A-Z",
+    "[:space:]": r"\t\n\v\f\r ", "[:word:]": "0-9A-Za-z_", "[:xdigit:]": "0-9A-Fa-f",
+}  # fmt: skip
 FLAGS = re.compile(r"\(\?([a-zA-Z]+)\)")
 
 
@@ -59,10 +64,16 @@ def relabelled(labels: Labels, steps: list[Step]) -> Labels | None:
 
 def _pattern(text: str, place: str) -> re.Pattern[str]:
     """Returns a pattern of Go's library. It matches whole values. Its flags at the start are moved to its group."""
+    for name, members in CLASSES.items():
+        text = text.replace(name, members)
     flags = FLAGS.match(text)
     body = f"(?{flags[1]}:{text[flags.end():]})" if flags else f"(?:{text})"
     try:
-        return re.compile(body, re.ASCII)
+        if "[:" in text:
+            raise re.error("its class of characters isn't known")
+        with warnings.catch_warnings():
+            warnings.simplefilter("ignore", FutureWarning)
+            return re.compile(body, re.ASCII)
     except (re.error, OverflowError, RecursionError) as error:
         raise fault(f"{place}: the pattern {text!r} can't be read here: {error}") from None
 

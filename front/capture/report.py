@@ -21,16 +21,24 @@ def report(assembly: Assembly, reading: Reading) -> str:
         "Not known": _not_known(assembly),
         "How exact": _how_exact(assembly),
     }
-    span = f"{moment_text(assembly.start)} to {moment_text(assembly.end)}"
+    span = f"{moment_text(assembly.span.start)} to {moment_text(assembly.span.end)}"
     parts = [f"# Captured: {span}\n"]
-    parts += ["\n".join([f"## {title}\n", *(f"- {line}" for line in lines)]) + "\n" for title, lines in sections.items()]
+    parts += [
+        "\n".join([f"## {title}\n", *(f"- {line}" for line in lines)]) + "\n" for title, lines in sections.items()
+    ]
     return "\n".join(parts)
 
 
 def _found(assembly: Assembly) -> Iterator[str]:
     for prometheus, derived in zip(assembly.prometheus, assembly.derived):
         alerts = {tuple(sorted(each.labels.items())) for each in derived.posted}
-        resolved = len({(tuple(sorted(each.labels.items())), each.post.starts_at) for each in derived.posted if each.post.is_resolved})
+        resolved = len(
+            {
+                (tuple(sorted(each.labels.items())), each.post.starts_at)
+                for each in derived.posted
+                if each.post.is_resolved
+            }
+        )
         yield (
             f"{prometheus.name}: {len(alerts)} alerts, {len(derived.posted)} posts, {resolved} ends; posted again after"
             f" {length_text(prometheus.resend_delay)}{'' if prometheus.is_resend_delay_known else ' (the default; its flags do not say)'}"
@@ -45,7 +53,7 @@ def _found(assembly: Assembly) -> Iterator[str]:
         yield f"{len(assembly.others)} alerts that no Prometheus posted, posted here at their start and at their last post"
     for change in assembly.changes:
         yield f"{clock_text(change.at, True)} {one_line(label_of(change))}"
-    yield f"{len(assembly.lines) - 1} events, from {moment_text(assembly.history)}"
+    yield f"{len(assembly.lines) - 1} events, from {moment_text(assembly.span.history)}"
 
 
 def _configuration(assembly: Assembly, reading: Reading) -> Iterator[str]:

@@ -112,8 +112,12 @@ class HttpServer:
         if error.code == 422 and b"too many samples" in said:
             return TooLarge()
         if 300 <= error.code < 400:
-            return fault(f"{self.name}{path}: the server redirects, which isn't followed; give the URL that it leads to")
-        shown = "" if self.headers.repeated_in(said) else f": {one_line(said.decode('utf-8', 'replace'))}" if said else ""
+            return fault(
+                f"{self.name}{path}: the server redirects, which isn't followed; give the URL that it leads to"
+            )
+        shown = (
+            "" if self.headers.repeated_in(said) else f": {one_line(said.decode('utf-8', 'replace'))}" if said else ""
+        )
         return fault(f"{self.name}{path}: status {error.code}{shown}")
 
 

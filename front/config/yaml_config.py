@@ -144,7 +144,9 @@ class _Reader:
 
     def _integration(self, node: Mapping, shape: Integration, path: str) -> dict[str, Any]:
         """Keeps `send_resolved` alone, and sets the default of a kind that the program doesn't know."""
-        found = self._members(node, Object({"send_resolved": Boolean()}, silent=tuple(key.text for key, _ in node.pairs)), path)
+        found = self._members(
+            node, Object({"send_resolved": Boolean()}, silent=tuple(key.text for key, _ in node.pairs)), path
+        )
         if shape.kind in SENDS_RESOLVED and shape.kind not in KNOWN_TO_THE_PROGRAM:
             found.setdefault("send_resolved", SENDS_RESOLVED[shape.kind])
         return found

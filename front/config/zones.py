@@ -153,7 +153,10 @@ def _day(day: int, ranges: list[tuple[int, int]]) -> Iterator[dict[str, Any]]:
 def _range(start: int, end: int) -> dict[str, str]:
     if start % 60 or end % 60:
         raise BadZone("its clocks aren't whole minutes from UTC then")
-    return {"start_time": f"{start // 3600:02}:{start // 60 % 60:02}", "end_time": f"{end // 3600:02}:{end // 60 % 60:02}"}
+    return {
+        "start_time": f"{start // 3600:02}:{start // 60 % 60:02}",
+        "end_time": f"{end // 3600:02}:{end // 60 % 60:02}",
+    }
 
 
 def _times(times: Any) -> list[tuple[int, int]]:

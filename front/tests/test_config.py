@@ -43,7 +43,9 @@ HOSTILE = {
     b"? [1]\n: 2": "a key that isn't a text",
     b"--- {}\n--- {}": "a second document",
     b"a: \x00": "control characters",
-    b"".join(b"k%d: &k%d [%s]\n" % (i, i, b",".join([b"*k%d" % (i - 1) if i else b"x"] * 10)) for i in range(9)): "more than 500000 values",
+    b"".join(
+        b"k%d: &k%d [%s]\n" % (i, i, b",".join([b"*k%d" % (i - 1) if i else b"x"] * 10)) for i in range(9)
+    ): "more than 500000 values",
 }
 
 
@@ -60,11 +62,15 @@ class Config(unittest.TestCase):
 
     def test_times_and_days_are_texts(self) -> None:
         member = read_config(WORKING).value["time_intervals"][0]["time_intervals"][0]
-        self.assertEqual(member, {"times": [{"start_time": "09:00", "end_time": "17:00"}], "days_of_month": ["1", "2:5"]})
+        self.assertEqual(
+            member, {"times": [{"start_time": "09:00", "end_time": "17:00"}], "days_of_month": ["1", "2:5"]}
+        )
 
     def test_integrations_keep_send_resolved_alone(self) -> None:
         reading = read_config(WORKING)
-        self.assertEqual(reading.value["receivers"][0]["telegram_configs"], [{"send_resolved": True}, {"send_resolved": False}])
+        self.assertEqual(
+            reading.value["receivers"][0]["telegram_configs"], [{"send_resolved": True}, {"send_resolved": False}]
+        )
         self.assertEqual(reading.value["receivers"][0]["wechat_configs"], [{"send_resolved": False}])
         self.assertEqual(reading.value["receivers"][0]["webhook_configs"], [{}])
         self.assertNotIn(b"secret", reading.as_json())

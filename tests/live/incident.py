@@ -44,7 +44,9 @@ def other(seconds: int) -> Callable[[Servers], None]:
     def act(servers: Servers) -> None:
         now = datetime.now(timezone.utc)
         ends = (now + timedelta(seconds=seconds)).isoformat()
-        servers.post_alerts([{"labels": {"alertname": "BackupFailed", "host": "h9"}, "startsAt": now.isoformat(), "endsAt": ends}])
+        servers.post_alerts(
+            [{"labels": {"alertname": "BackupFailed", "host": "h9"}, "startsAt": now.isoformat(), "endsAt": ends}]
+        )
 
     return act
 

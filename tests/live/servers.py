@@ -164,7 +164,9 @@ class Servers:
 
     def _ask(self, path: str, body: object = None, method: str | None = None) -> bytes:
         data = None if body is None else json.dumps(body).encode()
-        request = urllib.request.Request(self.alertmanager_url + path, data, {"Content-Type": "application/json"}, method=method)
+        request = urllib.request.Request(
+            self.alertmanager_url + path, data, {"Content-Type": "application/json"}, method=method
+        )
         with urllib.request.urlopen(request, timeout=10) as answer:
             found: bytes = answer.read()
             return found
@@ -230,7 +232,9 @@ class Servers:
             try:
                 self.processes[name] = subprocess.Popen([program, *words], stdout=log, stderr=log, env={**os.environ})
             except FileNotFoundError:
-                sys.exit(f"tests/live: there is no {program}; Debian's packages prometheus and prometheus-alertmanager have it")
+                sys.exit(
+                    f"tests/live: there is no {program}; Debian's packages prometheus and prometheus-alertmanager have it"
+                )
 
     def _wait_for(self, url: str) -> None:
         for _ in range(300):
