@@ -60,8 +60,7 @@ def derive(prometheus: Prometheus, start: int, end: int) -> Derived:
 
 def _life(prometheus: Prometheus, end: int) -> Life:
     signs = sorted({at for series in prometheus.series for at in (*series.firing, *series.pending)})
-    steps = max(prometheus.config.scrape_interval, prometheus.config.evaluation_interval, SECOND)
-    return life_of(prometheus.pulses, own_starts(prometheus), signs, steps, end)
+    return life_of(prometheus.pulses, own_starts(prometheus), signs, end)
 
 
 def own_starts(prometheus: Prometheus) -> list[int]:

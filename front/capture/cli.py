@@ -4,6 +4,7 @@ from __future__ import annotations
 
 import argparse
 import sys
+import time
 from contextlib import nullcontext
 from dataclasses import dataclass
 from pathlib import Path
@@ -132,6 +133,8 @@ def _span(options: argparse.Namespace) -> Span:
         raise fault(f"--history {options.history}: not a length such as 6h or 1d12h", 2)
     if end <= start:
         raise fault("--to isn't after --from", 2)
+    if not options.responses and end > time.time_ns():
+        raise fault(f"--to {options.end}: that is still to come", 2)
     return Span(max(start - history, HOUR), start, end)
 
 

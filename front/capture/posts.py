@@ -16,6 +16,7 @@ from ..moments import MINUTE
 KEPT_RESOLVED = 15 * MINUTE
 EVALUATIONS_BEFORE_SAMPLES = 2
 VALID_FOR = 4
+USUAL_SHARE = 0.95
 
 
 @dataclass(frozen=True)
@@ -156,11 +157,13 @@ def _resolved_posts(moments: list[int], resolved_at: int, until: int, timing: Ti
         at += timing.interval
 
 
-def life_of(pulses: list[int], starts: list[int], signs: list[int], usual: int, end: int) -> Life:
+def life_of(pulses: list[int], starts: list[int], signs: list[int], end: int) -> Life:
     """Returns when a Prometheus evaluated, from the moments of its scrapes, its starts, and the samples of its alerts.
 
-    Without scrapes and samples up to the end nothing is known of the rest.
+    A pause between scrapes that is much longer than nearly all others is an outage. Nothing is known of what is after the
+    last scrape and the last sample.
     """
+    usual = usual_pause(pulses)
     alive = sorted({*pulses, *signs})
     outages = [
         _narrowed(left, right, starts) for left, right in zip(pulses, pulses[1:]) if right - left > usual * 5 // 2
@@ -172,6 +175,12 @@ def life_of(pulses: list[int], starts: list[int], signs: list[int], usual: int, 
             outages.append(Outage(alive[place - 1], start))
     last = alive[-1] if alive else end
     return Life(min(end, last if pulses else end), outages, signs)
+
+
+def usual_pause(pulses: list[int]) -> int:
+    """Returns the length that nearly all pauses between scrapes don't exceed."""
+    pauses = sorted(right - left for left, right in zip(pulses, pulses[1:]))
+    return pauses[int((len(pauses) - 1) * USUAL_SHARE)] if pauses else 0
 
 
 def _narrowed(left: int, right: int, starts: list[int]) -> Outage:

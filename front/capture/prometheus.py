@@ -5,7 +5,7 @@ from __future__ import annotations
 from dataclasses import dataclass, field
 from typing import Iterator
 
-from ..moments import DAY, HOUR, MINUTE, SECOND, length_of
+from ..moments import HOUR, MINUTE, SECOND, length_of
 from .answers import Answer
 from .faults import fault
 from .progress import Progress
@@ -241,8 +241,6 @@ def _pulses(server: Server, start: int, end: int, step: int, progress: Progress)
 def _changes(server: Server, start: int, end: int, progress: Progress) -> list[Change]:
     """Returns the starts and reloads within a span that this server's own series tell of."""
     step = max(15 * SECOND, (end - start) // POINTS_AT_MOST)
-    if end - start < DAY // 4:
-        step = SECOND
     found: set[Change] = set()
     for process in ("prometheus", "alertmanager"):
         query = STARTS % process

@@ -6,11 +6,14 @@ from typing import Any, Iterator
 
 from ..config.yaml_config import Reading
 from ..moments import HOUR, MINUTE, clock_text, length_of, length_text, moment_text
-from .assembly import Assembly, label_of
+from .alerts import Derived
+from .assembly import Assembly, Span, label_of
 from .faults import one_line
+from .prometheus import Prometheus
 
 GROUP_INTERVAL, REPEAT_INTERVAL = 5 * MINUTE, 4 * HOUR
 SHOWN_AT_MOST = 12
+QUIET_AT_MOST = 2 * MINUTE
 
 
 def report(assembly: Assembly, reading: Reading) -> str:
@@ -31,29 +34,35 @@ def report(assembly: Assembly, reading: Reading) -> str:
 
 def _found(assembly: Assembly) -> Iterator[str]:
     for prometheus, derived in zip(assembly.prometheus, assembly.derived):
-        alerts = {tuple(sorted(each.labels.items())) for each in derived.posted}
-        resolved = len(
-            {
-                (tuple(sorted(each.labels.items())), each.post.starts_at)
-                for each in derived.posted
-                if each.post.is_resolved
-            }
-        )
-        yield (
-            f"{prometheus.name}: {len(alerts)} alerts, {len(derived.posted)} posts, {resolved} ends; posted again after"
-            f" {length_text(prometheus.resend_delay)}{'' if prometheus.is_resend_delay_known else ' (the default; its flags do not say)'}"
-        )
-        if derived.dropped:
-            yield f"{derived.dropped} alerts were dropped by alert_relabel_configs"
-        for outage in derived.life.outages:
-            yield f"no evaluations between {clock_text(outage.after, True)} and {clock_text(outage.before, True)}"
+        yield from _found_in(prometheus, derived, assembly.span)
     if assembly.alertmanager:
-        yield f"{assembly.alertmanager.name}: version {one_line(assembly.alertmanager.version)}, {assembly.silences} silences"
+        silences = _count(assembly.silences, "silence")
+        yield f"{assembly.alertmanager.name}: version {one_line(assembly.alertmanager.version)}, {silences}"
     if assembly.others:
-        yield f"{len(assembly.others)} alerts that no Prometheus posted, posted here at their start and at their last post"
+        others = _count(len(assembly.others), "alert")
+        yield f"of other senders: {others}, posted here at the start and at the last post"
     for change in assembly.changes:
         yield f"{clock_text(change.at, True)} {one_line(label_of(change))}"
-    yield f"{len(assembly.lines) - 1} events, from {moment_text(assembly.span.history)}"
+    yield f"{_count(len(assembly.lines) - 1, 'event')}, from {moment_text(assembly.span.history)} on"
+
+
+def _found_in(prometheus: Prometheus, derived: Derived, span: Span) -> Iterator[str]:
+    alerts = {tuple(sorted(each.labels.items())) for each in derived.posted}
+    ends = {(tuple(sorted(each.labels.items())), each.post.starts_at) for each in derived.posted if each.post.is_resolved}
+    counts = f"{_count(len(alerts), 'alert')}, {_count(len(derived.posted), 'post')}, {_count(len(ends), 'end')}"
+    delay = length_text(prometheus.resend_delay)
+    by_default = "" if prometheus.is_resend_delay_known else ", the default, since its flags don't say"
+    yield f"{prometheus.name}: {counts}; it posts again after {delay}{by_default}"
+    if derived.dropped:
+        yield f"{prometheus.name}: {_count(derived.dropped, 'alert')} dropped by alert_relabel_configs"
+    for outage in derived.life.outages:
+        yield f"{prometheus.name}: no evaluations from {clock_text(outage.after, True)} to {clock_text(outage.before, True)}"
+    if span.end - derived.life.end > QUIET_AT_MOST:
+        yield f"{prometheus.name}: nothing is known of it after {clock_text(derived.life.end, True)}"
+
+
+def _count(count: int, noun: str) -> str:
+    return f"{count:,} {noun}{'' if count == 1 else 's'}"
 
 
 def _configuration(assembly: Assembly, reading: Reading) -> Iterator[str]:
@@ -90,7 +99,7 @@ def _not_known(assembly: Assembly) -> Iterator[str]:
         yield "reloads and restarts of Alertmanager, unless the Prometheus scrapes it: no series tells of one"
 
 
-def _not_known_of(name: str, derived: Any, has_pulses: bool, alertmanagers: int) -> Iterator[str]:
+def _not_known_of(name: str, derived: Derived, has_pulses: bool, alertmanagers: int) -> Iterator[str]:
     if derived.without_rule:
         yield f"{name}: the rules of {_some(derived.without_rule)} aren't there now; the evaluation interval is the global one"
     if derived.ambiguous:
@@ -111,7 +120,7 @@ def _how_exact(assembly: Assembly) -> Iterator[str]:
     if assembly.delays:
         middle = assembly.delays[len(assembly.delays) // 2]
         yield (
-            f"of {len(assembly.delays)} alerts that are still stored, the last post arrived {length_text(middle)} after its"
+            f"of {_count(len(assembly.delays), 'alert')} still stored, the last post arrived {length_text(middle)} after its"
             f" evaluation (the median; {length_text(assembly.delays[0])} to {length_text(assembly.delays[-1])})"
         )
     yield "silences begin and end as the API says; starts and reloads are as exact as the series that tell of them"

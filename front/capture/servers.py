@@ -94,12 +94,15 @@ class HttpServer:
         try:
             with opener.open(request, timeout=SECONDS_AT_MOST) as answer:
                 body: bytes = answer.read(BYTES_AT_MOST + 1)
+                is_cut = len(body) <= BYTES_AT_MOST and bool(answer.length)
         except urllib.error.HTTPError as error:
             raise self._refused(error, path) from None
         except (OSError, http.client.HTTPException, ValueError) as error:
             raise fault(f"{self.name}{path}: {_reason(error)}") from None
         if len(body) > BYTES_AT_MOST:
             raise TooLarge
+        if is_cut:
+            raise fault(f"{self.name}{path}: the answer ends early")
         return body
 
     def _refused(self, error: urllib.error.HTTPError, path: str) -> Exception:

@@ -47,7 +47,7 @@ alerting:
     - {{regex: replica|instance|job, action: labeldrop}}
     - {{source_labels: [host], regex: 'h([1-4])', target_label: team, replacement: 'team-$1'}}
   alertmanagers:
-    - static_configs: [{{targets: ['127.0.0.1:{alertmanager}']}}]
+    - static_configs: [{{targets: ['127.0.0.1:{posts}']}}]
 scrape_configs:
   - {{job_name: prometheus, static_configs: [{{targets: ['127.0.0.1:{own}']}}]}}
   - {{job_name: alertmanager, static_configs: [{{targets: ['127.0.0.1:{alertmanager}']}}]}}
@@ -95,9 +95,11 @@ class Target:
 class Servers:
     """All the processes and listeners. Leaving the context ends them."""
 
-    def __init__(self, room: Path, log: Path) -> None:
-        self.room, self.log = room, log
+    def __init__(self, room: Path, kept: Path, is_aligned: bool) -> None:
+        self.room, self.is_aligned = room, is_aligned
+        self.webhooks, self.posts = kept / "webhooks.jsonl", kept / "posts.jsonl"
         self.target = Target()
+        self.lock = threading.Lock()
         self.listeners: list[ThreadingHTTPServer] = []
         self.processes: dict[str, subprocess.Popen[bytes]] = {}
         self.ports = {name: _free_port() for name in ("p0", "p1", "alertmanager")}
@@ -163,7 +165,7 @@ class Servers:
                 self._ask(f"/api/v2/silence/{silence['id']}", method="DELETE")
 
     def _ask(self, path: str, body: object = None, method: str | None = None) -> bytes:
-        data = None if body is None else json.dumps(body).encode()
+        data = body if body is None or isinstance(body, bytes) else json.dumps(body).encode()
         request = urllib.request.Request(
             self.alertmanager_url + path, data, {"Content-Type": "application/json"}, method=method
         )
@@ -185,20 +187,41 @@ class Servers:
             def log_message(self, *_: object) -> None:
                 pass
 
-        class Webhook(Metrics):
-            """Logs what a receiver gets, with the moment at which it arrives."""
+        class Logged(Metrics):
+            """Logs a body, with the moment at which it arrives."""
 
             def do_POST(self) -> None:
                 at = datetime.now(timezone.utc).isoformat()
-                body = json.loads(self.rfile.read(int(self.headers["Content-Length"])))
+                data = self.rfile.read(int(self.headers["Content-Length"]))
+                self.pass_on(data)
                 self.send_response(200)
                 self.end_headers()
-                with open(servers.log, "a", encoding="utf-8") as log:
-                    log.write(json.dumps({"receivedAt": at, "body": body}) + "\n")
+                with servers.lock, open(self.log, "a", encoding="utf-8") as log:
+                    log.write(json.dumps({"receivedAt": at, "body": json.loads(data)}) + "\n")
 
-        self.log.touch()
+            log: Path
+
+            def pass_on(self, data: bytes) -> None:
+                pass
+
+        class Webhook(Logged):
+            """Stands for a receiver."""
+
+            log = servers.webhooks
+
+        class Posts(Logged):
+            """Stands between Prometheus and Alertmanager."""
+
+            log = servers.posts
+
+            def pass_on(self, data: bytes) -> None:
+                servers._ask("/api/v2/alerts", data)
+
+        for log in (self.webhooks, self.posts):
+            log.touch()
         self.ports["target"] = self._serve(Metrics)
         self.ports["webhook"] = self._serve(Webhook)
+        self.ports["posts"] = self._serve(Posts)
 
     def _serve(self, handler: type[BaseHTTPRequestHandler]) -> int:
         listener = ThreadingHTTPServer(("127.0.0.1", 0), handler)
@@ -207,6 +230,9 @@ class Servers:
         return int(listener.server_address[1])
 
     def _start_alertmanager(self) -> None:
+        """Starts it at a multiple of half a minute, so that empty groups are removed at the same moments as in the replay."""
+        if self.is_aligned:
+            time.sleep(30 - time.time() % 30)
         config = self.room / "alertmanager.yml"
         config.write_text(ALERTMANAGER.format(**self.ports))
         self._start("alertmanager", "prometheus-alertmanager", [
