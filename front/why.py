@@ -3,6 +3,7 @@
 from __future__ import annotations
 
 import argparse
+import dataclasses
 import json
 import sys
 from typing import Optional
@@ -74,7 +75,7 @@ def _with_labels(story: Story, part: Pairs) -> Story:
             f"amreplay: --alert: none of the {len(story.alerts)} alerts has all of these labels{_nearest(story, part)}",
             2,
         )
-    return Story(**{**vars(story), "alerts": alerts})
+    return dataclasses.replace(story, alerts=alerts)
 
 
 def _nearest(story: Story, part: Pairs) -> str:
