@@ -48,7 +48,9 @@ def _found(assembly: Assembly) -> Iterator[str]:
 
 def _found_in(prometheus: Prometheus, derived: Derived, span: Span) -> Iterator[str]:
     alerts = {tuple(sorted(each.labels.items())) for each in derived.posted}
-    ends = {(tuple(sorted(each.labels.items())), each.post.starts_at) for each in derived.posted if each.post.is_resolved}
+    ends = {
+        (tuple(sorted(each.labels.items())), each.post.starts_at) for each in derived.posted if each.post.is_resolved
+    }
     counts = f"{_count(len(alerts), 'alert')}, {_count(len(derived.posted), 'post')}, {_count(len(ends), 'end')}"
     delay = length_text(prometheus.resend_delay)
     by_default = "" if prometheus.is_resend_delay_known else ", the default, since its flags don't say"
