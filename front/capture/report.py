@@ -97,6 +97,11 @@ def _not_known(assembly: Assembly) -> Iterator[str]:
         yield "alerts that have ended, and all posts before the last: there is no Prometheus to ask"
     if not assembly.alertmanager:
         yield "silences, and alerts of other senders: there is no Alertmanager to ask"
+    if assembly.alertmanager and assembly.alertmanager.instances > 1:
+        yield (
+            f"which of the cluster's {assembly.alertmanager.instances} instances notified, and how long it waited for the others:"
+            " the replay has one instance"
+        )
     if not any(change.process == "alertmanager" for change in assembly.changes):
         yield "reloads and restarts of Alertmanager, unless the Prometheus scrapes it: no series tells of one"
 
