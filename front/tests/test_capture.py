@@ -14,6 +14,11 @@ START, END = "2024-05-01T10:00:00Z", "2024-05-01T10:30:00Z"
 MINUTES = range(0, 600, 30)
 
 
+def second(at: str) -> str:
+    """Returns the second of a moment. A post is dated some milliseconds after its evaluation."""
+    return at[:19] + "Z"
+
+
 class Captures(WithRoom):
     """A test that captures saved responses, and replays what was captured."""
 
@@ -33,11 +38,11 @@ class Captures(WithRoom):
         return lines[1:]
 
     def posts(self) -> list[tuple[str, list[dict[str, Any]]]]:
-        """Returns the posts of the script: the moment, and the alerts."""
-        return [(line["at"], line["alerts"]) for line in self.script() if "alerts" in line]
+        """Returns the posts of the script: the second, and the alerts."""
+        return [(second(line["at"]), line["alerts"]) for line in self.script() if "alerts" in line]
 
     def notified(self) -> list[tuple[str, str, list[str], list[str]]]:
-        """Returns what the program prints: moment, receiver, and the alert names or hosts that fire and that are resolved."""
+        """Returns what the program prints: second, receiver, and the alert names or hosts that fire and that are resolved."""
         out = self.room / "out"
         printed = Program.found().run(Program.found().source(str(out / "config.json"), str(out / "script.jsonl")))
         names = [
@@ -46,7 +51,7 @@ class Captures(WithRoom):
             if "at" in line
         ]
         lines = [line for line in printed if "at" in line]
-        return [(line["at"], line["receiver"], *found) for line, found in zip(lines, names)]
+        return [(second(line["at"]), line["receiver"], *found) for line, found in zip(lines, names)]
 
 
 class Capture(Captures):
@@ -118,6 +123,17 @@ class Capture(Captures):
         self.assertEqual([at[11:19] for at, _ in self.posts()[:4]], ["10:00:00", "10:00:07", "10:01:30", "10:01:37"])
         self.assertIn("1 alert dropped", report)
         self.assertEqual([at[11:] for at, *_ in self.notified()], ["10:00:10Z", "10:06:10Z", "10:10:10Z"])
+
+    def test_a_flush_at_the_moment_of_an_evaluation_takes_what_is_posted_then(self) -> None:
+        # The first flush is due 10 seconds after the first post, and the next one a minute later.
+        series = [
+            samples("Down", START, *range(0, 600, 10), host="h1"),
+            samples("Down", START, *range(10, 70, 10), host="h2"),
+        ]
+        answers = prometheus(*series, rules=[rule("Down")], interval=10)
+        self.capture({"prometheus": answers, "alertmanager": alertmanager()}, "--history", "0")
+        expected = [("2024-05-01T10:00:10Z", "ops", ["h1", "h2"], []), ("2024-05-01T10:01:10Z", "ops", ["h1"], ["h2"])]
+        self.assertEqual(self.notified()[:2], expected)
 
     def test_alerts_of_one_evaluation_are_one_line(self) -> None:
         series = [samples("Down", START, 0, 30, host=f"h{i}") for i in (3, 1, 2)]
@@ -231,6 +247,26 @@ time_intervals:
         self.capture({"prometheus": answers, "alertmanager": alertmanager()}, "--config", file, "--history", "0")
         self.assertEqual({receiver for _, receiver, *_ in self.notified()}, {"others"})
         self.assertNotIn("secret", (self.room / "out/config.json").read_text())
+
+    def test_a_configuration_as_json_is_cut_too(self) -> None:
+        receivers = [
+            {
+                "name": "ops",
+                "sns_configs": [{"api_url": "secret"}],
+                "webhook_configs": [{"url": "secret", "send_resolved": False}],
+            }
+        ]
+        config = {
+            "global": {"smtp_auth_password": "secret"},
+            "route": {"receiver": "ops", "note": "secret"},
+            "receivers": receivers,
+        }
+        self.capture({"alertmanager": alertmanager()}, "--config", self.write_json("config.json", config))
+        expected = [
+            {"name": "ops", "sns_configs": [{"send_resolved": True}], "webhook_configs": [{"send_resolved": False}]}
+        ]
+        found = json.loads((self.room / "out/config.json").read_text())
+        self.assertEqual(found, {"global": {}, "route": {"receiver": "ops"}, "receivers": expected})
 
     def test_repeats_at_exact_multiples_are_named(self) -> None:
         report = self.capture({"alertmanager": alertmanager()})
