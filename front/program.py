@@ -266,7 +266,7 @@ def _cannot_run(source: Source, error: OSError) -> Fault:
 def _widen(pipe: IO[bytes]) -> None:
     """Asks the system for a larger pipe, which saves time where lists are long."""
     try:
-        fcntl.fcntl(pipe.fileno(), fcntl.F_SETPIPE_SZ, PIPE_BYTES)
+        fcntl.fcntl(pipe.fileno(), getattr(fcntl, "F_SETPIPE_SZ"), PIPE_BYTES)
     except (AttributeError, OSError):
         pass
 

@@ -3,6 +3,7 @@
 from __future__ import annotations
 
 import argparse
+import dataclasses
 import json
 import sys
 from typing import Optional
@@ -22,7 +23,8 @@ def main(arguments: list[str]) -> int:
     """Prints the story of a script under a configuration."""
     options = _options(arguments)
     with opened() as inputs:
-        config, script = inputs.config(options.config), inputs.script(options.script)
+        script = inputs.script(options.script)
+        config = inputs.config(options.config, script)
         story = story_of(inputs.source(config, script), config.value)
     part = labels_in(options.alert, "--alert") if options.alert else None
     _check_receiver(story, options.receiver)
@@ -74,7 +76,7 @@ def _with_labels(story: Story, part: Pairs) -> Story:
             f"amreplay: --alert: none of the {len(story.alerts)} alerts has all of these labels{_nearest(story, part)}",
             2,
         )
-    return Story(**{**vars(story), "alerts": alerts})
+    return dataclasses.replace(story, alerts=alerts)
 
 
 def _nearest(story: Story, part: Pairs) -> str:

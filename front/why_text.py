@@ -2,15 +2,15 @@
 
 from __future__ import annotations
 
-import re
 import time
 from dataclasses import dataclass
 from typing import Iterator, Optional
 
 from .moments import SECOND, clock_text, length_text
-from .story.model import NOWHERE, TOLD, Span, Story
+from .story.model import NOWHERE, Span, Story
 from .story.names import Names, is_one_day
 from .story.sections import EXPECTED, LATE, LATE_AFTER, NO_INTEGRATION, NOBODY, SECTIONS, SOME, Entry, Told, entries_of
+from .telling import count_text, joined, printable, receivers_text, span_lines
 
 TITLES = {
     NOBODY: "NOBODY WAS NOTIFIED",
@@ -29,7 +29,6 @@ COUNTED = {
 ENTRIES_AT_MOST = 100
 SPANS_AT_MOST = 12
 MARKS_AT_MOST = 20
-HIDDEN = re.compile(r"[\x00-\x1f\x7f-\x9f\u2028\u2029\u202a-\u202e\u2066-\u2069\u200b-\u200f\ufeff]")
 
 
 @dataclass(frozen=True)
@@ -44,11 +43,6 @@ class Telling:
 def text_of(story: Story, kept: Optional[Story] = None, telling: Telling = Telling()) -> str:
     """Returns the text of a story. `kept` has some of its alerts alone."""
     return "".join(f"{printable(line)}\n" for line in _lines(story, kept or story, telling))
-
-
-def printable(text: str) -> str:
-    """Returns a text without line feeds and other characters that are invisible or turn the text after them."""
-    return HIDDEN.sub(lambda found: f"\\u{ord(found[0]):04x}", text)
 
 
 def _lines(story: Story, kept: Story, telling: Telling) -> Iterator[str]:
@@ -70,12 +64,12 @@ def _lines(story: Story, kept: Story, telling: Telling) -> Iterator[str]:
 
 
 def _head(story: Story, kept: Story, entries: list[Entry], names: Names, telling: Telling) -> Iterator[str]:
-    yield f"{_time(story)}: {_count(story.events, 'event')}, {_count(len(story.alerts), 'alert')}, " + _count(
+    yield f"{_time(story)}: {count_text(story.events, 'event')}, {count_text(len(story.alerts), 'alert')}, " + count_text(
         sum(story.receivers.values()), "notification"
     )
     counts = {section: sum(entry.section == section for entry in entries) for section in SECTIONS}
     told = ", ".join(f"{count} {COUNTED[section]}" for section, count in counts.items() if count)
-    yield f"{_count(len(entries), 'firing')}: {told}" if entries else "no alert fired"
+    yield f"{count_text(len(entries), 'firing')}: {told}" if entries else "no alert fired"
     silent = (
         [] if telling.receiver or kept is not story else [name for name, count in story.receivers.items() if not count]
     )
@@ -108,12 +102,15 @@ def _entry(entry: Entry, names: Names, telling: Telling) -> Iterator[str]:
         return
     yield f"  {names.alert(entry.alert)}  fired {names.moment(firing.fired)} {end}{posted}"
     for told in _alike(entry.told, names, telling):
-        yield f"    {_receivers(told)}: {_first(told[0], names)}"
+        yield f"    {receivers_text([each.row for each in told])}: {_first(told[0], names)}"
         yield from _spans(told[0], names, telling)
 
 
 def _in_short(entry: Entry, names: Names) -> str:
-    return "; ".join(f"{_receivers(told)} {_first(told[0], names)}" for told in _alike(entry.told, names, Telling()))
+    return "; ".join(
+        f"{receivers_text([each.row for each in told])} {_first(told[0], names)}"
+        for told in _alike(entry.told, names, Telling())
+    )
 
 
 def _alike(told: list[Told], names: Names, telling: Telling) -> list[list[Told]]:
@@ -123,15 +120,6 @@ def _alike(told: list[Told], names: Names, telling: Telling) -> list[list[Told]]
         spans = tuple((span.start, span.end, names.reason(span)) for span in _shown(each, telling))
         found.setdefault((each.first.at, each.first.known, each.row.goes_nowhere, spans), []).append(each)
     return list(found.values())
-
-
-def _receivers(told: list[Told]) -> str:
-    """Returns receivers with their integrations: `db-pager (email, pagerduty), sre-pager (slack)`."""
-    integrations: dict[str, list[str]] = {}
-    for each in told:
-        place = f" {each.row.place + 1}" if each.row.place else ""
-        integrations.setdefault(each.row.receiver, []).append(each.row.integration + place)
-    return ", ".join(f"{name} ({', '.join(listed)})" if any(listed) else name for name, listed in integrations.items())
 
 
 def _first(told: Told, names: Names) -> str:
@@ -152,26 +140,6 @@ def _shown(told: Told, telling: Telling) -> list[Span]:
     return [span for span in told.reasons if span.verdict != NOWHERE]
 
 
-def _spans(told: Told, names: Names, telling: Telling) -> Iterator[str]:
-    spans = _joined(_shown(told, telling), names)
-    at_most = len(spans) if telling.is_full else SPANS_AT_MOST
-    for start, end, reason in spans[:at_most]:
-        yield f"      {names.moment(start)}-{names.moment(end)}  {reason}"
-    if spans[at_most:]:
-        yield f"      .. and {len(spans) - at_most} more spans"
-
-
-def _joined(spans: list[Span], names: Names) -> list[tuple[int, int, str]]:
-    """Puts spans together that follow one another with the same words."""
-    found: list[tuple[int, int, str]] = []
-    for span in spans:
-        reason = "notified" if span.verdict == TOLD else names.reason(span)
-        if found and found[-1][1] == span.start and found[-1][2] == reason:
-            found[-1] = (found[-1][0], span.end, reason)
-        else:
-            found.append((span.start, span.end, reason))
-    return found
-
-
-def _count(number: int, what: str) -> str:
-    return f"{number:,} {what}{'' if number == 1 else 's'}"
+def _spans(told: Told, names: Names, telling: Telling) -> list[str]:
+    spans = _shown(told, telling)
+    return span_lines(spans, names, len(spans) if telling.is_full else SPANS_AT_MOST, "      ")
