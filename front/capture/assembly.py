@@ -67,7 +67,7 @@ def assemble(
     assembly = Assembly(span, config, zones, alertmanager, found, derived, changes, others, len(silences), [])
     assembly.delays = _delays(assembly.posted, stored)
     lines = [silence_line(each, history) for each in silences]
-    lines += [line for one in derived for line in alert_lines(one.posted)]
+    lines += [line for one in derived for line in alert_lines(one.posted, end)]
     lines += [line for alert in others for line in other_lines(alert, history, end)]
     lines += _labels(changes, span)
     assembly.lines = in_order(lines, end)

@@ -9,6 +9,7 @@ from contextlib import nullcontext
 from dataclasses import dataclass
 from pathlib import Path
 
+from ..config.cut import cut
 from ..config.yaml_config import BadConfiguration, Reading, read_config
 from ..config.zones import BadZone, in_utc
 from ..moments import HOUR, length_of, nanoseconds
@@ -76,11 +77,10 @@ def _configuration(file: str | None, alertmanager: Alertmanager | None, span: Sp
     data = _file(file) if file else alertmanager.config if alertmanager else b""
     try:
         reading = read_config(data)
-        value, zones = in_utc(reading.value, span.history, span.end)
+        value, zones = in_utc(cut(reading.value), span.history, span.end)
     except (BadConfiguration, BadZone) as error:
         raise fault(f"{name}: {error}") from None
-    if zones:
-        reading = Reading(value, reading.lines, reading.unread, original=reading.original)
+    reading = Reading(value, reading.lines, reading.unread)
     if len(reading.as_json()) > CONFIG_BYTES_AT_MOST:
         raise fault(
             f"{name}: more than {CONFIG_BYTES_AT_MOST} bytes as JSON, with {len(zones)} intervals written in UTC"

@@ -88,7 +88,7 @@ def prometheus_of(server: Server, start: int, end: int, progress: Progress) -> P
         MINUTE if delay is None else delay,
         delay is not None,
         rules,
-        _series(server, start, end, progress),
+        _series(server, (start, end), config.query_offset, progress),
         _pulses(server, start, end, step, progress),
         _changes(server, start, end, progress),
         _started(server),
@@ -141,8 +141,12 @@ def _rule(rule: Answer, group: Group) -> Rule:
     )
 
 
-def _series(server: Server, start: int, end: int, progress: Progress) -> list[Series]:
-    """Returns the alerts of a span. Pieces that overlap, or that are too large for one answer, make no difference."""
+def _series(server: Server, span: tuple[int, int], offset: int, progress: Progress) -> list[Series]:
+    """Returns the alerts of a span, by the moments of their evaluations, which are an offset later than their samples.
+
+    Pieces that overlap, or that are too large for one answer, make no difference.
+    """
+    start, end = span
     moments: dict[tuple[tuple[str, str], ...], dict[str, set[int]]] = {}
     count = 0
     for answer in _sample_answers(server, start, end, progress):
@@ -151,7 +155,7 @@ def _series(server: Server, start: int, end: int, progress: Progress) -> list[Se
             labels.pop("__name__", None)
             state = labels.pop("alertstate", "")
             values = result.member("values")
-            found = [at for at in _sample_moments(values) if start <= at <= end]
+            found = [at + offset for at in _sample_moments(values) if start <= at + offset <= end]
             count += len(found)
             if count > SAMPLES_AT_MOST:
                 raise fault(f"{server.name}: more than {SAMPLES_AT_MOST} samples; ask for a shorter span")
