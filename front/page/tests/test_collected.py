@@ -6,11 +6,11 @@ import random
 import unittest
 from pathlib import Path
 
-from page import differences, states, verdicts
-from page.tables import pairs
+from front.page import cli, differences, states, verdicts
+from front.page.tables import pairs
 
 from .reader import Reader
-from .support import EXAMPLES, LISTS, Session, TOP, WithRoom, data_of, hostile_files, page_of
+from .support import EXAMPLES, LISTS, PROGRAM, Session, TOP, WithRoom, data_of, hostile_files, page_of
 
 NAMES = ("first-page", "a-page-that-never-came", "a-flapping-alert", "a-reload")
 INCIDENTS = (
@@ -126,10 +126,7 @@ class InPieces(WithRoom):
         states.BYTES_FOR_ONE_SESSION, states.LISTED_BYTES_AT_MOST, verdicts.ALL_AT_MOST, verdicts.FEW = kept
 
     def made(self) -> str:
-        from page import cli
-
-        from .support import PROGRAM
-        return cli.make(cli._options([str(self.config), str(self.script)], PROGRAM))
+        return cli.make(cli._options([str(self.config), str(self.script), "--program", PROGRAM]))
 
     def test_pieces_are_the_same_as_one(self) -> None:
         whole = self.made()

@@ -1,7 +1,8 @@
-"""The words of `incident-page`, and what is done with them."""
+"""The words of `amreplay page`, and what is done with them."""
 from __future__ import annotations
 
 import argparse
+import gc
 import json
 import os
 import stat
@@ -22,6 +23,7 @@ from .states import count_events
 from .tables import Pairs, Tables, pairs
 from .workers import Part
 
+TOP = Path(__file__).resolve().parents[2]
 EVENTS_AT_MOST = 20_000
 PAGE_BYTES_AT_MOST = 20_000_000
 
@@ -36,9 +38,11 @@ class Trial:
     printed: list[bytes]
 
 
-def main(words: list[str], program: str) -> int:
+def main(words: list[str]) -> int:
     """Writes the page that the words ask for, whole or not at all, and returns the status."""
-    options = _options(words, program)
+    # What is collected stays until the page is written, and has no cycles to look for.
+    gc.disable()
+    options = _options(words)
     try:
         text = make(options)
     except Fault as fault:
@@ -57,9 +61,9 @@ def make(options: argparse.Namespace) -> str:
         progress.clear()
 
 
-def _options(words: list[str], program: str) -> argparse.Namespace:
+def _options(words: list[str]) -> argparse.Namespace:
     parser = argparse.ArgumentParser(
-        prog="incident-page",
+        prog="amreplay page",
         description="Writes one self-contained page of an incident.",
         epilog="docs/PAGE.md describes the page, and docs/FORMATS.md the two files.",
     )
@@ -71,13 +75,17 @@ def _options(words: list[str], program: str) -> argparse.Namespace:
     parser.add_argument("--from", dest="start", metavar="PLACE", help="the first event of the page: its number, or a moment")
     parser.add_argument("--to", dest="end", metavar="PLACE", help="the last event of the page: its number, or a moment")
     parser.add_argument("--explain", metavar="LABELS", action="append", default=[], help="explain this alert at every event")
-    parser.add_argument("--program", metavar="PROGRAM", default=program, help="the program that replays (./amreplay)")
+    parser.add_argument("--program", metavar="PROGRAM", default=_program(), help="the program that replays (./amreplay)")
     options = parser.parse_args(words)
     try:
         options.named = [_labels(text) for text in options.explain]
     except ValueError:
         parser.error("--explain takes an object of texts")
     return options
+
+
+def _program() -> str:
+    return os.environ.get("AMREPLAY_PROGRAM") or str(TOP / "amreplay")
 
 
 def _labels(text: str) -> Pairs:
@@ -135,7 +143,7 @@ def _part(options: argparse.Namespace, lines: list[bytes], count: int) -> Part:
     first = 1 if options.start is None else _place(options.start, lines, "--from")
     last = count if options.end is None else _place(options.end, lines, "--to")
     if first < 1 or last > count or first > last + 1 or (first > last and (options.start or options.end) is not None):
-        raise Fault(f"incident-page: there is no event from {options.start or 1} to {options.end or count}", 2)
+        raise Fault(f"amreplay: there is no event from {options.start or 1} to {options.end or count}", 2)
     return Part(first, last)
 
 
@@ -146,7 +154,7 @@ def _place(text: str, lines: list[bytes], option: str) -> int:
     try:
         moment = nanoseconds(text)
     except ValueError:
-        raise Fault(f"incident-page: {option} takes the number of an event, or a moment", 2) from None
+        raise Fault(f"amreplay: {option} takes the number of an event, or a moment", 2) from None
     moments = [nanoseconds(event_of(line).at) for line in lines]
     if option == "--from":
         return next((i for i, at in enumerate(moments, 1) if at >= moment), len(lines) + 1)
@@ -158,10 +166,10 @@ def _trial(source: Source, text: str) -> Trial:
     try:
         event = event_of(text.encode())
     except (ValueError, StopIteration, KeyError, TypeError):
-        raise Fault("incident-page: --try takes a line of a script", 2) from None
+        raise Fault("amreplay: --try takes a line of a script", 2) from None
     _, answer = answers_of(source, [f"seek-time {event.at}", f"trial {' '.join(text.splitlines())}"])
     if "refused" in answer.last:
-        raise Fault(f"incident-page: --try takes a line of a script; the session refused it, {answer.last['refused']}", 2)
+        raise Fault(f"amreplay: --try takes a line of a script; the session refused it, {answer.last['refused']}", 2)
     return Trial(event, answer.last["cursor"], answer.last["moves"], answer.lines)
 
 
@@ -187,7 +195,7 @@ def _fitting(collected: Collected, options: argparse.Namespace) -> str:
         if size <= PAGE_BYTES_AT_MOST:
             return text
         if thinning.stride > longest:
-            raise Fault(f"incident-page: the page would have {size:,} bytes; cut a part with --from and --to", 1)
+            raise Fault(f"amreplay: the page would have {size:,} bytes; cut a part with --from and --to", 1)
         thinning = Thinning(thinning.stride * 2, True) if thinning.named_alone else Thinning(1, True)
 
 
@@ -233,7 +241,7 @@ def _write(text: str, output: str | None) -> int:
         else:
             _write_file(text.encode(), Path(output))
     except OSError as error:
-        print(f"incident-page: cannot write: {error.strerror}", file=sys.stderr)
+        print(f"amreplay: cannot write: {error.strerror}", file=sys.stderr)
         return 1
     return 0
 

@@ -1,4 +1,4 @@
-"""The words of `incident-page`: what is compared, tried and cut, faults, and what is written."""
+"""The words of `amreplay page`: what is compared, tried and cut, faults, and what is written."""
 from __future__ import annotations
 
 import json
@@ -8,12 +8,12 @@ import subprocess
 import sys
 import unittest
 
-from page.compare import compare
-from page.document import embedded, page
-from page.moments import nanoseconds
+from front.page.compare import compare
+from front.page.document import embedded, page
+from front.page.moments import nanoseconds
 
 from .reader import Reader
-from .support import EXAMPLES, PROGRAM, WithRoom, data_of, hostile_files, page_of
+from .support import ENVIRONMENT, EXAMPLES, PAGE, PROGRAM, TOP, WithRoom, data_of, hostile_files, page_of
 
 RELOAD = EXAMPLES / "a-reload"
 NEVER = EXAMPLES / "a-page-that-never-came"
@@ -111,7 +111,7 @@ class Faults(WithRoom):
         for words in (["--from", "9"], ["--to", "0"], ["--from", "yesterday"], ["--from", "3", "--to", "1"]):
             status, text, faults = page_of(NEVER / "config.json", NEVER / "script.jsonl", *words)
             self.assertEqual((status, text), (2, ""), words)
-            self.assertTrue(faults.startswith("incident-page: "))
+            self.assertTrue(faults.startswith("amreplay: "))
 
     def test_output_that_cannot_be_written(self) -> None:
         status, _, faults = page_of(NEVER / "config.json", NEVER / "script.jsonl", "--output", self.room / "none" / "page.html")
@@ -130,15 +130,15 @@ class Written(WithRoom):
 
     def test_files_from_pipes(self) -> None:
         words = (NEVER / "config.json", NEVER / "script.jsonl")
-        command = 'exec "$0" "$1" <(cat "$2") <(cat "$3") --program "$4"'
-        page_file = str(EXAMPLES.parent / "incident-page")
-        done = subprocess.run(["bash", "-c", command, sys.executable, page_file, *map(str, words), PROGRAM], capture_output=True, check=True)
+        command = 'exec "$0" -B -m front.page <(cat "$1") <(cat "$2") --program "$3"'
+        command_line = ["bash", "-c", command, sys.executable, *map(str, words), PROGRAM]
+        done = subprocess.run(command_line, capture_output=True, check=True, env=ENVIRONMENT)
         self.assertEqual(data_of(done.stdout.decode())["runs"][0]["events"], data_of(page_of(*words)[1])["runs"][0]["events"])
 
     def test_a_bar_on_a_terminal(self) -> None:
         reader, terminal = pty.openpty()
-        command = [sys.executable, str(EXAMPLES.parent / "incident-page"), str(NEVER / "config.json"), str(NEVER / "script.jsonl")]
-        done = subprocess.run([*command, "--program", PROGRAM], stdout=subprocess.DEVNULL, stderr=terminal, check=True)
+        command = [*PAGE, str(NEVER / "config.json"), str(NEVER / "script.jsonl"), "--program", PROGRAM]
+        done = subprocess.run(command, stdout=subprocess.DEVNULL, stderr=terminal, check=True, env=ENVIRONMENT)
         drawn = os.read(reader, 1 << 16)
         os.close(reader)
         os.close(terminal)
@@ -183,8 +183,8 @@ class Examples(WithRoom):
         names = ("a-page-that-never-came", "a-reload")
         for name in names:
             (self.room / name).mkdir()
-        subprocess.run([str(EXAMPLES.parent / "page" / "make-examples"), PROGRAM, str(self.room)], check=True)
+        subprocess.run([str(TOP / "front" / "page" / "make-examples"), PROGRAM, str(self.room)], check=True)
         for name in names:
             made = (self.room / name / "incident.html").read_bytes()
-            self.assertTrue(made == (EXAMPLES / name / "incident.html").read_bytes(), f"{name}: run page/make-examples")
+            self.assertTrue(made == (EXAMPLES / name / "incident.html").read_bytes(), f"{name}: run front/page/make-examples")
             self.assertLess(len(made), 200_000)

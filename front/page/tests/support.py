@@ -11,9 +11,11 @@ import unittest
 from pathlib import Path
 from typing import Any
 
-TOP = Path(__file__).resolve().parents[2]
+TOP = Path(__file__).resolve().parents[3]
 EXAMPLES = TOP / "examples"
 PROGRAM = os.environ.get("AMREPLAY_PROGRAM", str(TOP / "amreplay"))
+PAGE = [sys.executable, "-B", "-m", "front.page"]
+ENVIRONMENT = {**os.environ, "PYTHONPATH": str(TOP)}
 LISTS = ("alerts", "silences", "groups", "log")
 HOSTILE = (
     "</script><script>window.hostile=1</script>",
@@ -70,9 +72,8 @@ class Session:
 
 
 def page_of(*words: Any) -> tuple[int, str, str]:
-    """Runs `incident-page` and returns its status and what it printed."""
-    command = [sys.executable, str(TOP / "incident-page"), *map(str, words), "--program", PROGRAM]
-    done = subprocess.run(command, capture_output=True, check=False)
+    """Runs `amreplay page` and returns its status and what it printed."""
+    done = subprocess.run([*PAGE, *map(str, words), "--program", PROGRAM], capture_output=True, check=False, env=ENVIRONMENT)
     return done.returncode, done.stdout.decode(), done.stderr.decode()
 
 

@@ -92,7 +92,7 @@ def answers_of(source: Source, commands: list[str]) -> list[Answer]:
     """Returns the answers to a few commands."""
     answers = list(converse(source, commands))
     if len(answers) != len(commands):
-        raise Fault("incident-page: the session answered otherwise than one last line for each command", 1)
+        raise Fault("amreplay: the session answered otherwise than one last line for each command", 1)
     return answers
 
 
@@ -101,7 +101,7 @@ def _start(source: Source, errors: Any) -> subprocess.Popen[bytes]:
     try:
         process = subprocess.Popen(words, stdin=subprocess.PIPE, stdout=subprocess.PIPE, stderr=errors, bufsize=PIPE_BYTES)
     except OSError as error:
-        raise Fault(f"incident-page: cannot run {source.program}: {error.strerror}", 1) from error
+        raise Fault(f"amreplay: cannot run {source.program}: {error.strerror}", 1) from error
     _widen(process.stdout)
     return process
 
@@ -192,5 +192,5 @@ def _fault(errors: Any, status: int) -> Fault:
     errors.seek(0)
     text = errors.read().decode("utf-8", "replace").rstrip("\n")
     if status < 0:
-        return Fault(text or f"incident-page: the program was ended by signal {-status}", 1)
-    return Fault(text or f"incident-page: the program ended with status {status}", status)
+        return Fault(text or f"amreplay: the program was ended by signal {-status}", 1)
+    return Fault(text or f"amreplay: the program ended with status {status}", status)
