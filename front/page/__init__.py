@@ -1,1 +1,5 @@
-"""Makes one self-contained page of an incident out of what a session of `amreplay` answers."""
+"""`amreplay page`: one self-contained page of an incident, made of what sessions of the program answer."""
+
+from .cli import main
+
+__all__ = ["main"]

@@ -9,8 +9,8 @@ from typing import Any
 
 from .differences import change
 from .histories import KINDS, Key
-from .moments import moment_text, nanoseconds
-from .session import Source, answers_of
+from ..moments import moment_text, nanoseconds
+from ..program import Source, answers_of
 from .states import Seen, Watched
 
 TICKS_AT_MOST = 2_000

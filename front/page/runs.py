@@ -2,31 +2,42 @@
 from __future__ import annotations
 
 import json
+import re
 from dataclasses import dataclass
 from functools import partial
 from pathlib import Path
 from typing import Any
 
+from ..moments import nanoseconds
+from ..program import Source
+from ..script import ACTS, Event, event_of
 from . import flushes, histories
+from .configs import Configs
 from .histories import Entry, Key
 from .progress import Progress
-from .script import ACTS, Event, event_of
-from .session import Source
+from .rows import RowWriter
 from .states import LISTS, Seen, Watched, watch
 from .tables import Pairs, Tables
-from .verdicts import Explained, Why, asking, explained, planned
-from .workers import Part, over
+from .told import Told
+from .verdicts import Why, asking, containing, explained, known_alerts, planned
+from .workers import Part, Task, beside, over
+
+
+NOT_GIVEN = re.compile(r"0001-01-01T00:00:00(\.0{1,9})?Z")
 
 
 @dataclass
 class Run:
-    """What was collected of one run, with the events of its part. `tried` is the event that was put in, where one was."""
+    """What was collected of one run, with the events of its part. `named` has the alerts that each label set of `--explain` fits, and
+    `tried` is the event that was put in, where one was."""
 
     name: str
     watched: Watched
     events: list[Event]
-    explained: Explained
+    explained: list[Why]
     flushes: dict[Key, list[tuple[int, str]]]
+    told: Told
+    named: list[list[Pairs]]
     tried: int | None = None
 
 
@@ -47,14 +58,17 @@ class Wanted:
     progress: Progress
 
 
-def collect(name: str, source: Source, lines: list[bytes], part: Part, wanted: Wanted) -> Run:
-    """Collects a run over the part. The lines are those of the script's events."""
-    watched = watch(source, part, wanted.progress, f"{name}: states")
-    plan = planned(watched, wanted.named)
-    hidden = partial(flushes.flushes_between, source, lines, watched, wanted.room)
-    between, *answers = over([hidden, *asking(source, plan)], part, f"{name}: explanations", wanted.progress)
-    events = [event_of(line) for line in lines[part.first - 1 : part.last]]
-    return Run(name, watched, events, explained(plan, answers), between)
+def collect(name: str, source: Source, lines: list[bytes], part: Part, wanted: Wanted, telling: Task) -> Run:
+    """Collects a run over the part. The lines are those of the script's events, and `telling` tells of the run beside the rest."""
+    with beside(telling) as told:
+        watched = watch(source, part, wanted.progress, f"{name}: states")
+        known = known_alerts(watched)
+        named = [containing(known, labels) for labels in wanted.named]
+        plan = planned(watched, [labels for each in named for labels in each])
+        hidden = partial(flushes.flushes_between, source, lines, watched, wanted.room)
+        between, *answers = over([hidden, *asking(source, plan)], part, f"{name}: explanations", wanted.progress)
+        events = [event_of(line) for line in lines[part.first - 1 : part.last]]
+        return Run(name, watched, events, explained(plan, answers), between, told(), named)
 
 
 def notes_of(run: Run) -> list[tuple[int, dict[str, Any]]]:
@@ -62,12 +76,14 @@ def notes_of(run: Run) -> list[tuple[int, dict[str, Any]]]:
     return [(seen.cursor, line) for seen in _shown(run) for line in map(json.loads, seen.printed) if "receiver" in line]
 
 
-def written(run: Run, thinning: Thinning, tables: Tables) -> dict[str, Any]:
-    """Returns the run as the page has it."""
+def written(run: Run, thinning: Thinning, tables: Tables, configs: Configs) -> tuple[dict[str, Any], list[Any]]:
+    """Returns the run as the page has it, and its trials."""
     part = run.watched.part
+    rows = RowWriter(run.told, *_time_of(run), tables, configs)
+    trials = rows.trials()
     stops = [cursor for i, cursor in enumerate(run.watched.stops) if i % thinning.stride == 0 or cursor == part.last]
     lists = {name: _entries(run, name, stops, tables) for name in LISTS}
-    return {
+    data = {
         "name": run.name,
         "first": part.first,
         "start": tables.text(run.watched.seen[0].now),
@@ -80,8 +96,16 @@ def written(run: Run, thinning: Thinning, tables: Tables) -> dict[str, Any]:
         "groups": [[*entry.key, _flat(_members_as_differences(entry))] for entry in lists["groups"]],
         "log": [[*entry.key, _flat(entry.values)] for entry in lists["log"]],
         "flushes": flushes.written(run.flushes, tables),
-        **_why(run.explained, thinning.named_alone, tables),
+        **rows.written(),
+        **_why(run, thinning.named_alone, rows, tables),
     }
+    return data, trials
+
+
+def _time_of(run: Run) -> tuple[int, int]:
+    """Returns from when to when the part is: from the beginning if it has the first event."""
+    seen = run.watched.seen
+    return (0 if run.watched.part.first == 1 else nanoseconds(seen[0].now)), nanoseconds(seen[-1].now)
 
 
 def note(line: dict[str, Any], tables: Tables) -> list[Any]:
@@ -126,13 +150,24 @@ def _held(event: Event, tables: Tables) -> Any:
     if event.act == "silence":
         matchers = [_posted_matcher(each, tables) for each in value["matchers"]]
         moments = [tables.text(value["startsAt"]), tables.text(value["endsAt"])]
-        return [tables.text(event.new_id), tables.text(value.get("id") or None), *moments, matchers]
-    return tables.text(value) if event.act == "expire" else 0
+        maker = [tables.text(_said(value.get(key))) for key in ("createdBy", "comment")]
+        return [tables.text(event.new_id), tables.text(value.get("id") or None), *moments, matchers, *maker]
+    return tables.text(value) if event.act in ("expire", "label") else 0
+
+
+def _said(text: Any) -> str | None:
+    """Returns a text of the script that the program doesn't read, if it is one."""
+    return text if isinstance(text, str) and text else None
 
 
 def _posted(alert: dict[str, Any], tables: Tables) -> list[int]:
-    moments = [tables.text(alert.get(key) or None) for key in ("startsAt", "endsAt")]
+    moments = [tables.text(_given(alert.get(key))) for key in ("startsAt", "endsAt")]
     return [tables.labels(alert["labels"]), *moments, tables.labels(alert.get("annotations") or {})]
+
+
+def _given(moment: str | None) -> str | None:
+    """Returns a moment of a post, or None if it counts as not given."""
+    return None if not moment or NOT_GIVEN.fullmatch(moment) else moment
 
 
 def _posted_matcher(matcher: dict[str, Any], tables: Tables) -> list[int]:
@@ -173,26 +208,22 @@ def _members_as_differences(entry: Entry) -> histories.History:
     return written_values
 
 
-def _why(explained: Explained, named_alone: bool, tables: Tables) -> dict[str, Any]:
+def _why(run: Run, named_alone: bool, rows: RowWriter, tables: Tables) -> dict[str, Any]:
     """Writes each verdict and each list of verdicts once, and for each alert the cursors and its list there."""
-    verdicts: dict[bytes, int] = {}
     answers: dict[tuple[int, ...], int] = {}
-    alerts = [why for why in explained.alerts if why.always or not named_alone]
-    written_alerts = [_why_of(why, verdicts, answers, tables) for why in alerts]
-    return {
-        "extent": "named" if named_alone and explained.extent != "every" else explained.extent,
-        "verdicts": [_verdict(json.loads(line), tables) for line in verdicts],
-        "answers": list(answers),
-        "why": written_alerts,
-    }
+    named = {labels for each in run.named for labels in each}
+    alerts = [why for why in run.explained if why.labels in named or not named_alone]
+    written_alerts = [_why_of(why, rows, answers, tables) for why in alerts]
+    verdicts = [_verdict(json.loads(line), tables) for line in rows.verdicts]
+    return {"verdicts": verdicts, "answers": list(answers), "why": written_alerts}
 
 
-def _why_of(why: Why, verdicts: dict[bytes, int], answers: dict[tuple[int, ...], int], tables: Tables) -> list[Any]:
+def _why_of(why: Why, rows: RowWriter, answers: dict[tuple[int, ...], int], tables: Tables) -> list[Any]:
     flat: list[int] = []
     for cursor, lines in why.answers:
-        numbers = tuple(verdicts.setdefault(line, len(verdicts)) for line in lines)
+        numbers = tuple(map(rows.verdict, lines))
         flat += [cursor, answers.setdefault(numbers, len(answers))]
-    return [tables.labels(dict(why.labels)), int(why.always), flat]
+    return [tables.labels(dict(why.labels)), flat]
 
 
 def _verdict(line: dict[str, Any], tables: Tables) -> list[Any]:

@@ -1,4 +1,5 @@
-"""Why: what a session answers to `explain`, for which alerts, and at which events it was asked."""
+"""Why, at each event: what a session answers to `explain` there, of the alerts that were named, and of all if they aren't too many."""
+
 from __future__ import annotations
 
 import json
@@ -6,123 +7,93 @@ from dataclasses import dataclass, field
 from functools import partial
 from typing import Iterator
 
-from .session import Source, converse
+from ..program import Source, converse
 from .states import Watched
 from .tables import Pairs, pairs
 from .workers import PIECES, Part, Task, count_done
 
 ALL_AT_MOST = 150_000
-CHANGED_AT_MOST = 400_000
 FEW = 5_000
 
-Asked = dict[int, list[str]]
 Answered = list[tuple[int, list[list[bytes]]]]
 
 
 @dataclass
 class Why:
-    """The answers of one alert, each a list of verdict lines at the cursor at which it was asked."""
+    """The answers of one alert, each a list of verdict lines from the cursor on at which the session gave it."""
 
     labels: Pairs
-    always: bool
     answers: list[tuple[int, list[bytes]]] = field(default_factory=list)
 
 
 @dataclass(frozen=True)
 class Plan:
-    """What is asked over a part: which alerts at every cursor, and which alerts at each. `extent` is that of `Explained`."""
+    """The alerts that are asked about at every cursor of a part."""
 
     part: Part
-    extent: str
-    always: list[Pairs]
-    at: dict[int, list[Pairs]]
-
-
-@dataclass
-class Explained:
-    """All that was explained, and how much: `every` alert at every event, those that `changed`, or the `named` alone."""
-
-    extent: str
-    alerts: list[Why]
+    alerts: list[Pairs]
 
 
 def planned(watched: Watched, named: list[Pairs]) -> Plan:
-    """Plans the explanations of the alerts that are named, and of others as far as the limits go."""
-    part = watched.part
-    changed = changed_alerts(watched)
-    known = sorted({labels for each in changed.values() for labels in each} | set(named))
-    if len(known) * (len(part) + 1) <= ALL_AT_MOST:
-        return _plan(part, "every", known, {})
-    if sum(map(len, changed.values())) > CHANGED_AT_MOST:
-        return _plan(part, "named", named, {})
-    return _plan(part, "changed", named, changed)
+    """Plans the explanations of all alerts, or of those that are named if all are too many."""
+    known = sorted({*known_alerts(watched), *named})
+    is_small = len(known) * (len(watched.part) + 1) <= ALL_AT_MOST
+    return Plan(watched.part, known if is_small else sorted(named))
 
 
-def changed_alerts(watched: Watched) -> dict[int, list[Pairs]]:
-    """Returns the alerts that changed at each cursor: their own entries, and those that a notification there tells of."""
-    changed: dict[int, set[Pairs]] = {}
+def known_alerts(watched: Watched) -> set[Pairs]:
+    """Returns the alerts that were listed, or that a notification told of."""
+    known = set()
     for seen in watched.seen:
-        lines = [*seen.changes["alerts"].gone, *seen.changes["alerts"].new] if seen.changes else []
-        labels = [pairs(json.loads(line)["labels"]) for line in lines]
+        known |= {pairs(json.loads(line)["labels"]) for line in (seen.changes["alerts"].new if seen.changes else [])}
         if seen.cursor >= watched.part.first:
             notes = [json.loads(line) for line in seen.printed]
-            labels += [pairs(alert["labels"]) for note in notes for key in ("firing", "resolved") for alert in note.get(key, [])]
-        changed[seen.cursor] = set(labels)
-    return {cursor: sorted(labels) for cursor, labels in changed.items()}
+            known |= {pairs(each["labels"]) for note in notes for key in ("firing", "resolved") for each in note.get(key, [])}
+    return known
 
 
-def _plan(part: Part, extent: str, always: list[Pairs], once: dict[int, list[Pairs]]) -> Plan:
-    """Plans each alert of `always` at every cursor, and those of `once` at theirs."""
-    named = set(always)
-    at = {
-        cursor: [*always, *(labels for labels in once.get(cursor, []) if labels not in named)]
-        for cursor in range(part.first - 1, part.last + 1)
-    }
-    return Plan(part, extent, always, at)
+def containing(known: set[Pairs], labels: Pairs) -> list[Pairs]:
+    """Returns the alerts that have all of some labels."""
+    return sorted(each for each in known if set(labels) <= set(each))
 
 
 def asking(source: Source, plan: Plan) -> list[Task]:
     """Returns the tasks that ask what is planned, one for each piece of the part."""
-    tasks: list[Task] = []
-    for piece in plan.part.cut(PIECES if sum(map(len, plan.at.values())) > FEW else 1):
-        first = plan.part.first - 1 if piece.first == plan.part.first else piece.first
-        tasks.append(partial(_ask_piece, source, piece, {cursor: _texts(plan.at[cursor]) for cursor in range(first, piece.last + 1)}))
-    return tasks
+    if not plan.alerts:
+        return []
+    texts = [json.dumps(dict(labels), ensure_ascii=False) for labels in plan.alerts]
+    pieces = plan.part.cut(PIECES if len(texts) * len(plan.part) > FEW else 1)
+    return [partial(_ask_piece, source, piece, piece.first == plan.part.first, texts) for piece in pieces]
 
 
-def explained(plan: Plan, pieces: list[Answered]) -> Explained:
+def explained(plan: Plan, pieces: list[Answered]) -> list[Why]:
     """Returns the explanations from the answers to each piece of a plan."""
-    asked = {labels: Why(labels, True) for labels in plan.always}
+    asked = [Why(labels) for labels in plan.alerts]
     for cursor, lists in (answer for piece in pieces for answer in piece):
-        for labels, lines in zip(plan.at[cursor], lists):
-            why = asked.setdefault(labels, Why(labels, False))
-            if not why.always or not why.answers or why.answers[-1][1] != lines:
+        for why, lines in zip(asked, lists):
+            if not why.answers or why.answers[-1][1] != lines:
                 why.answers.append((cursor, lines))
-    return Explained(plan.extent, [asked[labels] for labels in sorted(asked)])
+    return asked
 
 
-def _texts(alerts: list[Pairs]) -> list[str]:
-    return [json.dumps(dict(labels), ensure_ascii=False) for labels in alerts]
-
-
-def _ask_piece(source: Source, piece: Part, plan: Asked) -> Answered:
-    """Asks at each cursor of the plan in a session of its own, and returns the lines of each answer."""
-    answers = converse(source, _commands(piece, plan))
+def _ask_piece(source: Source, piece: Part, is_first: bool, texts: list[str]) -> Answered:
+    """Asks at each cursor of a piece in a session of its own, and before it if it is the first, and returns the lines of each answer."""
+    answers = converse(source, _commands(piece, is_first, texts))
     next(answers)
     found = []
     for cursor in range(piece.first - 1, piece.last + 1):
         if cursor >= piece.first:
             next(answers)
             count_done()
-        if cursor in plan:
-            found.append((cursor, [next(answers).lines for _ in plan[cursor]]))
+        if cursor >= piece.first or is_first:
+            found.append((cursor, [next(answers).lines for _ in texts]))
     return found
 
 
-def _commands(piece: Part, plan: Asked) -> Iterator[str]:
+def _commands(piece: Part, is_first: bool, texts: list[str]) -> Iterator[str]:
     yield f"seek {piece.first - 1}"
     for cursor in range(piece.first - 1, piece.last + 1):
         if cursor >= piece.first:
             yield "step"
-        for labels in plan.get(cursor, []):
-            yield f"explain {labels}"
+        if cursor >= piece.first or is_first:
+            yield from (f"explain {labels}" for labels in texts)

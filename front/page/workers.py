@@ -3,9 +3,11 @@ from __future__ import annotations
 
 import multiprocessing
 import os
+from contextlib import contextmanager
 from dataclasses import dataclass
-from typing import Any, Callable
+from typing import Any, Callable, Iterator
 
+from ..program import Fault
 from .progress import Progress
 
 PIECES = 4
@@ -58,6 +60,39 @@ def over(tasks: list[Task], part: Part, name: str, progress: Progress) -> list[A
             waiting.wait(POLL_SECONDS)
             progress.draw(name, _done.value, len(part))
         return waiting.get()
+
+
+@contextmanager
+def beside(task: Task) -> Iterator[Task]:
+    """Does a task in a process of its own meanwhile, and gives a way to wait for what it returns."""
+    context = multiprocessing.get_context("fork")
+    receiver, sender = context.Pipe(duplex=False)
+    process = context.Process(target=_send, args=(sender, task))
+    process.start()
+    sender.close()
+
+    def result() -> Any:
+        try:
+            value = receiver.recv()
+        except EOFError:
+            raise Fault("amreplay: a process of the page ended early") from None
+        if isinstance(value, Fault):
+            raise value
+        return value
+
+    try:
+        yield result
+    finally:
+        receiver.close()
+        process.terminate()
+        process.join()
+
+
+def _send(sender: Any, task: Task) -> None:
+    try:
+        sender.send(task())
+    except Fault as fault:
+        sender.send(fault)
 
 
 def _share(done: Any, tasks: list[Task]) -> None:

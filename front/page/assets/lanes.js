@@ -1,48 +1,47 @@
-// The lanes of the timeline: what is drawn in each, as spans and marks with their names.
-const MOST_ROWS = 5;
+// The lanes of the timeline, and what each holds: marks, which are moments, and spans, which last.
 
-// A mark: a moment, a shape, a name, and the cursor that a click goes to. A span has an end besides.
-const mark = (time, shape, name, cursor, note) => ({ time, shape, name, cursor, note });
+// A mark: a moment, a shape, a name, and the cursor that a click goes to.
+const mark = (time, shape, name, cursor, more) => ({ time, shape, name, cursor, ...more });
 
+// The lanes of a run: events, each receiver with its alerts, and silences.
 function lanesOf(run) {
-  return [
-    { title: "Events" }, eventLane(run), ...exceptionLanes(run),
-    { title: "Receivers" }, ...receiverLanes(run),
-    ...(run.lists.groups.length ? [{ title: "Groups" }] : []), ...run.lists.groups.map((entry) => groupLane(run, entry)),
-    ...(run.lists.silences.length ? [{ title: "Silences" }] : []), ...run.lists.silences.map((entry) => silenceLane(run, entry)),
-  ];
+  return [eventLane(run), ...labelLanes(run), ...exceptionLanes(run), ...receiverLanes(run), ...silenceLanes(run)];
 }
 
-const lane = (kind, name, make, key) => ({ kind, name, key: key || `${kind} ${name}`, make, made: null });
+const lane = (kind, name, make, more) => ({ kind, name, make, made: null, ...more });
 
 // What a lane draws, made when it is drawn first.
 function drawn(each) {
   if (!each.made) {
-    each.made = { marks: [], spans: [], rows: 1, ...each.make() };
+    each.made = { marks: [], spans: [], ...each.make() };
     each.made.marks.sort((a, b) => a.time - b.time);
   }
   return each.made;
 }
 
-const EVENT_SHAPES = { alerts: "post", silence: "silence", expire: "expire", reload: "reload", tick: "tick" };
+const EVENT_SHAPES = { alerts: "post", silence: "silence", expire: "expire", reload: "reload", tick: "tick", label: "label" };
 
 function eventMark(run, event, i) {
   const cursor = run.first + i;
   const tried = run.tried === cursor ? "tried: " : "";
-  return mark(event.time, event.reason ? "refused" : EVENT_SHAPES[event.act],
-    `Event ${cursor}, ${when(instant(event.at))}: ${tried}${eventText(event)}${event.reason ? `; refused, ${reasonWords(event.reason)}` : ""}`, cursor);
+  return mark(run.timeAt(cursor), event.reason ? "refused" : EVENT_SHAPES[event.act],
+    `Event ${cursor}, ${when(instant(event.at))}: ${tried}${eventText(event)}${event.reason ? `; refused, ${reasonWords(event.reason)}` : ""}`,
+    cursor, { label: event.act === "label" && !event.reason ? seen(event.label) : null });
 }
 
 function eventLane(run) {
-  return lane("events", "all events", () => ({ marks: run.events.map((event, i) => eventMark(run, event, i)).filter((each) => each.time) }));
+  return lane("events", "events", () => ({ marks: run.events.map((event, i) => eventMark(run, event, i)).filter((each) => each.time) }));
+}
+
+const eventsThat = (run, test) => run.events.map((event, i) => [event, i]).filter(([event]) => test(event)).map(([event, i]) => eventMark(run, event, i));
+
+function labelLanes(run) {
+  const isLabel = (event) => event.act === "label" && !event.reason;
+  return run.events.some(isLabel) ? [lane("labels", "labels", () => ({ marks: eventsThat(run, isLabel) }))] : [];
 }
 
 function exceptionLanes(run) {
-  const some = (name, test) => {
-    if (!run.events.some(test)) return [];
-    return [lane("events", name, () => ({ marks: run.events.map((event, i) => [event, i]).filter(([event]) => test(event))
-      .map(([event, i]) => eventMark(run, event, i)) }))];
-  };
+  const some = (name, test) => (run.events.some(test) ? [lane("events", name, () => ({ marks: eventsThat(run, test) }))] : []);
   return [...some("refused", (event) => event.reason > 0), ...some("reloads", (event) => event.act === "reload" && !event.reason)];
 }
 
@@ -51,19 +50,62 @@ function noteShape(note) {
   return note.firing.length ? "firing" : "resolved";
 }
 
+// A heading for each receiver, and below it a lane for each of its alerts. Those of which nobody was notified come first.
 function receiverLanes(run) {
-  const names = new Map();
-  for (const note of [...run.notes, ...ghostsOf(run).map((each) => each.note)]) names.set(note.receiver, true);
-  return [...names.keys()].sort().map((receiver) => lane("receiver", seen(receiver), () => {
-    const marks = run.notes.filter((note) => note.receiver === receiver)
-      .map((note) => mark(note.time, noteShape(note), `${noteText(note)}${comparedText(run, note)}`, note.cursor, note));
-    const ghosts = ghostsOf(run).filter((each) => each.note.receiver === receiver)
-      .map(({ note, name }) => mark(note.time, "ghost", `${name}: ${noteText(note)}`, cursorAt(run, note.time)));
-    return { marks: [...marks, ...ghosts] };
-  }));
+  const rowsOf = groupedBy(run.rows, (row) => row.receiver);
+  const lanes = run.receivers.map(({ name, count }) => receiverLane(run, name, count, rowLanes(rowsOf.get(name) || [])));
+  const weight = (each) => (each.rows.length ? (each.count ? 1 : 0) : 2);
+  return lanes.sort((a, b) => weight(a) - weight(b)).flatMap((each) => [each, ...each.rows]);
 }
 
-// The last event that isn't after a time.
+function receiverLane(run, receiver, count, rows) {
+  const make = () => ({ marks: run.notes.filter((note) => note.receiver === receiver)
+    .map((note) => mark(note.time, noteShape(note), `${noteText(note)}${comparedText(run, note)}`, note.cursor)) });
+  return lane("receiver", seen(receiver), make, { receiver, count, rows, nobody: rows.length > 0 && count === 0 });
+}
+
+// A lane for each alert of a receiver. Integrations with the same verdicts and notifications share one.
+function rowLanes(rows) {
+  const lanes = [];
+  for (const ofAlert of groupedBy(rows, (row) => row.set).values()) {
+    for (const alike of groupedBy(ofAlert, likeness).values()) lanes.push(rowLane(alike, alike.length < ofAlert.length));
+  }
+  const start = (each) => (each.row.spans.length ? each.row.spans[0].from : Infinity);
+  const rank = (each) => (each.row.isNotified ? 1 : 0);
+  return lanes.sort((a, b) => rank(a) - rank(b) || start(a) - start(b) || DATA.places[a.row.set] - DATA.places[b.row.set]);
+}
+
+const likeness = (row) => JSON.stringify([row.spans.map((span) => [span.start, span.end, span.kind]), row.sent.map(({ note, isFiring }) => [note.at, isFiring])]);
+
+function rowLane(rows, isNamed) {
+  const [row] = rows;
+  const name = `${shortText(row.set)}${isNamed ? ` · ${rows.map(integrationText).join(", ")}` : ""}`;
+  return lane("row", name, () => ({ spans: row.spans, marks: [...sentMarks(rows), ...ghostMarks(row)] }), { row, rows, set: row.set, full: `${labelsText(row.set)} to ${seen(row.receiver)}` });
+}
+
+const integrationText = (row) => (row.integration ? `${row.integration}${row.place ? `[${row.place}]` : ""}` : "no integration");
+
+function sentMarks(rows) {
+  const found = new Map();
+  for (const row of rows) {
+    for (const { note, isFiring } of row.sent) {
+      const key = `${note.at} ${isFiring}`;
+      if (!found.has(key)) found.set(key, mark(note.time, isFiring ? "firing" : "resolved", `${noteText(note)}${comparedText(row.run, note)}`, note.cursor));
+    }
+  }
+  return [...found.values()];
+}
+
+// The first notification of this alert in the run that is compared, if it isn't at the same moment.
+function ghostMarks(row) {
+  const other = otherOf(row.run);
+  const twin = other && other.rows.find((each) => each.key === row.key);
+  const first = twin && twin.first;
+  if (!first || (row.first && row.first.at === first.at)) return [];
+  return [mark(first.time, "ghost", `${nameOf(other)}: ${noteText(first)}`, cursorAt(row.run, first.time))];
+}
+
+// The last event that isn't after a time, as it is drawn.
 function cursorAt(run, time) {
   let cursor = run.first - 1;
   run.events.forEach((event, i) => {
@@ -72,132 +114,72 @@ function cursorAt(run, time) {
   return cursor;
 }
 
-const timeAt = (run, cursor) => millisecondsOf(run.clock(cursor));
-
-// The periods at which an alert fired, as the session knew it from one event to the next.
-function periodsOf(run, set) {
-  const entry = run.alertOf.get(set);
-  if (!entry) return [];
-  const periods = [];
-  entry.values.forEach((value, i) => {
-    if (!value) return;
-    const next = i + 1 < entry.cursors.length ? timeAt(run, entry.cursors[i + 1]) : Infinity;
-    const from = millisecondsOf(value.startsAt);
-    const to = Math.min(millisecondsOf(value.endsAt), next);
-    const last = periods[periods.length - 1];
-    if (last && from <= last.to) last.to = Math.max(last.to, to);
-    else if (to > from) periods.push({ from, to });
-  });
-  return periods;
-}
-
-// The times at which each alert was in a group.
-function staysOf(run, entry) {
-  const stays = new Map();
-  const open = new Map();
-  entry.values.forEach((value, i) => {
-    const time = timeAt(run, entry.cursors[i]);
-    const members = new Set(value ? value.members : []);
-    for (const [set, from] of open) {
-      if (members.has(set)) continue;
-      stays.get(set).push({ from, to: time });
-      open.delete(set);
-    }
-    for (const set of members) {
-      if (open.has(set)) continue;
-      open.set(set, time);
-      if (!stays.has(set)) stays.set(set, []);
-    }
-  });
-  for (const [set, from] of open) stays.get(set).push({ from, to: Infinity });
-  return stays;
-}
-
-function groupLane(run, entry) {
-  const name = `${groupText(entry.set, 120)}${entry.route ? ` · route ${entry.route}` : ""}`;
-  const made = () => {
-    const stays = staysOf(run, entry);
-    const rows = Math.min(MOST_ROWS, Math.max(1, stays.size));
-    const spans = [...stays].flatMap(([set, each], i) => each.flatMap((stay) => periodsOf(run, set)
-      .map(({ from, to }) => ({ from: Math.max(from, stay.from), to: Math.min(to, stay.to) })).filter(({ from, to }) => to > from)
-      .map(({ from, to }) => ({ from, to, row: i % rows, set, shape: "alert", name: `${labelsText(set)} fires${spanText(from, to)}` }))));
-    return { spans, rows, marks: flushesOf(run, entry) };
-  };
-  const short = labelsOf(entry.set).map(([, value]) => seen(value)).join(", ");
-  return { ...lane("group", name, made, `group ${entry.route} ${entry.set}`), entry, short };
-}
-
-function spanText(from, to) {
-  const last = timeAt(RUNS[0], RUNS[0].last);
-  return ` from ${when(isoOf(from))} ${to > last ? "on" : `to ${when(isoOf(to))}`}`;
-}
-
 const isoOf = (time) => new Date(time).toISOString().replace(".000Z", "Z");
 
-// The flushes of a group: a next flush that was listed and then passed, those that were found between events, and those that notified.
-function flushesOf(run, entry) {
-  const flushes = new Map();
-  const add = (moment, cursor) => flushes.set(moment, mark(millisecondsOf(moment), "flush", `${when(moment)} flush of this group`, cursor));
-  entry.values.forEach((value, i) => {
-    const before = i > 0 ? entry.values[i - 1] : null;
-    if (value && before && value.nextFlush !== before.nextFlush && millisecondsOf(before.nextFlush) <= timeAt(run, entry.cursors[i])) {
-      add(before.nextFlush, entry.cursors[i]);
-    }
-  });
-  const between = run.flushes.get(`${entry.route} ${entry.set}`) || [];
-  for (let i = 0; i < between.length; i += 2) add(textOf(between[i + 1]), between[i]);
-  for (const note of run.notes) {
-    if (note.route !== entry.route || note.group !== entry.set) continue;
-    flushes.set(note.at, mark(note.time, "notified", `Flush of this group, notified: ${noteText(note)}`, note.cursor, note));
+// The flushes of the groups of an alert at a receiver: those that were listed and passed, and those that were found between events.
+function flushTimes(row) {
+  const { run } = row;
+  const routes = new Set(row.spans.map((span) => span.verdict.route));
+  const times = new Set();
+  for (const entry of run.lists.groups) {
+    if (!routes.has(entry.route) || !entry.values.some((value) => value && value.members.includes(row.set))) continue;
+    entry.values.forEach((value, i) => {
+      const before = i > 0 ? entry.values[i - 1] : null;
+      if (value && before && value.nextFlush !== before.nextFlush && millisecondsOf(before.nextFlush) <= millisecondsOf(run.clock(entry.cursors[i]))) {
+        times.add(millisecondsOf(before.nextFlush));
+      }
+    });
+    const between = run.flushes.get(`${entry.route} ${entry.set}`) || [];
+    for (let i = 1; i < between.length; i += 2) times.add(millisecondsOf(textOf(between[i])));
   }
-  return [...flushes.values()];
+  return [...times].filter((time) => row.spanAt(time) || row.spanAt(time - 1));
+}
+
+function silenceLanes(run) {
+  return run.lists.silences.map((entry) => silenceLane(run, entry));
 }
 
 function silenceLane(run, entry) {
-  const made = () => {
+  const last = entry.values.filter((value) => value).pop();
+  const maker = makerText(run, entry.id);
+  const name = `${maker ? `${maker}: ` : ""}${matchersText(last.matchers)}`;
+  const make = () => {
     const spans = [];
     entry.values.forEach((value, i) => {
       if (!value) return;
-      const next = i + 1 < entry.cursors.length ? timeAt(run, entry.cursors[i + 1]) : Infinity;
-      const span = { from: millisecondsOf(value.startsAt), to: Math.min(millisecondsOf(value.endsAt), next), row: 0, shape: "silence",
-        cursor: Math.max(entry.cursors[i], run.first), name: `Silence ${entry.id}: ${matchersText(value.matchers)}, ${when(value.startsAt)} to ${when(value.endsAt)}` };
+      const next = i + 1 < entry.cursors.length ? millisecondsOf(run.clock(entry.cursors[i + 1])) : Infinity;
+      const span = { from: millisecondsOf(value.startsAt), to: Math.min(millisecondsOf(value.endsAt), next), kind: "silence",
+        cursor: Math.max(entry.cursors[i], run.first), name: `Silence ${name}, ${when(value.startsAt)} to ${when(value.endsAt)}` };
       if (span.to > span.from) spans.push(span);
     });
     return { spans };
   };
-  const last = entry.values.filter((value) => value).pop();
-  const short = last.matchers.map((matcher) => seen(matcher.value)).join(", ");
-  return { ...lane("silence", matchersText(last.matchers), made, `silence ${entry.id}`), short };
+  return lane("silence", name, make, { entry, full: `silence ${entry.id} ${name}` });
 }
 
-// What the comparison says: for a run, the places of notifications that it has alone or moved, and those of the other that it lacks.
-function comparisonOf(run) {
-  const place = RUNS.indexOf(run);
-  if (place > 0) {
-    const [without, alone, moved] = DATA.compared[place - 1];
-    return { other: RUNS[0], alone: new Set(alone), lacks: without, moved: new Map(moved.map(([i, j]) => [j, i])) };
-  }
-  if (!RUNS[chosenOther]) return null;
-  const [alone, lacks, moved] = DATA.compared[chosenOther - 1];
-  return { other: RUNS[chosenOther], alone: new Set(alone), lacks, moved: new Map(moved) };
-}
-
-// The other run that the first run is compared with.
+// The run that a run is compared with.
 let chosenOther = 1;
-
-function ghostsOf(run) {
-  const compared = comparisonOf(run);
-  if (!compared) return [];
-  return compared.lacks.map((i) => ({ note: compared.other.notes[i], name: `Only ${nameOf(compared.other)}` }));
-}
+const otherOf = (run) => (RUNS.indexOf(run) > 0 ? RUNS[0] : RUNS[chosenOther] || null);
 
 const NAMES = { "as it was": (run) => `under ${seen(run.name)}`, against: (run) => `under ${seen(run.name)}`, tried: () => "with the tried event" };
 const nameOf = (run) => NAMES[run.kind](run);
 
+// What the comparison says of the notifications of a run: those that it has alone, and the moments in the other of those that moved.
+const comparisons = new Map();
+function comparisonOf(run, other) {
+  const place = RUNS.indexOf(run);
+  const key = `${place} ${RUNS.indexOf(other)}`;
+  if (!comparisons.has(key)) {
+    const [first, second, moved] = DATA.compared[(place || chosenOther) - 1];
+    comparisons.set(key, { alone: new Set(place ? second : first), moved: new Map(moved.map(([i, j]) => (place ? [j, i] : [i, j]))) });
+  }
+  return comparisons.get(key);
+}
+
 function comparedText(run, note) {
-  const compared = comparisonOf(run);
-  if (!compared) return "";
-  if (compared.alone.has(note.index)) return `; only ${nameOf(run)}`;
-  if (compared.moved.has(note.index)) return `; at ${when(compared.other.notes[compared.moved.get(note.index)].at)} ${nameOf(compared.other)}`;
-  return "";
+  const other = otherOf(run);
+  if (!other) return "";
+  const { alone, moved } = comparisonOf(run, other);
+  if (alone.has(note.index)) return `; only ${nameOf(run)}`;
+  return moved.has(note.index) ? `; at ${when(other.notes[moved.get(note.index)].at)} ${nameOf(other)}` : "";
 }

@@ -38,6 +38,7 @@ function verdictLine(verdict) {
 function eventLines(run, cursor) {
   const event = run.event(cursor);
   const lines = (run.notesAt.get(cursor) || []).map(noteLine);
+  if (event.act === "label" && !event.reason) lines.push(`{"event":${cursor},"label":${json(event.label)}}`);
   if (event.reason) lines.push(`{"event":${cursor},"reason":${event.reason}}`);
   if (event.skipped.length) lines.push(`{"event":${cursor},"skipped":${json(event.skipped)}}`);
   return lines;

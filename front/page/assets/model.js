@@ -39,7 +39,7 @@ function noteOf([cursor, at, receiver, integration, place, route, group, firing,
   };
 }
 
-const ACTS = ["alerts", "silence", "expire", "reload", "tick"];
+const ACTS = ["alerts", "silence", "expire", "reload", "tick", "label"];
 
 function actOf([at, act, held]) {
   const event = { at: textOf(at), time: millisecondsOf(textOf(at)), act: ACTS[act] };
@@ -47,10 +47,11 @@ function actOf([at, act, held]) {
     event.alerts = held.map(([set, start, end, notes]) => (
       { set, startsAt: textOf(start), endsAt: textOf(end), annotations: notes }));
   } else if (event.act === "silence") {
-    const [newId, id, start, end, matchers] = held;
+    const [newId, id, start, end, matchers, createdBy, comment] = held;
     event.silence = { newId: textOf(newId), id: textOf(id), startsAt: textOf(start), endsAt: textOf(end),
-      matchers: matchers.map(matcherOf) };
+      matchers: matchers.map(matcherOf), createdBy: textOf(createdBy), comment: textOf(comment) };
   } else if (event.act === "expire") event.id = textOf(held);
+  else if (event.act === "label") event.label = textOf(held);
   return event;
 }
 
@@ -116,6 +117,7 @@ function verdictOf([name, receiver, route, integration, place, ...rest]) {
     const value = rest[i + 1];
     const read = !Array.isArray(value) ? value : value.length === 1 ? textOf(value[0]) : labelsOf(value[1]);
     verdict.rest.push([textOf(rest[i]), read]);
+    if (Array.isArray(value) && value.length === 2) [, verdict.sourceSet] = value;
   }
   verdict.get = (key) => (verdict.rest.find(([name_]) => name_ === key) || [])[1];
   return verdict;
@@ -128,10 +130,10 @@ class Run {
     this.kind = kind;
     this.first = raw.first;
     this.last = raw.first + raw.events.length - 1;
+    this.end = raw.events.length ? millisecondsOf(textOf(raw.events[raw.events.length - 1][3])) : 0;
     this.start = textOf(raw.start);
     this.stops = raw.stops;
     this.tried = raw.tried;
-    this.extent = raw.extent;
     this.events = raw.events.map((each) => (
       { ...actOf(each), now: textOf(each[3]), moves: each[4], reason: each[5], skipped: each[6] }));
     this.notes = raw.notes.map(noteOf);
@@ -145,11 +147,17 @@ class Run {
     this.flushes = new Map(raw.flushes.map(([route, set, flat]) => [`${route} ${set}`, flat]));
     this.verdicts = raw.verdicts.map(verdictOf);
     this.answers = raw.answers;
-    this.why = new Map(raw.why.map(([set, always, flat]) => {
-      const cursors = flat.filter((_, i) => i % 2 === 0);
-      return [set, { set, always: !!always, cursors, answers: flat.filter((_, i) => i % 2 === 1) }];
-    }));
+    this.why = new Map(raw.why.map(([set, flat]) => (
+      [set, { cursors: flat.filter((_, i) => i % 2 === 0), answers: flat.filter((_, i) => i % 2 === 1) }])));
     this.alertOf = new Map(this.lists.alerts.map((entry) => [entry.set, entry]));
+    this.silenceOf = new Map(this.lists.silences.map((entry) => [entry.id, entry]));
+    this.makers = makersOf(this.events);
+    this.configs = raw.configs.map(([time, number]) => ({ at: textOf(time), time: time ? millisecondsOf(textOf(time)) : -Infinity, config: DATA.configs[number] }));
+    this.receivers = raw.receivers.map(([name, count]) => ({ name: textOf(name), count }));
+    this.unasked = textOf(raw.unasked);
+    this.rows = raw.rows.map((each) => new Row(this, each));
+    this.rowsOf = groupedBy(this.rows, (row) => row.set);
+    giveNotes(this);
   }
 
   event(cursor) {
@@ -166,7 +174,7 @@ class Run {
   }
 
   // The entries of a list at a cursor, each with how it differs from the one before.
-  rows(name, cursor) {
+  listed(name, cursor) {
     const at = this.stop(cursor);
     const rows = [];
     for (const entry of this.lists[name]) {
@@ -181,25 +189,104 @@ class Run {
     return rows;
   }
 
-  // The explanation of an alert at a cursor: its verdicts, and the cursor at which the session was asked.
+  // What the session explained of an alert at a cursor, or null if it wasn't asked.
   explained(set, cursor) {
     const why = this.why.get(set);
     const place = why ? lastUpTo(why.cursors, cursor) : -1;
-    if (place < 0) return null;
-    const asked = why.always ? cursor : why.cursors[place];
-    return { asked, since: why.cursors[place], verdicts: this.answers[why.answers[place]].map((number) => this.verdicts[number]) };
+    return place < 0 ? null : this.answers[why.answers[place]].map((number) => this.verdicts[number]);
   }
 
-  // The moments at which the answer changed, among those at which it was asked.
-  turns(set) {
-    const why = this.why.get(set);
-    if (!why) return [];
-    const turns = [];
-    why.cursors.forEach((cursor, i) => {
-      if (i === 0 || why.answers[i] !== why.answers[i - 1]) turns.push(cursor);
-    });
-    return turns;
+  // The moment at which an event is drawn: a refused one leaves the clock as it is, and stands at its own moment.
+  timeAt(cursor) {
+    if (cursor < this.first) return millisecondsOf(this.start);
+    const event = this.event(cursor);
+    return event.reason && !Number.isNaN(event.time) ? event.time : millisecondsOf(event.now);
   }
+
+  // The configuration in force at a time.
+  configAt(time) {
+    return this.configs.filter((each) => each.time <= time).pop() || this.configs[0];
+  }
+}
+
+// How a verdict is drawn, and the word for it.
+const KINDS = { told: "notified", waits: "waits for a flush", inhibited: "inhibited", silenced: "silenced", outside: "outside its times", nowhere: "no integration" };
+const KIND_OF = { Told: "told", Waiting: "waits", Due: "waits", Inhibited: "inhibited", Silenced: "silenced", OutsideActive: "outside", TimeMuted: "outside", Nowhere: "nowhere" };
+const isMuted = (kind) => kind === "inhibited" || kind === "silenced" || kind === "outside";
+
+// An alert at an integration of a receiver: its verdicts over time, with gaps while it doesn't fire, and when it was sent.
+class Row {
+  constructor(run, [set, receiver, integration, place, spans, delay]) {
+    Object.assign(this, { run, set, receiver: textOf(receiver), integration: textOf(integration), place, sent: [], firstDelay: delay });
+    this.spans = spans.map((each) => spanOf(run, each));
+    this.key = `${set} ${receiver} ${integration} ${place}`;
+  }
+
+  spanAt(time) {
+    return this.spans.find((span) => span.from <= time && (time < span.to || (time === span.to && time === this.run.end))) || null;
+  }
+
+  // How long after the start of its firing the first notification came, in milliseconds.
+  get delay() {
+    return this.first ? this.firstDelay : Infinity;
+  }
+
+  get isNotified() {
+    return this.sent.some((each) => each.isFiring);
+  }
+
+  // The first notification with the alert firing.
+  get first() {
+    return (this.sent.find((each) => each.isFiring) || { note: null }).note;
+  }
+}
+
+// A time with one verdict: which intervals muted then, and the verdicts that it would have had without the first.
+function spanOf(run, [start, end, number, intervals, until, also]) {
+  const verdict = run.verdicts[number];
+  const mutingOf = (names, to) => (names ? { intervals: names.map(textOf), until: textOf(to) } : null);
+  return { start: textOf(start), end: textOf(end), from: millisecondsOf(textOf(start)), to: millisecondsOf(textOf(end)), verdict,
+    kind: KIND_OF[verdict.verdict] || "nowhere", muting: mutingOf(intervals, until),
+    also: (also || []).map(([each, names, to]) => ({ verdict: run.verdicts[each], muting: mutingOf(names, to) })) };
+}
+
+// Gives each row the notifications that told of its alert.
+function giveNotes(run) {
+  const rows = new Map(run.rows.map((row) => [`${row.set} ${row.receiver} ${row.integration} ${row.place}`, row]));
+  for (const note of run.notes) {
+    const give = (alerts, isFiring) => alerts.forEach(({ set }) => {
+      const row = rows.get(`${set} ${note.receiver} ${note.integration} ${note.place}`);
+      if (row) row.sent.push({ note, isFiring });
+    });
+    give(note.firing, true);
+    give(note.resolved, false);
+  }
+}
+
+function groupedBy(items, keyOf) {
+  const groups = new Map();
+  for (const item of items) {
+    const key = keyOf(item);
+    if (!groups.has(key)) groups.set(key, []);
+    groups.get(key).push(item);
+  }
+  return groups;
+}
+
+// Who made each silence, and the comment, by the id: the last line that says so.
+function makersOf(events) {
+  const makers = new Map();
+  for (const { silence, reason } of events) {
+    if (!silence || reason || (!silence.createdBy && !silence.comment)) continue;
+    for (const id of [silence.newId, silence.id]) if (id) makers.set(plainId(id), silence);
+  }
+  return makers;
+}
+
+// An id as the session prints it, whichever of its forms the script has.
+function plainId(id) {
+  const digits = id.toLowerCase().replace(/^urn:uuid:/, "").replace(/[{}-]/g, "");
+  return digits.replace(/^(.{8})(.{4})(.{4})(.{4})(.{12})$/, "$1-$2-$3-$4-$5");
 }
 
 const RUNS = DATA.runs.map((raw, i) => new Run(raw, DATA.kinds[i]));

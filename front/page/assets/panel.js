@@ -26,7 +26,7 @@ class Panel {
     const notes = run.notesAt.get(cursor) || [];
     replace(this.event, title, el("p", { class: "what" }, momentEl(instant(event.at)), " ", eventEl(event)),
       run.tried === cursor && el("p", { class: "flag" }, "This event never happened: it is the one that is tried."),
-      event.reason > 0 && el("p", { class: "flag" }, el("b", {}, "Refused"), `, ${reasonWords(event.reason)}. It changed nothing.`),
+      event.reason > 0 && el("p", { class: "flag" }, el("b", {}, "Refused"), `, ${reasonWords(event.reason)}. It changed nothing, and the clock stays at ${when(event.now)}.`),
       event.skipped.length > 0 && el("p", { class: "flag" }, `Skipped as invalid: ${event.skipped.map((place) => `alert ${place}`).join(", ")} of the post.`),
       event.act === "alerts" && postedEl(this.app, event),
       el("h3", {}, notes.length ? `${many(notes.length, "notification")} up to it` : "No notification up to it"),
@@ -40,7 +40,7 @@ class Panel {
     const { run } = this.app;
     const compared = comparedText(run, note);
     return el("li", { class: "note" }, el("div", {}, momentEl(note.at), " ", el("b", {}, el("bdi", {}, whom(note))),
-      el("span", { class: "quiet" }, ` route ${note.route}, group `), el("bdi", { class: "mono" }, groupText(note.group, 200)),
+      " ", routeEl(this.app, note.route, note.time), el("span", { class: "quiet" }, ", group "), el("bdi", { class: "mono" }, groupText(note.group, 200)),
       compared && el("span", { class: "tag" }, compared.slice(2))),
     notifiedEl(this.app, "firing", note.firing), notifiedEl(this.app, "resolved", note.resolved));
   }
@@ -50,9 +50,11 @@ function eventEl(event) {
   if (event.act === "silence") {
     const { silence } = event;
     return [silence.id ? "A silence was changed: " : "A silence was posted: ", matchersEl(silence.matchers), " from ", momentEl(instant(silence.startsAt)),
-      " to ", momentEl(instant(silence.endsAt))];
+      " to ", momentEl(instant(silence.endsAt)), silence.createdBy && [", by ", el("b", {}, quoted(silence.createdBy))],
+      silence.comment && [": \u201c", quoted(silence.comment), "\u201d"]];
   }
   if (event.act === "alerts") return `${many(event.alerts.length, "alert")} ${event.alerts.length === 1 ? "was" : "were"} posted.`;
+  if (event.act === "label") return ["Label: ", el("b", {}, quoted(event.label))];
   if (event.act === "expire") return ["The silence ", el("code", {}, event.id), " was expired."];
   return event.act === "reload" ? "The configuration was reloaded." : "Time passes.";
 }
@@ -76,9 +78,9 @@ function annotationsEl(set) {
 }
 
 // An alert's labels as a button that chooses it.
-function alertButton(app, set) {
-  return el("button", { type: "button", class: "alert", "aria-pressed": String(app.chosen === set), title: "Why? Explain this alert",
-    onclick: () => app.choose(set) }, labelsEl(set));
+function alertButton(app, set, content) {
+  return el("button", { type: "button", class: "alert", "aria-pressed": String(app.chosen === set), title: `Why? ${labelsText(set)}`,
+    onclick: () => app.choose(set) }, content || labelsEl(set));
 }
 
 // The session's own lines, made when they are opened.
@@ -97,7 +99,7 @@ const differs = (before, value, key) => before && before[key] !== value[key];
 const LISTS = [
   { name: "groups", title: "Groups", one: "group", head: ["Group", "Members", "Next flush"],
     cells: (app, { entry, value, before }) => [
-      [el("bdi", { class: "mono" }, groupText(entry.set, 200)), el("div", { class: "quiet" }, `route ${entry.route}`)],
+      [el("bdi", { class: "mono" }, groupText(entry.set, 200)), el("div", { class: "quiet" }, routeEl(app, entry.route, app.time()))],
       membersEl(app, value, before),
       [momentEl(value.nextFlush), differs(before, value, "nextFlush") && was(before, "nextFlush"),
         el("div", { class: "quiet" }, value.flushed ? "has flushed" : "not flushed yet", value.emptySince && [", empty since ", momentEl(value.emptySince)])]],
@@ -111,10 +113,10 @@ const LISTS = [
     words: ({ entry }) => labelsText(entry.set, 4000) },
   { name: "silences", title: "Silences", one: "silence", head: ["Matchers", "From", "To"],
     cells: (app, { entry, value, before }) => [
-      [matchersEl(value.matchers), el("div", { class: "quiet mono" }, entry.id)],
+      [matchersEl(value.matchers), makerText(app.run, entry.id) && el("div", {}, el("bdi", {}, makerText(app.run, entry.id))), el("div", { class: "quiet mono" }, entry.id)],
       [momentEl(value.startsAt), differs(before, value, "startsAt") && was(before, "startsAt")],
       [momentEl(value.endsAt), differs(before, value, "endsAt") && was(before, "endsAt")]],
-    words: ({ entry, value }) => `${entry.id} ${matchersText(value.matchers)}` },
+    words: ({ entry, value }, run) => `${entry.id} ${matchersText(value.matchers)} ${makerText(run, entry.id)}` },
   { name: "log", title: "Notification log", one: "entry", more: "entries", head: ["Told", "Alerts", "At"],
     cells: (app, { entry, value, before }) => [
       [el("bdi", {}, whom(entry)), el("div", { class: "quiet mono" }, groupText(entry.group, 200)), pathEl(entry.path)],
@@ -159,7 +161,7 @@ class ListView {
 
   draw() {
     const { run, cursor } = this.app;
-    this.rows = run.rows(this.list.name, cursor);
+    this.rows = run.listed(this.list.name, cursor);
     const there = this.rows.filter((row) => row.mark !== "gone");
     const counts = ["new", "changed", "gone"].map((name) => [this.rows.filter((row) => row.mark === name).length, name]).filter(([count]) => count);
     replace(this.title, this.list.title, " ", el("span", { class: "count" }, there.length.toLocaleString("en")),
@@ -170,7 +172,7 @@ class ListView {
 
   drawRows() {
     const wanted = this.filter.hidden ? "" : this.filter.value.trim().toLowerCase();
-    let rows = wanted ? this.rows.filter((row) => this.list.words(row).toLowerCase().includes(wanted)) : this.rows;
+    let rows = wanted ? this.rows.filter((row) => this.list.words(row, this.app.run).toLowerCase().includes(wanted)) : this.rows;
     if (rows.length > this.shown) rows = [...rows.filter((row) => row.mark), ...rows.filter((row) => !row.mark)];
     const { run, cursor } = this.app;
     const lines = () => this.rows.filter((row) => row.mark !== "gone").map(({ entry, value }) => ENTRY_LINES[this.list.name](entry, value));

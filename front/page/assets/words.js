@@ -52,13 +52,31 @@ const USUAL_DATE = RUNS[0].events.length ? RUNS[0].events[0].now.slice(0, 10) : 
 // The time of day of a moment, without zeros at the end of a fraction. All moments are in UTC.
 function timeOf(moment) {
   const time = moment.slice(11).replace(/Z$/, "");
-  return time.includes(".") ? time.replace(/0+$/, "") : time;
+  return time.includes(".") ? time.replace(/\.?0+$/, "") : time;
 }
+
+const WEEKDAYS = ["Sun", "Mon", "Tue", "Wed", "Thu", "Fri", "Sat"];
+const weekdayOf = (moment) => WEEKDAYS[new Date(millisecondsOf(moment)).getUTCDay()];
 
 const whole = (moment) => `${moment.slice(0, 10)} ${timeOf(moment)}`;
 
 // A moment without its date where that is the usual one.
 const when = (moment) => (!moment ? "" : moment.slice(0, 10) === USUAL_DATE ? timeOf(moment) : whole(moment));
+
+// A length of time in its two largest units.
+function lengthText(milliseconds) {
+  const units = [[86400, "d"], [3600, "h"], [60, "m"], [1, "s"]];
+  let rest = Math.round(milliseconds / 1000);
+  const parts = [];
+  for (const [size, name] of units) {
+    const count = Math.floor(rest / size);
+    rest -= count * size;
+    if (count) parts.push(`${count} ${name}`);
+    else if (parts.length) break;
+    if (parts.length === 2) break;
+  }
+  return parts.join(" ") || "0 s";
+}
 
 const many = (count, one, more = one + "s") => `${count.toLocaleString("en")} ${count === 1 ? one : more}`;
 
@@ -72,6 +90,7 @@ function eventText(event) {
     const verb = event.silence.id ? "silence changed" : "silence posted";
     return `${verb}: ${matchersText(event.silence.matchers)}, until ${when(instant(event.silence.endsAt))}`;
   }
+  if (event.act === "label") return `label: ${seen(event.label)}`;
   if (event.act === "expire") return `silence expired: ${event.id}`;
   return event.act === "reload" ? "configuration reloaded" : "time passes";
 }
@@ -92,13 +111,50 @@ function noteText(note) {
   return `${when(note.at)} ${whom(note)}: ${parts.join(", ")}; group ${groupText(note.group, 100)}`;
 }
 
-// A verdict in words, as parts: texts, label sets as `{labels}` and silences as `{silence}`.
-function verdictWords(verdict, run, cursor, set) {
-  const known = VERDICTS[verdict.verdict];
-  if (known) return known(verdict, run, cursor, set);
-  const rest = verdict.rest.map(([key, value]) => `${key} ${Array.isArray(value) ? pairsText(value) : value}`);
-  return [verdict.verdict, rest.length ? `: ${rest.join(", ")}` : ""].join("");
+// The name of an alert where many are listed: its alertname, and the values of those labels that tell alerts of one name apart.
+const shortNames = new Map();
+function shortName(set) {
+  if (!shortNames.has(set)) {
+    const pairs = labelsOf(set);
+    const name = pairs.find(([key]) => key === ALERT_NAME);
+    const values = pairs.filter(([key]) => tellingLabels().has(key)).map(([, value]) => seen(value));
+    shortNames.set(set, name ? [seen(name[1]), values.join(" ")] : ["", labelsText(set)]);
+  }
+  return shortNames.get(set);
 }
+
+const shortText = (set) => cut(shortName(set).filter(Boolean).join(" "), 160);
+
+// The labels whose values differ between alerts of one name.
+let telling = null;
+function tellingLabels() {
+  if (telling) return telling;
+  telling = new Set();
+  const firstOf = new Map();
+  for (const set of new Set(RUNS.flatMap((run) => run.rows.map((row) => row.set)))) {
+    const pairs = labelsOf(set).filter(([key]) => key !== ALERT_NAME);
+    const name = (labelsOf(set).find(([key]) => key === ALERT_NAME) || [])[1];
+    const first = firstOf.get(name);
+    if (!first) firstOf.set(name, new Map(pairs));
+    else {
+      for (const [key, value] of pairs) if (first.get(key) !== value) telling.add(key);
+      for (const key of first.keys()) if (!pairs.some(([other]) => other === key)) telling.add(key);
+    }
+  }
+  return telling;
+}
+
+// A verdict in words, as a list of parts: texts, and what can be looked up: `{ set }`, `{ route }`, `{ rule }`, `{ interval }`.
+// `muting` says which intervals of time muted, and until when.
+function verdictParts(verdict, run, time, set, muting) {
+  const known = VERDICTS[verdict.verdict];
+  if (known) return known(verdict, run, time, set, muting);
+  const rest = verdict.rest.map(([key, value]) => `${key} ${Array.isArray(value) ? pairsText(value) : value}`);
+  return [`${verdict.verdict}${rest.length ? `: ${rest.join(", ")}` : ""}`];
+}
+
+const partText = (part) => (typeof part === "string" ? part : part.text);
+const verdictText = (...words) => verdictParts(...words).map(partText).join("");
 
 const pairsText = (pairs) => {
   const name = pairs.find(([key]) => key === ALERT_NAME);
@@ -106,23 +162,37 @@ const pairsText = (pairs) => {
   return cut(`${name ? seen(name[1]) : ""}${others.length || !name ? `{${others.join(", ")}}` : ""}`, LONGEST);
 };
 
+// Who made a silence, and why, as its line in the script says.
+function makerText(run, id) {
+  const made = run.makers.get(id);
+  if (!made || (!made.createdBy && !made.comment)) return "";
+  return [made.createdBy && seen(made.createdBy), made.comment && `\u201c${cut(seen(made.comment), 200)}\u201d`].filter(Boolean).join(", ");
+}
+
+function silenceText(run, id, time) {
+  const entry = run.silenceOf.get(id);
+  const value = entry ? entry.values.filter((each, i) => each && millisecondsOf(run.clock(entry.cursors[i])) <= time).pop() : null;
+  const maker = makerText(run, id);
+  return `${maker || id}${value ? `, until ${when(value.endsAt)}` : ""}${maker ? "" : value ? `: ${matchersText(value.matchers)}` : ""}`;
+}
+
+const intervalParts = ({ intervals }) => intervals.flatMap((name, i) => [i ? ", " : "", { interval: name, text: seen(name) }]);
+const untilText = (muting) => (muting && muting.until ? ` until ${when(muting.until)}` : "");
+
 const VERDICTS = {
-  Unknown: () => "not stored: the session knows no such alert here",
-  Ended: (verdict, run, cursor, set) => {
-    const value = run.alertOf.has(set) ? valueAt(run.alertOf.get(set), cursor) : null;
-    return `resolved${value ? `: it ended at ${when(value.endsAt)}` : ""}`;
+  Unknown: () => ["not stored: the session knows no such alert here"],
+  Ended: (verdict, run, time, set) => {
+    const entry = run.alertOf.get(set);
+    const value = entry ? entry.values.filter((each, i) => each && millisecondsOf(run.clock(entry.cursors[i])) <= time).pop() : null;
+    return [`resolved${value ? `: it ended at ${when(value.endsAt)}` : ""}`];
   },
-  Waiting: (verdict) => `waiting for the first flush of its group at ${when(verdict.get("due"))}`,
-  Inhibited: (verdict) => `inhibited by rule ${verdict.get("rule")}: ${pairsText(verdict.get("source"))} fires`,
-  OutsideActive: () => "muted: outside the active times of its route",
-  TimeMuted: () => "muted: within a mute time of its route",
-  Silenced: (verdict, run, cursor) => {
-    const entry = run.lists.silences.find((each) => each.id === verdict.get("id"));
-    const value = entry ? valueAt(entry, cursor) : null;
-    const what = value ? `, until ${when(value.endsAt)}: ${matchersText(value.matchers)}` : "";
-    return `silenced by ${verdict.get("id")}${what}`;
-  },
-  Nowhere: () => "not notified: the receiver has no integration",
-  Told: (verdict) => `notified at ${when(verdict.get("at"))}`,
-  Due: (verdict) => `not notified yet; the group's next flush is at ${when(verdict.get("at"))}`,
+  Waiting: (verdict) => [`waiting for the first flush of its group at ${when(verdict.get("due"))}`],
+  Inhibited: (verdict, run, time) => ["inhibited by ", { rule: verdict.get("rule"), time, text: `rule ${verdict.get("rule")}` }, ": ",
+    { set: verdict.sourceSet, text: pairsText(verdict.get("source")) }, " fires"],
+  OutsideActive: (verdict, run, time, set, muting) => ["muted: outside the active times of its route", ...(muting ? [" (", ...intervalParts(muting), ")"] : []), untilText(muting)],
+  TimeMuted: (verdict, run, time, set, muting) => (muting ? ["muted by ", ...intervalParts(muting), untilText(muting)] : ["muted: within a mute time of its route"]),
+  Silenced: (verdict, run, time) => ["silenced by ", { silence: verdict.get("id"), text: silenceText(run, verdict.get("id"), time) }],
+  Nowhere: () => ["not notified: the receiver has no integration"],
+  Told: (verdict) => [`notified at ${when(verdict.get("at"))}`],
+  Due: (verdict) => [`not notified yet; the group's next flush is at ${when(verdict.get("at"))}`],
 };

@@ -10,7 +10,7 @@ import unittest
 
 from front.page.compare import compare
 from front.page.document import embedded, page
-from front.page.moments import nanoseconds
+from front.moments import nanoseconds
 
 from .reader import Reader
 from .support import ENVIRONMENT, EXAMPLES, PAGE, PROGRAM, TOP, WithRoom, data_of, hostile_files, page_of
