@@ -2,17 +2,16 @@
 
 from __future__ import annotations
 
-import argparse
 import gc
-import json
 import os
 import sys
 import tempfile
 from pathlib import Path
 
-from ..program import Fault, Program
+from ..arguments import parser_of
+from ..labels import labels_in
+from ..program import Fault
 from .making import Options, make
-from .tables import pairs, Pairs
 
 
 def main(words: list[str]) -> int:
@@ -21,6 +20,7 @@ def main(words: list[str]) -> int:
     gc.disable()
     options = read_words(words)
     try:
+        options.named = [labels_in(text, "--explain") for text in options.explain]
         return _write(make(options), options.output)
     except Fault as fault:
         print(fault.line, file=sys.stderr)
@@ -31,38 +31,19 @@ def main(words: list[str]) -> int:
 
 def read_words(words: list[str]) -> Options:
     """Reads the words. Faulty ones end the program with status 2."""
-    parser = argparse.ArgumentParser(
-        prog="amreplay page",
-        description="Writes one self-contained page of an incident.",
-        epilog="docs/PAGE.md describes the page, and docs/FORMATS.md the two files.",
-    )
+    parser = parser_of("page", "Writes one self-contained page of an incident.", "docs/PAGE.md describes the page.")
     add = parser.add_argument
-    add("config", metavar="CONFIG", help="the configuration, as YAML or JSON")
+    add("config", metavar="CONFIG", help="the configuration, as YAML or JSON; - is standard input")
     add("script", metavar="SCRIPT", help="what happened, an event on each line")
     add("--output", metavar="FILE", help="write the page to FILE, and not to standard output")
     add("--title", metavar="TEXT", help="the page's title")
     add("--against", metavar="OTHER_CONFIG", help="replay the script under this configuration too, and compare")
-    add("--ignore-reloads", action="store_true", help="leave the script's reloads out of the run under OTHER_CONFIG")
+    add("--ignore-reloads", action="store_true", help="leave the script's reloads out")
     add("--try", dest="tried", metavar="EVENT", help="a line of a script that never happened: what would it have done?")
     add("--from", dest="start", metavar="PLACE", help="the first event of the page: its number, or a moment")
     add("--to", dest="end", metavar="PLACE", help="the last event of the page: its number, or a moment")
-    add("--explain", metavar="LABELS", action="append", default=[], help="choose the alerts with these labels, and explain them at every event")
-    add("--program", metavar="PROGRAM", default=Program.found().path, help="the program that replays (./amreplay)")
-    read = parser.parse_args(words, Options())
-    if read.ignore_reloads and read.against is None:
-        parser.error("--ignore-reloads goes with --against")
-    try:
-        read.named = [_labels(text) for text in read.explain]
-    except ValueError:
-        parser.error("--explain takes an object of texts")
-    return read
-
-
-def _labels(text: str) -> Pairs:
-    labels = json.loads(text)
-    if not isinstance(labels, dict) or not all(isinstance(value, str) for value in labels.values()):
-        raise ValueError(text)
-    return pairs(labels)
+    add("--explain", metavar="LABELS", action="append", default=[], help="choose the alerts with these labels first, and explain them at every event")
+    return parser.parse_args(words, Options())
 
 
 def _write(text: str, output: str | None) -> int:

@@ -4,25 +4,26 @@ from __future__ import annotations
 
 import argparse
 import json
-import os
-import tempfile
-from dataclasses import dataclass
+from dataclasses import dataclass, replace
 from functools import partial
 from pathlib import Path
 from typing import Any
 
-from ..config.yaml_config import BadConfiguration, read_config
+from ..diff import without_reloads
+from ..inputs import Given, Inputs, opened, shown
 from ..moments import nanoseconds
 from ..program import Fault, Source, answers_of
 from ..script import Event, Script, event_of, script_of
+from ..telling import count_text
 from . import document
 from .compare import compare
 from .configs import Configs
 from .progress import Progress
-from .runs import Run, Thinning, Wanted, act, collect, note, notes_of, outcome, written
+from .rows import differences
+from .runs import Run, Thinning, Wanted, act, collect, note, notes_of, outcome, rows_of, written
 from .states import count_events
 from .tables import Pairs, Tables
-from .told import reloads_of, told, without_reloads
+from .told import reloads_of, told
 from .workers import Part
 
 EVENTS_AT_MOST = 20_000
@@ -43,7 +44,6 @@ class Options(argparse.Namespace):
     end: str | None
     explain: list[str]
     named: list[Pairs]
-    program: str
 
 
 @dataclass(frozen=True)
@@ -80,32 +80,32 @@ def make(options: Options) -> str:
     """Returns the page as a text."""
     progress = Progress()
     try:
-        with tempfile.TemporaryDirectory() as room:
-            return _fitting(_collected(options, Wanted(options.named, Path(room), progress)), options)
+        with opened() as inputs:
+            return _fitting(_collected(options, inputs, Wanted(options.named, inputs.room, progress)), options)
     finally:
         progress.clear()
 
 
-def _collected(options: Options, wanted: Wanted) -> Collected:
-    room = wanted.room
-    script_file = _copied(options.script, room / "script.jsonl", "script")
-    replay = _replay(options, options.config, script_file, room / "config.json")
-    script = script_of(Path(script_file).read_bytes()) if count_events(replay.source) else Script([], [], b"")
-    other = _other(options, script_file, room) if options.against is not None else None
+def _collected(options: Options, inputs: Inputs, wanted: Wanted) -> Collected:
+    config, given = inputs.config(options.config), inputs.script(options.script)
+    used = without_reloads(given) if options.ignore_reloads else given
+    replay = Replay(inputs.source(config, used), config.value)
+    count = count_events(replay.source)
+    script = script_of(used.data) if count else Script([], [], b"")
+    other = _other(options, inputs, used)
     whole = _part(options, script.lines)
     part = Part(whole.first, min(whole.last, whole.first + EVENTS_AT_MOST - 1))
     trial = _trial(replay.source, options.tried) if options.tried is not None else None
     names = _names([path for path in (options.config, options.against) if path is not None])
     runs, kinds = [_run(names[0], replay, script.lines, part, wanted, True)], ["as it was"]
     if other is not None:
-        lines = script_of(Path(other.source.script).read_bytes()).lines
-        runs.append(_run(names[1], other, lines, part, wanted, False))
+        runs.append(_run(names[1], other, script.lines, part, wanted, False))
         kinds.append("against")
     if trial is not None and part.first - 1 <= trial.cursor <= part.last:
         runs.append(_with_tried(options, names[0], replay, script, part, trial, wanted))
         kinds.append("tried")
-    notices = [*_explain_notices(runs[0], options), *_reload_notices(options, script_file)]
-    return Collected(runs, kinds, trial, len(script.lines), whole, notices)
+    notices = [*_explain_notices(runs[0], options), *_reload_notices(options, given.data)]
+    return Collected(runs, kinds, trial, count, whole, notices)
 
 
 def _run(name: str, replay: Replay, lines: list[bytes], part: Part, wanted: Wanted, has_trials: bool) -> Run:
@@ -113,38 +113,12 @@ def _run(name: str, replay: Replay, lines: list[bytes], part: Part, wanted: Want
     return collect(name, replay.source, lines, part, wanted, telling)
 
 
-def _copied(path: str, copy: Path, file: str) -> str:
-    """Returns a path that can be read more than once: that of a copy, where it isn't a regular file."""
-    if os.path.isfile(path):
-        return path
-    copy.write_bytes(_read(path, file))
-    return str(copy)
-
-
-def _read(path: str, file: str) -> bytes:
-    try:
-        return Path(path).read_bytes()
-    except OSError as error:
-        raise Fault(f"amreplay: cannot read {file} ({_shown(path)}: {error.strerror})") from None
-
-
-def _replay(options: Options, path: str, script: str, copy: Path) -> Replay:
-    """Returns what is replayed under a configuration, which is read as YAML or JSON."""
-    try:
-        reading = read_config(_read(path, "config"))
-    except BadConfiguration as fault:
-        raise Fault(f"amreplay: config: 5 BadConfig ({_shown(path)}: {fault})") from None
-    copy.write_bytes(reading.as_json())
-    return Replay(Source(options.program, str(copy), script, path, options.script), reading.value)
-
-
-def _other(options: Options, script: str, room: Path) -> Replay:
-    """Returns what is replayed under the other configuration: the script, or the script without its reloads."""
-    if options.ignore_reloads:
-        changed = room / "without-reloads.jsonl"
-        changed.write_bytes(without_reloads(Path(script).read_bytes()))
-        script = str(changed)
-    replay = _replay(options, options.against or "", script, room / "other.json")
+def _other(options: Options, inputs: Inputs, script: Given) -> Replay | None:
+    """Returns what is replayed under the other configuration, if one is given."""
+    if options.against is None:
+        return None
+    config = inputs.config(options.against)
+    replay = Replay(inputs.source(config, script), config.value)
     count_events(replay.source)
     return replay
 
@@ -193,7 +167,7 @@ def _with_tried(
     lines = [*script.lines[: trial.cursor], tried, *script.lines[trial.cursor :]]
     file = wanted.room / "tried.jsonl"
     file.write_bytes(script.text(lines))
-    changed = Replay(Source(replay.source.program, replay.source.config, str(file)), replay.config)
+    changed = Replay(replace(replay.source, script=str(file)), replay.config)
     run = _run(name, changed, lines, Part(part.first, part.last + 1), wanted, False)
     run.tried = trial.cursor + 1
     return run
@@ -205,16 +179,16 @@ def _explain_notices(run: Run, options: Options) -> list[str]:
     return [f"--explain {text}: {count or 'no'} alert{'s have' if count else ' has'} these labels." for text, count in counts]
 
 
-def _reload_notices(options: Options, script: str) -> list[str]:
-    """Says what --against does with the script's reloads."""
-    reloads = reloads_of(Path(script).read_bytes()) if options.against is not None else []
-    if not reloads:
-        return []
+def _reload_notices(options: Options, script: bytes) -> list[str]:
+    """Says that the script reloads, where that matters to a comparison, and whether its reloads are left out."""
+    reloads = reloads_of(script)
     if options.ignore_reloads:
-        return [f"The {len(reloads)} reloads of the script are left out under {_shown(options.against or '')}."]
+        return [f"{count_text(len(reloads), 'reload')} of the script left out."]
+    if options.against is None or not reloads:
+        return []
     return [
-        f"The script reloads its configuration at {reloads[0]}; from there on both runs have that one. "
-        "--ignore-reloads leaves reloads out of the other run."
+        f"The script reloads its configuration at {', '.join(reloads[:3])}: from then on both runs have what it loads. "
+        "--ignore-reloads leaves that out."
     ]
 
 
@@ -234,7 +208,9 @@ def _fitting(collected: Collected, options: Options) -> str:
 
 def _data(collected: Collected, thinning: Thinning, options: Options) -> dict[str, Any]:
     tables, configs = Tables(), Configs()
-    pages = [written(run, thinning, tables, configs) for run in collected.runs]
+    rows = [rows_of(run, tables, configs) for run in collected.runs]
+    trials = rows[0].trials()
+    differ = [differences(rows[0], other, tables) for other in rows[1:]]
     notes = [[line for _, line in notes_of(run)] for run in collected.runs]
     compared = [compare(notes[0], other) for other in notes[1:]]
     first = collected.runs[0]
@@ -243,11 +219,12 @@ def _data(collected: Collected, thinning: Thinning, options: Options) -> dict[st
         "script": _names([options.script])[0],
         "total": collected.events,
         "wanted": [collected.wanted.first, collected.wanted.last],
-        "runs": [run for run, _ in pages],
+        "runs": [written(run, thinning, tables, each) for run, each in zip(collected.runs, rows)],
         "kinds": collected.kinds,
         "compared": [[each.first_alone, each.second_alone, each.moved] for each in compared],
         "trial": _written_trial(collected.trial, tables) if collected.trial else 0,
-        "trials": pages[0][1],
+        "differences": differ,
+        "trials": trials,
         "named": [tables.labels(dict(labels)) for each in first.named for labels in each],
         "notices": [*collected.notices, *([first.told.left_out] if first.told.left_out else [])],
         "configs": configs.written(),
@@ -267,15 +244,10 @@ def _title(options: Options) -> str:
 
 def _names(paths: list[str]) -> list[str]:
     """Returns short names of files: as many of the last parts of their paths as tell them apart."""
-    parts = [Path(_shown(path)).parts for path in paths]
+    parts = [Path(shown(path)).parts for path in paths]
     longest = max(map(len, parts))
     for count in range(1, longest):
-        names = [str(Path(*each[-count:])) if each else _shown(path) for each, path in zip(parts, paths)]
+        names = [str(Path(*each[-count:])) if each else shown(path) for each, path in zip(parts, paths)]
         if len(set(names)) == len(set(paths)):
             return names
-    return [_shown(path) for path in paths]
-
-
-def _shown(path: str) -> str:
-    """Returns a path as a text that can be written, whatever bytes it has."""
-    return os.fsencode(path).decode("utf-8", "replace")
+    return [shown(path) for path in paths]

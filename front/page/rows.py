@@ -8,6 +8,8 @@ from typing import Any
 
 from ..moments import moment_text
 from ..story import Row, Span
+from ..story.differing import KINDS, LOST, NEW, SAME, Difference, differences_of, moment_of
+from ..story.sections import SECTIONS, Entry, Told as ToldOf, entries_of
 from .configs import Configs
 from .tables import Tables
 from .told import TIMES, Reasoned, Told, Without, key_of
@@ -18,6 +20,7 @@ class RowWriter:
 
     def __init__(self, told: Told, first: int, last: int, tables: Tables, configs: Configs) -> None:
         self.verdicts: dict[bytes, int] = {}
+        self.story = told.story
         self._told = told
         self._first = first
         self._last = last
@@ -25,6 +28,7 @@ class RowWriter:
         self._configs = configs
         self._numbers = [configs.number(config) for config in told.story.configs]
         self._rows = [row for row in told.story.rows if any(self._is_shown(span) for span in row.spans)]
+        self._places = {key_of(row): place for place, row in enumerate(self._rows)}
 
     def written(self) -> dict[str, Any]:
         """Returns the rows, the receivers and the configurations of the run, as the page has them."""
@@ -32,6 +36,7 @@ class RowWriter:
         starts = [0, *(self._moment(at) for at in story.config_starts[1:])]
         return {
             "rows": [self._row(row) for row in self._rows],
+            "entries": [self._entry(entry) for entry in entries_of(story) if self._has(entry)],
             "receivers": [[self._tables.text(name), count] for name, count in sorted(story.receivers.items())],
             "configs": [list(each) for each in zip(starts, self._numbers)],
             "unasked": self._tables.text(f"Not all was asked: {story.unasked}." if story.unasked else None),
@@ -39,12 +44,36 @@ class RowWriter:
 
     def trials(self) -> list[Any]:
         """Returns the trials, as the page has them."""
-        places = {key_of(row): place for place, row in enumerate(self._rows)}
-        return [self._trial(trial, places) for trial in self._told.trials]
+        return [self._trial(trial) for trial in self._told.trials]
 
     def verdict(self, line: bytes) -> int:
         """Returns the number of a verdict, by the program's line."""
         return self.verdicts.setdefault(line, len(self.verdicts))
+
+    def place(self, row: Row) -> int:
+        """Returns the place of a row on the page, or -1."""
+        return self._places.get(key_of(row), -1)
+
+    def span(self, span: Span) -> list[Any]:
+        """Returns a span as the page has it."""
+        return self._span(Reasoned(span))
+
+    def _has(self, entry: Entry) -> bool:
+        return entry.firing.posted <= self._last and entry.firing.end >= self._first
+
+    def _entry(self, entry: Entry) -> list[Any]:
+        """Writes a firing of an alert: from when to when, its section, and what each row got of it first."""
+        firing = entry.firing
+        told = [
+            [self.place(each.row), self._moment_or_0(each.first.at), self._moment_or_0(each.first.known), each.first.delay // 1_000_000, int(each.is_late)]
+            for each in entry.told
+            if self.place(each.row) >= 0
+        ]
+        end = 0 if firing.is_open else self._moment(firing.end)
+        return [self._tables.labels(dict(entry.alert)), self._moment(firing.fired), end, SECTIONS.index(entry.section), told]
+
+    def _moment_or_0(self, moment: int | None) -> int:
+        return 0 if moment is None else self._moment(moment)
 
     def _is_shown(self, span: Span) -> bool:
         return span.start <= self._last and span.end > self._first
@@ -54,10 +83,8 @@ class RowWriter:
 
     def _row(self, row: Row) -> list[Any]:
         spans = _joined([self._span(each) for each in self._told.reasoned[key_of(row)] if self._is_shown(each.span)])
-        firsts = [first for first in row.firsts if first.at is not None]
-        delay = firsts[0].delay // 1_000_000 if firsts else 0
         names = [self._tables.text(row.receiver), self._tables.text(row.integration or None), row.place]
-        return [self._tables.labels(dict(row.alert)), *names, spans, delay]
+        return [self._tables.labels(dict(row.alert)), *names, spans]
 
     def _span(self, reasoned: Reasoned) -> list[Any]:
         span = replace(reasoned.span, start=max(reasoned.span.start, self._first), end=min(reasoned.span.end, self._last))
@@ -75,13 +102,13 @@ class RowWriter:
         names, until = self._configs.muting(self._numbers[span.config], span.line["route"], span.verdict, span.start)
         return [[self._tables.text(name) for name in names], 0 if until is None else self._moment(until)]
 
-    def _trial(self, trial: Without, places: dict[Any, int]) -> list[Any]:
+    def _trial(self, trial: Without) -> list[Any]:
         is_silence = isinstance(trial.what, str)
         what = self._tables.text(trial.what) if isinstance(trial.what, str) else self._tables.labels(dict(trial.what))
         rows = [
-            [places[each.key], 0 if each.first is None else self._moment(each.first), [self._span(Reasoned(span)) for span in each.spans]]
+            [self._places[each.key], self._moment_or_0(each.first), [self.span(span) for span in each.spans]]
             for each in trial.outcomes
-            if each.key in places
+            if each.key in self._places
         ]
         return [0 if is_silence else 1, what, trial.more, trial.fewer, rows]
 
@@ -95,3 +122,31 @@ def _joined(spans: list[list[Any]]) -> list[list[Any]]:
         else:
             joined.append(span)
     return joined
+
+
+def differences(first: RowWriter, second: RowWriter, tables: Tables) -> dict[str, Any]:
+    """Returns how the first notifications of two runs differ, as the page has it: how many are the same, and the others in the order of their kinds."""
+    found = differences_of(first.story, second.story)
+    others = sorted((each for each in found if each.kind != SAME), key=lambda each: KINDS.index(each.kind))
+    same = sum(each.kind == SAME and moment_of(each.before) is not None for each in found)
+    return {"same": same, "others": [_difference(each, first, second, tables) for each in others]}
+
+
+def _difference(each: Difference, first: RowWriter, second: RowWriter, tables: Tables) -> list[Any]:
+    """Writes a difference: its kind, the row, both moments, the gain, and the longest reason of the run that has no notification."""
+    moments = [0 if at is None else tables.text(moment_text(at)) for at in (moment_of(each.before), moment_of(each.after))]
+    row = [tables.labels(dict(each.alert)), tables.text(each.row.receiver), tables.text(each.row.integration or None), each.row.place]
+    reason: Any = 0
+    if each.kind == LOST:
+        reason = _reason(each.after, second)
+    elif each.kind == NEW:
+        reason = _reason(each.before, first)
+    return [KINDS.index(each.kind), *row, *moments, each.gain // 1_000_000, reason]
+
+
+def _reason(told: ToldOf | None, writer: RowWriter) -> Any:
+    """Returns the longest reason, or -1 where the receiver had nothing to do with the alert."""
+    if told is None:
+        return -1
+    longest = max(told.reasons, key=lambda span: span.end - span.start, default=None)
+    return writer.span(longest) if longest else 0

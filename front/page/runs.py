@@ -76,14 +76,17 @@ def notes_of(run: Run) -> list[tuple[int, dict[str, Any]]]:
     return [(seen.cursor, line) for seen in _shown(run) for line in map(json.loads, seen.printed) if "receiver" in line]
 
 
-def written(run: Run, thinning: Thinning, tables: Tables, configs: Configs) -> tuple[dict[str, Any], list[Any]]:
-    """Returns the run as the page has it, and its trials."""
+def rows_of(run: Run, tables: Tables, configs: Configs) -> RowWriter:
+    """Returns what writes the rows of a run."""
+    return RowWriter(run.told, *_time_of(run), tables, configs)
+
+
+def written(run: Run, thinning: Thinning, tables: Tables, rows: RowWriter) -> dict[str, Any]:
+    """Returns the run as the page has it. Its verdicts come last, since all else may name some."""
     part = run.watched.part
-    rows = RowWriter(run.told, *_time_of(run), tables, configs)
-    trials = rows.trials()
     stops = [cursor for i, cursor in enumerate(run.watched.stops) if i % thinning.stride == 0 or cursor == part.last]
     lists = {name: _entries(run, name, stops, tables) for name in LISTS}
-    data = {
+    return {
         "name": run.name,
         "first": part.first,
         "start": tables.text(run.watched.seen[0].now),
@@ -99,7 +102,6 @@ def written(run: Run, thinning: Thinning, tables: Tables, configs: Configs) -> t
         **rows.written(),
         **_why(run, thinning.named_alone, rows, tables),
     }
-    return data, trials
 
 
 def _time_of(run: Run) -> tuple[int, int]:

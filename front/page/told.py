@@ -267,17 +267,6 @@ def plain_id(text: str) -> str:
     return "-".join((digits[:8], digits[8:12], digits[12:16], digits[16:20], digits[20:])) if digits else ""
 
 
-def without_reloads(script: bytes) -> bytes:
-    """Returns a script whose reloads are ticks."""
-    read = script_of(script)
-    lines = [_tick(line) if b'"reload"' in line and event_of(line).act == "reload" else line for line in read.lines]
-    return read.text(lines)
-
-
-def _tick(line: bytes) -> bytes:
-    return json.dumps({"at": event_of(line).at, "tick": True}).encode()
-
-
 def reloads_of(script: bytes) -> list[str]:
     """Returns the moments of the reloads of a script."""
     return [event_of(line).at for line in lines_of(script) if b'"reload"' in line and event_of(line).act == "reload"]

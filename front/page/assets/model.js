@@ -158,6 +158,7 @@ class Run {
     this.rows = raw.rows.map((each) => new Row(this, each));
     this.rowsOf = groupedBy(this.rows, (row) => row.set);
     giveNotes(this);
+    this.entries = raw.entries.map((each) => entryOf(this, each));
   }
 
   event(cursor) {
@@ -216,19 +217,14 @@ const isMuted = (kind) => kind === "inhibited" || kind === "silenced" || kind ==
 
 // An alert at an integration of a receiver: its verdicts over time, with gaps while it doesn't fire, and when it was sent.
 class Row {
-  constructor(run, [set, receiver, integration, place, spans, delay]) {
-    Object.assign(this, { run, set, receiver: textOf(receiver), integration: textOf(integration), place, sent: [], firstDelay: delay });
+  constructor(run, [set, receiver, integration, place, spans]) {
+    Object.assign(this, { run, set, receiver: textOf(receiver), integration: textOf(integration), place, sent: [] });
     this.spans = spans.map((each) => spanOf(run, each));
     this.key = `${set} ${receiver} ${integration} ${place}`;
   }
 
   spanAt(time) {
     return this.spans.find((span) => span.from <= time && (time < span.to || (time === span.to && time === this.run.end))) || null;
-  }
-
-  // How long after the start of its firing the first notification came, in milliseconds.
-  get delay() {
-    return this.first ? this.firstDelay : Infinity;
   }
 
   get isNotified() {
@@ -248,6 +244,15 @@ function spanOf(run, [start, end, number, intervals, until, also]) {
   return { start: textOf(start), end: textOf(end), from: millisecondsOf(textOf(start)), to: millisecondsOf(textOf(end)), verdict,
     kind: KIND_OF[verdict.verdict] || "nowhere", muting: mutingOf(intervals, until),
     also: (also || []).map(([each, names, to]) => ({ verdict: run.verdicts[each], muting: mutingOf(names, to) })) };
+}
+
+// The sections of the text on top, as ./amreplay why has them.
+const SECTION_NAMES = ["nobody", "late", "some", "expected", "nowhere"];
+
+// One firing of an alert: from when to when, its section, and what each of its rows got first.
+function entryOf(run, [set, fired, end, section, told]) {
+  return { set, fired: textOf(fired), end: textOf(end), section: SECTION_NAMES[section],
+    told: told.map(([place, first, known, delay, isLate]) => ({ row: run.rows[place], first: textOf(first), known: textOf(known), delay, isLate: !!isLate })) };
 }
 
 // Gives each row the notifications that told of its alert.

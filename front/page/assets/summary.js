@@ -1,31 +1,24 @@
 // The text on top: who wasn't notified, who was late, and why, and the search over all alerts.
 const LISTED = 20;
 const FOUND = 40;
-const SECTIONS = {
-  nobody: ["Nobody was notified", "of"], late: ["Late, or some receivers never", ""], expected: ["As expected", ""],
-};
-const LATE = 120_000;
+const SECTIONS = { nobody: "Nobody was notified", late: "Late", some: "Some receivers never", expected: "As expected", nowhere: "Only to receivers without integrations" };
 
-// To which section each alert of a run belongs.
+// Which firings of a run are in which section, and for an alert the worst of its sections.
 class Sections {
   constructor(run) {
-    this.by = new Map([...run.rowsOf].map(([set, rows]) => [set, sectionOf(rows)]));
-    this.lists = Object.fromEntries(Object.keys(SECTIONS).map((name) => [name, [...this.by].filter(([, each]) => each === name).map(([set]) => set)]));
+    this.lists = Object.fromEntries(SECTION_NAMES.map((name) => [name, run.entries.filter((entry) => entry.section === name)]));
+    this.worst = new Map();
+    for (const name of SECTION_NAMES) for (const { set } of this.lists[name]) if (!this.worst.has(set)) this.worst.set(set, name);
   }
 
   of(set) {
-    return this.by.get(set);
+    return this.worst.get(set);
   }
 
   // All alerts, those of which nobody was notified first.
   inOrder() {
-    return Object.keys(SECTIONS).flatMap((name) => this.lists[name]);
+    return [...this.worst.keys()];
   }
-}
-
-function sectionOf(rows) {
-  if (!rows.some((row) => row.isNotified)) return "nobody";
-  return rows.every((row) => row.isNotified && row.delay <= LATE) ? "expected" : "late";
 }
 
 class Summary {
@@ -39,39 +32,46 @@ class Summary {
   show(run) {
     const { sections } = this.app;
     replace(this.root, el("h2", { id: "summary-title" }, headline(run, sections)), run.unasked && el("p", { class: "flag" }, run.unasked),
-      RUNS.length > 1 && new Differences(this.app).root, this.search.root,
-      Object.entries(SECTIONS).map(([name, [title]]) => this.section(run, name, title, sections.lists[name])));
+      RUNS.length > 1 && new Differences(this.app).root, this.search.root, Object.entries(SECTIONS).map(([name, title]) => this.section(name, title, sections.lists[name])));
     this.search.draw();
   }
 
-  section(run, name, title, sets) {
-    if (!sets.length) return null;
+  section(name, title, entries) {
+    if (!entries.length) return null;
     const list = el("ul", { class: "stories" });
     const more = el("button", { type: "button", class: "more", onclick: () => fill(list.children.length + 200) });
     const fill = (most) => {
-      list.append(...sets.slice(list.children.length, most).map((set) => this.story(run, set, name)));
-      more.hidden = list.children.length >= sets.length;
-      more.textContent = `Show more of ${sets.length.toLocaleString("en")}`;
+      list.append(...entries.slice(list.children.length, most).map((entry) => this.story(entry)));
+      more.hidden = list.children.length >= entries.length;
+      more.textContent = `Show more of ${entries.length.toLocaleString("en")}`;
     };
     fill(name === "nobody" ? LISTED : LISTED / 2);
-    return el("details", { class: `section ${name}`, open: name !== "expected" }, el("summary", {}, el("b", {}, title), " ", el("span", { class: "count" }, sets.length.toLocaleString("en"))), list, more);
+    return el("details", { class: `section ${name}`, open: name === "nobody" || (name !== "expected" && entries.length <= LISTED) }, el("summary", {}, el("b", {}, title), " ", el("span", { class: "count" }, entries.length.toLocaleString("en"))), list, more);
   }
 
-  story(run, set, name) {
-    const rows = run.rowsOf.get(set);
-    const alike = [...groupedBy(rows, (row) => `${row.receiver} ${likeness(row)}`).values()];
-    return el("li", { class: "story" }, el("div", {}, alertButton(this.app, set, shortEl(set)), " ", el("span", { class: "quiet" }, firedText(rows))),
-      el("ul", { class: "receivers" }, alike.slice(0, 8).map((each) => el("li", {}, rowStatusEl(each), name !== "expected" && spansEl(this.app, each[0], true)))),
+  story({ set, fired, end, told, section }) {
+    const withReasons = told.map((each) => ({ ...each, reasons: section === "expected" ? [] : reasonsOf(each, fired, end) }));
+    const alike = [...groupedBy(withReasons, (each) => JSON.stringify([each.first, each.known, each.isLate, each.reasons.map((span) => [span.start, span.end, span.kind])])).values()];
+    return el("li", { class: "story" }, el("div", {}, alertButton(this.app, set, shortEl(set)), " ", el("span", { class: "quiet" }, `fired ${when(fired)} ${end ? `to ${when(end)}` : "and still fires"}`)),
+      el("ul", { class: "receivers" }, alike.slice(0, 8).map((each) => el("li", {}, toldEl(each), spansEl(this.app, each[0].row, each[0].reasons, 8)))),
       alike.length > 8 && el("p", { class: "quiet" }, `and ${alike.length - 8} more receivers`));
   }
 }
 
+// Why a receiver wasn't notified before its first notification, or at all. Waiting for the first flush counts if there is nothing else.
+function reasonsOf({ row, first, isLate }, fired, end) {
+  if (first && !isLate) return [];
+  const to = millisecondsOf(first || end || row.run.clock(row.run.last));
+  const spans = row.spans.filter((span) => span.kind !== "told" && span.from < to && span.to > millisecondsOf(fired));
+  const others = spans.filter((span) => span.verdict.verdict !== "Waiting");
+  return others.length ? others : spans;
+}
+
 function headline(run, { lists }) {
-  const all = run.rowsOf.size;
-  if (!all) return "No alert fired";
-  const parts = [`Of ${many(all, "alert")} ${lists.nobody.length ? `${lists.nobody.length} ${lists.nobody.length === 1 ? "was" : "were"} sent to nobody` : "each was sent to somebody"}`];
-  if (lists.late.length) parts.push(`${lists.late.length} late, or not to all receivers`);
-  return `${parts.join("; ")}.`;
+  if (!run.entries.length) return "No alert fired";
+  const told = { nobody: "notified nobody", late: "late", some: "not to all receivers", expected: "as expected", nowhere: "only to receivers without integrations" };
+  const counts = Object.entries(told).filter(([name]) => lists[name].length).map(([name, words]) => `${lists[name].length.toLocaleString("en")} ${words}`);
+  return `${many(run.rowsOf.size, "alert")}, ${many(run.entries.length, "firing")}: ${counts.join(", ")}`;
 }
 
 const shortEl = (set) => {
@@ -79,28 +79,26 @@ const shortEl = (set) => {
   return el("span", { class: "labels", title: labelsText(set, 4000) }, name && el("b", {}, el("bdi", {}, name)), rest && [" ", el("bdi", {}, rest)]);
 };
 
-function firedText(rows) {
-  const spans = rows.flatMap((row) => row.spans);
-  if (!spans.length) return "";
-  const first = spans.reduce((a, b) => (b.from < a.from ? b : a));
-  const last = spans.reduce((a, b) => (b.to > a.to ? b : a));
-  return `fired ${when(first.start)} to ${when(last.end)}`;
+const whoEl = (rows) => [...groupedBy(rows, (row) => row.receiver)].map(([receiver, each], i) => [i > 0 && "; ", el("b", {}, el("bdi", {}, seen(receiver))),
+  el("span", { class: "quiet" }, ` ${each.map(integrationText).join(", ")}`)]);
+
+// What a receiver got first of a firing.
+function toldEl(told) {
+  const [{ first, known, delay }] = told;
+  const who = whoEl(told.map(({ row }) => row));
+  if (first) return [who, ": ", momentEl(first), delay > 0 && `, ${lengthText(delay)} after its start`];
+  return known ? [who, ": still notified since ", momentEl(known)] : [who, ": ", el("span", { class: "never" }, "never notified")];
 }
 
 // What a receiver got first of an alert.
 function rowStatusEl(rows) {
-  const [row] = rows;
-  const who = el("b", {}, el("bdi", {}, seen(row.receiver)));
-  const how = el("span", { class: "quiet" }, ` ${rows.map(integrationText).join(", ")}: `);
-  if (!row.first) return [who, how, el("span", { class: "never" }, "never notified")];
-  return [who, how, momentEl(row.first.at), row.delay > 0 && `, ${lengthText(row.delay)} after its start`];
+  const { first } = rows[0];
+  return first ? [whoEl(rows), ": first notified at ", momentEl(first.at)] : [whoEl(rows), ": ", el("span", { class: "never" }, "never notified")];
 }
 
-// The spans of a row with their reasons. Each goes to its time.
-function spansEl(app, row, isMutedAlone) {
-  const spans = isMutedAlone ? row.spans.filter((span) => isMuted(span.kind) || span.kind === "nowhere") : row.spans;
-  const most = isMutedAlone ? 8 : 60;
-  return [el("ol", { class: "spans" }, spans.slice(0, most).map((span) => spanEl(app, row, span))),
+// Spans of a row with their reasons. Each goes to its time.
+function spansEl(app, row, spans, most) {
+  return spans.length > 0 && [el("ol", { class: "spans" }, spans.slice(0, most).map((span) => spanEl(app, row, span))),
     spans.length > most && el("p", { class: "quiet" }, `and ${spans.length - most} more`)];
 }
 
@@ -146,7 +144,7 @@ class Search {
     const sets = sections.inOrder().filter((set) => words.every((word) => haystack(set).includes(word)));
     this.count.textContent = `${many(sets.length, "alert")}${sets.length > FOUND ? `; the first ${FOUND} are listed` : ""}`;
     replace(this.found, sets.slice(0, FOUND).map((set) => el("li", {}, alertButton(this.app, set),
-      el("span", { class: `tag ${sections.of(set)}` }, { nobody: "nobody was notified", late: "late, or not all", expected: "as expected" }[sections.of(set)]))));
+      el("span", { class: `tag ${sections.of(set)}` }, SECTIONS[sections.of(set)].toLowerCase()))));
   }
 
   // Enter chooses the first that is found.

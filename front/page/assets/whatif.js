@@ -6,56 +6,40 @@ class Differences {
     this.app = app;
     this.root = el("section", { class: "differences", id: "differences", "aria-labelledby": "differences-title" });
     const other = RUNS[chosenOther];
-    const found = differencesOf(RUNS[0], other);
-    const count = (kind) => found.filter((each) => each.kind === kind).length;
-    const same = found.same;
-    const fact = ["lost", "later", "new", "earlier"].filter(count).map((kind) => `${count(kind)} ${kind}`);
-    replace(this.root, el("h3", { id: "differences-title" }, el("bdi", {}, `${nameOf(RUNS[0])} and ${nameOf(other)}`)),
+    const { same, others } = DATA.differences[chosenOther - 1];
+    const found = others.map((each) => differenceOf(other, each));
+    const fact = DIFFERENCE_KINDS.map((kind) => [found.filter((each) => each.kind === kind).length, kind]).filter(([count]) => count).map(([count, kind]) => `${count} ${kind}`);
+    replace(this.root, el("h3", { id: "differences-title" }, el("bdi", {}, `${nameOf(RUNS[0])[0].toUpperCase()}${nameOf(RUNS[0]).slice(1)}, and ${nameOf(other)}`)),
       el("p", {}, fact.length ? `First notifications: ${fact.join(", ")}, ${same} the same.` : `The first notifications are the same (${same}).`, " ", countsText(other)),
-      found.length > 0 && el("table", { class: "compared" }, el("thead", {}, el("tr", {}, ["Alert", "Receiver", nameOf(RUNS[0]), nameOf(other), ""].map((name) => el("th", { scope: "col" }, name)))),
-        el("tbody", {}, found.slice(0, DIFFERENCES).map((each) => this.row(each, other)))),
-      found.length > DIFFERENCES && el("p", { class: "quiet" }, `${DIFFERENCES} of ${found.length} are listed; the timeline has all.`),
-      other.reloadsKept && el("p", { class: "flag" }, other.reloadsKept), DATA.trial ? trialEl(this.app) : null);
+      found.length > 0 && el("div", { class: "wide" }, el("table", { class: "compared" }, el("thead", {}, el("tr", {}, ["Alert", "Receiver", nameOf(RUNS[0]), nameOf(other), ""].map((name) => el("th", { scope: "col" }, name)))),
+        el("tbody", {}, found.slice(0, DIFFERENCES).map((each) => this.row(each, other))))),
+      found.length > DIFFERENCES && el("p", { class: "quiet" }, `${DIFFERENCES} of ${found.length} are listed.`),
+      DATA.trial ? trialEl(this.app) : null);
   }
 
-  row({ kind, set, receiver, first, second, reason }, other) {
-    const cell = (note, run) => (note ? el("button", { type: "button", class: "link", onclick: () => {
-      this.app.show(run, note.cursor);
+  row({ kind, set, receiver, first, second, gain, reason }, other) {
+    const cell = (at, run) => (at ? el("button", { type: "button", class: "link", onclick: () => {
+      this.app.show(run, cursorAt(run, millisecondsOf(at)));
       this.app.choose(set);
-    } }, when(note.at)) : "never");
+    } }, when(at)) : "never");
     return el("tr", { class: kind }, el("td", {}, alertButton(this.app, set, shortEl(set))), el("td", {}, el("bdi", {}, receiver)), el("td", {}, cell(first, RUNS[0])),
-      el("td", {}, cell(second, other)), el("td", {}, el("span", { class: "tag" }, kind === "earlier" || kind === "later" ? `${lengthText(Math.abs(first.time - second.time))} ${kind}` : kind),
+      el("td", {}, cell(second, other)), el("td", {}, el("span", { class: "tag" }, kind === "earlier" || kind === "later" ? `${lengthText(Math.abs(gain))} ${kind}` : kind),
         reason && el("div", { class: "quiet" }, el("bdi", {}, reason))));
   }
 }
 
-// The first notification of each alert at each receiver under both, where they differ: lost, later, new and earlier, in this order.
-function differencesOf(one, other) {
-  const keys = (run) => groupedBy(run.rows, (row) => `${row.set} ${row.receiver}`);
-  const [left, right] = [keys(one), keys(other)];
-  const found = [];
-  found.same = 0;
-  for (const key of new Set([...left.keys(), ...right.keys()])) {
-    const [first, second] = [left, right].map((each) => firstOf(each.get(key) || []));
-    const kind = !first && !second ? null : !second ? "lost" : !first ? "new" : first.time === second.time ? "same" : second.time < first.time ? "earlier" : "later";
-    if (kind === "same") found.same += 1;
-    else if (kind) {
-      const [row] = left.get(key) || right.get(key);
-      const without = kind === "lost" ? right.get(key) : kind === "new" ? left.get(key) : null;
-      found.push({ kind, set: row.set, receiver: seen(row.receiver), first, second, reason: without !== null && reasonOf(without, kind === "lost" ? other : one) });
-    }
-  }
-  const order = ["lost", "later", "new", "earlier"];
-  return found.sort((a, b) => order.indexOf(a.kind) - order.indexOf(b.kind) || (a.first || a.second).time - (b.first || b.second).time);
-}
+const DIFFERENCE_KINDS = ["lost", "later", "new", "earlier"];
 
-const firstOf = (rows) => rows.map((row) => row.first).filter(Boolean).sort((a, b) => a.time - b.time)[0] || null;
-
-// Why a receiver got nothing: its longest verdict, or that no route leads there.
-function reasonOf(rows, run) {
-  if (!rows || !rows.length) return `no route leads there ${nameOf(run)}`;
-  const spans = rows.flatMap((row) => row.spans.map((span) => ({ row, span }))).sort((a, b) => (b.span.to - b.span.from) - (a.span.to - a.span.from));
-  return spans.length ? `${nameOf(run)}: ${verdictText(spans[0].span.verdict, run, spans[0].span.from, spans[0].row.set, spans[0].span.muting)}` : "";
+// The first notification of a firing at an integration under both, where they differ, with the reason where there is none.
+function differenceOf(other, [kind, set, receiver, integration, place, first, second, gain, reason]) {
+  const name = DIFFERENCE_KINDS[kind];
+  const without = name === "lost" ? other : RUNS[0];
+  const words = () => {
+    const span = spanOf(without, reason);
+    return `${nameOf(without)}: ${verdictText(span.verdict, without, span.from, set, span.muting)}`;
+  };
+  return { kind: name, set, receiver: whom({ receiver: textOf(receiver), integration: textOf(integration), place }), first: textOf(first), second: textOf(second), gain,
+    reason: reason === -1 ? `no route leads there ${nameOf(without)}` : reason ? words() : "" };
 }
 
 function countsText(other) {

@@ -43,7 +43,7 @@ class WhyView {
   // For each receiver when it was notified first, and its verdicts over time.
   receivers(rows) {
     const alike = [...groupedBy(rows, (row) => `${row.receiver} ${likeness(row)}`).values()];
-    return alike.map((each) => el("section", { class: "receiver-spans" }, el("h3", {}, rowStatusEl(each)), spansEl(this.app, each[0], false), sentEl(this.app, each[0])));
+    return alike.map((each) => el("section", { class: "receiver-spans" }, el("h3", {}, rowStatusEl(each)), spansEl(this.app, each[0], each[0].spans, 60), sentEl(this.app, each[0])));
   }
 
   // What would have been without a silence or a source.

@@ -14,8 +14,8 @@ from typing import Any
 TOP = Path(__file__).resolve().parents[3]
 EXAMPLES = TOP / "examples"
 PROGRAM = os.environ.get("AMREPLAY_PROGRAM", str(TOP / "amreplay"))
-PAGE = [sys.executable, "-B", "-m", "front.page"]
-ENVIRONMENT = {**os.environ, "PYTHONPATH": str(TOP)}
+PAGE = [sys.executable, "-B", "-m", "front", "page"]
+ENVIRONMENT = {**os.environ, "PYTHONPATH": str(TOP), "AMREPLAY_PROGRAM": PROGRAM}
 LISTS = ("alerts", "silences", "groups", "log")
 HOSTILE = (
     "</script><script>window.hostile=1</script>",
@@ -73,7 +73,7 @@ class Session:
 
 def page_of(*words: Any) -> tuple[int, str, str]:
     """Runs `amreplay page` and returns its status and what it printed."""
-    done = subprocess.run([*PAGE, *map(str, words), "--program", PROGRAM], capture_output=True, check=False, env=ENVIRONMENT)
+    done = subprocess.run([*PAGE, *map(str, words)], capture_output=True, check=False, env=ENVIRONMENT)
     return done.returncode, done.stdout.decode(), done.stderr.decode()
 
 
