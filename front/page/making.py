@@ -11,7 +11,7 @@ from typing import Any
 
 from ..diff import without_reloads
 from ..inputs import Given, Inputs, opened, shown
-from ..moments import nanoseconds
+from ..moments import moment_text, nanoseconds
 from ..program import Fault, Source, answers_of
 from ..script import Event, Script, event_of, script_of
 from ..telling import count_text
@@ -104,7 +104,7 @@ def _collected(options: Options, inputs: Inputs, wanted: Wanted) -> Collected:
     if trial is not None and part.first - 1 <= trial.cursor <= part.last:
         runs.append(_with_tried(options, names[0], replay, script, part, trial, wanted))
         kinds.append("tried")
-    notices = [*_explain_notices(runs[0], options), *_reload_notices(options, given.data)]
+    notices = [*_explain_notices(runs[0], options), *_reload_notices(options, runs[0], given.data)]
     return Collected(runs, kinds, trial, count, whole, notices)
 
 
@@ -179,16 +179,16 @@ def _explain_notices(run: Run, options: Options) -> list[str]:
     return [f"--explain {text}: {count or 'no'} alert{'s have' if count else ' has'} these labels." for text, count in counts]
 
 
-def _reload_notices(options: Options, script: bytes) -> list[str]:
+def _reload_notices(options: Options, run: Run, script: bytes) -> list[str]:
     """Says that the script reloads, where that matters to a comparison, and whether its reloads are left out."""
-    reloads = reloads_of(script)
     if options.ignore_reloads:
-        return [f"{count_text(len(reloads), 'reload')} of the script left out."]
+        return [f"Left out: {count_text(len(reloads_of(script)), 'reload')} of the script."]
+    reloads = [moment_text(mark.at) for mark in run.told.story.marks if mark.kind == "reload"]
     if options.against is None or not reloads:
         return []
     return [
-        f"The script reloads its configuration at {', '.join(reloads[:3])}: from then on both runs have what it loads. "
-        "--ignore-reloads leaves that out."
+        f"The script reloads its configuration at {', '.join(reloads[:3])}{', and later' if len(reloads) > 3 else ''}: "
+        "from then on both runs have what it loads. --ignore-reloads leaves that out."
     ]
 
 

@@ -13,7 +13,7 @@ from ..story import Pairs, Row, Span, Story, story_of
 from .compare import compare
 
 # A story costs about as much as it has events and spans. Beyond this sum no further ones are made for a page.
-COST_AT_MOST = 60_000
+COST_AT_MOST = 30_000
 TRIALS_AT_MOST = 16
 MUTES = ("Inhibited", "OutsideActive", "TimeMuted", "Silenced")
 TIMES = ("OutsideActive", "TimeMuted")

@@ -208,7 +208,7 @@ class Drawing {
   drawBunch({ x, marks }, y, kind, next) {
     const { app } = this.timeline;
     const here = marks.find((each) => each.cursor === app.cursor);
-    const names = marks.slice(0, 8).map((each) => each.name);
+    const names = marks.slice(0, 8).map((each) => each.name());
     if (marks.length > 8) names.push(`and ${marks.length - 8} more`);
     const item = { name: names.join("\n"), cursor: (here || marks[0]).cursor };
     const isOne = marks.length === 1;

@@ -1,6 +1,6 @@
 // The lanes of the timeline, and what each holds: marks, which are moments, and spans, which last.
 
-// A mark: a moment, a shape, a name, and the cursor that a click goes to.
+// A mark: a moment, a shape, a way to its name, and the cursor that a click goes to. Names are made when they are needed: a lane may have very many.
 const mark = (time, shape, name, cursor, more) => ({ time, shape, name, cursor, ...more });
 
 // The lanes of a run: events, each receiver with its alerts, and silences.
@@ -25,7 +25,7 @@ function eventMark(run, event, i) {
   const cursor = run.first + i;
   const tried = run.tried === cursor ? "tried: " : "";
   return mark(run.timeAt(cursor), event.reason ? "refused" : EVENT_SHAPES[event.act],
-    `Event ${cursor}, ${when(instant(event.at))}: ${tried}${eventText(event)}${event.reason ? `; refused, ${reasonWords(event.reason)}` : ""}`,
+    () => `Event ${cursor}, ${when(instant(event.at))}: ${tried}${eventText(event)}${event.reason ? `; refused, ${reasonWords(event.reason)}` : ""}`,
     cursor, { label: event.act === "label" && !event.reason ? seen(event.label) : null });
 }
 
@@ -60,7 +60,7 @@ function receiverLanes(run) {
 
 function receiverLane(run, receiver, count, rows) {
   const make = () => ({ marks: run.notes.filter((note) => note.receiver === receiver)
-    .map((note) => mark(note.time, noteShape(note), `${noteText(note)}${comparedText(run, note)}`, note.cursor)) });
+    .map((note) => mark(note.time, noteShape(note), () => `${noteText(note)}${comparedText(run, note)}`, note.cursor)) });
   return lane("receiver", seen(receiver), make, { receiver, count, rows, nobody: rows.length > 0 && count === 0 });
 }
 
@@ -68,7 +68,7 @@ function receiverLane(run, receiver, count, rows) {
 function rowLanes(rows) {
   const lanes = [];
   for (const ofAlert of groupedBy(rows, (row) => row.set).values()) {
-    for (const alike of groupedBy(ofAlert, likeness).values()) lanes.push(rowLane(alike, alike.length < ofAlert.length));
+    for (const alike of ofAlert.length === 1 ? [ofAlert] : groupedBy(ofAlert, likeness).values()) lanes.push(rowLane(alike, alike.length < ofAlert.length));
   }
   const start = (each) => (each.row.spans.length ? each.row.spans[0].from : Infinity);
   const rank = (each) => (each.row.isNotified ? 1 : 0);
@@ -90,7 +90,7 @@ function sentMarks(rows) {
   for (const row of rows) {
     for (const { note, isFiring } of row.sent) {
       const key = `${note.at} ${isFiring}`;
-      if (!found.has(key)) found.set(key, mark(note.time, isFiring ? "firing" : "resolved", `${noteText(note)}${comparedText(row.run, note)}`, note.cursor));
+      if (!found.has(key)) found.set(key, mark(note.time, isFiring ? "firing" : "resolved", () => `${noteText(note)}${comparedText(row.run, note)}`, note.cursor));
     }
   }
   return [...found.values()];
@@ -99,19 +99,15 @@ function sentMarks(rows) {
 // The first notification of this alert in the run that is compared, if it isn't at the same moment.
 function ghostMarks(row) {
   const other = otherOf(row.run);
-  const twin = other && other.rows.find((each) => each.key === row.key);
+  const twin = other && (other.rowsOf.get(row.set) || []).find((each) => each.key === row.key);
   const first = twin && twin.first;
   if (!first || (row.first && row.first.at === first.at)) return [];
-  return [mark(first.time, "ghost", `${nameOf(other)}: ${noteText(first)}`, cursorAt(row.run, first.time))];
+  return [mark(first.time, "ghost", () => `${nameOf(other)}: ${noteText(first)}`, cursorAt(row.run, first.time))];
 }
 
 // The last event that isn't after a time, as it is drawn.
 function cursorAt(run, time) {
-  let cursor = run.first - 1;
-  run.events.forEach((event, i) => {
-    if (millisecondsOf(event.now) <= time) cursor = run.first + i;
-  });
-  return cursor;
+  return run.first + lastUpTo(run.clocks, time);
 }
 
 const isoOf = (time) => new Date(time).toISOString().replace(".000Z", "Z");

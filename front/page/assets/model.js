@@ -136,6 +136,7 @@ class Run {
     this.tried = raw.tried;
     this.events = raw.events.map((each) => (
       { ...actOf(each), now: textOf(each[3]), moves: each[4], reason: each[5], skipped: each[6] }));
+    this.clocks = this.events.map((event) => millisecondsOf(event.now));
     this.notes = raw.notes.map(noteOf);
     this.notesAt = new Map();
     for (const note of this.notes) {

@@ -254,7 +254,7 @@ class Timeline {
     this.markAt = place;
     this.reveal(marks[place].time);
     this.app.go(marks[place].cursor, true);
-    this.app.announce(marks[place].name);
+    this.app.announce(marks[place].name());
     const box = this.scroll.getBoundingClientRect();
     this.tell(marks[place].name, box.left + this.drawing.x(marks[place].time), box.top + AXIS_HEIGHT + this.laneAt * this.drawing.laneHeight - this.scroll.scrollTop + 14);
   }
