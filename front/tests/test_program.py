@@ -6,12 +6,13 @@ import os
 import signal
 import subprocess
 import sys
+from typing import Any
 
 from front.program import Fault, Program, answers_of, session
 
 from .support import INCIDENT, TOP, WithRoom, run_word
 
-CONFIG = {"route": {"receiver": "ops"}, "receivers": [{"name": "ops", "webhook_configs": [{}]}]}
+CONFIG: dict[str, Any] = {"route": {"receiver": "ops"}, "receivers": [{"name": "ops", "webhook_configs": [{}]}]}
 TICK = {"at": "2024-05-01T10:00:00Z", "tick": True}
 
 
