@@ -1,0 +1,124 @@
+"""The alerts that a Prometheus posted, with the labels and annotations with which they were sent."""
+
+from __future__ import annotations
+
+import re
+from dataclasses import dataclass, field
+from typing import Iterator
+
+from ..moments import SECOND
+from .faults import time_limit
+from .posts import Life, Post, Timing, first_samples_after, life_of, posts_of
+from .prometheus import Group, Prometheus, Rule, Series
+from .relabel import Labels, relabelled
+
+RELABELLING_SECONDS = 60
+LABEL_REFERENCE = re.compile(r"\{\{\s*\$labels\.([a-zA-Z_][a-zA-Z0-9_]*)\s*\}\}")
+
+
+@dataclass(frozen=True)
+class Posted:
+    """A post of one alert as Alertmanager got it, and the evaluation that it is of: a server, a group, and a moment."""
+
+    post: Post
+    group: str
+    labels: Labels
+    annotations: dict[str, str]
+
+
+@dataclass
+class Derived:
+    """What was derived from the samples of one Prometheus, and what of it isn't certain."""
+
+    posted: list[Posted] = field(default_factory=list)
+    life: Life = field(default_factory=lambda: Life(0))
+    dropped: int = 0
+    without_rule: set[str] = field(default_factory=set)
+    ambiguous: set[str] = field(default_factory=set)
+    as_written: set[str] = field(default_factory=set)
+    open_at_start: list[Labels] = field(default_factory=list)
+
+
+def derive(prometheus: Prometheus, start: int, end: int) -> Derived:
+    """Returns the posts of a Prometheus between two moments."""
+    derived = Derived(life=_life(prometheus, end))
+    named: dict[str, list[Rule]] = {}
+    for rule in prometheus.rules:
+        named.setdefault(rule.name, []).append(rule)
+    ruled = [(series, _rule_of(series, named, prometheus, derived)) for series in prometheus.series]
+    firsts = _first_samples(ruled, derived.life)
+    with time_limit(
+        RELABELLING_SECONDS, f"{prometheus.name}: relabelling takes more than {RELABELLING_SECONDS} seconds"
+    ):
+        for series, rule in ruled:
+            if series.firing:
+                derived.posted += _posted(series, rule, prometheus, derived, firsts[rule.group])
+                if series.firing[0] - start < rule.group.interval:
+                    derived.open_at_start.append(series.labels)
+    return derived
+
+
+def _life(prometheus: Prometheus, end: int) -> Life:
+    signs = sorted({at for series in prometheus.series for at in (*series.firing, *series.pending)})
+    return life_of(prometheus.pulses, own_starts(prometheus), signs, end)
+
+
+def own_starts(prometheus: Prometheus) -> list[int]:
+    """Returns when this Prometheus was started, if it scrapes itself: its instance is the one that started when it says."""
+    if prometheus.started is None:
+        return []
+    starts = [change for change in prometheus.changes if change.kind == "start" and change.process == "prometheus"]
+    own = {each.instance for each in starts if 0 <= prometheus.started - each.at < 10 * SECOND}
+    return [each.at for each in starts if each.instance in own] if len(own) == 1 else []
+
+
+def _rule_of(series: Series, named: dict[str, list[Rule]], prometheus: Prometheus, derived: Derived) -> Rule:
+    """Returns the rule that made an alert: the one of its name most of whose fixed labels it has."""
+    name = series.labels.get("alertname", "")
+    fitting = [rule for rule in named.get(name, []) if _fits(rule, series.labels)]
+    if not fitting:
+        derived.without_rule.add(name)
+        group = Group(f";{name}", prometheus.config.evaluation_interval)
+        return Rule(group, name, 0, {}, {})
+    best = max(len(rule.labels) for rule in fitting)
+    chosen = [rule for rule in fitting if len(rule.labels) == best]
+    if len({(rule.group.interval, rule.hold) for rule in chosen}) > 1:
+        derived.ambiguous.add(name)
+    return chosen[0]
+
+
+def _fits(rule: Rule, labels: Labels) -> bool:
+    return all("{{" in value or labels.get(name, "") == value for name, value in rule.labels.items())
+
+
+def _first_samples(ruled: list[tuple[Series, Rule]], life: Life) -> dict[Group, set[int]]:
+    moments: dict[Group, set[int]] = {}
+    for series, rule in ruled:
+        moments.setdefault(rule.group, set()).update(series.firing, series.pending)
+    return {group: first_samples_after(life.outages, sorted(found)) for group, found in moments.items()}
+
+
+def _posted(
+    series: Series, rule: Rule, prometheus: Prometheus, derived: Derived, first_samples: set[int]
+) -> Iterator[Posted]:
+    labels = relabelled({**prometheus.config.external_labels, **series.labels}, prometheus.config.steps)
+    if not labels:
+        derived.dropped += 1
+        return
+    annotations = {name: _annotation(text, rule, series.labels, derived) for name, text in rule.annotations.items()}
+    timing = Timing(rule.group.interval, prometheus.resend_delay, rule.hold)
+    for post in posts_of(series.firing, series.pending, timing, derived.life, first_samples):
+        yield Posted(post, rule.group.name, labels, annotations)
+
+
+def _annotation(template: str, rule: Rule, labels: Labels, derived: Derived) -> str:
+    """Fills in labels of the alert. A template that says more is left as it is written."""
+
+    def value(found: re.Match[str]) -> str:
+        return found[0] if found[1] in rule.labels else labels.get(found[1], "")
+
+    text = LABEL_REFERENCE.sub(value, template)
+    if "{{" not in text:
+        return text
+    derived.as_written.add(rule.name)
+    return template

@@ -1,0 +1,109 @@
+"""Names of alerts, routes and rules, and a span's reason in words."""
+
+from __future__ import annotations
+
+from ..moments import clock_text, nanoseconds
+from .config import Route, routes_of, rules_of
+from .model import DUE, NOWHERE, TOLD, WAITING, Pairs, Span, Story
+
+NAME, SEVERITY = "alertname", "severity"
+LONG = 110
+
+
+class Names:
+    """Names for the alerts of a story: their labels without those that all of them have, and the reasons of spans."""
+
+    def __init__(self, story: Story) -> None:
+        self._story = story
+        self._shared = _shared([alert.labels for alert in story.alerts])
+        self._with_date = not is_one_day(story)
+        self._routes: dict[int, list[Route]] = {}
+
+    def alert(self, labels: Pairs) -> str:
+        """Returns `NAME{label="value", ..} severity`, with as many labels as fit, at least those that vary among the alerts of a name."""
+        by_name = dict(labels)
+        shown = [
+            f'{name}="{value}"'
+            for name, value in labels
+            if name not in (NAME, SEVERITY) and (name, value) not in self._shared
+        ]
+        while len(shown) > 1 and sum(map(len, shown)) > LONG:
+            shown[-2:] = ["…"]
+        text = by_name.get(NAME, "") + (f"{{{', '.join(shown)}}}" if shown or NAME not in by_name else "")
+        return f"{text} {by_name[SEVERITY]}" if SEVERITY in by_name else text
+
+    def moment(self, at: int) -> str:
+        return clock_text(at, self._with_date)
+
+    def route(self, config: int, number: int) -> str:
+        """Returns a route's number, its receiver, and the matchers on the way to it."""
+        routes = self._routes_of(config)
+        if number >= len(routes):
+            return f"route {number}"
+        route, way = routes[number], [routes[number]]
+        while way[0].parent >= 0:
+            way.insert(0, routes[way[0].parent])
+        matchers = " > ".join(",".join(each.matchers) or "all" for each in way[1:])
+        return f"route {number} ({route.receiver}: {matchers or 'the root'})"
+
+    def reason(self, span: Span) -> str:
+        """Returns a span's reason in words."""
+        line, verdict = span.line, span.verdict
+        if verdict == WAITING:
+            return "waits for the first flush of its group"
+        if verdict == DUE:
+            return "waits for the next flush of its group"
+        if verdict == TOLD:
+            return f"notified at {self.moment(nanoseconds(line['at']))}"
+        if verdict == NOWHERE:
+            return "the receiver has no integration"
+        if verdict == "Silenced":
+            return self._silenced(line["id"])
+        if verdict == "Inhibited":
+            return self._inhibited(span)
+        return self._outside_times(span)
+
+    def _silenced(self, silence_id: str) -> str:
+        silence = self._story.silences.get(silence_id)
+        by = f" by {silence.created_by}" if silence and silence.created_by else ""
+        comment = f', "{silence.comment}"' if silence and silence.comment else ""
+        return f"silenced{by}{comment} ({silence_id[:8]})"
+
+    def _inhibited(self, span: Span) -> str:
+        rule = rules_of(self._story.configs[span.config])[span.line["rule"]]
+        equal = f", same {', '.join(rule.equal)}" if rule.equal else ""
+        source = self.alert(tuple(span.line["source"].items()))
+        return f"inhibited by {source} (rule {rule.number}{equal})"
+
+    def _outside_times(self, span: Span) -> str:
+        """Says which time intervals keep a route quiet. Of several the program's answer names none."""
+        number = span.line["route"]
+        is_active_time = span.verdict == "OutsideActive"
+        listed = (
+            self._routes_of(span.config)[number].value.get(
+                "active_time_intervals" if is_active_time else "mute_time_intervals"
+            )
+            or []
+        )
+        names = " or ".join(map(str, listed))
+        return f"{'outside' if is_active_time else 'muted by'} {names}: {self.route(span.config, number)}"
+
+    def _routes_of(self, config: int) -> list[Route]:
+        if config not in self._routes:
+            self._routes[config] = routes_of(self._story.configs[config])
+        return self._routes[config]
+
+
+def is_one_day(story: Story) -> bool:
+    """Returns whether all moments of a story are on one day."""
+    return clock_text(story.start, True)[:10] == clock_text(story.end, True)[:10]
+
+
+def _shared(alerts: list[Pairs]) -> set[tuple[str, str]]:
+    """Returns the labels that all of several alerts have."""
+    if len(alerts) < 2:
+        return set()
+    shared = set(alerts[0])
+    for labels in alerts[1:]:
+        shared &= set(labels)
+    return shared
