@@ -17,9 +17,11 @@ from front.story.record import verdict_of
 from front.story.ticks import ticked
 from front.story.walk import walk
 
-from .support import INCIDENT, TOP, WithRoom, incidents
+from .random_incident import Dice
+from .support import TOP, WithRoom, incidents
 
 ASKED_AT_MOST = 12_000
+SEEDS = 12
 
 
 class EveryMoment(WithRoom):
@@ -34,6 +36,12 @@ class EveryMoment(WithRoom):
                 words = ["session", f"seed={seed}", f"alerts={alerts}", f"events={events}"]
                 subprocess.run([sys.executable, TOP / "bench/generate", self.room, *words], check=True)
                 self.compare(Program.found().source(str(self.room / "config.json"), str(self.room / "script.jsonl")))
+
+    def test_random_incidents(self) -> None:
+        for seed in range(SEEDS):
+            with self.subTest(seed):
+                dice = Dice(seed)
+                self.compare(self.source(dice.config(), dice.events(60)))
 
     def compare(self, source: Source) -> None:
         """Compares the story with answers at its own edges, just before them, and at other moments."""
