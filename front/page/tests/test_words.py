@@ -21,7 +21,16 @@ NEVER = EXAMPLES / "a-page-that-never-came"
 
 def note(at: str, name: str = "A", route: int = 0) -> dict[str, object]:
     alert = {"labels": {"alertname": name}, "annotations": {}, "startsAt": at}
-    return {"at": at, "firing": [alert], "groupLabels": {}, "integration": "webhook", "place": 0, "receiver": "ops", "resolved": [], "route": route}
+    return {
+        "at": at,
+        "firing": [alert],
+        "groupLabels": {},
+        "integration": "webhook",
+        "place": 0,
+        "receiver": "ops",
+        "resolved": [],
+        "route": route,
+    }
 
 
 class Compared(unittest.TestCase):
@@ -114,7 +123,9 @@ class Faults(WithRoom):
             self.assertTrue(faults.startswith("amreplay: "))
 
     def test_output_that_cannot_be_written(self) -> None:
-        status, _, faults = page_of(NEVER / "config.json", NEVER / "script.jsonl", "--output", self.room / "none" / "page.html")
+        status, _, faults = page_of(
+            NEVER / "config.json", NEVER / "script.jsonl", "--output", self.room / "none" / "page.html"
+        )
         self.assertEqual(status, 1)
         self.assertIn("cannot write", faults)
 
@@ -133,7 +144,9 @@ class Written(WithRoom):
         command = 'exec "$0" -B -m front.page <(cat "$1") <(cat "$2") --program "$3"'
         command_line = ["bash", "-c", command, sys.executable, *map(str, words), PROGRAM]
         done = subprocess.run(command_line, capture_output=True, check=True, env=ENVIRONMENT)
-        self.assertEqual(data_of(done.stdout.decode())["runs"][0]["events"], data_of(page_of(*words)[1])["runs"][0]["events"])
+        self.assertEqual(
+            data_of(done.stdout.decode())["runs"][0]["events"], data_of(page_of(*words)[1])["runs"][0]["events"]
+        )
 
     def test_a_bar_on_a_terminal(self) -> None:
         reader, terminal = pty.openpty()
@@ -186,5 +199,7 @@ class Examples(WithRoom):
         subprocess.run([str(TOP / "front" / "page" / "make-examples"), PROGRAM, str(self.room)], check=True)
         for name in names:
             made = (self.room / name / "incident.html").read_bytes()
-            self.assertTrue(made == (EXAMPLES / name / "incident.html").read_bytes(), f"{name}: run front/page/make-examples")
+            self.assertTrue(
+                made == (EXAMPLES / name / "incident.html").read_bytes(), f"{name}: run front/page/make-examples"
+            )
             self.assertLess(len(made), 200_000)
