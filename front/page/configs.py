@@ -64,7 +64,7 @@ def _route(route: Route) -> dict[str, Any]:
         "matchers": route.matchers,
         "continues": bool(value.get("continue")),
         "groupBy": value.get("group_by"),
-        "waits": [value.get(key) for key in SETTINGS],
+        "waits": [None if value.get(key) is None else str(value[key]) for key in SETTINGS],
         "mute": value.get("mute_time_intervals") or [],
         "active": value.get("active_time_intervals") or [],
     }

@@ -4,6 +4,8 @@ from __future__ import annotations
 import json
 from typing import Any
 
+from front.script import ACTS
+
 Data = dict[str, Any]
 
 
@@ -22,16 +24,17 @@ class Reader:
 
     def printed(self, cursor: int) -> list[str]:
         lines = [_line(self._note(note)) for note in self.run["notes"] if note[0] == cursor]
-        *_, reason, skipped = self.run["events"][cursor - self.first]
+        _, act, held, _, _, reason, skipped = self.run["events"][cursor - self.first]
+        lines += [_line({"event": cursor, "label": self._text(held)})] if ACTS[act] == "label" and not reason else []
         lines += [_line({"event": cursor, "reason": reason})] if reason else []
         return lines + ([_line({"event": cursor, "skipped": skipped})] if skipped else [])
 
     def explained(self, cursor: int, labels: dict[str, str]) -> list[str] | None:
         """Returns the explanation of an alert; None where it wasn't asked."""
-        for number, always, flat in self.run["why"]:
+        for number, flat in self.run["why"]:
             if self._labels(number) == labels:
                 before = [i for i in range(0, len(flat), 2) if flat[i] <= cursor]
-                if before and (always or flat[before[-1]] == cursor):
+                if before:
                     return [
                         _line(self._verdict(self.run["verdicts"][each]))
                         for each in self.run["answers"][flat[before[-1] + 1]]
@@ -39,7 +42,7 @@ class Reader:
         return None
 
     def alerts(self) -> list[dict[str, str]]:
-        return [self._labels(number) for number, _, _ in self.run["why"]]
+        return [self._labels(number) for number, _ in self.run["why"]]
 
     def _text(self, number: int) -> str | None:
         return self.data["texts"][number - 1] if number else None

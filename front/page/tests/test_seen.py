@@ -82,9 +82,8 @@ class Timeline(Browsing):
         self.made(config(), FAR)
         ticks = self.texts(".axis .tick")
         x, y = self.middle(".lane.row .span")
-        self.browser.value("window.scrollTo(0, 0)")
         top = self.browser.value("window.scrollY")
-        self.browser.mouse("mouseWheel", x, min(y, 800), deltaX=0, deltaY=300)
+        self.browser.mouse("mouseWheel", x, y, deltaX=0, deltaY=300)
         self.browser.value("new Promise((done) => setTimeout(done, 300))")
         self.assertEqual(self.texts(".axis .tick"), ticks)
         self.assertGreater(self.browser.value("window.scrollY"), top)
@@ -104,7 +103,8 @@ class Timeline(Browsing):
         )
         for width in (1280, 400):
             self.wide(width)
-            self.assertEqual(self.texts(".axis .date"), ["Sat 2024-05-04", "Sun 2024-05-05", "Mon 2024-05-06"])
+            year = "2024-" if width > 400 else ""
+            self.assertEqual(self.texts(".axis .date"), [f"Sat {year}05-04", f"Sun {year}05-05", f"Mon {year}05-06"])
 
     def test_names_stay_beside_the_plot(self) -> None:
         self.made(
@@ -118,7 +118,7 @@ class Timeline(Browsing):
             ],
         )
         over = "[...document.querySelectorAll('.lane-name .name')].filter((each) => each.getBoundingClientRect().right > plot).length"
-        plot = "document.querySelector('#plot rect').getBBox().x + document.querySelector('.lanes').getBoundingClientRect().x + 8"
+        plot = "Number(document.querySelector('#plot rect').getAttribute('x')) + document.querySelector('.lanes').getBoundingClientRect().x + 8"
         self.assertEqual(self.browser.value(f"(() => {{ const plot = {plot}; return {over}; }})()"), 0)
 
     def test_a_tap_names_what_was_tapped_and_names_have_room(self) -> None:
@@ -203,7 +203,7 @@ class Words(Browsing):
         self.assertEqual(self.text("#clock"), "Wed 2024-05-01 14:00:00")
         self.assertIn("the clock stays at 10:00:00", self.text(".event"))
         places = self.browser.value(
-            "[...document.querySelectorAll('.mark.refused')].map((each) => Math.round(each.getBoundingClientRect().x))"
+            "[...document.querySelectorAll('.lanes .mark.refused')].map((each) => Math.round(each.getBoundingClientRect().x))"
         )
         self.assertEqual((len(places), len(set(places))), (2, 1))
 
@@ -327,7 +327,7 @@ class Places(Browsing):
         self.browser.value("history.replaceState(null, '', '#event=1')")
         page = f"{(self.room / 'page.html').as_uri()}{address}"
         chosen, ticks = self.text(".chosen-alert"), self.texts(".axis .tick")
-        self.browser.call("Page.navigate", url="about:blank")
+        self.browser.open_address("about:blank")
         self.browser.open_address(page)
         self.assertEqual(
             (self.place(), self.text(".chosen-alert"), self.texts(".axis .tick")), ("event 2 of 2", chosen, ticks)

@@ -4,6 +4,7 @@ from __future__ import annotations
 import json
 import os
 import pty
+import shutil
 import subprocess
 import sys
 import unittest
@@ -86,35 +87,40 @@ class Tried(WithRoom):
 
 
 class Faults(WithRoom):
-    def check(self, config: str, script: str) -> None:
-        """Compares with the program's own line and status."""
+    def check(self, config: str, script: str, file: str) -> None:
+        """Compares with the program's own line and status. The page's line names the file besides."""
         (self.room / "config.json").write_text(config)
         (self.room / "script.jsonl").write_text(script)
         words = [str(self.room / "config.json"), str(self.room / "script.jsonl")]
         own = subprocess.run([PROGRAM, "run", *words], capture_output=True, check=False)
         output = self.room / "page.html"
         output.write_text("as it was")
-        self.assertEqual(page_of(*words), (own.returncode, "", own.stderr.decode()))
-        self.assertEqual(page_of(*words, "--output", output), (own.returncode, "", own.stderr.decode()))
+        status, text, faults = page_of(*words, "--output", output)
+        self.assertEqual((status, text), (own.returncode, ""))
+        self.assertEqual(faults, f"{own.stderr.decode().rstrip()} ({self.room / file})\n")
         self.assertEqual(output.read_text(), "as it was")
         self.assertNotEqual(own.returncode, 0)
 
     def test_faulty_files(self) -> None:
         config = (NEVER / "config.json").read_text()
-        self.check("{", "")
-        self.check('{"route":{"receiver":"a","group_wait":"x"},"receivers":[{"name":"a"}]}', "")
-        self.check(config, "nonsense\n")
-        self.check(config, '{"at":"2024-05-01T10:00:00Z"}\n')
+        faulty = '{"route":{"receiver":"a","group_wait":"x"},"receivers":[{"name":"a"}]}'
+        self.check(faulty, "", "config.json")
+        self.check(config, "nonsense\n", "script.jsonl")
+        self.check(config, '{"at":"2024-05-01T10:00:00Z"}\n', "script.jsonl")
+
+    def test_a_configuration_that_cannot_be_read(self) -> None:
+        (self.room / "config.json").write_text("{")
+        status, text, faults = page_of(self.room / "config.json", NEVER / "script.jsonl")
+        self.assertEqual((status, text), (1, ""))
+        self.assertIn(str(self.room / "config.json"), faults)
 
     def test_files_that_are_not_there(self) -> None:
         there, gone = NEVER / "config.json", self.room / "none"
-        self.assertEqual(page_of(gone, there), (1, "", "amreplay: cannot read config\n"))
-        self.assertEqual(page_of(there, gone), (1, "", "amreplay: cannot read script\n"))
-        against = page_of(there, NEVER / "script.jsonl", "--against", gone)
-        self.assertEqual(against, (1, "", "amreplay: cannot read config\n"))
+        for words in ((gone, there), (there, gone), (there, NEVER / "script.jsonl", "--against", gone)):
+            self.assertEqual(page_of(*words), (1, "", f"amreplay: cannot read {gone}: No such file or directory\n"))
 
     def test_words(self) -> None:
-        for words in ([], ["one"], ["one", "two", "three"], ["one", "two", "--explain", "nonsense"]):
+        for words in ([], ["one"], ["one", "two", "three"], ["one", "two", "--explain", '{"a":1}']):
             status, text, _ = page_of(*words)
             self.assertEqual((status, text), (2, ""))
         for words in (["--from", "9"], ["--to", "0"], ["--from", "yesterday"], ["--from", "3", "--to", "1"]):
@@ -141,8 +147,8 @@ class Written(WithRoom):
 
     def test_files_from_pipes(self) -> None:
         words = (NEVER / "config.json", NEVER / "script.jsonl")
-        command = 'exec "$0" -B -m front.page <(cat "$1") <(cat "$2") --program "$3"'
-        command_line = ["bash", "-c", command, sys.executable, *map(str, words), PROGRAM]
+        command = 'exec "$0" -B -m front page <(cat "$1") <(cat "$2")'
+        command_line = ["bash", "-c", command, sys.executable, *map(str, words)]
         done = subprocess.run(command_line, capture_output=True, check=True, env=ENVIRONMENT)
         self.assertEqual(
             data_of(done.stdout.decode())["runs"][0]["events"], data_of(page_of(*words)[1])["runs"][0]["events"]
@@ -150,7 +156,7 @@ class Written(WithRoom):
 
     def test_a_bar_on_a_terminal(self) -> None:
         reader, terminal = pty.openpty()
-        command = [*PAGE, str(NEVER / "config.json"), str(NEVER / "script.jsonl"), "--program", PROGRAM]
+        command = [*PAGE, str(NEVER / "config.json"), str(NEVER / "script.jsonl")]
         done = subprocess.run(command, stdout=subprocess.DEVNULL, stderr=terminal, check=True, env=ENVIRONMENT)
         drawn = os.read(reader, 1 << 16)
         os.close(reader)
@@ -181,6 +187,13 @@ class Written(WithRoom):
         value = ["</script>", "<!--", "&amp;", "\u2028\u2029", "\\", '"', "\u0000"]
         self.assertEqual(json.loads(embedded(value)), value)
         self.assertNotIn("<", embedded(value))
+
+
+    @unittest.skipUnless(shutil.which("node"), "there is no node on the PATH")
+    def test_the_script_is_javascript(self) -> None:
+        script = page("x", {}).rsplit("<script>", 1)[1].split("</script>")[0]
+        (self.room / "page.js").write_text(script)
+        subprocess.run(["node", "--check", str(self.room / "page.js")], check=True)
 
 
 class Moments(unittest.TestCase):
