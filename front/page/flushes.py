@@ -11,6 +11,7 @@ from .differences import change
 from .histories import KINDS, Key
 from ..moments import moment_text, nanoseconds
 from ..program import Source, answers_of
+from ..script import script_of
 from .states import Seen, Watched
 
 TICKS_AT_MOST = 2_000
@@ -111,7 +112,7 @@ def _list(source: Source, lines: list[bytes], gaps: list[Gap], script: Path) -> 
         for at in sorted(gap.ticks):
             ticked.append(json.dumps({"at": moment_text(at), "tick": True}).encode())
             places.append((gap, at, len(ticked)))
-    script.write_bytes(b"\n".join(ticked + lines[last:]) + b"\n")
+    script.write_bytes(script_of(Path(source.script).read_bytes()).text(ticked + lines[last:]))
     commands = [command for _, _, place in places for command in (f"seek {place}", "groups")]
     answers = answers_of(Source(source.program, source.config, str(script)), commands)
     text, groups = b"", {}

@@ -103,8 +103,8 @@ class Timeline(Browsing):
         )
         for width in (1280, 400):
             self.wide(width)
-            year = "2024-" if width > 400 else ""
-            self.assertEqual(self.texts(".axis .date"), [f"Sat {year}05-04", f"Sun {year}05-05", f"Mon {year}05-06"])
+            dates = ["Sat 2024-05-04", "Sun 2024-05-05", "Mon 2024-05-06"] if width > 400 else ["Sun 05-05", "Mon 05-06"]
+            self.assertEqual(self.texts(".axis .date"), dates)
 
     def test_names_stay_beside_the_plot(self) -> None:
         self.made(
