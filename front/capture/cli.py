@@ -119,10 +119,8 @@ def _options(arguments: list[str]) -> argparse.Namespace:
         options.prometheus or options.alertmanager or options.header_file or options.keep_responses
     ):
         parser.error("--responses takes the place of servers, --header-file and --keep-responses")
-    if not options.responses and not options.prometheus and not options.alertmanager:
-        parser.error("give --prometheus URL and --alertmanager URL, or --responses DIR")
     if not options.responses and not options.alertmanager and not options.config:
-        parser.error("without --alertmanager URL give the configuration with --config FILE")
+        parser.error("give --prometheus URL and --alertmanager URL, or --responses DIR, or the configuration with --config FILE")
     return options
 
 
