@@ -52,10 +52,19 @@ class EveryMoment(WithRoom):
                     commands = [f"explain {json.dumps(dict(alert.labels))}" for alert in story.alerts]
                     answers = opened.ask_all([f"seek {cursor}", *commands])[1:]
                     for alert, answer in zip(story.alerts, answers):
-                        self.assertEqual(self.said(story, alert, at), self.answered(answer.lines), (clock_text(at, True), alert.labels))
+                        self.assertEqual(
+                            self.said(story, alert, at),
+                            self.answered(answer.lines),
+                            (clock_text(at, True), alert.labels),
+                        )
 
     def moments(self, story: Story) -> set[int]:
-        edges = {edge for row in story.rows for span in row.spans for edge in (span.start, span.start - 1, span.end, span.end - 1)}
+        edges = {
+            edge
+            for row in story.rows
+            for span in row.spans
+            for edge in (span.start, span.start - 1, span.end, span.end - 1)
+        }
         at_most = max(1, ASKED_AT_MOST // max(1, len(story.alerts)))
         dice = random.Random(1)
         others = {dice.randrange(story.start, story.end + 1) // SECOND * SECOND for _ in range(min(200, at_most))}
