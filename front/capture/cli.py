@@ -73,8 +73,7 @@ def _captured(servers: Servers, span: Span, config: str | None, progress: Progre
 
 def _configuration(file: str | None, alertmanager: Alertmanager | None, span: Span) -> tuple[Reading, list[str]]:
     """Returns the configuration as the program reads it, and the names of intervals that were written in UTC."""
-    name = file or f"{alertmanager.name if alertmanager else ''}/api/v2/status: config.original"
-    data = _file(file) if file else alertmanager.config if alertmanager else b""
+    name, data = _configuration_bytes(file, alertmanager)
     try:
         reading = read_config(data)
         value, zones = in_utc(cut(reading.value), span.history, span.end)
@@ -86,6 +85,14 @@ def _configuration(file: str | None, alertmanager: Alertmanager | None, span: Sp
             f"{name}: more than {CONFIG_BYTES_AT_MOST} bytes as JSON, with {len(zones)} intervals written in UTC"
         )
     return reading, zones
+
+
+def _configuration_bytes(file: str | None, alertmanager: Alertmanager | None) -> tuple[str, bytes]:
+    if file:
+        return file, _file(file)
+    if alertmanager is None:
+        raise fault("there is no Alertmanager among the responses; give the configuration with --config FILE", 2)
+    return f"{alertmanager.name}/api/v2/status: config.original", alertmanager.config
 
 
 def _file(path: str) -> bytes:
@@ -120,7 +127,11 @@ def _options(arguments: list[str]) -> argparse.Namespace:
     ):
         parser.error("--responses takes the place of servers, --header-file and --keep-responses")
     if not options.responses and not options.alertmanager and not options.config:
-        parser.error("give --prometheus URL and --alertmanager URL, or --responses DIR, or the configuration with --config FILE")
+        parser.error(
+            "give --prometheus URL and --alertmanager URL, or --responses DIR, or the configuration with --config FILE"
+        )
+    if options.keep_responses and Path(options.keep_responses).resolve() == Path(options.output).resolve():
+        parser.error("--keep-responses and --output are one folder")
     return options
 
 

@@ -248,6 +248,16 @@ time_intervals:
         self.assertEqual({receiver for _, receiver, *_ in self.notified()}, {"others"})
         self.assertNotIn("secret", (self.room / "out/config.json").read_text())
 
+    def test_a_configuration_alone_is_captured_without_servers(self) -> None:
+        file = self.write("alertmanager.yml", CONFIG)
+        words = ["--config", file, "--from", START, "--to", END, "--output", str(self.room / "out")]
+        self.assertEqual(run_word("capture", *words)[0], 0)
+        self.assertEqual([line.get("tick") for line in self.script() if "label" not in line], [True])
+        self.assertEqual(
+            json.loads((self.room / "out/config.json").read_text())["receivers"],
+            [{"name": "ops", "webhook_configs": [{}]}],
+        )
+
     def test_a_configuration_as_json_is_cut_too(self) -> None:
         receivers = [
             {

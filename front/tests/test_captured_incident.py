@@ -37,7 +37,9 @@ class CapturedIncident(unittest.TestCase):
         self.assertTrue(printed.splitlines()[-1].startswith(counts), printed)
 
     def test_what_was_printed_has_the_alerts_that_were_sent(self) -> None:
-        status, printed, _ = run_word("compare", "config.json", "script.jsonl", "--webhooks", "webhooks.jsonl", "--output", "json")
+        status, printed, _ = run_word(
+            "compare", "config.json", "script.jsonl", "--webhooks", "webhooks.jsonl", "--output", "json"
+        )
         lines = [json.loads(line) for line in printed.splitlines()]
         self.assertEqual((status, len(lines)), (0, 12))
         self.assertTrue(all(line["alerts"] and 0 <= line["difference"] < 0.2 for line in lines))
@@ -56,11 +58,18 @@ class CapturedIncident(unittest.TestCase):
     def test_logs_that_are_no_logs_name_their_line(self) -> None:
         with tempfile.TemporaryDirectory() as room:
             log = Path(room) / "webhooks.jsonl"
-            for line in ("{", "[]", '{"receivedAt":"now","body":{}}', '{"receivedAt":"2026-11-27T03:11:30Z","body":{"alerts":5}}'):
+            for line in (
+                "{",
+                "[]",
+                '{"receivedAt":"now","body":{}}',
+                '{"receivedAt":"2026-11-27T03:11:30Z","body":{"alerts":5}}',
+            ):
                 log.write_text("\n" + line + "\n")
                 status, printed, errors = run_word("compare", "config.json", "script.jsonl", "--webhooks", str(log))
                 self.assertEqual((status, printed), (1, ""))
-                self.assertRegex(errors, "^amreplay: compare: .*webhooks.jsonl: line 2 isn't an object with receivedAt, .*\n$")
+                self.assertRegex(
+                    errors, "^amreplay: compare: .*webhooks.jsonl: line 2 isn't an object with receivedAt, .*\n$"
+                )
 
 
 if __name__ == "__main__":
