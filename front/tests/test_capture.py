@@ -19,6 +19,11 @@ def second(at: str) -> str:
     return at[:19] + "Z"
 
 
+def hosts(alerts: list[dict[str, Any]]) -> list[str]:
+    """Returns the hosts of alerts."""
+    return [alert["labels"].get("host", "-") for alert in alerts]
+
+
 class Captures(WithRoom):
     """A test that captures saved responses, and replays what was captured."""
 
@@ -42,16 +47,13 @@ class Captures(WithRoom):
         return [(second(line["at"]), line["alerts"]) for line in self.script() if "alerts" in line]
 
     def notified(self) -> list[tuple[str, str, list[str], list[str]]]:
-        """Returns what the program prints: second, receiver, and the alert names or hosts that fire and that are resolved."""
+        """Returns what the program prints: second, receiver, and the hosts whose alerts fire and that are resolved."""
         out = self.room / "out"
         printed = Program.found().run(Program.found().source(str(out / "config.json"), str(out / "script.jsonl")))
-        names = [
-            [[each["labels"].get("host", "-") for each in line[key]] for key in ("firing", "resolved")]
-            for line in printed
-            if "at" in line
-        ]
         lines = [line for line in printed if "at" in line]
-        return [(second(line["at"]), line["receiver"], *found) for line, found in zip(lines, names)]
+        return [
+            (second(line["at"]), line["receiver"], hosts(line["firing"]), hosts(line["resolved"])) for line in lines
+        ]
 
 
 class Capture(Captures):
@@ -180,7 +182,7 @@ time_intervals:
         self.assertEqual(max(hour for hour in hours if hour.startswith("31T")), "31T14")
 
     def test_annotations_are_filled_in_where_they_are_plain(self) -> None:
-        annotations = {
+        annotations: dict[str, Any] = {
             "summary": "{{ $labels.host }} is down",
             "value": "{{ $value }} of {{ $labels.host }}",
             "team": "{{ $labels.team }}",
@@ -199,7 +201,7 @@ time_intervals:
         self.assertIn("as written: Down", report)
 
     def test_silences_keep_who_made_them_and_mute(self) -> None:
-        silence = {
+        silence: dict[str, Any] = {
             "id": "7F2C9A10-3d4e-4b6a-9c1d-2e5f8a7b6c01",
             "matchers": [{"isEqual": True, "isRegex": False, "name": "host", "value": "h1"}],
             "startsAt": "2024-05-01T04:00:00.5Z", "endsAt": "2024-05-01T10:05:00.000Z", "updatedAt": "2024-05-01T10:05:00.000Z",
