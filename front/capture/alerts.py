@@ -6,7 +6,6 @@ import re
 from dataclasses import dataclass, field
 from typing import Iterator
 
-from ..moments import SECOND
 from .faults import time_limit
 from .posts import Life, Post, Timing, first_samples_after, life_of, posts_of
 from .prometheus import Group, Prometheus, Rule, Series
@@ -60,16 +59,7 @@ def derive(prometheus: Prometheus, start: int, end: int) -> Derived:
 
 def _life(prometheus: Prometheus, end: int) -> Life:
     signs = sorted({at for series in prometheus.series for at in (*series.firing, *series.pending)})
-    return life_of(prometheus.pulses, own_starts(prometheus), signs, end)
-
-
-def own_starts(prometheus: Prometheus) -> list[int]:
-    """Returns when this Prometheus was started, if it scrapes itself: its instance is the one that started when it says."""
-    if prometheus.started is None:
-        return []
-    starts = [change for change in prometheus.changes if change.kind == "start" and change.process == "prometheus"]
-    own = {each.instance for each in starts if 0 <= prometheus.started - each.at < 10 * SECOND}
-    return [each.at for each in starts if each.instance in own] if len(own) == 1 else []
+    return life_of(prometheus.pulses, prometheus.own_starts, signs, end)
 
 
 def _rule_of(series: Series, named: dict[str, list[Rule]], prometheus: Prometheus, derived: Derived) -> Rule:

@@ -7,7 +7,7 @@ from typing import Any
 
 from front.program import Program
 
-from .responses import CONFIG, Server, alertmanager, prometheus, rule, samples, save
+from .responses import CONFIG, Server, alertmanager, matrix, prometheus, rule, samples, save
 from .support import WithRoom, run_word
 
 START, END = "2024-05-01T10:00:00Z", "2024-05-01T10:30:00Z"
@@ -106,6 +106,27 @@ class Capture(Captures):
         self.assertNotIn("2024-05-01T10:05:00Z", [at for at, _ in self.posts()])
         resolved = [at for at, _, _, resolved in self.notified() if resolved]
         self.assertEqual(resolved, ["2024-05-01T10:15:10Z"])
+
+    def test_a_restart_is_known_exactly_if_the_prometheus_scrapes_itself(self) -> None:
+        series = samples("Down", START, *range(0, 271, 30), *range(390, 900, 30), host="h1")
+        answers = prometheus(series, rules=[rule("Down")])
+
+        def starts(instance: str, *values: tuple[int, str]) -> dict[str, Any]:
+            return {"metric": {"instance": instance}, "values": [[1714557600 + at, value] for at, value in values]}
+
+        answers["starts-prometheus"] = matrix(
+            starts("self:9090", (0, "1714500000.5"), (300, "1714557892.25")), starts("other:9090", (0, "1714557700"))
+        )
+        answers["runtime"] = {"status": "success", "data": {"startTime": "2024-05-02T00:00:00.9Z"}}
+        now = [
+            {"metric": {"instance": name}, "value": [0, at]}
+            for name, at in (("self:9090", "1714608000.1"), ("other:9090", "1"))
+        ]
+        answers["starts-now"] = {"status": "success", "data": {"result": now}}
+        report = self.capture({"prometheus": answers, "alertmanager": alertmanager()}, "--history", "0")
+        self.assertIn("no evaluations from 2024-05-01 10:04:30 to 2024-05-01 10:04:52.25", report)
+        starts_at = sorted({alert["startsAt"] for _, alerts in self.posts() for alert in alerts})
+        self.assertEqual(starts_at, [START, "2024-05-01T10:05:30Z"])
 
     def test_replicas_are_one_script(self) -> None:
         config = (

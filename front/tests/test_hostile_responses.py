@@ -196,20 +196,20 @@ class Hostile(WithRoom):
 
     def test_a_capture_that_is_ended_leaves_nothing(self) -> None:
         server = self.server()
-        has_asked = threading.Event()
+        has_asked, is_done = threading.Event(), threading.Event()
+        self.addCleanup(is_done.set)
 
         def wait(_handler: BaseHTTPRequestHandler, _name: str) -> bool:
             has_asked.set()
-            time.sleep(60)
-            return True
+            return is_done.wait(300)
 
         server.act = wait
         words = [*self.urls(server), "--from", START, "--to", END, "--output", str(self.room / "out")]
         environment = {**os.environ, "PYTHONPATH": str(TOP), "PYTHONDONTWRITEBYTECODE": "1"}
         process = subprocess.Popen([sys.executable, "-m", "front", "capture", *words], env=environment)
-        self.assertTrue(has_asked.wait(60))
+        self.assertTrue(has_asked.wait(300))
         process.terminate()
-        self.assertEqual(process.wait(60), 128 + signal.SIGTERM)
+        self.assertEqual(process.wait(300), 128 + signal.SIGTERM)
         self.assertEqual(list(self.room.iterdir()), [])
 
     def test_limits_of_time_and_size(self) -> None:
