@@ -68,14 +68,14 @@ ODD = [
     (with_interval(location="Europe/Paris"), "location: only UTC is known to check, run and session"),
 ]  # fmt: skip
 
-EVENT = {"at": "2024-05-01T10:00:00Z"}
-SILENCE = {
+EVENT: dict[str, Any] = {"at": "2024-05-01T10:00:00Z"}
+SILENCE: dict[str, Any] = {
     "matchers": [{"name": "a", "value": "b"}],
     "startsAt": "2024-05-01T10:00:00Z",
     "endsAt": "2024-05-01T11:00:00Z",
 }
 ID = "5b1e0000-0000-4000-8000-000000000001"
-LINES = [
+LINES: list[tuple[Any, str]] = [
     ("x", "no JSON: Expecting value at column 1"),
     ("[]", "[] is no object"),
     ({"tick": True}, "at: at is required, and isn't there"),

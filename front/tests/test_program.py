@@ -6,13 +6,13 @@ import os
 import signal
 import subprocess
 import sys
-import time
+from typing import Any
 
 from front.program import Fault, Program, answers_of, session
 
 from .support import INCIDENT, TOP, WithRoom, run_word
 
-CONFIG = {"route": {"receiver": "ops"}, "receivers": [{"name": "ops", "webhook_configs": [{}]}]}
+CONFIG: dict[str, Any] = {"route": {"receiver": "ops"}, "receivers": [{"name": "ops", "webhook_configs": [{}]}]}
 TICK = {"at": "2024-05-01T10:00:00Z", "tick": True}
 
 
@@ -80,9 +80,10 @@ class Interrupted(WithRoom):
         os.mkfifo(fifo)
         words = [sys.executable, "-m", "front", "why", str(INCIDENT / "config.json"), fifo]
         process = subprocess.Popen(words, cwd=TOP, stdout=subprocess.PIPE, stderr=subprocess.PIPE)
-        time.sleep(1)
-        process.send_signal(signal.SIGINT)
-        printed, errors = process.communicate(timeout=20)
+        with open(fifo, "wb"):
+            # The word has opened the pipe, and waits for its text.
+            process.send_signal(signal.SIGINT)
+            printed, errors = process.communicate(timeout=60)
         self.assertEqual((process.returncode, printed, errors), (130, b"", b""))
 
     def test_a_closed_pipe_is_no_traceback(self) -> None:

@@ -12,7 +12,7 @@ from pathlib import Path
 from front.moments import SECOND, clock_text, nanoseconds
 from front.program import Program, Source, session
 from front.script import script_of
-from front.story import Story, story_of
+from front.story import AlertStory, Story, story_of
 from front.story.record import verdict_of
 from front.story.ticks import ticked
 from front.story.walk import walk
@@ -53,7 +53,7 @@ class EveryMoment(WithRoom):
                     answers = opened.ask_all([f"seek {cursor}", *commands])[1:]
                     for alert, answer in zip(story.alerts, answers):
                         self.assertEqual(
-                            self.said(story, alert, at),
+                            self.said(alert, at),
                             self.answered(answer.lines),
                             (clock_text(at, True), alert.labels),
                         )
@@ -70,9 +70,9 @@ class EveryMoment(WithRoom):
         others = {dice.randrange(story.start, story.end + 1) // SECOND * SECOND for _ in range(min(200, at_most))}
         return set(dice.sample(sorted(edges), min(len(edges), at_most))) | others
 
-    def said(self, story: Story, alert: object, at: int) -> set[object]:
-        found = set()
-        for row in alert.rows:  # type: ignore[attr-defined]
+    def said(self, alert: AlertStory, at: int) -> set[object]:
+        found: set[object] = set()
+        for row in alert.rows:
             for span in row.spans:
                 if span.start <= at < span.end:
                     line = span.line

@@ -10,7 +10,7 @@ from typing import Any
 from .support import INCIDENT, WithRoom, run_word
 
 CONFIG, SCRIPT = str(INCIDENT / "config.json"), str(INCIDENT / "script.jsonl")
-OPS = {"route": {"receiver": "ops"}, "receivers": [{"name": "ops", "webhook_configs": [{}]}]}
+OPS: dict[str, Any] = {"route": {"receiver": "ops"}, "receivers": [{"name": "ops", "webhook_configs": [{}]}]}
 
 
 def post(at: str, labels: dict[str, str], start: str, end: str) -> dict[str, Any]:
@@ -83,7 +83,7 @@ class SmallIncidents(WithRoom):
         return printed
 
     def test_a_silence_between_two_events_is_told(self) -> None:
-        silence = {
+        silence: dict[str, Any] = {
             "matchers": [{"name": "alertname", "value": "High.*", "isRegex": True}],
             "startsAt": "2024-05-01T09:00:00Z",
             "endsAt": "2024-05-01T11:00:00Z",
@@ -137,7 +137,7 @@ class SmallIncidents(WithRoom):
         self.assertIn("X\\u000a\\u202ey\\u001b[31m", printed)
 
     def test_a_silence_that_is_changed_in_place_has_its_last_comment(self) -> None:
-        silence = {
+        silence: dict[str, Any] = {
             "matchers": [{"name": "alertname", "value": "X"}],
             "startsAt": "2024-05-01T10:00:00Z",
             "endsAt": "2024-05-01T11:00:00Z",

@@ -1,1 +1,0 @@
-"""Makes one self-contained page of an incident out of what a session of `amreplay` answers."""
