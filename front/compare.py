@@ -15,6 +15,7 @@ from .program import Fault, Program
 Labels = tuple[tuple[str, str], ...]
 FARTHEST = MINUTE
 OTHER_ALERTS = 5 * SECOND
+LONG_PART = 500
 
 
 @dataclass(frozen=True)
@@ -155,18 +156,24 @@ def _pairs(received: list[Notification], replayed: list[Notification]) -> list[P
 def _parts(
     received: list[Notification], replayed: list[Notification]
 ) -> Iterator[tuple[list[Notification], list[Notification]]]:
-    """Splits both where nothing is within reach of what is later, so that each part is small."""
+    """Splits both where nothing is within reach of what is later, or at a pause if a part is long, so that each is small."""
     part: tuple[list[Notification], list[Notification]] = ([], [])
     last: int | None = None
     merged = [(each.at, side, each) for side, notes in enumerate((received, replayed)) for each in notes]
     for at, side, each in sorted(merged, key=lambda item: item[:2]):
-        if last is not None and at - last > FARTHEST:
+        if last is not None and at - last > _pause_to_split(max(map(len, part))):
             yield part
             part = ([], [])
         part[side].append(each)
         last = at
     if last is not None:
         yield part
+
+
+def _pause_to_split(length: int) -> int:
+    if length < LONG_PART:
+        return FARTHEST
+    return SECOND if length < 2 * LONG_PART else -1
 
 
 def _aligned(received: list[Notification], replayed: list[Notification]) -> list[Pair]:

@@ -17,7 +17,7 @@ from ..config.zones import BadZone, in_utc
 from ..moments import HOUR, length_of, nanoseconds
 from .alertmanager import Alertmanager, alertmanager_of
 from .assembly import Assembly, Span, assemble
-from .faults import fault
+from .faults import fault, time_limit
 from .folders import appearing, free_folder
 from .progress import Progress
 from .prometheus import prometheus_of
@@ -26,6 +26,7 @@ from .servers import Headers, HttpServer, SavedServer, Server, TooLarge, url_of
 
 CONFIG_NAME, SCRIPT_NAME, REPORT_NAME = "config.json", "script.jsonl", "captured.md"
 CONFIG_BYTES_AT_MOST = 1024 * 1024
+SECONDS_AT_MOST = 120
 LAST_MOMENT = nanoseconds("8999-12-31T23:59:59Z")
 
 
@@ -88,8 +89,9 @@ def _configuration(file: str | None, alertmanager: Alertmanager | None, span: Sp
     """Returns the configuration as the program reads it, and the names of intervals that were written in UTC."""
     name, data = _configuration_bytes(file, alertmanager)
     try:
-        reading = read_config(data)
-        value, zones = in_utc(cut(reading.value), span.history, span.end)
+        with time_limit(SECONDS_AT_MOST, f"{name}: more than {SECONDS_AT_MOST} seconds to read"):
+            reading = read_config(data)
+            value, zones = in_utc(cut(reading.value), span.history, span.end)
     except (BadConfiguration, BadZone) as error:
         raise fault(f"{name}: {error}") from None
     reading = Reading(value, reading.lines, reading.unread)

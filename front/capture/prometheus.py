@@ -109,13 +109,14 @@ def _resend_delay(server: Server) -> int | None:
 
 def _own_starts(server: Server, changes: list[Change]) -> list[int]:
     """Returns when this Prometheus was started, if it scrapes itself: its instance is the one that started when it says."""
-    started = _optional(server, "runtime", "/api/v1/status/runtimeinfo")
-    moment = started.optional("startTime") if started else None
-    if moment is None:
+    runtime = _optional(server, "runtime", "/api/v1/status/runtimeinfo")
+    start_time = runtime.optional("startTime") if runtime else None
+    if start_time is None:
         return []
+    started = start_time.moment()
     starts = [change for change in changes if change.kind == "start" and change.process == "prometheus"]
     known = [(change.instance, change.at) for change in starts] + _starts_now(server)
-    own = {instance for instance, at in known if 0 <= moment.moment() - at < STARTING_TAKES}
+    own = {instance for instance, at in known if 0 <= started - at < STARTING_TAKES}
     return [change.at for change in starts if change.instance in own] if len(own) == 1 else []
 
 
