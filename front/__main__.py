@@ -12,7 +12,7 @@ INTERRUPTED = 130
 
 
 def main(arguments: list[str]) -> int:
-    """Runs the word that comes first, and returns its status. A fault is one line on standard error."""
+    """Runs the word that comes first, and returns its status. A fault is one line on standard error, and an interrupt nothing."""
     if not arguments or arguments[0] not in WORDS:
         print(usage(), file=sys.stderr)
         return 2

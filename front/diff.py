@@ -22,7 +22,8 @@ def main(arguments: list[str]) -> int:
     """Prints how the replay differs under two configurations. The status is 1 if a notification is lost."""
     options = _options(arguments)
     with opened() as inputs:
-        first, second, script = inputs.config(options.a), inputs.config(options.b), inputs.script(options.script)
+        script = inputs.script(options.script)
+        first, second = inputs.config(options.a, script), inputs.config(options.b, script)
         left_out: list[Mark] = []
         if options.ignore_reloads:
             before = story_of(inputs.source(first, script), first.value)

@@ -20,7 +20,8 @@ def main(arguments: list[str]) -> int:
     """Tests the expectations, or records them. The status is 1 if one fails."""
     options = _options(arguments)
     with opened() as inputs:
-        config, script = inputs.config(options.config), inputs.script(options.script)
+        script = inputs.script(options.script)
+        config = inputs.config(options.config, script)
         expected = None if options.record else inputs.read(options.expectations)
         expectations = [] if expected is None else expectations_in(_text(expected.data, expected.name), expected.name)
         story = story_of(inputs.source(config, script), config.value)

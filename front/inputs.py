@@ -2,20 +2,27 @@
 
 from __future__ import annotations
 
+import dataclasses
+import json
 import os
 import sys
 import tempfile
 from contextlib import contextmanager
 from dataclasses import dataclass
 from pathlib import Path
-from typing import Any, Iterator
+from typing import Any, Iterator, Optional
 
 from .config.yaml_config import BadConfiguration, Reading, read_config
-from .moments import nanoseconds
+from .config.zones import BadZone, in_utc
+from .lint.odd import unknown_keys
+from .lint.refused import explain
+from .moments import DAY, nanoseconds
 from .program import Fault, Program, Source
 from .script import event_of, script_of
+from .telling import printable
 
 STANDARD_INPUT = "-"
+A_DAY = (19_844 * DAY, 19_844 * DAY)
 
 
 @dataclass(frozen=True)
@@ -28,11 +35,13 @@ class Given:
 
 @dataclass(frozen=True)
 class Config:
-    """A configuration: its name as given, what was read of it, and the path of the JSON for the program."""
+    """A configuration: its name as given, what was read of it, the path of the JSON for the program, and the time intervals that another zone than
+    UTC has in the file."""
 
     name: str
     reading: Reading
     path: str
+    in_zones: tuple[str, ...] = ()
 
     @property
     def value(self) -> dict[str, Any]:
@@ -57,14 +66,33 @@ class Inputs:
     def script(self, path: str) -> Given:
         return self.read(path)
 
-    def config(self, path: str) -> Config:
+    def config(self, path: str, script: Optional[Given] = None) -> Config:
+        """Reads a configuration, and writes it for the program as JSON: its time intervals in UTC for the days of the script. Unknown keys are warned
+        of on standard error, and a fault says where and why the program refuses it."""
+        config = self.config_as_it_is(path)
+        config = self.in_utc(config, times_of(script.data) if script is not None else None)
+        _check(config)
+        return config
+
+    def config_as_it_is(self, path: str) -> Config:
         """Reads a configuration, and writes it for the program as JSON."""
         given = self.read(path)
         try:
             reading = read_config(given.data)
         except BadConfiguration as error:
-            raise Fault(f"amreplay: {given.name}: {error}") from error
+            raise Fault(f"amreplay: {given.name}: {_why_unread(given.data, error)}") from error
         return Config(given.name, reading, self.write(reading.as_json()))
+
+    def in_utc(self, config: Config, times: Optional[tuple[int, int]]) -> Config:
+        """Returns a configuration with its time intervals in UTC. Without times they are those of one day."""
+        try:
+            value, names = in_utc(config.reading.value, *(times or A_DAY))
+        except BadZone:
+            return config
+        if not names:
+            return config
+        reading = dataclasses.replace(config.reading, value=value)
+        return Config(config.name, reading, self.write(json.dumps(value, ensure_ascii=False).encode()), tuple(names))
 
     def source(self, config: Config, script: Given) -> Source:
         """Returns what is replayed, under the names that were given."""
@@ -75,6 +103,33 @@ class Inputs:
         path = self.room / f"file-{self._count}"
         path.write_bytes(data)
         return str(path)
+
+
+def _check(config: Config) -> None:
+    for finding in unknown_keys(config.reading):
+        print(f"amreplay: {printable(finding.text(config.name))}", file=sys.stderr)
+    try:
+        Program.found().check(config.path, config.name)
+    except Fault as fault:
+        if fault.refusal is None:
+            raise
+        lines = [
+            f"amreplay: {printable(finding.text(config.name))}" for finding in explain(fault.refusal, config.reading)
+        ]
+        raise Fault("\n".join(lines), fault.status, fault.refusal) from fault
+
+
+def _why_unread(data: bytes, error: BadConfiguration) -> str:
+    """Says why a configuration is neither JSON nor YAML. One that begins as JSON is meant as JSON."""
+    if not data.lstrip().startswith(b"{"):
+        return str(error)
+    try:
+        json.loads(data)
+    except json.JSONDecodeError as fault:
+        return f"no JSON: {fault.msg} at line {fault.lineno}, column {fault.colno}"
+    except UnicodeDecodeError:
+        pass
+    return str(error)
 
 
 @contextmanager

@@ -37,10 +37,10 @@ def moment_text(moment: int) -> str:
 
 
 def clock_text(moment: int, with_date: bool = False) -> str:
-    """Returns a moment for people: `01:42:10`, or `2026-11-24 01:42:10.5`, without zeros at the end of the fraction."""
+    """Returns a moment for people, to the millisecond: `01:42:10`, or `2026-11-24 01:42:10.5`."""
     seconds, fraction = divmod(moment, SECOND)
     text = time.strftime("%Y-%m-%d %H:%M:%S" if with_date else "%H:%M:%S", time.gmtime(seconds))
-    digits = f"{fraction:09d}".rstrip("0")
+    digits = f"{fraction:09d}"[:3].rstrip("0")
     return f"{text}.{digits}" if digits else text
 
 

@@ -23,7 +23,8 @@ def main(arguments: list[str]) -> int:
     """Prints the story of a script under a configuration."""
     options = _options(arguments)
     with opened() as inputs:
-        config, script = inputs.config(options.config), inputs.script(options.script)
+        script = inputs.script(options.script)
+        config = inputs.config(options.config, script)
         story = story_of(inputs.source(config, script), config.value)
     part = labels_in(options.alert, "--alert") if options.alert else None
     _check_receiver(story, options.receiver)

@@ -24,7 +24,9 @@ WORDS = {
     "page": Word("front.page", "writes one page of the incident, to look at and to share"),
     "diff": Word("front.diff", "says what another configuration would have gained and lost"),
     "expect": Word("front.expect", "tests a configuration: who is notified by when, and who never"),
-    "lint": Word("front.lint", "says what is wrong or odd in a configuration or a script, where, and what to write"),
+    "lint": Word(
+        "front.lint.word", "says what is wrong or odd in a configuration or a script, where, and what to write"
+    ),
     "routes": Word("front.routes", "prints the tree of routes, and which of them take an alert"),
 }
 

@@ -40,6 +40,7 @@ class Alertmanager:
 
     name: str
     version: str
+    instances: int
     started: int | None
     config: bytes
     silences: list[Silence]
@@ -51,9 +52,12 @@ def alertmanager_of(server: Server) -> Alertmanager:
     status = _answer(server, "status", "/api/v2/status")
     version, started = status.optional("versionInfo"), status.optional("uptime")
     number = version.optional("version") if version else None
+    cluster = status.optional("cluster")
+    peers = cluster.optional("peers") if cluster else None
     return Alertmanager(
         server.name,
         number.text() if number else "?",
+        len(list(peers.items())) if peers else 1,
         started.moment() if started else None,
         status.member("config").member("original").text().encode(),
         [_silence(each) for each in _answer(server, "silences", "/api/v2/silences").items()],

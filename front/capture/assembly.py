@@ -65,9 +65,9 @@ def assemble(
     )
     changes = _changes(found, alertmanager, history, end)
     assembly = Assembly(span, config, zones, alertmanager, found, derived, changes, others, len(silences), [])
-    assembly.delays = _delays(assembly.posted, stored)
+    assembly.delays = _delays(assembly.posted, [alert for alert in stored if alert.updated_at <= end])
     lines = [silence_line(each, history) for each in silences]
-    lines += [line for one in derived for line in alert_lines(one.posted)]
+    lines += [line for one in derived for line in alert_lines(one.posted, end)]
     lines += [line for alert in others for line in other_lines(alert, history, end)]
     lines += _labels(changes, span)
     assembly.lines = in_order(lines, end)

@@ -2,7 +2,8 @@
 
 At each evaluation at which an alert fires, Prometheus writes a sample and posts the alert if it hasn't in the last resend
 delay. At the first evaluation at which the alert no longer fires, it posts it as resolved, and repeats that for fifteen
-minutes. A Prometheus that is started again knows nothing of that: it posts what fires as a new alert.
+minutes. A Prometheus that is started again knows nothing of that: it posts what fires as a new alert. In its first five
+seconds it knows no Alertmanager yet, and what it posts is lost.
 """
 
 from __future__ import annotations
@@ -11,10 +12,11 @@ from bisect import bisect_left, bisect_right
 from dataclasses import dataclass, field
 from typing import Iterator
 
-from ..moments import MINUTE
+from ..moments import MINUTE, SECOND
 
 KEPT_RESOLVED = 15 * MINUTE
 EVALUATIONS_BEFORE_SAMPLES = 2
+WITHOUT_ALERTMANAGERS = 5 * SECOND
 VALID_FOR = 4
 USUAL_SHARE = 0.95
 
@@ -39,11 +41,15 @@ class Outage:
 
 @dataclass
 class Life:
-    """When a Prometheus evaluated its rules: up to an end, and not within the outages."""
+    """When a Prometheus evaluated its rules: up to an end, and not within the outages.
+
+    `starts` are the moments at which its processes began, if they are known.
+    """
 
     end: int
     outages: list[Outage] = field(default_factory=list)
     signs: list[int] = field(default_factory=list)
+    starts: list[int] = field(default_factory=list)
 
     def __post_init__(self) -> None:
         self.outages.sort(key=lambda outage: outage.before)
@@ -52,9 +58,20 @@ class Life:
     def outage_between(self, last: int, next_one: int) -> Outage | None:
         """Returns the outage that kept an evaluation from being made, given the one before it."""
         place = bisect_right(self._befores, last)
-        if place == len(self.outages) or self.outages[place].after >= next_one:
+        if place == len(self.outages):
             return None
-        return None if self._has_sign(next_one, self.outages[place].before) else self.outages[place]
+        outage = self.outages[place]
+        return None if outage.after >= next_one or self._has_sign(next_one, outage.before) else outage
+
+    def is_lost(self, at: int) -> bool:
+        """Returns whether a post of a moment reached no Alertmanager, since its process had just begun.
+
+        A new process knows its Alertmanagers no later than it scrapes, which is when an outage without a known start ends.
+        """
+        place = bisect_right(self.starts, at)
+        if place > 0 and at - self.starts[place - 1] < WITHOUT_ALERTMANAGERS:
+            return True
+        return self.outage_between(at - 1, at) is not None
 
     def _has_sign(self, start: int, end: int) -> bool:
         place = bisect_left(self.signs, start)
@@ -106,6 +123,11 @@ def posts_of(
 
     `first_samples` are the first samples of its group after each outage.
     """
+    made = _made(firing, pending, timing, life, first_samples)
+    return (post for post in made if not life.is_lost(post.at))
+
+
+def _made(firing: list[int], pending: list[int], timing: Timing, life: Life, first_samples: set[int]) -> Iterator[Post]:
     runs = runs_of(firing, timing.interval, life)
     for i, run in enumerate(runs):
         before = runs[i - 1] if i else None
@@ -160,33 +182,30 @@ def _resolved_posts(moments: list[int], resolved_at: int, until: int, timing: Ti
 def life_of(pulses: list[int], starts: list[int], signs: list[int], end: int) -> Life:
     """Returns when a Prometheus evaluated, from the moments of its scrapes, its starts, and the samples of its alerts.
 
-    A pause between scrapes that is much longer than nearly all others is an outage. Nothing is known of what is after the
-    last scrape and the last sample.
+    If the starts of its processes are known, the outages are before them. Otherwise a pause between scrapes that is much
+    longer than nearly all others is one. Nothing is known of what is after the last scrape and the last sample.
     """
-    usual = usual_pause(pulses)
     alive = sorted({*pulses, *signs})
-    outages = [
-        _narrowed(left, right, starts) for left, right in zip(pulses, pulses[1:]) if right - left > usual * 5 // 2
-    ]
-    for start in starts:
-        place = bisect_left(alive, start)
-        is_within = any(outage.after < start <= outage.before for outage in outages)
-        if place > 0 and not is_within:
-            outages.append(Outage(alive[place - 1], start))
+    outages = _outages_by_starts(alive, starts) if starts else _outages_by_pauses(pulses)
     last = alive[-1] if alive else end
-    return Life(min(end, last if pulses else end), outages, signs)
+    return Life(min(end, last if pulses else end), outages, signs, sorted(starts))
+
+
+def _outages_by_starts(alive: list[int], starts: list[int]) -> list[Outage]:
+    """Returns the time between the last sign of life and the next start, for each start."""
+    places = [(bisect_left(alive, start), start) for start in starts]
+    return [Outage(alive[place - 1], start) for place, start in places if place > 0]
+
+
+def _outages_by_pauses(pulses: list[int]) -> list[Outage]:
+    usual = usual_pause(pulses)
+    return [Outage(left, right) for left, right in zip(pulses, pulses[1:]) if right - left > usual * 5 // 2]
 
 
 def usual_pause(pulses: list[int]) -> int:
     """Returns the length that nearly all pauses between scrapes don't exceed."""
     pauses = sorted(right - left for left, right in zip(pulses, pulses[1:]))
     return pauses[int((len(pauses) - 1) * USUAL_SHARE)] if pauses else 0
-
-
-def _narrowed(left: int, right: int, starts: list[int]) -> Outage:
-    """Returns the outage between two scrapes, which ends at the start of the next process if that is known."""
-    place = bisect_right(starts, left)
-    return Outage(left, starts[place] if place < len(starts) and starts[place] <= right else right)
 
 
 def first_samples_after(outages: list[Outage], moments: list[int]) -> set[int]:

@@ -12,12 +12,16 @@ from .relabel import Step, step_of
 
 @dataclass(frozen=True)
 class PrometheusConfig:
-    """External labels, relabelling, and intervals. `alertmanagers` is how many entries of that name there are."""
+    """External labels, relabelling, and intervals. `alertmanagers` is how many entries of that name there are.
+
+    `query_offset` is how much earlier than its evaluation a sample is dated.
+    """
 
     external_labels: dict[str, str] = field(default_factory=dict)
     steps: list[Step] = field(default_factory=list)
     scrape_interval: int = MINUTE
     evaluation_interval: int = MINUTE
+    query_offset: int = 0
     alertmanagers: int = 1
 
 
@@ -35,8 +39,9 @@ def prometheus_config(text: str, place: str) -> PrometheusConfig:
     return PrometheusConfig(
         _texts(_member(general, "external_labels")),
         steps,
-        _length(_member(general, "scrape_interval")),
-        _length(_member(general, "evaluation_interval")),
+        _length(_member(general, "scrape_interval"), MINUTE),
+        _length(_member(general, "evaluation_interval"), MINUTE),
+        _length(_member(general, "rule_query_offset"), 0),
         len(entries),
     )
 
@@ -67,6 +72,6 @@ def _texts(node: Node | None) -> dict[str, str]:
     return {key.text: value.text for key, value in node.pairs if isinstance(value, Scalar) and not value.is_null()}
 
 
-def _length(node: Node | None) -> int:
+def _length(node: Node | None, default: int) -> int:
     length = length_of(node.text) if isinstance(node, Scalar) else None
-    return length or MINUTE
+    return length or default

@@ -48,7 +48,9 @@ def _found(assembly: Assembly) -> Iterator[str]:
 
 def _found_in(prometheus: Prometheus, derived: Derived, span: Span) -> Iterator[str]:
     alerts = {tuple(sorted(each.labels.items())) for each in derived.posted}
-    ends = {(tuple(sorted(each.labels.items())), each.post.starts_at) for each in derived.posted if each.post.is_resolved}
+    ends = {
+        (tuple(sorted(each.labels.items())), each.post.starts_at) for each in derived.posted if each.post.is_resolved
+    }
     counts = f"{_count(len(alerts), 'alert')}, {_count(len(derived.posted), 'post')}, {_count(len(ends), 'end')}"
     delay = length_text(prometheus.resend_delay)
     by_default = "" if prometheus.is_resend_delay_known else ", the default, since its flags don't say"
@@ -79,10 +81,7 @@ def _configuration(assembly: Assembly, reading: Reading) -> Iterator[str]:
             f"at {count} of {total} routes repeat_interval is an exact multiple of group_interval. Whether Alertmanager repeats"
             " at the multiple or one group_interval later is then decided by milliseconds; the replay says later, always"
         )
-    if reading.is_json:
-        yield "the JSON is kept as it is"
-    else:
-        yield "keys that only say how a message looks or where it goes are left out, and so are secrets"
+    yield "keys that only say how a message looks or where it goes are left out, and so are secrets"
 
 
 def _not_known(assembly: Assembly) -> Iterator[str]:
@@ -95,7 +94,12 @@ def _not_known(assembly: Assembly) -> Iterator[str]:
         yield "alerts that have ended, and all posts before the last: there is no Prometheus to ask"
     if not assembly.alertmanager:
         yield "silences, and alerts of other senders: there is no Alertmanager to ask"
-    if not any(change.process == "alertmanager" for change in assembly.changes):
+    if assembly.alertmanager and assembly.alertmanager.instances > 1:
+        yield (
+            f"which of the cluster's {assembly.alertmanager.instances} instances notified, and how long it waited for the others:"
+            " the replay has one instance"
+        )
+    if not any(change.process == "alertmanager" for prometheus in assembly.prometheus for change in prometheus.changes):
         yield "reloads and restarts of Alertmanager, unless the Prometheus scrapes it: no series tells of one"
 
 
@@ -116,7 +120,7 @@ def _not_known_of(name: str, derived: Derived, has_pulses: bool, alertmanagers: 
 
 
 def _how_exact(assembly: Assembly) -> Iterator[str]:
-    yield "a post is dated at its evaluation, to the millisecond; it really arrives some milliseconds later"
+    yield "a post is dated a little after its evaluation, less than its real way takes: a flush at that moment takes it"
     if assembly.delays:
         middle = assembly.delays[len(assembly.delays) // 2]
         yield (
@@ -124,7 +128,7 @@ def _how_exact(assembly: Assembly) -> Iterator[str]:
             f" evaluation (the median; {length_text(assembly.delays[0])} to {length_text(assembly.delays[-1])})"
         )
     yield "silences begin and end as the API says; starts and reloads are as exact as the series that tell of them"
-    yield "what happens within the same milliseconds may happen in another order: an alert that ends as its group is flushed"
+    yield "other things within the same milliseconds may happen in another order: a silence that begins as a group is flushed"
 
 
 def _some(names: Any) -> str:

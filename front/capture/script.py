@@ -14,6 +14,7 @@ from .faults import fault
 LINE_BYTES_AT_MOST = 1_000_000
 EVENTS_AT_MOST = 1_000_000
 STAYS_ACTIVE = 5 * MINUTE
+LATENESS = 10_000_000
 
 
 @dataclass(frozen=True)
@@ -43,14 +44,23 @@ def silence_line(silence: Silence, start: int) -> Line:
     return Line(at, 1, _json({"at": moment_text(at), "silence": posted, "newId": silence.id}))
 
 
-def alert_lines(posted: Iterable[Posted]) -> Iterator[Line]:
+def arrival(at: int, end: int) -> int:
+    """Returns when a post arrives: a little after its evaluation, and the less the later it is.
+
+    Times such as 30 seconds and five minutes are multiples of most evaluation intervals, so a flush often comes at the very
+    moment of an evaluation. In Alertmanager it takes what is posted then, since its timers run late.
+    """
+    return at + (end - at) // LATENESS
+
+
+def alert_lines(posted: Iterable[Posted], end: int) -> Iterator[Line]:
     """Yields a line for each evaluation of a group, with the alerts that it posted, in the order of their labels."""
     evaluations: dict[tuple[int, str], list[Posted]] = {}
     for each in posted:
         evaluations.setdefault((each.post.at, each.group), []).append(each)
     for (at, _), found in sorted(evaluations.items()):
         found.sort(key=lambda each: sorted(each.labels.items()))
-        yield from _post_lines(at, [_posted_alert(each) for each in found])
+        yield from _post_lines(arrival(at, end), [_posted_alert(each) for each in found])
 
 
 def other_lines(alert: StoredAlert, start: int, end: int) -> Iterator[Line]:

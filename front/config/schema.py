@@ -2,7 +2,7 @@
 from __future__ import annotations
 
 from dataclasses import dataclass
-from typing import Union
+from typing import Any, Union
 
 
 @dataclass(frozen=True)
@@ -126,3 +126,10 @@ def shape_in(shape: Object, key: str) -> Shape | None:
     if shape.has_integrations and key.endswith("_configs"):
         return ListOf(Integration(key[: -len("_configs")]))
     return shape.keys.get(key)
+
+
+def with_default(entry: dict[str, Any], kind: str) -> dict[str, Any]:
+    """Returns an entry of a kind with its `send_resolved`, which is the kind's default if the program doesn't know it."""
+    if kind in SENDS_RESOLVED and kind not in KNOWN_TO_THE_PROGRAM:
+        entry.setdefault("send_resolved", SENDS_RESOLVED[kind])
+    return entry

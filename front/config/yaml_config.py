@@ -7,7 +7,7 @@ from dataclasses import dataclass, field
 from typing import Any
 
 from .schema import (
-    CONFIGURATION, KNOWN_TO_THE_PROGRAM, ROUTE, SENDS_RESOLVED, Boolean, Integration, ListOf, Object, Route, Shape, Texts, TEXT, shape_in,
+    CONFIGURATION, ROUTE, SENDS_RESOLVED, TEXT, Boolean, Integration, ListOf, Object, Route, Shape, Texts, shape_in, with_default,
 )  # fmt: skip
 from .tree import BadYaml, Mapping, Node, Scalar, Sequence, tree_of
 
@@ -147,9 +147,7 @@ class _Reader:
         found = self._members(
             node, Object({"send_resolved": Boolean()}, silent=tuple(key.text for key, _ in node.pairs)), path
         )
-        if shape.kind in SENDS_RESOLVED and shape.kind not in KNOWN_TO_THE_PROGRAM:
-            found.setdefault("send_resolved", SENDS_RESOLVED[shape.kind])
-        return found
+        return with_default(found, shape.kind)
 
     def _text(self, node: Node, path: str) -> Any:
         """Returns the text of a member of an object of texts. Alertmanager takes no value for the empty text there."""

@@ -44,7 +44,9 @@ def matrix(*results: dict[str, Any]) -> dict[str, Any]:
     return {"status": "success", "data": {"resultType": "matrix", "result": list(results)}}
 
 
-def prometheus(*series: dict[str, Any], rules: list[dict[str, Any]], config: str = "", interval: int = 30) -> dict[str, Any]:
+def prometheus(
+    *series: dict[str, Any], rules: list[dict[str, Any]], config: str = "", interval: int = 30
+) -> dict[str, Any]:
     """Returns the answers of a Prometheus by their names."""
     group = {"name": "group", "file": "rules.yml", "interval": interval, "rules": rules}
     return {
@@ -55,7 +57,9 @@ def prometheus(*series: dict[str, Any], rules: list[dict[str, Any]], config: str
     }
 
 
-def alertmanager(config: str = CONFIG, silences: list[Any] | None = None, alerts: list[Any] | None = None) -> dict[str, Any]:
+def alertmanager(
+    config: str = CONFIG, silences: list[Any] | None = None, alerts: list[Any] | None = None
+) -> dict[str, Any]:
     """Returns the answers of an Alertmanager by their names."""
     status = {"config": {"original": config}, "versionInfo": {"version": "0.25.0"}}
     return {"status": status, "silences": silences or [], "alerts": alerts or []}

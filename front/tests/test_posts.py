@@ -16,7 +16,9 @@ def at(*seconds: int) -> list[int]:
     return [second * SECOND for second in seconds]
 
 
-def posts(firing: list[int], pending: list[int] = [], timing: Timing = TIMING, life: Life | None = None) -> list[tuple[float, ...]]:
+def posts(
+    firing: list[int], pending: list[int] = [], timing: Timing = TIMING, life: Life | None = None
+) -> list[tuple[float, ...]]:
     """Returns the posts in seconds: moment, start and end."""
     life = life or Life(FAR)
     firsts = first_samples_after(life.outages, sorted([*firing, *pending]))
@@ -57,10 +59,25 @@ class Posts(unittest.TestCase):
         found = posts(at(1000, 1015, 1030, 1045, 1135, 1150, 1165), life=life)
         self.assertEqual(found, [(1000, 1000, 1240), (1105, 1105, 1345)])
 
+    def test_what_is_posted_before_the_first_scrape_is_lost(self) -> None:
+        life = Life(1170 * SECOND, [Outage(1050 * SECOND, 1110 * SECOND)])
+        found = posts(at(1000, 1015, 1030, 1045, *range(1135, 1170, 15), 1180), life=life)
+        self.assertEqual(found, [(1000, 1000, 1240), (1180, 1105, 1420)])
+
+    def test_posts_of_the_first_five_seconds_of_a_process_are_lost(self) -> None:
+        quick = Timing(interval=2 * SECOND, resend_delay=5 * SECOND, hold=0)
+        life = Life(1036 * SECOND, [Outage(1011 * SECOND, 1013 * SECOND)], starts=at(1013))
+        found = posts(at(*range(1000, 1011, 2), *range(1018, 1037, 2)), timing=quick, life=life)
+        self.assertEqual(
+            [each[:2] for each in found], [(1000, 1000), (1006, 1000), (1020, 1014), (1026, 1014), (1032, 1014)]
+        )
+
     def test_after_a_restart_an_alert_with_for_starts_at_its_sample(self) -> None:
         life = Life(1170 * SECOND, [Outage(1050 * SECOND, 1085 * SECOND)])
         timing = Timing(15 * SECOND, 60 * SECOND, hold=30 * SECOND)
-        self.assertEqual([each[1] for each in posts(at(1030, 1045, 1135, 1150, 1165), timing=timing, life=life)], [1030, 1135])
+        self.assertEqual(
+            [each[1] for each in posts(at(1030, 1045, 1135, 1150, 1165), timing=timing, life=life)], [1030, 1135]
+        )
 
     def test_after_a_restart_the_end_isn_t_repeated(self) -> None:
         life = Life(FAR, [Outage(1100 * SECOND, 1185 * SECOND)])
@@ -68,8 +85,10 @@ class Posts(unittest.TestCase):
 
     def test_outages_are_found_by_scrapes_and_starts(self) -> None:
         scrapes = at(*range(0, 101, 10), *range(160, 301, 10))
+        life = life_of(scrapes, [], at(105), FAR)
+        self.assertEqual([(each.after, each.before) for each in life.outages], [(100 * SECOND, 160 * SECOND)])
         life = life_of(scrapes, at(150), at(105), FAR)
-        self.assertEqual([(each.after, each.before) for each in life.outages], [(100 * SECOND, 150 * SECOND)])
+        self.assertEqual([(each.after, each.before) for each in life.outages], [(105 * SECOND, 150 * SECOND)])
         self.assertEqual(life.end, 300 * SECOND)
         quick = life_of(at(*range(0, 301, 10)), at(152), [], FAR)
         self.assertEqual([(each.after, each.before) for each in quick.outages], [(150 * SECOND, 152 * SECOND)])

@@ -24,14 +24,26 @@ class Relabel(unittest.TestCase):
         return {name: found.get(name) for name in sorted(names) if found.get(name) != BEFORE.get(name)}
 
     def test_replace(self) -> None:
-        self.assertEqual(self.changed("{source_labels: [host], regex: '(.+)[.](.+)', target_label: zone, replacement: '$2-${1}'}"), {"zone": "eu-h1"})
-        self.assertEqual(self.changed("{source_labels: [host, job], separator: /, target_label: both}"), {"both": "h1.eu/node"})
+        self.assertEqual(
+            self.changed("{source_labels: [host], regex: '(.+)[.](.+)', target_label: zone, replacement: '$2-${1}'}"),
+            {"zone": "eu-h1"},
+        )
+        self.assertEqual(
+            self.changed("{source_labels: [host, job], separator: /, target_label: both}"), {"both": "h1.eu/node"}
+        )
         self.assertEqual(self.changed("{source_labels: [host], regex: h1, target_label: zone, replacement: x}"), {})
         self.assertEqual(self.changed("{target_label: team, replacement: 007}"), {"team": "007"})
         self.assertEqual(self.changed("{source_labels: [none], target_label: job}"), {"job": None})
-        self.assertEqual(self.changed("{source_labels: [host], regex: (.*), target_label: x, replacement: '$1x$$${9}'}"), {"x": "$"})
-        self.assertEqual(self.changed("{source_labels: [host], regex: '[[:alpha:]]1.*', target_label: x, replacement: y}"), {"x": "y"})
-        self.assertEqual(self.changed("{source_labels: [host], regex: '(?i)H1.*', target_label: x, replacement: y}"), {"x": "y"})
+        self.assertEqual(
+            self.changed("{source_labels: [host], regex: (.*), target_label: x, replacement: '$1x$$${9}'}"), {"x": "$"}
+        )
+        self.assertEqual(
+            self.changed("{source_labels: [host], regex: '[[:alpha:]]1.*', target_label: x, replacement: y}"),
+            {"x": "y"},
+        )
+        self.assertEqual(
+            self.changed("{source_labels: [host], regex: '(?i)H1.*', target_label: x, replacement: y}"), {"x": "y"}
+        )
 
     def test_dropping_labels(self) -> None:
         self.assertEqual(self.changed("{regex: replica|jo, action: labeldrop}"), {"replica": None})
@@ -39,7 +51,9 @@ class Relabel(unittest.TestCase):
 
     def test_other_actions(self) -> None:
         self.assertEqual(self.changed("{regex: 'h(.*)', replacement: 'g_$1', action: labelmap}"), {"g_ost": "h1.eu"})
-        self.assertEqual(self.changed("{source_labels: [host], target_label: host, action: Uppercase}"), {"host": "H1.EU"})
+        self.assertEqual(
+            self.changed("{source_labels: [host], target_label: host, action: Uppercase}"), {"host": "H1.EU"}
+        )
         hashed = after("    - {source_labels: [c], target_label: d, modulus: 1000, action: hashmod}\n", {"c": "baz"})
         self.assertEqual(hashed, {"c": "baz", "d": "976"})
 
@@ -50,12 +64,20 @@ class Relabel(unittest.TestCase):
         self.assertIsNotNone(after("    - {source_labels: [job], target_label: job, action: keepequal}\n"))
 
     def test_faults_are_clear(self) -> None:
-        for step in ("{regex: '('}", "{action: bogus}", "{action: hashmod}", "{action: hashmod, modulus: x}", "{regex: '[[:odd:]]'}"):
+        for step in (
+            "{regex: '('}",
+            "{action: bogus}",
+            "{action: hashmod}",
+            "{action: hashmod, modulus: x}",
+            "{regex: '[[:odd:]]'}",
+        ):
             with self.subTest(step), self.assertRaisesRegex(Fault, r"alert_relabel_configs\[0\]"):
                 after(f"    - {step}\n")
 
     def test_texts_of_the_configuration_stay_texts(self) -> None:
-        config = prometheus_config("global: {external_labels: {replica: 01, on: yes, day: 2024-01-01}, scrape_interval: 5s}", "test")
+        config = prometheus_config(
+            "global: {external_labels: {replica: 01, on: yes, day: 2024-01-01}, scrape_interval: 5s}", "test"
+        )
         self.assertEqual(config.external_labels, {"replica": "01", "on": "yes", "day": "2024-01-01"})
         self.assertEqual(config.scrape_interval, 5 * 10**9)
 

@@ -12,14 +12,16 @@ from pathlib import Path
 from front.moments import SECOND, clock_text, nanoseconds
 from front.program import Program, Source, session
 from front.script import script_of
-from front.story import Story, story_of
+from front.story import AlertStory, Story, story_of
 from front.story.record import verdict_of
 from front.story.ticks import ticked
 from front.story.walk import walk
 
-from .support import INCIDENT, TOP, WithRoom, incidents
+from .random_incident import Dice
+from .support import TOP, WithRoom, incidents
 
 ASKED_AT_MOST = 12_000
+SEEDS = 12
 
 
 class EveryMoment(WithRoom):
@@ -34,6 +36,12 @@ class EveryMoment(WithRoom):
                 words = ["session", f"seed={seed}", f"alerts={alerts}", f"events={events}"]
                 subprocess.run([sys.executable, TOP / "bench/generate", self.room, *words], check=True)
                 self.compare(Program.found().source(str(self.room / "config.json"), str(self.room / "script.jsonl")))
+
+    def test_random_incidents(self) -> None:
+        for seed in range(SEEDS):
+            with self.subTest(seed):
+                dice = Dice(seed)
+                self.compare(self.source(dice.config(), dice.events(60)))
 
     def compare(self, source: Source) -> None:
         """Compares the story with answers at its own edges, just before them, and at other moments."""
@@ -52,18 +60,27 @@ class EveryMoment(WithRoom):
                     commands = [f"explain {json.dumps(dict(alert.labels))}" for alert in story.alerts]
                     answers = opened.ask_all([f"seek {cursor}", *commands])[1:]
                     for alert, answer in zip(story.alerts, answers):
-                        self.assertEqual(self.said(story, alert, at), self.answered(answer.lines), (clock_text(at, True), alert.labels))
+                        self.assertEqual(
+                            self.said(alert, at),
+                            self.answered(answer.lines),
+                            (clock_text(at, True), alert.labels),
+                        )
 
     def moments(self, story: Story) -> set[int]:
-        edges = {edge for row in story.rows for span in row.spans for edge in (span.start, span.start - 1, span.end, span.end - 1)}
+        edges = {
+            edge
+            for row in story.rows
+            for span in row.spans
+            for edge in (span.start, span.start - 1, span.end, span.end - 1)
+        }
         at_most = max(1, ASKED_AT_MOST // max(1, len(story.alerts)))
         dice = random.Random(1)
         others = {dice.randrange(story.start, story.end + 1) // SECOND * SECOND for _ in range(min(200, at_most))}
         return set(dice.sample(sorted(edges), min(len(edges), at_most))) | others
 
-    def said(self, story: Story, alert: object, at: int) -> set[object]:
-        found = set()
-        for row in alert.rows:  # type: ignore[attr-defined]
+    def said(self, alert: AlertStory, at: int) -> set[object]:
+        found: set[object] = set()
+        for row in alert.rows:
             for span in row.spans:
                 if span.start <= at < span.end:
                     line = span.line

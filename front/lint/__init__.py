@@ -1,0 +1,1 @@
+"""What is wrong or odd in a configuration or a script, where, and what to write."""
