@@ -18,9 +18,10 @@ SHOWN = """(async () => {
     printed: lines(".event"), trial: lines("#trial") };
 })()"""
 WHY = """(async () => {
-  document.querySelector("#why details.lines").open = true;
+  const explained = document.querySelector("#why details.lines");
+  explained.open = true;
   await new Promise((done) => setTimeout(done, 0));
-  return [...document.querySelectorAll("#why pre div")].map((line) => line.textContent);
+  return [...explained.querySelectorAll("pre div")].map((line) => line.textContent);
 })()"""
 CHOOSE = """(alert) => new Promise((done) => {
   const hash = location.hash.replace(/&alert=[^&]*/, "") + "&alert=" + encodeURIComponent(alert);
@@ -121,7 +122,7 @@ class InBrowser(Browsing):
         self.assertEqual(self.place(), "event 3 of 4")
         x, y = self.middle(".lane.row .span")
         self.browser.click(x, y)
-        self.assertIn("HighLatency", self.text(".chosen-alert"))
+        self.assertIn("ClusterDown", self.text(".chosen-alert"))
 
     def test_wheel_zooms_and_dragging_moves(self) -> None:
         self.example("a-page-that-never-came")
