@@ -15,21 +15,25 @@ from .program import Fault, Program
 Labels = tuple[tuple[str, str], ...]
 FARTHEST = MINUTE
 OTHER_ALERTS = 5 * SECOND
+LONG_PART = 500
 
 
 @dataclass(frozen=True)
 class Notification:
-    """What a receiver got, or would have got by the replay."""
+    """What a receiver got, or would have got by the replay. One that was truncated has only some of its alerts."""
 
     at: int
     receiver: str
     group: Labels
     firing: frozenset[Labels]
     resolved: frozenset[Labels]
+    is_truncated: bool = False
 
-    def has_alerts_of(self, other: Notification) -> bool:
-        """Returns whether both have the same alerts."""
-        return (self.firing, self.resolved) == (other.firing, other.resolved)
+    def has_alerts_of(self, replayed: Notification) -> bool:
+        """Returns whether both have the same alerts, as far as this one has them."""
+        if self.is_truncated:
+            return self.firing <= replayed.firing and self.resolved <= replayed.resolved
+        return (self.firing, self.resolved) == (replayed.firing, replayed.resolved)
 
 
 @dataclass(frozen=True)
@@ -121,12 +125,10 @@ def _received(log: inputs.Given) -> list[Notification]:
 def _logged(line: dict[str, Any]) -> Notification:
     body = line["body"]
     alerts = [(alert["status"] == "resolved", _labels(alert["labels"])) for alert in body["alerts"]]
-    firing, resolved = (
-        frozenset(each for is_resolved, each in alerts if is_resolved is wanted) for wanted in (False, True)
-    )
-    return Notification(
-        nanoseconds(line["receivedAt"]), str(body["receiver"]), _labels(body["groupLabels"]), firing, resolved
-    )
+    firing, resolved = (frozenset(each for ends, each in alerts if ends is wanted) for wanted in (False, True))
+    group = _labels(body["groupLabels"])
+    at, is_truncated = nanoseconds(line["receivedAt"]), bool(body.get("truncatedAlerts"))
+    return Notification(at, str(body["receiver"]), group, firing, resolved, is_truncated)
 
 
 def _replayed(line: dict[str, Any]) -> Iterator[Notification]:
@@ -154,18 +156,24 @@ def _pairs(received: list[Notification], replayed: list[Notification]) -> list[P
 def _parts(
     received: list[Notification], replayed: list[Notification]
 ) -> Iterator[tuple[list[Notification], list[Notification]]]:
-    """Splits both where nothing is within reach of what is later, so that each part is small."""
+    """Splits both where nothing is within reach of what is later, or at a pause if a part is long, so that each is small."""
     part: tuple[list[Notification], list[Notification]] = ([], [])
     last: int | None = None
     merged = [(each.at, side, each) for side, notes in enumerate((received, replayed)) for each in notes]
     for at, side, each in sorted(merged, key=lambda item: item[:2]):
-        if last is not None and at - last > FARTHEST:
+        if last is not None and at - last > _pause_to_split(max(map(len, part))):
             yield part
             part = ([], [])
         part[side].append(each)
         last = at
     if last is not None:
         yield part
+
+
+def _pause_to_split(length: int) -> int:
+    if length < LONG_PART:
+        return FARTHEST
+    return SECOND if length < 2 * LONG_PART else -1
 
 
 def _aligned(received: list[Notification], replayed: list[Notification]) -> list[Pair]:
@@ -198,6 +206,7 @@ def _cost(received: Notification, replayed: Notification) -> int:
 
 
 def _print_text(pairs: list[Pair], unlogged: list[str], outside: int) -> None:
+    print(f"{'received (UTC)':23}  {'later by':>12}  receiver, group and alerts")
     for pair in pairs:
         print(
             f"{clock_text(_milliseconds(pair.either.at), True):23}  {_difference_text(pair):>12}  {_name(pair)}  {_alerts_text(pair)}"

@@ -80,7 +80,7 @@ def _head(story: Story, kept: Story, entries: list[Entry], names: Names, telling
     if story.marks[MARKS_AT_MOST:]:
         yield f".. and {len(story.marks) - MARKS_AT_MOST} more labels, reloads and refused events"
     if story.unasked:
-        yield f"not asked, since it was too much: {story.unasked}"
+        yield f"not asked: {story.unasked}"
 
 
 def _time(story: Story) -> str:

@@ -6,13 +6,12 @@ import re
 from dataclasses import dataclass, field
 from typing import Iterator
 
-from ..moments import SECOND
 from .faults import time_limit
 from .posts import Life, Post, Timing, first_samples_after, life_of, posts_of
 from .prometheus import Group, Prometheus, Rule, Series
 from .relabel import Labels, relabelled
 
-RELABELLING_SECONDS = 60
+SECONDS_AT_MOST = 300
 LABEL_REFERENCE = re.compile(r"\{\{\s*\$labels\.([a-zA-Z_][a-zA-Z0-9_]*)\s*\}\}")
 
 
@@ -41,35 +40,28 @@ class Derived:
 
 def derive(prometheus: Prometheus, start: int, end: int) -> Derived:
     """Returns the posts of a Prometheus between two moments."""
+    with time_limit(SECONDS_AT_MOST, f"{prometheus.name}: its alerts take more than {SECONDS_AT_MOST} seconds to read"):
+        return _derived(prometheus, start, end)
+
+
+def _derived(prometheus: Prometheus, start: int, end: int) -> Derived:
     derived = Derived(life=_life(prometheus, end))
     named: dict[str, list[Rule]] = {}
     for rule in prometheus.rules:
         named.setdefault(rule.name, []).append(rule)
     ruled = [(series, _rule_of(series, named, prometheus, derived)) for series in prometheus.series]
     firsts = _first_samples(ruled, derived.life)
-    with time_limit(
-        RELABELLING_SECONDS, f"{prometheus.name}: relabelling takes more than {RELABELLING_SECONDS} seconds"
-    ):
-        for series, rule in ruled:
-            if series.firing:
-                derived.posted += _posted(series, rule, prometheus, derived, firsts[rule.group])
-                if series.firing[0] - start < rule.group.interval:
-                    derived.open_at_start.append(series.labels)
+    for series, rule in ruled:
+        if series.firing:
+            derived.posted += _posted(series, rule, prometheus, derived, firsts[rule.group])
+            if series.firing[0] - start < rule.group.interval:
+                derived.open_at_start.append(series.labels)
     return derived
 
 
 def _life(prometheus: Prometheus, end: int) -> Life:
     signs = sorted({at for series in prometheus.series for at in (*series.firing, *series.pending)})
-    return life_of(prometheus.pulses, own_starts(prometheus), signs, end)
-
-
-def own_starts(prometheus: Prometheus) -> list[int]:
-    """Returns when this Prometheus was started, if it scrapes itself: its instance is the one that started when it says."""
-    if prometheus.started is None:
-        return []
-    starts = [change for change in prometheus.changes if change.kind == "start" and change.process == "prometheus"]
-    own = {each.instance for each in starts if 0 <= prometheus.started - each.at < 10 * SECOND}
-    return [each.at for each in starts if each.instance in own] if len(own) == 1 else []
+    return life_of(prometheus.pulses, prometheus.own_starts, signs, end)
 
 
 def _rule_of(series: Series, named: dict[str, list[Rule]], prometheus: Prometheus, derived: Derived) -> Rule:

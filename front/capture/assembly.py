@@ -65,7 +65,7 @@ def assemble(
     )
     changes = _changes(found, alertmanager, history, end)
     assembly = Assembly(span, config, zones, alertmanager, found, derived, changes, others, len(silences), [])
-    assembly.delays = _delays(assembly.posted, stored)
+    assembly.delays = _delays(assembly.posted, [alert for alert in stored if alert.updated_at <= end])
     lines = [silence_line(each, history) for each in silences]
     lines += [line for one in derived for line in alert_lines(one.posted, end)]
     lines += [line for alert in others for line in other_lines(alert, history, end)]
@@ -82,7 +82,7 @@ def _changes(found: list[Prometheus], alertmanager: Alertmanager | None, start: 
     """Returns the starts and reloads within a span. A start reads the configuration too, which is no change of its own."""
     changes = {change for each in found for change in each.changes}
     if alertmanager and alertmanager.started is not None and not _is_known(alertmanager.started, changes):
-        changes.add(Change(alertmanager.started, "start", "alertmanager", alertmanager.name))
+        changes.add(Change(alertmanager.started, "start", "alertmanager", ""))
     starts = [change for change in changes if change.kind == "start"]
     kept = [
         change for change in changes if change.kind == "start" or not any(_is_part_of(change, each) for each in starts)

@@ -3,11 +3,13 @@
 from __future__ import annotations
 
 import argparse
+import signal
 import sys
 import time
 from contextlib import nullcontext
 from dataclasses import dataclass
 from pathlib import Path
+from types import FrameType
 
 from ..config.cut import cut
 from ..config.yaml_config import BadConfiguration, Reading, read_config
@@ -15,7 +17,7 @@ from ..config.zones import BadZone, in_utc
 from ..moments import HOUR, length_of, nanoseconds
 from .alertmanager import Alertmanager, alertmanager_of
 from .assembly import Assembly, Span, assemble
-from .faults import fault
+from .faults import fault, time_limit
 from .folders import appearing, free_folder
 from .progress import Progress
 from .prometheus import prometheus_of
@@ -24,6 +26,7 @@ from .servers import Headers, HttpServer, SavedServer, Server, TooLarge, url_of
 
 CONFIG_NAME, SCRIPT_NAME, REPORT_NAME = "config.json", "script.jsonl", "captured.md"
 CONFIG_BYTES_AT_MOST = 1024 * 1024
+SECONDS_AT_MOST = 120
 LAST_MOMENT = nanoseconds("8999-12-31T23:59:59Z")
 
 
@@ -41,10 +44,21 @@ def main(arguments: list[str]) -> int:
     span = _span(options)
     output = appearing(free_folder(options.output))
     kept = appearing(free_folder(options.keep_responses)) if options.keep_responses else nullcontext(None)
+    _end_in_order()
     with output as files, kept as responses:
         text = _make(files, _servers(options, responses), span, options.config)
     print(text, file=sys.stderr, end="")
     return 0
+
+
+def _end_in_order() -> None:
+    """Lets the signals that ask for an end leave nothing behind."""
+
+    def end(number: int, _frame: FrameType | None) -> None:
+        sys.exit(128 + number)
+
+    for number in (signal.SIGTERM, signal.SIGHUP):
+        signal.signal(number, end)
 
 
 def _make(folder: Path, servers: Servers, span: Span, config: str | None) -> str:
@@ -73,11 +87,11 @@ def _captured(servers: Servers, span: Span, config: str | None, progress: Progre
 
 def _configuration(file: str | None, alertmanager: Alertmanager | None, span: Span) -> tuple[Reading, list[str]]:
     """Returns the configuration as the program reads it, and the names of intervals that were written in UTC."""
-    name = file or f"{alertmanager.name if alertmanager else ''}/api/v2/status: config.original"
-    data = _file(file) if file else alertmanager.config if alertmanager else b""
+    name, data = _configuration_bytes(file, alertmanager)
     try:
-        reading = read_config(data)
-        value, zones = in_utc(cut(reading.value), span.history, span.end)
+        with time_limit(SECONDS_AT_MOST, f"{name}: more than {SECONDS_AT_MOST} seconds to read"):
+            reading = read_config(data)
+            value, zones = in_utc(cut(reading.value), span.history, span.end)
     except (BadConfiguration, BadZone) as error:
         raise fault(f"{name}: {error}") from None
     reading = Reading(value, reading.lines, reading.unread)
@@ -86,6 +100,14 @@ def _configuration(file: str | None, alertmanager: Alertmanager | None, span: Sp
             f"{name}: more than {CONFIG_BYTES_AT_MOST} bytes as JSON, with {len(zones)} intervals written in UTC"
         )
     return reading, zones
+
+
+def _configuration_bytes(file: str | None, alertmanager: Alertmanager | None) -> tuple[str, bytes]:
+    if file:
+        return file, _file(file)
+    if alertmanager is None:
+        raise fault("there is no Alertmanager among the responses; give the configuration with --config FILE", 2)
+    return f"{alertmanager.name}/api/v2/status: config.original", alertmanager.config
 
 
 def _file(path: str) -> bytes:
@@ -119,10 +141,12 @@ def _options(arguments: list[str]) -> argparse.Namespace:
         options.prometheus or options.alertmanager or options.header_file or options.keep_responses
     ):
         parser.error("--responses takes the place of servers, --header-file and --keep-responses")
-    if not options.responses and not options.prometheus and not options.alertmanager:
-        parser.error("give --prometheus URL and --alertmanager URL, or --responses DIR")
     if not options.responses and not options.alertmanager and not options.config:
-        parser.error("without --alertmanager URL give the configuration with --config FILE")
+        parser.error(
+            "give --prometheus URL and --alertmanager URL, or --responses DIR, or the configuration with --config FILE"
+        )
+    if options.keep_responses and Path(options.keep_responses).resolve() == Path(options.output).resolve():
+        parser.error("--keep-responses and --output are one folder")
     return options
 
 

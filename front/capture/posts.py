@@ -58,9 +58,10 @@ class Life:
     def outage_between(self, last: int, next_one: int) -> Outage | None:
         """Returns the outage that kept an evaluation from being made, given the one before it."""
         place = bisect_right(self._befores, last)
-        if place == len(self.outages) or self.outages[place].after >= next_one:
+        if place == len(self.outages):
             return None
-        return None if self._has_sign(next_one, self.outages[place].before) else self.outages[place]
+        outage = self.outages[place]
+        return None if outage.after >= next_one or self._has_sign(next_one, outage.before) else outage
 
     def is_lost(self, at: int) -> bool:
         """Returns whether a post of a moment reached no Alertmanager, since its process had just begun.
@@ -70,8 +71,7 @@ class Life:
         place = bisect_right(self.starts, at)
         if place > 0 and at - self.starts[place - 1] < WITHOUT_ALERTMANAGERS:
             return True
-        place = bisect_right(self._befores, at)
-        return place < len(self.outages) and self.outages[place].after < at
+        return self.outage_between(at - 1, at) is not None
 
     def _has_sign(self, start: int, end: int) -> bool:
         place = bisect_left(self.signs, start)

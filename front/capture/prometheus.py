@@ -16,6 +16,7 @@ MILLISECOND = SECOND // 1000
 SAMPLES_AT_MOST = 5_000_000
 POINTS_AT_MOST = 10_000
 PIECE = HOUR
+STARTING_TAKES = 10 * SECOND
 PIECES_AT_MOST = 4_000
 UP = "max(timestamp(up))"
 STARTS = 'process_start_time_seconds and on (job, instance) {__name__="%s_build_info"}'
@@ -72,7 +73,7 @@ class Prometheus:
     series: list[Series]
     pulses: list[int]
     changes: list[Change]
-    started: int | None
+    own_starts: list[int]
 
 
 def prometheus_of(server: Server, start: int, end: int, progress: Progress) -> Prometheus:
@@ -82,6 +83,7 @@ def prometheus_of(server: Server, start: int, end: int, progress: Progress) -> P
     delay = _resend_delay(server)
     rules = _rules(server)
     step = max(SECOND, min(config.scrape_interval, config.evaluation_interval))
+    changes = _changes(server, start, end, progress)
     return Prometheus(
         server.name,
         config,
@@ -90,8 +92,8 @@ def prometheus_of(server: Server, start: int, end: int, progress: Progress) -> P
         rules,
         _series(server, (start, end), config.query_offset, progress),
         _pulses(server, start, end, step, progress),
-        _changes(server, start, end, progress),
-        _started(server),
+        changes,
+        _own_starts(server, changes),
     )
 
 
@@ -105,11 +107,33 @@ def _resend_delay(server: Server) -> int | None:
     return length_of(text) if isinstance(text, str) else None
 
 
-def _started(server: Server) -> int | None:
-    if isinstance(server, SavedServer) and not server.has("runtime"):
+def _own_starts(server: Server, changes: list[Change]) -> list[int]:
+    """Returns when this Prometheus was started, if it scrapes itself: its instance is the one that started when it says."""
+    runtime = _optional(server, "runtime", "/api/v1/status/runtimeinfo")
+    start_time = runtime.optional("startTime") if runtime else None
+    if start_time is None:
+        return []
+    started = start_time.moment()
+    starts = [change for change in changes if change.kind == "start" and change.process == "prometheus"]
+    known = [(change.instance, change.at) for change in starts] + _starts_now(server)
+    own = {instance for instance, at in known if 0 <= started - at < STARTING_TAKES}
+    return [change.at for change in starts if change.instance in own] if len(own) == 1 else []
+
+
+def _starts_now(server: Server) -> list[tuple[str, int]]:
+    """Returns the instances of Prometheus that this one scrapes now, and when they were started."""
+    answer = _optional(server, "starts-now", "/api/v1/query", {"query": STARTS % "prometheus"})
+    results = answer.member("result").items() if answer else []
+    return [
+        (each.member("metric").texts().get("instance", ""), _whole(_value(each.member("value")))) for each in results
+    ]
+
+
+def _optional(server: Server, name: str, path: str, query: dict[str, str] | None = None) -> Answer | None:
+    """Returns an answer that may be absent from a folder of responses."""
+    if isinstance(server, SavedServer) and not server.has(name):
         return None
-    started = _data(server, "runtime", "/api/v1/status/runtimeinfo").optional("startTime")
-    return started.moment() if started else None
+    return _data(server, name, path, query)
 
 
 def _rules(server: Server) -> list[Rule]:

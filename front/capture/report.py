@@ -99,7 +99,7 @@ def _not_known(assembly: Assembly) -> Iterator[str]:
             f"which of the cluster's {assembly.alertmanager.instances} instances notified, and how long it waited for the others:"
             " the replay has one instance"
         )
-    if not any(change.process == "alertmanager" for change in assembly.changes):
+    if not any(change.process == "alertmanager" for prometheus in assembly.prometheus for change in prometheus.changes):
         yield "reloads and restarts of Alertmanager, unless the Prometheus scrapes it: no series tells of one"
 
 

@@ -14,6 +14,7 @@ from .faults import fault, one_line, time_limit
 
 SECONDS_AT_MOST = 120
 BYTES_AT_MOST = 64 * 1024 * 1024
+TOTAL_BYTES_AT_MOST = 1024 * 1024 * 1024
 CREDENTIAL_AT_LEAST = 6
 SECRET_NAMES = ("auth", "cookie", "token", "key", "secret", "password", "credential", "signature")
 
@@ -64,13 +65,14 @@ class _NoRedirect(urllib.request.HTTPRedirectHandler):
         return None
 
 
-@dataclass(frozen=True)
+@dataclass
 class HttpServer:
-    """A server with an API. It keeps each answer in a folder if it has one."""
+    """A server with an API, and how many bytes it has answered. It keeps each answer in a folder if it has one."""
 
     url: str
     headers: Headers
     kept: Path | None = None
+    received: int = 0
 
     @property
     def name(self) -> str:
@@ -81,6 +83,9 @@ class HttpServer:
         url = self.url.rstrip("/") + path + ("?" + urllib.parse.urlencode(query) if query else "")
         with time_limit(SECONDS_AT_MOST, f"{self.name}{path}: no whole answer within {SECONDS_AT_MOST} seconds"):
             body = self._body(url, path)
+        self.received += len(body)
+        if self.received > TOTAL_BYTES_AT_MOST:
+            raise fault(f"{self.name}: more than {TOTAL_BYTES_AT_MOST} bytes of answers; ask for a shorter span")
         if self.headers.repeated_in(body):
             raise fault(f"{self.name}{path}: the answer repeats a credential of the header file; nothing is written")
         if self.kept is not None:

@@ -4,7 +4,12 @@ from __future__ import annotations
 from dataclasses import dataclass, field
 from typing import Any, Iterator, Union
 
-import yaml  # type: ignore[import]
+from ..program import Fault
+
+try:
+    import yaml  # type: ignore[import]
+except ModuleNotFoundError:
+    raise Fault("amreplay: reading a configuration needs PyYAML; Debian's package is python3-yaml") from None
 
 DEPTH_AT_MOST = 200
 NODES_AT_MOST = 500_000

@@ -126,7 +126,7 @@ class SilenceStory:
 class Story:
     """What a script did under a configuration. `configs` are the configurations in force, in order: that of the start, and those of
     accepted reloads. `receivers` has the number of notifications of each receiver that one of them names. `unasked` says what wasn't
-    asked since it was too much, and is empty otherwise."""
+    asked, and is empty otherwise."""
 
     start: int
     end: int

@@ -7,7 +7,7 @@ from typing import Any
 
 from front.program import Program
 
-from .responses import CONFIG, Server, alertmanager, prometheus, rule, samples, save
+from .responses import CONFIG, Server, alertmanager, matrix, prometheus, rule, samples, save
 from .support import WithRoom, run_word
 
 START, END = "2024-05-01T10:00:00Z", "2024-05-01T10:30:00Z"
@@ -17,6 +17,11 @@ MINUTES = range(0, 600, 30)
 def second(at: str) -> str:
     """Returns the second of a moment. A post is dated some milliseconds after its evaluation."""
     return at[:19] + "Z"
+
+
+def hosts(alerts: list[dict[str, Any]]) -> list[str]:
+    """Returns the hosts of alerts."""
+    return [alert["labels"].get("host", "-") for alert in alerts]
 
 
 class Captures(WithRoom):
@@ -42,16 +47,13 @@ class Captures(WithRoom):
         return [(second(line["at"]), line["alerts"]) for line in self.script() if "alerts" in line]
 
     def notified(self) -> list[tuple[str, str, list[str], list[str]]]:
-        """Returns what the program prints: second, receiver, and the alert names or hosts that fire and that are resolved."""
+        """Returns what the program prints: second, receiver, and the hosts whose alerts fire and that are resolved."""
         out = self.room / "out"
         printed = Program.found().run(Program.found().source(str(out / "config.json"), str(out / "script.jsonl")))
-        names = [
-            [[each["labels"].get("host", "-") for each in line[key]] for key in ("firing", "resolved")]
-            for line in printed
-            if "at" in line
-        ]
         lines = [line for line in printed if "at" in line]
-        return [(second(line["at"]), line["receiver"], *found) for line, found in zip(lines, names)]
+        return [
+            (second(line["at"]), line["receiver"], hosts(line["firing"]), hosts(line["resolved"])) for line in lines
+        ]
 
 
 class Capture(Captures):
@@ -105,6 +107,27 @@ class Capture(Captures):
         resolved = [at for at, _, _, resolved in self.notified() if resolved]
         self.assertEqual(resolved, ["2024-05-01T10:15:10Z"])
 
+    def test_a_restart_is_known_exactly_if_the_prometheus_scrapes_itself(self) -> None:
+        series = samples("Down", START, *range(0, 271, 30), *range(390, 900, 30), host="h1")
+        answers = prometheus(series, rules=[rule("Down")])
+
+        def starts(instance: str, *values: tuple[int, str]) -> dict[str, Any]:
+            return {"metric": {"instance": instance}, "values": [[1714557600 + at, value] for at, value in values]}
+
+        answers["starts-prometheus"] = matrix(
+            starts("self:9090", (0, "1714500000.5"), (300, "1714557892.25")), starts("other:9090", (0, "1714557700"))
+        )
+        answers["runtime"] = {"status": "success", "data": {"startTime": "2024-05-02T00:00:00.9Z"}}
+        now = [
+            {"metric": {"instance": name}, "value": [0, at]}
+            for name, at in (("self:9090", "1714608000.1"), ("other:9090", "1"))
+        ]
+        answers["starts-now"] = {"status": "success", "data": {"result": now}}
+        report = self.capture({"prometheus": answers, "alertmanager": alertmanager()}, "--history", "0")
+        self.assertIn("no evaluations from 2024-05-01 10:04:30 to 2024-05-01 10:04:52.25", report)
+        starts_at = sorted({alert["startsAt"] for _, alerts in self.posts() for alert in alerts})
+        self.assertEqual(starts_at, [START, "2024-05-01T10:05:30Z"])
+
     def test_replicas_are_one_script(self) -> None:
         config = (
             "global: {external_labels: {cluster: eu, replica: %s}}\n"
@@ -143,6 +166,16 @@ class Capture(Captures):
         self.assertEqual([alert["labels"]["host"] for alert in self.posts()[0][1]], ["h1", "h2", "h3"])
         self.assertEqual(self.notified()[0][2], ["h1", "h2", "h3"])
 
+    def test_a_post_that_is_too_long_for_a_line_is_several_lines(self) -> None:
+        series = [samples("Down", START, 0, host=f"h{i:04}", text="é" * 1000) for i in range(1200)]
+        self.capture(
+            {"prometheus": prometheus(*series, rules=[rule("Down")]), "alertmanager": alertmanager()}, "--history", "0"
+        )
+        lines = (self.room / "out/script.jsonl").read_bytes().split(b"\n")
+        self.assertTrue(all(len(line) <= 1_048_576 for line in lines))
+        self.assertEqual(len([at for at, _ in self.posts() if at == START]), 3)
+        self.assertEqual(len(self.notified()[0][2]), 1200)
+
     def test_texts_that_look_like_numbers_are_texts(self) -> None:
         config = """\
 route:
@@ -180,7 +213,7 @@ time_intervals:
         self.assertEqual(max(hour for hour in hours if hour.startswith("31T")), "31T14")
 
     def test_annotations_are_filled_in_where_they_are_plain(self) -> None:
-        annotations = {
+        annotations: dict[str, Any] = {
             "summary": "{{ $labels.host }} is down",
             "value": "{{ $value }} of {{ $labels.host }}",
             "team": "{{ $labels.team }}",
@@ -199,7 +232,7 @@ time_intervals:
         self.assertIn("as written: Down", report)
 
     def test_silences_keep_who_made_them_and_mute(self) -> None:
-        silence = {
+        silence: dict[str, Any] = {
             "id": "7F2C9A10-3d4e-4b6a-9c1d-2e5f8a7b6c01",
             "matchers": [{"isEqual": True, "isRegex": False, "name": "host", "value": "h1"}],
             "startsAt": "2024-05-01T04:00:00.5Z", "endsAt": "2024-05-01T10:05:00.000Z", "updatedAt": "2024-05-01T10:05:00.000Z",
@@ -247,6 +280,16 @@ time_intervals:
         self.capture({"prometheus": answers, "alertmanager": alertmanager()}, "--config", file, "--history", "0")
         self.assertEqual({receiver for _, receiver, *_ in self.notified()}, {"others"})
         self.assertNotIn("secret", (self.room / "out/config.json").read_text())
+
+    def test_a_configuration_alone_is_captured_without_servers(self) -> None:
+        file = self.write("alertmanager.yml", CONFIG)
+        words = ["--config", file, "--from", START, "--to", END, "--output", str(self.room / "out")]
+        self.assertEqual(run_word("capture", *words)[0], 0)
+        self.assertEqual([line.get("tick") for line in self.script() if "label" not in line], [True])
+        self.assertEqual(
+            json.loads((self.room / "out/config.json").read_text())["receivers"],
+            [{"name": "ops", "webhook_configs": [{}]}],
+        )
 
     def test_a_configuration_as_json_is_cut_too(self) -> None:
         receivers = [
