@@ -6,9 +6,9 @@ import json
 from typing import Any, Iterable
 
 from ..moments import nanoseconds
-from .faults import fault
+from .faults import fault, one_line
 
-NOT_GIVEN = "0001-01-01T00:00:00"
+SHOWN_BYTES = 60
 
 
 class Answer:
@@ -26,7 +26,9 @@ class Answer:
         except RecursionError:
             raise fault(f"{place}: too many levels") from None
         except ValueError:
-            raise fault(f"{place}: the answer isn't JSON, or it is cut off") from None
+            start = one_line(body[:SHOWN_BYTES].decode("utf-8", "replace"))
+            begins = f"; it begins with {start}" if start else ""
+            raise fault(f"{place}: the answer isn't JSON, or it is cut off{begins}") from None
 
     @staticmethod
     def of_prometheus(body: bytes, place: str) -> Answer:

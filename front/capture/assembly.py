@@ -82,7 +82,7 @@ def _changes(found: list[Prometheus], alertmanager: Alertmanager | None, start: 
     """Returns the starts and reloads within a span. A start reads the configuration too, which is no change of its own."""
     changes = {change for each in found for change in each.changes}
     if alertmanager and alertmanager.started is not None and not _is_known(alertmanager.started, changes):
-        changes.add(Change(alertmanager.started, "start", "alertmanager", alertmanager.name))
+        changes.add(Change(alertmanager.started, "start", "alertmanager", ""))
     starts = [change for change in changes if change.kind == "start"]
     kept = [
         change for change in changes if change.kind == "start" or not any(_is_part_of(change, each) for each in starts)

@@ -98,20 +98,20 @@ def _alert(labels: dict[str, str], annotations: dict[str, str], starts_at: int, 
 
 def _post_lines(at: int, alerts: list[dict[str, Any]]) -> Iterator[Line]:
     """Yields one line, or more where one would be too long for a script."""
-    held: list[dict[str, Any]] = []
+    held: list[str] = []
     size = 0
-    for alert in alerts:
-        more = len(_json(alert).encode())
+    for text in map(_json, alerts):
+        more = len(text.encode()) + 1
         if held and size + more > LINE_BYTES_AT_MOST:
             yield _post_line(at, held)
             held, size = [], 0
-        held.append(alert)
-        size += more + 1
+        held.append(text)
+        size += more
     yield _post_line(at, held)
 
 
-def _post_line(at: int, alerts: list[dict[str, Any]]) -> Line:
-    return Line(at, 2, _json({"at": moment_text(at), "alerts": alerts}))
+def _post_line(at: int, alerts: list[str]) -> Line:
+    return Line(at, 2, f'{{"at":{_json(moment_text(at))},"alerts":[{",".join(alerts)}]}}')
 
 
 def _json(value: Any) -> str:

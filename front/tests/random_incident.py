@@ -71,7 +71,7 @@ class Dice:
         return {"start_time": f"10:{start:02}", "end_time": f"1{1 if start + 5 > 59 else 0}:{(start + 5) % 60:02}"}
 
     def matcher(self) -> str:
-        return self.one_of(
+        texts = (
             'alertname="Down"',
             'alertname=~"Down|Full"',
             'cluster="eu"',
@@ -79,6 +79,7 @@ class Dice:
             'severity=~"crit.*"',
             'cluster!~"e."',
         )
+        return self._dice.choice(texts)
 
     def events(self, count: int) -> list[dict[str, Any]]:
         """Returns the lines of a script, in order of their moments but for a few."""

@@ -166,6 +166,16 @@ class Capture(Captures):
         self.assertEqual([alert["labels"]["host"] for alert in self.posts()[0][1]], ["h1", "h2", "h3"])
         self.assertEqual(self.notified()[0][2], ["h1", "h2", "h3"])
 
+    def test_a_post_that_is_too_long_for_a_line_is_several_lines(self) -> None:
+        series = [samples("Down", START, 0, host=f"h{i:04}", text="é" * 1000) for i in range(1200)]
+        self.capture(
+            {"prometheus": prometheus(*series, rules=[rule("Down")]), "alertmanager": alertmanager()}, "--history", "0"
+        )
+        lines = (self.room / "out/script.jsonl").read_bytes().split(b"\n")
+        self.assertTrue(all(len(line) <= 1_048_576 for line in lines))
+        self.assertEqual(len([at for at, _ in self.posts() if at == START]), 3)
+        self.assertEqual(len(self.notified()[0][2]), 1200)
+
     def test_texts_that_look_like_numbers_are_texts(self) -> None:
         config = """\
 route:

@@ -46,6 +46,8 @@ class EveryMoment(WithRoom):
     def compare(self, source: Source) -> None:
         """Compares the story with answers at its own edges, just before them, and at other moments."""
         story = story_of(source, json.loads(Path(source.config).read_bytes()))
+        if story.unasked:
+            return
         script = script_of(Path(source.script).read_bytes())
         steps = walk(source, script)
         # A tick after the events of a moment makes what they made due at it.
