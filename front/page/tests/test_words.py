@@ -8,6 +8,7 @@ import shutil
 import subprocess
 import sys
 import unittest
+from typing import Any
 
 from front.page.compare import compare
 from front.page.document import embedded, page
@@ -116,7 +117,8 @@ class Faults(WithRoom):
 
     def test_files_that_are_not_there(self) -> None:
         there, gone = NEVER / "config.json", self.room / "none"
-        for words in ((gone, there), (there, gone), (there, NEVER / "script.jsonl", "--against", gone)):
+        several: list[list[Any]] = [[gone, there], [there, gone], [there, NEVER / "script.jsonl", "--against", gone]]
+        for words in several:
             self.assertEqual(page_of(*words), (1, "", f"amreplay: cannot read {gone}: No such file or directory\n"))
 
     def test_words(self) -> None:
@@ -187,7 +189,6 @@ class Written(WithRoom):
         value = ["</script>", "<!--", "&amp;", "\u2028\u2029", "\\", '"', "\u0000"]
         self.assertEqual(json.loads(embedded(value)), value)
         self.assertNotIn("<", embedded(value))
-
 
     @unittest.skipUnless(shutil.which("node"), "there is no node on the PATH")
     def test_the_script_is_javascript(self) -> None:
