@@ -255,7 +255,7 @@ class Words(Browsing):
         files = self.files(config(), FAR)
         folder = self.room / "other"
         folder.mkdir()
-        (folder / "fixed.json").write_text(json.dumps(config(group_wait="1s")))
+        (folder / "fixed.json").write_text(json.dumps(config({"matchers": ['alertname="B"']})))
         self.open(*files, "--against", folder / "fixed.json")
         self.assertIn("under config.json", self.text(".sub"))
         self.assertNotIn(str(self.room), self.text(".sub"))
