@@ -70,7 +70,7 @@ class Inputs:
         """Reads a configuration, and writes it for the program as JSON: its time intervals in UTC for the days of the script. Unknown keys are warned
         of on standard error, and a fault says where and why the program refuses it."""
         config = self.config_as_it_is(path)
-        config = self.in_utc(config, times_of(script.data) if script is not None else None)
+        config = self.in_utc(config, script)
         _check(config)
         return config
 
@@ -83,8 +83,11 @@ class Inputs:
             raise Fault(f"amreplay: {given.name}: {_why_unread(given.data, error)}") from error
         return Config(given.name, reading, self.write(reading.as_json()))
 
-    def in_utc(self, config: Config, times: Optional[tuple[int, int]]) -> Config:
-        """Returns a configuration with its time intervals in UTC. Without times they are those of one day."""
+    def in_utc(self, config: Config, script: Optional[Given]) -> Config:
+        """Returns a configuration with its time intervals in UTC, for the days of a script, or for one day without it."""
+        if b"location" not in config.reading.original:
+            return config
+        times = times_of(script.data) if script is not None else None
         try:
             value, names = in_utc(config.reading.value, *(times or A_DAY))
         except BadZone:

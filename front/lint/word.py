@@ -10,7 +10,7 @@ from typing import Iterator
 
 from ..arguments import parser_of
 from ..config.yaml_config import Reading
-from ..inputs import Config, Given, opened, times_of
+from ..inputs import Config, Given, opened
 from ..program import Counts, Fault, Program, converse
 from ..refusals import refused_event
 from ..script import event_of, script_of
@@ -29,7 +29,7 @@ def main(arguments: list[str]) -> int:
         script = inputs.script(options.script) if options.script is not None else None
         config = inputs.config_as_it_is(options.config)
         zones = [*_zones(config)]
-        config = inputs.in_utc(config, times_of(script.data) if script is not None else None)
+        config = inputs.in_utc(config, script)
         counts, found = lint_config(config)
         listed = [(config.name, each) for each in [*(zones if config.in_zones else []), *found]]
         if script is not None:

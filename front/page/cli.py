@@ -42,7 +42,13 @@ def read_words(words: list[str]) -> Options:
     add("--try", dest="tried", metavar="EVENT", help="a line of a script that never happened: what would it have done?")
     add("--from", dest="start", metavar="PLACE", help="the first event of the page: its number, or a moment")
     add("--to", dest="end", metavar="PLACE", help="the last event of the page: its number, or a moment")
-    add("--explain", metavar="LABELS", action="append", default=[], help="choose the alerts with these labels first, and explain them at every event")
+    add(
+        "--explain",
+        metavar="LABELS",
+        action="append",
+        default=[],
+        help="choose the alerts with these labels first, and explain them at every event",
+    )
     return parser.parse_args(words, Options())
 
 

@@ -48,4 +48,6 @@ def _unmatched(first: list[Note], second: list[Note]) -> tuple[list[int], list[i
 def _content(note: Note) -> str:
     """Returns whom a notification is for, and which alerts of which group it tells of."""
     alerts = [[alert["labels"] for alert in note[key]] for key in ("firing", "resolved")]
-    return json.dumps([note["receiver"], note["integration"], note["place"], note["groupLabels"], alerts], sort_keys=True)
+    return json.dumps(
+        [note["receiver"], note["integration"], note["place"], note["groupLabels"], alerts], sort_keys=True
+    )

@@ -45,7 +45,9 @@ class Configs:
         shown = {
             "routes": [_route(route) for route in routes_of(config)],
             "rules": [_rule(rule) for rule in rules_of(config)],
-            "intervals": [{"name": name, "text": text_of(members)} for name, members in Intervals(config).members.items()],
+            "intervals": [
+                {"name": name, "text": text_of(members)} for name, members in Intervals(config).members.items()
+            ],
             "receivers": [{"name": each["name"], "kinds": _kinds(each)} for each in config.get("receivers") or []],
         }
         self._size += len(json.dumps(shown))
@@ -62,7 +64,7 @@ def _route(route: Route) -> dict[str, Any]:
         "matchers": route.matchers,
         "continues": bool(value.get("continue")),
         "groupBy": value.get("group_by"),
-        "waits": [value.get(key) for key in SETTINGS],
+        "waits": [None if value.get(key) is None else str(value[key]) for key in SETTINGS],
         "mute": value.get("mute_time_intervals") or [],
         "active": value.get("active_time_intervals") or [],
     }
@@ -74,4 +76,6 @@ def _rule(rule: Rule) -> dict[str, Any]:
 
 def _kinds(receiver: Config) -> list[str]:
     """Returns the kinds of a receiver's integrations, as often as it has them."""
-    return [key[: -len("_configs")] for key, listed in receiver.items() if key.endswith("_configs") for _ in listed or []]
+    return [
+        key[: -len("_configs")] for key, listed in receiver.items() if key.endswith("_configs") for _ in listed or []
+    ]

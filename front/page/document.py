@@ -9,7 +9,23 @@ from pathlib import Path
 from typing import Any
 
 ASSETS = Path(__file__).parent / "assets"
-SCRIPTS = ("model.js", "words.js", "lines.js", "dom.js", "shapes.js", "lanes.js", "drawing.js", "timeline.js", "panel.js", "config.js", "summary.js", "why.js", "whatif.js", "address.js", "main.js")
+SCRIPTS = (
+    "model.js",
+    "words.js",
+    "lines.js",
+    "dom.js",
+    "shapes.js",
+    "lanes.js",
+    "drawing.js",
+    "timeline.js",
+    "panel.js",
+    "config.js",
+    "summary.js",
+    "why.js",
+    "whatif.js",
+    "address.js",
+    "main.js",
+)
 # What could end the block of data, or a line of it, is written by number.
 BY_NUMBER = {"<": "\\u003c", ">": "\\u003e", "&": "\\u0026", "\u2028": "\\u2028", "\u2029": "\\u2029"}
 

@@ -11,6 +11,7 @@ from .differences import change
 from .histories import KINDS, Key
 from ..moments import moment_text, nanoseconds
 from ..program import Source, answers_of
+from ..script import script_of
 from .states import Seen, Watched
 
 TICKS_AT_MOST = 2_000
@@ -29,7 +30,9 @@ class Gap:
     listed: dict[int, Next] = field(default_factory=dict)
 
 
-def flushes_between(source: Source, lines: list[bytes], watched: Watched, room: Path) -> dict[Key, list[tuple[int, str]]]:
+def flushes_between(
+    source: Source, lines: list[bytes], watched: Watched, room: Path
+) -> dict[Key, list[tuple[int, str]]]:
     """Returns the flushes that were found between events, for each group with the event after them. None are looked for where it is too many ticks."""
     gaps = _gaps(watched)
     for _ in range(ROUNDS_AT_MOST):
@@ -54,7 +57,9 @@ def _gaps(watched: Watched) -> list[Gap]:
         change_ = seen.changes["groups"]
         gone = dict(listed[line] for line in change_.gone)
         now = nanoseconds(seen.now)
-        is_due = any(due <= now for due in gone.values()) and seen.cursor >= watched.part.first and not _is_refused(seen)
+        is_due = (
+            any(due <= now for due in gone.values()) and seen.cursor >= watched.part.first and not _is_refused(seen)
+        )
         before = {key: due for key, due in listed.values() if due <= now} if is_due else {}
         for line in change_.gone:
             del listed[line]
@@ -107,7 +112,7 @@ def _list(source: Source, lines: list[bytes], gaps: list[Gap], script: Path) -> 
         for at in sorted(gap.ticks):
             ticked.append(json.dumps({"at": moment_text(at), "tick": True}).encode())
             places.append((gap, at, len(ticked)))
-    script.write_bytes(b"\n".join(ticked + lines[last:]) + b"\n")
+    script.write_bytes(script_of(Path(source.script).read_bytes()).text(ticked + lines[last:]))
     commands = [command for _, _, place in places for command in (f"seek {place}", "groups")]
     answers = answers_of(Source(source.program, source.config, str(script)), commands)
     text, groups = b"", {}
@@ -135,4 +140,7 @@ def _found(gaps: list[Gap]) -> dict[Key, list[tuple[int, str]]]:
 
 def written(found: dict[Key, list[tuple[int, str]]], tables: Any) -> list[list[Any]]:
     """Returns the flushes as the page has them: route and labels of a group, then each event and moment."""
-    return [[key[0], tables.labels(dict(key[1])), [each for cursor, at in found[key] for each in (cursor, tables.text(at))]] for key in sorted(found)]
+    return [
+        [key[0], tables.labels(dict(key[1])), [each for cursor, at in found[key] for each in (cursor, tables.text(at))]]
+        for key in sorted(found)
+    ]

@@ -82,7 +82,11 @@ def _alert_value(entry: dict[str, Any], tables: Tables) -> Value:
 
 
 def _silence_value(entry: dict[str, Any], tables: Tables) -> Value:
-    return [tables.text(entry["startsAt"]), tables.text(entry["endsAt"]), [matcher_of(each, tables) for each in entry["matchers"]]]
+    return [
+        tables.text(entry["startsAt"]),
+        tables.text(entry["endsAt"]),
+        [matcher_of(each, tables) for each in entry["matchers"]],
+    ]
 
 
 def _group_value(entry: dict[str, Any], tables: Tables) -> Value:
@@ -96,15 +100,29 @@ def _log_value(entry: dict[str, Any], tables: Tables) -> Value:
 
 def matcher_of(matcher: dict[str, Any], tables: Tables) -> list[int]:
     """Returns what is written of a matcher: its name, its value, and whether it is equal and a pattern."""
-    return [tables.text(matcher["name"]), tables.text(matcher["value"]), int(matcher["isEqual"]), int(matcher["isRegex"])]
+    return [
+        tables.text(matcher["name"]),
+        tables.text(matcher["value"]),
+        int(matcher["isEqual"]),
+        int(matcher["isRegex"]),
+    ]
 
 
 def _path_key(path: list[list[dict[str, Any]]]) -> Key:
-    return tuple(tuple((each["name"], each["value"], each["isRegex"], not each["isEqual"]) for each in matchers) for matchers in path)
+    return tuple(
+        tuple((each["name"], each["value"], each["isRegex"], not each["isEqual"]) for each in matchers)
+        for matchers in path
+    )
 
 
 def _log_key(entry: dict[str, Any]) -> Key:
-    return entry["receiver"], entry["integration"], entry["place"], pairs(entry["groupLabels"]), _path_key(entry["path"])
+    return (
+        entry["receiver"],
+        entry["integration"],
+        entry["place"],
+        pairs(entry["groupLabels"]),
+        _path_key(entry["path"]),
+    )
 
 
 def _write_log_key(entry: dict[str, Any], tables: Tables) -> list[Any]:
@@ -117,7 +135,9 @@ KINDS = {
     "alerts": Kind(lambda e: (pairs(e["labels"]),), lambda e, t: [t.labels(e["labels"])], _alert_value),
     "silences": Kind(lambda e: (e["id"],), lambda e, t: [t.text(e["id"])], _silence_value),
     "groups": Kind(
-        lambda e: (e["route"], pairs(e["groupLabels"])), lambda e, t: [e["route"], t.labels(e["groupLabels"])], _group_value
+        lambda e: (e["route"], pairs(e["groupLabels"])),
+        lambda e, t: [e["route"], t.labels(e["groupLabels"])],
+        _group_value,
     ),
     "log": Kind(_log_key, _write_log_key, _log_value),
 }

@@ -37,7 +37,9 @@ class Intervals:
 
     def _end(self, names: list[str], moment: int, wanted: bool) -> int | None:
         """Returns the next moment at which one of some intervals holds, or none does."""
-        edges = sorted({edge for name in names for member in self.members.get(name, []) for edge in _edges(member)} | {0})
+        edges = sorted(
+            {edge for name in names for member in self.members.get(name, []) for edge in _edges(member)} | {0}
+        )
         day = moment // DAY * DAY
         for start in range(day, day + DAYS_AHEAD * DAY, DAY):
             for edge in edges:
@@ -63,7 +65,9 @@ def _holds(member: dict[str, Any], moment: int) -> bool:
     weekday = (moment // DAY + 3) % 7
     length = _length(year, month)
     times = member.get("times")
-    if times is not None and not any(_of_day(each["start_time"]) <= moment % DAY < _of_day(each["end_time"]) for each in times):
+    if times is not None and not any(
+        _of_day(each["start_time"]) <= moment % DAY < _of_day(each["end_time"]) for each in times
+    ):
         return False
     return (
         _is_in(member.get("weekdays"), weekday, WEEKDAYS, 0)

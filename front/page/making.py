@@ -176,7 +176,10 @@ def _with_tried(
 def _explain_notices(run: Run, options: Options) -> list[str]:
     """Says of --explain how many alerts have its labels, if it isn't one."""
     counts = [(text, len(found)) for text, found in zip(options.explain, run.named) if len(found) != 1]
-    return [f"--explain {text}: {count or 'no'} alert{'s have' if count else ' has'} these labels." for text, count in counts]
+    return [
+        f"--explain {text}: {count or 'no'} alert{'s have' if count else ' has'} these labels."
+        for text, count in counts
+    ]
 
 
 def _reload_notices(options: Options, run: Run, script: bytes) -> list[str]:

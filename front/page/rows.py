@@ -65,12 +65,24 @@ class RowWriter:
         """Writes a firing of an alert: from when to when, its section, and what each row got of it first."""
         firing = entry.firing
         told = [
-            [self.place(each.row), self._moment_or_0(each.first.at), self._moment_or_0(each.first.known), each.first.delay // 1_000_000, int(each.is_late)]
+            [
+                self.place(each.row),
+                self._moment_or_0(each.first.at),
+                self._moment_or_0(each.first.known),
+                each.first.delay // 1_000_000,
+                int(each.is_late),
+            ]
             for each in entry.told
             if self.place(each.row) >= 0
         ]
         end = 0 if firing.is_open else self._moment(firing.end)
-        return [self._tables.labels(dict(entry.alert)), self._moment(firing.fired), end, SECTIONS.index(entry.section), told]
+        return [
+            self._tables.labels(dict(entry.alert)),
+            self._moment(firing.fired),
+            end,
+            SECTIONS.index(entry.section),
+            told,
+        ]
 
     def _moment_or_0(self, moment: int | None) -> int:
         return 0 if moment is None else self._moment(moment)
@@ -87,7 +99,9 @@ class RowWriter:
         return [self._tables.labels(dict(row.alert)), *names, spans]
 
     def _span(self, reasoned: Reasoned) -> list[Any]:
-        span = replace(reasoned.span, start=max(reasoned.span.start, self._first), end=min(reasoned.span.end, self._last))
+        span = replace(
+            reasoned.span, start=max(reasoned.span.start, self._first), end=min(reasoned.span.end, self._last)
+        )
         also = [[self._verdict_of(each), *self._muting(each)] for each in reasoned.also]
         written = [self._moment(span.start), self._moment(span.end), self._verdict_of(span), *self._muting(span)]
         return [*written, also] if also else written if written[3] else written[:3]
@@ -134,8 +148,15 @@ def differences(first: RowWriter, second: RowWriter, tables: Tables) -> dict[str
 
 def _difference(each: Difference, first: RowWriter, second: RowWriter, tables: Tables) -> list[Any]:
     """Writes a difference: its kind, the row, both moments, the gain, and the longest reason of the run that has no notification."""
-    moments = [0 if at is None else tables.text(moment_text(at)) for at in (moment_of(each.before), moment_of(each.after))]
-    row = [tables.labels(dict(each.alert)), tables.text(each.row.receiver), tables.text(each.row.integration or None), each.row.place]
+    moments = [
+        0 if at is None else tables.text(moment_text(at)) for at in (moment_of(each.before), moment_of(each.after))
+    ]
+    row = [
+        tables.labels(dict(each.alert)),
+        tables.text(each.row.receiver),
+        tables.text(each.row.integration or None),
+        each.row.place,
+    ]
     reason: Any = 0
     if each.kind == LOST:
         reason = _reason(each.after, second)

@@ -138,7 +138,11 @@ def _shown(run: Run) -> list[Seen]:
 
 
 def _notified(alert: dict[str, Any], moments: tuple[str, ...], tables: Tables) -> list[int]:
-    return [tables.labels(alert["labels"]), *(tables.text(alert[key]) for key in moments), tables.labels(alert["annotations"])]
+    return [
+        tables.labels(alert["labels"]),
+        *(tables.text(alert[key]) for key in moments),
+        tables.labels(alert["annotations"]),
+    ]
 
 
 def _event(seen: Seen, event: Event, tables: Tables) -> list[Any]:
@@ -230,7 +234,9 @@ def _why_of(why: Why, rows: RowWriter, answers: dict[tuple[int, ...], int], tabl
 
 def _verdict(line: dict[str, Any], tables: Tables) -> list[Any]:
     """Writes a verdict: its name, receiver, route, integration and place, and then whatever else its line has, by key."""
-    rest = {key: value for key, value in line.items() if key not in ("verdict", "receiver", "route", "integration", "place")}
+    rest = {
+        key: value for key, value in line.items() if key not in ("verdict", "receiver", "route", "integration", "place")
+    }
     head = [tables.text(line["verdict"]), tables.text(line.get("receiver")), line.get("route", 0)]
     head += [tables.text(line.get("integration")), line.get("place", 0)]
     return [*head, *(part for key, value in rest.items() for part in (tables.text(key), _rest(value, tables)))]

@@ -73,7 +73,9 @@ def watch(source: Source, part: Part, progress: Progress, name: str) -> Watched:
     in_pieces = [steps[piece.first - part.first : piece.last - part.first + 2] for piece in pieces]
     found = over([partial(_watch_piece, source, piece, stops) for piece in in_pieces], part, name, progress)
     changes_in_order = [*found[0], *(changes for piece in found[1:] for changes in piece[1:])]
-    watched.seen += [Seen(step.cursor, step.now, step.moves, step.printed, changes) for step, changes in zip(steps, changes_in_order)]
+    watched.seen += [
+        Seen(step.cursor, step.now, step.moves, step.printed, changes) for step, changes in zip(steps, changes_in_order)
+    ]
     return watched
 
 
@@ -99,7 +101,11 @@ def _walk(source: Source, part: Part) -> tuple[list[Step], list[Size]]:
 
 def _walking(part: Part, sampled: frozenset[int]) -> Iterator[str]:
     for cursor in range(part.first - 1, part.last + 1):
-        yield from (f"seek {cursor}" if cursor < part.first else "step", "cursor", *(LISTS if cursor in sampled else ()))
+        yield from (
+            f"seek {cursor}" if cursor < part.first else "step",
+            "cursor",
+            *(LISTS if cursor in sampled else ()),
+        )
 
 
 def _listed(steps: list[Step], sizes: list[Size]) -> list[int]:
@@ -125,11 +131,16 @@ def _watch_piece(source: Source, steps: list[Step], stops: frozenset[int]) -> li
     """Asks the lists at the stops of one piece, from the cursor before it on. Returns how they differ from those before at each cursor, or None
     where none are asked."""
     logged = _logged(steps, stops)
-    asked = {step.cursor: LISTS if step.cursor in logged else LISTS_WITHOUT_LOG if step.cursor in stops else () for step in steps}
+    asked = {
+        step.cursor: LISTS if step.cursor in logged else LISTS_WITHOUT_LOG if step.cursor in stops else ()
+        for step in steps
+    }
     found = _differences(source, asked, count_done)
     doubts = _in_doubt(steps, logged, found)
     if doubts:
-        between = _differences(source, {cursor: ("log",) for first, last in doubts for cursor in range(first, last + 1)})
+        between = _differences(
+            source, {cursor: ("log",) for first, last in doubts for cursor in range(first, last + 1)}
+        )
         for cursor in (cursor for first, last in doubts for cursor in range(first + 1, last + 1)):
             found[cursor]["log"] = between[cursor]["log"]
     return list(found.values())
@@ -138,7 +149,8 @@ def _watch_piece(source: Source, steps: list[Step], stops: frozenset[int]) -> li
 def _logged(steps: list[Step], stops: frozenset[int]) -> set[int]:
     """Returns the stops at which the log is asked: the first, and others only after moves, since only a flush writes to the log, and a flush is
     a move. Where each cursor is a stop, it is asked only beside a step that printed something, or at one that took no time, and at the last: if
-    it is the same at two such stops, it was the same in between, since an entry has the moment of the flush that wrote it."""
+    it is the same at two such stops, it was the same in between, since an entry has the moment of the flush that wrote it.
+    """
     logged, has_moved = {steps[0].cursor}, False
     is_each = all(step.cursor in stops for step in steps)
     for before, step, after in zip(steps, steps[1:], [*steps[2:], None]):
@@ -163,9 +175,13 @@ def _in_doubt(steps: list[Step], logged: set[int], found: dict[int, Any]) -> lis
     return doubts
 
 
-def _differences(source: Source, asked: dict[int, tuple[str, ...]], done: Callable[[], None] = lambda: None) -> dict[int, dict[str, Change] | None]:
+def _differences(
+    source: Source, asked: dict[int, tuple[str, ...]], done: Callable[[], None] = lambda: None
+) -> dict[int, dict[str, Change] | None]:
     """Asks lists at cursors, in a session of its own. Returns how each differs from the one before, or None at a cursor where none are asked."""
-    answers = converse_in_turn(source, (command for cursor, names in asked.items() if names for command in (f"seek {cursor}", *names)))
+    answers = converse_in_turn(
+        source, (command for cursor, names in asked.items() if names for command in (f"seek {cursor}", *names))
+    )
     lists = dict.fromkeys(LISTS, b"")
     found: dict[int, dict[str, Change] | None] = {}
     for cursor, names in asked.items():

@@ -91,7 +91,9 @@ class _Maker:
         """Returns whether one more story isn't too much, and remembers if it is."""
         if self._spent + self._cost <= COST_AT_MOST:
             return True
-        self.left_out = "The page doesn't say what would have been without some silences and sources: it would have taken too long."
+        self.left_out = (
+            "The page doesn't say what would have been without some silences and sources: it would have taken too long."
+        )
         return False
 
     def story(self, change: Change, config: dict[str, Any]) -> tuple[Story, Source]:
@@ -119,7 +121,8 @@ class _Maker:
 
 def _layers(story: Story, maker: _Maker) -> list[dict[RowKey, Row]]:
     """Returns the rows without inhibition rules, and without rules and time intervals, as far as there are such verdicts. What mutes an
-    alert changes neither groups nor the moments of their flushes, so the rows have the same spans beside what muted them."""
+    alert changes neither groups nor the moments of their flushes, so the rows have the same spans beside what muted them.
+    """
     found = {span.verdict for row in story.rows for span in row.spans}
     layers = []
     if "Inhibited" in found and maker.affords_one():
@@ -172,12 +175,18 @@ def _cut(part: Reasoned, layer: Row) -> list[Reasoned]:
         return [part]
     pieces, start = [], part.span.start
     for found in layer.spans_in(part.span.start, part.span.end):
-        if found.verdict in MUTES and found.verdict != last.verdict and not (last.verdict in TIMES and found.verdict in TIMES):
+        if (
+            found.verdict in MUTES
+            and found.verdict != last.verdict
+            and not (last.verdict in TIMES and found.verdict in TIMES)
+        ):
             pieces += [(start, found.start, ()), (found.start, found.end, (found,))]
             start = found.end
     pieces.append((start, part.span.end, ()))
     return [
-        Reasoned(replace(part.span, start=begin, end=end), part.also + also) for begin, end, also in pieces if begin < end
+        Reasoned(replace(part.span, start=begin, end=end), part.also + also)
+        for begin, end, also in pieces
+        if begin < end
     ]
 
 
@@ -187,7 +196,9 @@ def _trials(story: Story, maker: _Maker) -> list[Without]:
     for what in _mutes(story)[:TRIALS_AT_MOST]:
         if not maker.affords_one():
             break
-        other, source = maker.story(without_silence(what) if isinstance(what, str) else without_source(what), maker.config)
+        other, source = maker.story(
+            without_silence(what) if isinstance(what, str) else without_source(what), maker.config
+        )
         trials.append(Without(what, *maker.differences(source), _outcomes(story, _rows(other), what)))
     return trials
 
@@ -219,7 +230,9 @@ def _outcomes(story: Story, others: dict[RowKey, Row], what: str | Pairs) -> lis
         other = others.get(key_of(row))
         if muted and other:
             first = next((sent.at for sent in other.sent if sent.is_firing), None)
-            outcomes.append(Outcome(key_of(row), first, [part for span in muted for part in other.spans_in(span.start, span.end)]))
+            outcomes.append(
+                Outcome(key_of(row), first, [part for span in muted for part in other.spans_in(span.start, span.end)])
+            )
     return outcomes
 
 

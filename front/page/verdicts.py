@@ -48,7 +48,9 @@ def known_alerts(watched: Watched) -> set[Pairs]:
         known |= {pairs(json.loads(line)["labels"]) for line in (seen.changes["alerts"].new if seen.changes else [])}
         if seen.cursor >= watched.part.first:
             notes = [json.loads(line) for line in seen.printed]
-            known |= {pairs(each["labels"]) for note in notes for key in ("firing", "resolved") for each in note.get(key, [])}
+            known |= {
+                pairs(each["labels"]) for note in notes for key in ("firing", "resolved") for each in note.get(key, [])
+            }
     return known
 
 

@@ -3,6 +3,7 @@ from __future__ import annotations
 
 import multiprocessing
 import os
+import signal
 from contextlib import contextmanager
 from dataclasses import dataclass
 from typing import Any, Callable, Iterator
@@ -89,6 +90,7 @@ def beside(task: Task) -> Iterator[Task]:
 
 
 def _send(sender: Any, task: Task) -> None:
+    signal.signal(signal.SIGINT, signal.SIG_IGN)
     try:
         sender.send(task())
     except Fault as fault:
@@ -96,7 +98,9 @@ def _send(sender: Any, task: Task) -> None:
 
 
 def _share(done: Any, tasks: list[Task]) -> None:
+    """Begins a process. An interruption ends the process that began it, and that one ends this."""
     global _done, _tasks
+    signal.signal(signal.SIGINT, signal.SIG_IGN)
     _done, _tasks = done, tasks
 
 

@@ -75,6 +75,21 @@ def routes_of(config: dict[str, Any]) -> list[Route]:
     return found
 
 
+def sharing_entries(routes: list[Route]) -> list[tuple[int, int]]:
+    """Returns pairs of routes that share their entries in the notification log: one receiver, and the same matchers from the root down."""
+    paths: dict[int, tuple[object, ...]] = {-1: ()}
+    first: dict[object, int] = {}
+    found = []
+    for route in routes:
+        own = tuple(sorted(str(matchers_in(text) or text) for text in route.matchers))
+        paths[route.number] = (*paths[route.parent], own)
+        key = (paths[route.number], route.receiver)
+        if key in first:
+            found.append((first[key], route.number))
+        first.setdefault(key, route.number)
+    return found
+
+
 def rules_of(config: dict[str, Any]) -> list[Rule]:
     """Returns the inhibition rules."""
     return [_rule(number, value) for number, value in enumerate(_list(config, "inhibit_rules"))]

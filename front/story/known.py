@@ -5,7 +5,7 @@ from __future__ import annotations
 from dataclasses import dataclass, field
 
 from ..moments import DAY, SECOND
-from .config import edges_of
+from .config import edges_of, routes_of, sharing_entries
 from .model import Pairs
 from .posts import Loaded, Posted, ends_in, posts_in
 from .record import RowKey
@@ -49,6 +49,7 @@ def known_of(steps: list[Step], loaded: list[Loaded]) -> Known:
     _add_notes(known, steps)
     _add_silences(known, steps)
     _add_edges(known, steps, loaded)
+    _note_shared_entries(known, loaded)
     return known
 
 
@@ -86,3 +87,11 @@ def _add_edges(known: Known, steps: list[Step], loaded: list[Loaded]) -> None:
         known.left_out = "the edges of time intervals, over so many days"
         return
     known.edges = {day * DAY + second * SECOND for day in range(first, last + 1) for second in seconds}
+
+
+def _note_shared_entries(known: Known, loaded: list[Loaded]) -> None:
+    """Notes routes of which one may change what the notification log says for the other without a notification."""
+    pairs = {pair for each in loaded for pair in sharing_entries(routes_of(each.config))}
+    if pairs and not known.left_out:
+        listed = ", ".join(f"{one} and {other}" for one, other in sorted(pairs)[:3])
+        known.left_out = f"flushes that change the notification log alone, where routes share its entries ({listed})"

@@ -13,6 +13,7 @@ from .record import Tracked, Verdict
 from .walk import Silence
 
 Keyed = tuple[int, tuple[str, ...]]
+Group = tuple[object, ...]
 
 
 class Watchlist:
@@ -25,18 +26,21 @@ class Watchlist:
         self._having: dict[str, dict[str, set[Pairs]]] = defaultdict(lambda: defaultdict(set))
         self._inhibited_by: dict[Pairs, set[Pairs]] = defaultdict(set)
         self._silenced_by: dict[str, set[Pairs]] = defaultdict(set)
-        self._waiting: dict[int, set[Pairs]] = defaultdict(set)
         self.load(config)
 
     def load(self, config: dict[str, Any]) -> None:
         """Takes a configuration into force."""
         self._routes: list[Route] = routes_of(config)
         self._rules: list[Rule] = rules_of(config)
+        self._grouping = [tuple(route.setting("group_by", self._routes) or ()) for route in self._routes]
+        self._waiting: dict[int, dict[Group, set[Pairs]]] = defaultdict(dict)
         self._timed = {route.number for route in self._routes if route.intervals}
         self._targets: dict[Keyed, set[Pairs]] = defaultdict(set)
         self._target_keys: dict[Pairs, list[Keyed]] = {}
         self._source_keys: dict[Pairs, list[Keyed]] = {}
         for labels in self._active:
+            # Its next answer is looked up anew, even if it is the same.
+            self.alerts[labels].text = b""
             self._add_target(self.alerts[labels])
 
     def tracked(self, labels: Pairs) -> Tracked:
@@ -95,14 +99,18 @@ class Watchlist:
         return set(self._inhibited_by.get(source, ()))
 
     def beside(self, labels: Pairs) -> set[Pairs]:
-        """Returns the alerts that wait on a route on which this one waits, until another moment: it may have moved their group's flush."""
+        """Returns the alerts that wait in a group that this one is in if it is on the group's route: it may have moved the group's first flush."""
+        by_name = self.alerts[labels].by_name
         found: set[Pairs] = set()
-        for verdict in self.alerts[labels].answer:
-            if verdict.name == WAITING:
-                for other in self._waiting[verdict.route]:
-                    if any(_waits_else(each, verdict) for each in self.alerts[other].answer):
-                        found.add(other)
-        return found
+        for route, groups in self._waiting.items():
+            if groups:
+                found |= groups.get(self._group(route, by_name), set())
+        return found - {labels}
+
+    def _group(self, route: int, by_name: dict[str, str]) -> Group:
+        """Returns the values of the names by which a route groups."""
+        names = self._grouping[route]
+        return tuple(sorted(by_name.items())) if "..." in names else tuple(by_name.get(name, "") for name in names)
 
     def may_be_inhibited_by(self, labels: Pairs) -> set[Pairs]:
         """Returns the active alerts that this one may inhibit."""
@@ -118,8 +126,8 @@ class Watchlist:
                 self._inhibited_by[verdict.source].discard(labels)
             elif verdict.silence is not None:
                 self._silenced_by[verdict.silence].discard(labels)
-            elif verdict.name == WAITING:
-                self._waiting[verdict.route].discard(labels)
+            elif verdict.name == WAITING and verdict.route in self._waiting:
+                self._stop_waiting(verdict.route, labels)
         for verdict in tracked.answer:
             self._note(labels, verdict)
         if tracked.is_active and labels not in self._active:
@@ -135,7 +143,15 @@ class Watchlist:
         elif verdict.due is not None:
             heapq.heappush(self._due, (verdict.due, labels))
             if verdict.name == WAITING:
-                self._waiting[verdict.route].add(labels)
+                group = self._group(verdict.route, self.alerts[labels].by_name)
+                self._waiting[verdict.route].setdefault(group, set()).add(labels)
+
+    def _stop_waiting(self, route: int, labels: Pairs) -> None:
+        group = self._group(route, self.alerts[labels].by_name)
+        waiting = self._waiting[route].get(group, set())
+        waiting.discard(labels)
+        if not waiting:
+            self._waiting[route].pop(group, None)
 
     def _activate(self, tracked: Tracked) -> None:
         self._active.add(tracked.labels)
@@ -165,7 +181,3 @@ class Watchlist:
             for rule in self._rules
             if may_match_all((rule.source if is_source else rule.target) or (), by_name)
         ]
-
-
-def _waits_else(verdict: Verdict, other: Verdict) -> bool:
-    return verdict.name == WAITING and verdict.route == other.route and verdict.due != other.due

@@ -2,6 +2,7 @@
 
 from __future__ import annotations
 
+import functools
 import os
 import signal
 import subprocess
@@ -79,7 +80,9 @@ class Interrupted(WithRoom):
         fifo = str(self.room / "pipe")
         os.mkfifo(fifo)
         words = [sys.executable, "-m", "front", "why", str(INCIDENT / "config.json"), fifo]
-        process = subprocess.Popen(words, cwd=TOP, stdout=subprocess.PIPE, stderr=subprocess.PIPE)
+        # A shell's process in the background ignores interrupts, and so would this one.
+        heeds = functools.partial(signal.signal, signal.SIGINT, signal.SIG_DFL)
+        process = subprocess.Popen(words, cwd=TOP, stdout=subprocess.PIPE, stderr=subprocess.PIPE, preexec_fn=heeds)
         with open(fifo, "wb"):
             # The word has opened the pipe, and waits for its text.
             process.send_signal(signal.SIGINT)

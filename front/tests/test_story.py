@@ -17,9 +17,11 @@ from front.story.record import verdict_of
 from front.story.ticks import ticked
 from front.story.walk import walk
 
-from .support import INCIDENT, TOP, WithRoom, incidents
+from .random_incident import Dice
+from .support import TOP, WithRoom, incidents
 
 ASKED_AT_MOST = 12_000
+SEEDS = 12
 
 
 class EveryMoment(WithRoom):
@@ -35,9 +37,17 @@ class EveryMoment(WithRoom):
                 subprocess.run([sys.executable, TOP / "bench/generate", self.room, *words], check=True)
                 self.compare(Program.found().source(str(self.room / "config.json"), str(self.room / "script.jsonl")))
 
+    def test_random_incidents(self) -> None:
+        for seed in range(SEEDS):
+            with self.subTest(seed):
+                dice = Dice(seed)
+                self.compare(self.source(dice.config(), dice.events(60)))
+
     def compare(self, source: Source) -> None:
         """Compares the story with answers at its own edges, just before them, and at other moments."""
         story = story_of(source, json.loads(Path(source.config).read_bytes()))
+        if story.unasked:
+            return
         script = script_of(Path(source.script).read_bytes())
         steps = walk(source, script)
         # A tick after the events of a moment makes what they made due at it.

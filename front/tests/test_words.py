@@ -21,7 +21,7 @@ class Words(unittest.TestCase):
                 self.assertTrue(printed.startswith(f"usage: amreplay {word} "), printed)
 
     def test_wrong_words(self) -> None:
-        for words in (
+        wrong: list[list[str]] = [
             [],
             ["wyh"],
             ["why"],
@@ -29,7 +29,8 @@ class Words(unittest.TestCase):
             ["diff", "a", "b"],
             ["why", "a", "b", "--late", "soon"],
             ["why", "a", "b", "--nope"],
-        ):
+        ]
+        for words in wrong:
             with self.subTest(words):
                 status, printed, errors = run_word(*words)
                 self.assertEqual((status, printed), (2, ""))

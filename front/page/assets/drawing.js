@@ -96,7 +96,7 @@ class Drawing {
       const at = anchor === "start" ? Math.max(4, x - 16) : anchor === "end" ? this.width - 4 : x;
       return [svg("line", { class: "grid", x1: x, x2: x, y1: AXIS_HEIGHT - 5, y2: AXIS_HEIGHT }),
         svg("text", { class: "tick", x: at, y: 15, "text-anchor": anchor }, iso.slice(11, step < 1000 ? 23 : step < 60000 ? 19 : 16)),
-        isNew && svg("text", { class: "tick date", x: at, y: 30, "text-anchor": anchor }, `${weekdayOf(iso)} ${day}`)];
+        isNew && svg("text", { class: "tick date", x: at, y: 30, "text-anchor": anchor }, `${weekdayOf(iso)} ${this.isNarrow ? day.slice(5) : day}`)];
     });
     replace(this.axis, labels, this.cursorHead());
   }

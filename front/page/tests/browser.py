@@ -12,7 +12,7 @@ import time
 from pathlib import Path
 from typing import Any
 
-SECONDS = 30.0
+SECONDS = 120.0
 FIRST_FREE = 20
 
 
@@ -51,8 +51,12 @@ class Browser:
         self.messages = []
         self.call("Page.navigate", url="about:blank")
         self._until("Page.loadEventFired")
+        self.open_address(page.as_uri())
+
+    def open_address(self, address: str) -> None:
+        """Opens an address, and waits until it is there."""
         self.messages = []
-        self.call("Page.navigate", url=page.as_uri())
+        self.call("Page.navigate", url=address)
         self._until("Page.loadEventFired")
         self.settle()
 
@@ -68,7 +72,12 @@ class Browser:
         self.value("new Promise(done => requestAnimationFrame(() => requestAnimationFrame(() => done(1))))")
 
     def key(self, key: str, modifiers: int = 0) -> None:
-        words = {"key": key, "code": key, "modifiers": modifiers, "windowsVirtualKeyCode": CODES.get(key, ord(key[0].upper()))}
+        words = {
+            "key": key,
+            "code": key,
+            "modifiers": modifiers,
+            "windowsVirtualKeyCode": CODES.get(key, ord(key[0].upper())),
+        }
         text = {"text": "\r"} if key == "Enter" else {"text": key} if len(key) == 1 else {}
         self.call("Input.dispatchKeyEvent", type="keyDown", **words, **text)
         self.call("Input.dispatchKeyEvent", type="keyUp", **words)
@@ -85,14 +94,31 @@ class Browser:
 
     def faults(self) -> list[str]:
         """Returns what the console got, exceptions, and dialogs that were opened."""
-        bad = ("Runtime.exceptionThrown", "Runtime.consoleAPICalled", "Log.entryAdded", "Page.javascriptDialogOpening", "Network.requestWillBeSent")
+        bad = (
+            "Runtime.exceptionThrown",
+            "Runtime.consoleAPICalled",
+            "Log.entryAdded",
+            "Page.javascriptDialogOpening",
+            "Network.requestWillBeSent",
+        )
         return [json.dumps(each) for each in self.messages if each["method"] in bad]
 
     def _start(self, size: str) -> None:
         commands, self._to = os.pipe()
         self._from, answers = os.pipe()
-        flags = ["--headless", "--no-sandbox", "--disable-gpu", "--remote-debugging-pipe", "--no-first-run", "--disable-extensions",
-                 "--disable-background-networking", "--disable-component-update", "--disable-dev-shm-usage", size, f"--user-data-dir={self._home.name}"]
+        flags = [
+            "--headless",
+            "--no-sandbox",
+            "--disable-gpu",
+            "--remote-debugging-pipe",
+            "--no-first-run",
+            "--disable-extensions",
+            "--disable-background-networking",
+            "--disable-component-update",
+            "--disable-dev-shm-usage",
+            size,
+            f"--user-data-dir={self._home.name}",
+        ]
 
         def place_pipes() -> None:
             high = fcntl.fcntl(commands, fcntl.F_DUPFD, FIRST_FREE), fcntl.fcntl(answers, fcntl.F_DUPFD, FIRST_FREE)
@@ -100,7 +126,11 @@ class Browser:
             os.dup2(high[1], 4)
 
         self._process = subprocess.Popen(
-            [str(chromium()), *flags], pass_fds=(3, 4), preexec_fn=place_pipes, stdout=subprocess.DEVNULL, stderr=subprocess.DEVNULL
+            [str(chromium()), *flags],
+            pass_fds=(3, 4),
+            preexec_fn=place_pipes,
+            stdout=subprocess.DEVNULL,
+            stderr=subprocess.DEVNULL,
         )
         os.close(commands)
         os.close(answers)
@@ -138,4 +168,14 @@ class Browser:
         return json.loads(text)
 
 
-CODES = {"ArrowLeft": 37, "ArrowUp": 38, "ArrowRight": 39, "ArrowDown": 40, "Home": 36, "End": 35, "Tab": 9, "Enter": 13, "Escape": 27}
+CODES = {
+    "ArrowLeft": 37,
+    "ArrowUp": 38,
+    "ArrowRight": 39,
+    "ArrowDown": 40,
+    "Home": 36,
+    "End": 35,
+    "Tab": 9,
+    "Enter": 13,
+    "Escape": 27,
+}

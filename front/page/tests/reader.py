@@ -4,6 +4,8 @@ from __future__ import annotations
 import json
 from typing import Any
 
+from front.script import ACTS
+
 Data = dict[str, Any]
 
 
@@ -22,21 +24,25 @@ class Reader:
 
     def printed(self, cursor: int) -> list[str]:
         lines = [_line(self._note(note)) for note in self.run["notes"] if note[0] == cursor]
-        *_, reason, skipped = self.run["events"][cursor - self.first]
+        _, act, held, _, _, reason, skipped = self.run["events"][cursor - self.first]
+        lines += [_line({"event": cursor, "label": self._text(held)})] if ACTS[act] == "label" and not reason else []
         lines += [_line({"event": cursor, "reason": reason})] if reason else []
         return lines + ([_line({"event": cursor, "skipped": skipped})] if skipped else [])
 
     def explained(self, cursor: int, labels: dict[str, str]) -> list[str] | None:
         """Returns the explanation of an alert; None where it wasn't asked."""
-        for number, always, flat in self.run["why"]:
+        for number, flat in self.run["why"]:
             if self._labels(number) == labels:
                 before = [i for i in range(0, len(flat), 2) if flat[i] <= cursor]
-                if before and (always or flat[before[-1]] == cursor):
-                    return [_line(self._verdict(self.run["verdicts"][each])) for each in self.run["answers"][flat[before[-1] + 1]]]
+                if before:
+                    return [
+                        _line(self._verdict(self.run["verdicts"][each]))
+                        for each in self.run["answers"][flat[before[-1] + 1]]
+                    ]
         return None
 
     def alerts(self) -> list[dict[str, str]]:
-        return [self._labels(number) for number, _, _ in self.run["why"]]
+        return [self._labels(number) for number, _ in self.run["why"]]
 
     def _text(self, number: int) -> str | None:
         return self.data["texts"][number - 1] if number else None
@@ -61,46 +67,76 @@ class Reader:
         return [moment, empty, flushed, sorted(members, key=lambda number: self.data["places"][number])]
 
     def _matchers(self, matchers: list[list[int]]) -> list[Any]:
-        return [{"isEqual": bool(e), "isRegex": bool(r), "name": self._text(n), "value": self._text(v)} for n, v, e, r in matchers]
+        return [
+            {"isEqual": bool(e), "isRegex": bool(r), "name": self._text(n), "value": self._text(v)}
+            for n, v, e, r in matchers
+        ]
 
     def _alert(self, key: list[Any], value: Any) -> Any:
         start, end, updated, timeout, notes = value
         return {
-            "annotations": self._labels(notes), "endsAt": self._text(end), "labels": self._labels(key[0]),
-            "startsAt": self._text(start), "timeout": bool(timeout), "updatedAt": self._text(updated),
+            "annotations": self._labels(notes),
+            "endsAt": self._text(end),
+            "labels": self._labels(key[0]),
+            "startsAt": self._text(start),
+            "timeout": bool(timeout),
+            "updatedAt": self._text(updated),
         }
 
     def _silence(self, key: list[Any], value: Any) -> Any:
-        return {"endsAt": self._text(value[1]), "id": self._text(key[0]), "matchers": self._matchers(value[2]), "startsAt": self._text(value[0])}
+        return {
+            "endsAt": self._text(value[1]),
+            "id": self._text(key[0]),
+            "matchers": self._matchers(value[2]),
+            "startsAt": self._text(value[0]),
+        }
 
     def _group(self, key: list[Any], value: Any) -> Any:
         moment, empty, flushed, members = value
         return {
-            "emptySince": self._text(empty), "flushed": bool(flushed), "groupLabels": self._labels(key[1]),
-            "members": [self._labels(each) for each in members], "nextFlush": self._text(moment), "route": key[0],
+            "emptySince": self._text(empty),
+            "flushed": bool(flushed),
+            "groupLabels": self._labels(key[1]),
+            "members": [self._labels(each) for each in members],
+            "nextFlush": self._text(moment),
+            "route": key[0],
         }
 
     def _log(self, key: list[Any], value: Any) -> Any:
         receiver, integration, place, group, path = key
         return {
-            "at": self._text(value[0]), "firing": [self._labels(each) for each in value[1]], "groupLabels": self._labels(group),
-            "integration": self._text(integration), "path": [self._matchers(each) for each in path], "place": place,
-            "receiver": self._text(receiver), "resolved": [self._labels(each) for each in value[2]],
+            "at": self._text(value[0]),
+            "firing": [self._labels(each) for each in value[1]],
+            "groupLabels": self._labels(group),
+            "integration": self._text(integration),
+            "path": [self._matchers(each) for each in path],
+            "place": place,
+            "receiver": self._text(receiver),
+            "resolved": [self._labels(each) for each in value[2]],
         }
 
     def _note(self, note: list[Any]) -> Any:
         _, at, receiver, integration, place, route, group, firing, resolved = note
         return {
-            "at": self._text(at), "firing": self._notified(firing, ("startsAt",)), "groupLabels": self._labels(group),
-            "integration": self._text(integration), "place": place, "receiver": self._text(receiver),
-            "resolved": self._notified(resolved, ("startsAt", "endsAt")), "route": route,
+            "at": self._text(at),
+            "firing": self._notified(firing, ("startsAt",)),
+            "groupLabels": self._labels(group),
+            "integration": self._text(integration),
+            "place": place,
+            "receiver": self._text(receiver),
+            "resolved": self._notified(resolved, ("startsAt", "endsAt")),
+            "route": route,
         }
 
     def _notified(self, flat: list[int], moments: tuple[str, ...]) -> list[Any]:
         size = len(moments) + 2
         alerts = [flat[i : i + size] for i in range(0, len(flat), size)]
         return [
-            {"labels": self._labels(each[0]), "annotations": self._labels(each[-1]), **dict(zip(moments, map(self._text, each[1:-1])))}
+            {
+                "labels": self._labels(each[0]),
+                "annotations": self._labels(each[-1]),
+                **dict(zip(moments, map(self._text, each[1:-1]))),
+            }
             for each in alerts
         ]
 

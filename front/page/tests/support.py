@@ -42,7 +42,9 @@ class Session:
     def ask(self, commands: list[str]) -> list[tuple[list[str], dict[str, Any]]]:
         done = subprocess.run(
             [PROGRAM, "session", str(self.config), str(self.script)],
-            input="".join(command + "\n" for command in commands).encode(), capture_output=True, check=True,
+            input="".join(command + "\n" for command in commands).encode(),
+            capture_output=True,
+            check=True,
         )
         answers, lines = [], []
         for line in done.stdout.decode().split("\n")[:-1]:
@@ -66,7 +68,9 @@ class Session:
     def explanations(self, alerts: list[dict[str, str]], count: int) -> list[list[list[str]]]:
         """Returns the explanation of each alert at each cursor from 0 to a count."""
         asked = ["explain " + json.dumps(labels) for labels in alerts]
-        answers = [lines for lines, _ in self.ask([*asked, *(command for _ in range(count) for command in ("step", *asked))])]
+        answers = [
+            lines for lines, _ in self.ask([*asked, *(command for _ in range(count) for command in ("step", *asked))])
+        ]
         size = len(asked)
         return [answers[:size]] + [answers[size + 1 + i * (size + 1) :][:size] for i in range(count)]
 
@@ -89,7 +93,12 @@ def hostile_files(room: Path) -> tuple[Path, Path]:
     route = {"receiver": HOSTILE[0], "group_by": ["alertname", *HOSTILE], "routes": routes, "group_wait": "1s"}
     at = "2024-05-01T10:00:00Z"
     alerts = [
-        {"labels": {"alertname": text, "n": str(i), text: text}, "annotations": {text: text}, "startsAt": at, "endsAt": "2024-05-01T10:03:00Z"}
+        {
+            "labels": {"alertname": text, "n": str(i), text: text},
+            "annotations": {text: text},
+            "startsAt": at,
+            "endsAt": "2024-05-01T10:03:00Z",
+        }
         for i, text in enumerate(HOSTILE)
     ]
     matchers = [{"name": text, "value": text} for text in HOSTILE[:4]]
@@ -113,3 +122,10 @@ class WithRoom(unittest.TestCase):
         room = tempfile.TemporaryDirectory()
         self.addCleanup(room.cleanup)
         self.room = Path(room.name)
+
+    def files(self, config: Any, events: list[Any]) -> tuple[Path, Path]:
+        """Writes a configuration and a script, and returns their paths."""
+        paths = self.room / "config.json", self.room / "script.jsonl"
+        paths[0].write_text(json.dumps(config))
+        paths[1].write_text("".join(json.dumps(event) + "\n" for event in events))
+        return paths

@@ -4,6 +4,7 @@ from __future__ import annotations
 import json
 import os
 import pty
+import shutil
 import subprocess
 import sys
 import unittest
@@ -21,7 +22,16 @@ NEVER = EXAMPLES / "a-page-that-never-came"
 
 def note(at: str, name: str = "A", route: int = 0) -> dict[str, object]:
     alert = {"labels": {"alertname": name}, "annotations": {}, "startsAt": at}
-    return {"at": at, "firing": [alert], "groupLabels": {}, "integration": "webhook", "place": 0, "receiver": "ops", "resolved": [], "route": route}
+    return {
+        "at": at,
+        "firing": [alert],
+        "groupLabels": {},
+        "integration": "webhook",
+        "place": 0,
+        "receiver": "ops",
+        "resolved": [],
+        "route": route,
+    }
 
 
 class Compared(unittest.TestCase):
@@ -77,35 +87,40 @@ class Tried(WithRoom):
 
 
 class Faults(WithRoom):
-    def check(self, config: str, script: str) -> None:
-        """Compares with the program's own line and status."""
+    def check(self, config: str, script: str, file: str) -> None:
+        """Compares with the program's own line and status. The page's line names the file besides."""
         (self.room / "config.json").write_text(config)
         (self.room / "script.jsonl").write_text(script)
         words = [str(self.room / "config.json"), str(self.room / "script.jsonl")]
         own = subprocess.run([PROGRAM, "run", *words], capture_output=True, check=False)
         output = self.room / "page.html"
         output.write_text("as it was")
-        self.assertEqual(page_of(*words), (own.returncode, "", own.stderr.decode()))
-        self.assertEqual(page_of(*words, "--output", output), (own.returncode, "", own.stderr.decode()))
+        status, text, faults = page_of(*words, "--output", output)
+        self.assertEqual((status, text), (own.returncode, ""))
+        self.assertEqual(faults, f"{own.stderr.decode().rstrip()} ({self.room / file})\n")
         self.assertEqual(output.read_text(), "as it was")
         self.assertNotEqual(own.returncode, 0)
 
     def test_faulty_files(self) -> None:
         config = (NEVER / "config.json").read_text()
-        self.check("{", "")
-        self.check('{"route":{"receiver":"a","group_wait":"x"},"receivers":[{"name":"a"}]}', "")
-        self.check(config, "nonsense\n")
-        self.check(config, '{"at":"2024-05-01T10:00:00Z"}\n')
+        faulty = '{"route":{"receiver":"a","group_wait":"x"},"receivers":[{"name":"a"}]}'
+        self.check(faulty, "", "config.json")
+        self.check(config, "nonsense\n", "script.jsonl")
+        self.check(config, '{"at":"2024-05-01T10:00:00Z"}\n', "script.jsonl")
+
+    def test_a_configuration_that_cannot_be_read(self) -> None:
+        (self.room / "config.json").write_text("{")
+        status, text, faults = page_of(self.room / "config.json", NEVER / "script.jsonl")
+        self.assertEqual((status, text), (1, ""))
+        self.assertIn(str(self.room / "config.json"), faults)
 
     def test_files_that_are_not_there(self) -> None:
         there, gone = NEVER / "config.json", self.room / "none"
-        self.assertEqual(page_of(gone, there), (1, "", "amreplay: cannot read config\n"))
-        self.assertEqual(page_of(there, gone), (1, "", "amreplay: cannot read script\n"))
-        against = page_of(there, NEVER / "script.jsonl", "--against", gone)
-        self.assertEqual(against, (1, "", "amreplay: cannot read config\n"))
+        for words in ((gone, there), (there, gone), (there, NEVER / "script.jsonl", "--against", gone)):
+            self.assertEqual(page_of(*words), (1, "", f"amreplay: cannot read {gone}: No such file or directory\n"))
 
     def test_words(self) -> None:
-        for words in ([], ["one"], ["one", "two", "three"], ["one", "two", "--explain", "nonsense"]):
+        for words in ([], ["one"], ["one", "two", "three"], ["one", "two", "--explain", '{"a":1}']):
             status, text, _ = page_of(*words)
             self.assertEqual((status, text), (2, ""))
         for words in (["--from", "9"], ["--to", "0"], ["--from", "yesterday"], ["--from", "3", "--to", "1"]):
@@ -114,7 +129,9 @@ class Faults(WithRoom):
             self.assertTrue(faults.startswith("amreplay: "))
 
     def test_output_that_cannot_be_written(self) -> None:
-        status, _, faults = page_of(NEVER / "config.json", NEVER / "script.jsonl", "--output", self.room / "none" / "page.html")
+        status, _, faults = page_of(
+            NEVER / "config.json", NEVER / "script.jsonl", "--output", self.room / "none" / "page.html"
+        )
         self.assertEqual(status, 1)
         self.assertIn("cannot write", faults)
 
@@ -130,14 +147,16 @@ class Written(WithRoom):
 
     def test_files_from_pipes(self) -> None:
         words = (NEVER / "config.json", NEVER / "script.jsonl")
-        command = 'exec "$0" -B -m front.page <(cat "$1") <(cat "$2") --program "$3"'
-        command_line = ["bash", "-c", command, sys.executable, *map(str, words), PROGRAM]
+        command = 'exec "$0" -B -m front page <(cat "$1") <(cat "$2")'
+        command_line = ["bash", "-c", command, sys.executable, *map(str, words)]
         done = subprocess.run(command_line, capture_output=True, check=True, env=ENVIRONMENT)
-        self.assertEqual(data_of(done.stdout.decode())["runs"][0]["events"], data_of(page_of(*words)[1])["runs"][0]["events"])
+        self.assertEqual(
+            data_of(done.stdout.decode())["runs"][0]["events"], data_of(page_of(*words)[1])["runs"][0]["events"]
+        )
 
     def test_a_bar_on_a_terminal(self) -> None:
         reader, terminal = pty.openpty()
-        command = [*PAGE, str(NEVER / "config.json"), str(NEVER / "script.jsonl"), "--program", PROGRAM]
+        command = [*PAGE, str(NEVER / "config.json"), str(NEVER / "script.jsonl")]
         done = subprocess.run(command, stdout=subprocess.DEVNULL, stderr=terminal, check=True, env=ENVIRONMENT)
         drawn = os.read(reader, 1 << 16)
         os.close(reader)
@@ -170,6 +189,13 @@ class Written(WithRoom):
         self.assertNotIn("<", embedded(value))
 
 
+    @unittest.skipUnless(shutil.which("node"), "there is no node on the PATH")
+    def test_the_script_is_javascript(self) -> None:
+        script = page("x", {}).rsplit("<script>", 1)[1].split("</script>")[0]
+        (self.room / "page.js").write_text(script)
+        subprocess.run(["node", "--check", str(self.room / "page.js")], check=True)
+
+
 class Moments(unittest.TestCase):
     def test_moments(self) -> None:
         self.assertEqual(nanoseconds("1970-01-01T00:00:01.5Z"), 1_500_000_000)
@@ -186,5 +212,7 @@ class Examples(WithRoom):
         subprocess.run([str(TOP / "front" / "page" / "make-examples"), PROGRAM, str(self.room)], check=True)
         for name in names:
             made = (self.room / name / "incident.html").read_bytes()
-            self.assertTrue(made == (EXAMPLES / name / "incident.html").read_bytes(), f"{name}: run front/page/make-examples")
+            self.assertTrue(
+                made == (EXAMPLES / name / "incident.html").read_bytes(), f"{name}: run front/page/make-examples"
+            )
             self.assertLess(len(made), 200_000)
