@@ -9,6 +9,7 @@ from dataclasses import dataclass
 from typing import Any, Iterable, Iterator
 
 from . import inputs
+from .arguments import parser_of
 from .moments import MINUTE, SECOND, clock_text, moment_text, nanoseconds
 from .program import Fault, Program
 
@@ -85,10 +86,10 @@ def main(arguments: list[str]) -> int:
 
 
 def _options(arguments: list[str]) -> argparse.Namespace:
-    parser = argparse.ArgumentParser(
-        prog="amreplay compare",
-        description="Sets the replay beside the notifications that webhooks really got.",
-        epilog='FILE has a line {"receivedAt": MOMENT, "body": BODY} for each body. docs/CAPTURE.md says how to log them.',
+    parser = parser_of(
+        "compare",
+        "Sets the replay beside the notifications that webhooks really got.",
+        'FILE has a line {"receivedAt": MOMENT, "body": BODY} for each body. docs/CAPTURE.md says how to log them.',
     )
     parser.add_argument("config", metavar="CONFIG", help="the configuration, as YAML or JSON")
     parser.add_argument("script", metavar="SCRIPT", help="what happened, an event on each line")

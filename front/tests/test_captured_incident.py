@@ -44,6 +44,15 @@ class CapturedIncident(unittest.TestCase):
         self.assertEqual((status, len(lines)), (0, 12))
         self.assertTrue(all(line["alerts"] and 0 <= line["difference"] < 0.2 for line in lines))
 
+    def test_the_configuration_may_be_yaml_with_zones(self) -> None:
+        original = json.loads(Path("responses/alertmanager/status.json").read_text())["config"]["original"]
+        self.assertIn("location: Europe/Paris", original)
+        with tempfile.TemporaryDirectory() as room:
+            config = Path(room) / "alertmanager.yml"
+            config.write_text(original)
+            status, printed, _ = run_word("compare", str(config), "script.jsonl", "--webhooks", "webhooks.jsonl")
+        self.assertEqual(status, 0, printed)
+
     def test_a_missing_notification_and_other_alerts_are_differences(self) -> None:
         with tempfile.TemporaryDirectory() as room:
             log = Path(room) / "webhooks.jsonl"
