@@ -4,7 +4,6 @@ from __future__ import annotations
 
 import argparse
 import json
-import sys
 from dataclasses import dataclass
 from typing import Any, Iterable, Iterator
 
@@ -272,12 +271,16 @@ def _summary(pairs: list[Pair]) -> str:
 
 
 def _labels_text(labels: Labels) -> str:
-    return "{" + ", ".join(f"{_shown(name)}={json.dumps(value, ensure_ascii=False)}" for name, value in labels) + "}"
+    return "{" + ", ".join(f"{_shown(name)}={_quoted(value)}" for name, value in labels) + "}"
 
 
 def _shown(text: str) -> str:
     """Returns a text that a terminal can show on one line."""
-    return json.dumps(text, ensure_ascii=False)[1:-1] if not text.isprintable() else text
+    return text if text.isprintable() else _quoted(text)[1:-1]
+
+
+def _quoted(text: str) -> str:
+    return json.dumps(text, ensure_ascii=not text.isprintable())
 
 
 def _print_json(pairs: list[Pair]) -> None:
@@ -290,5 +293,4 @@ def _print_json(pairs: list[Pair]) -> None:
             "receiver": pair.either.receiver,
             "replayed": moment_text(pair.replayed.at) if pair.replayed else None,
         }
-        json.dump(line, sys.stdout, ensure_ascii=False)
-        print()
+        print(json.dumps(line))

@@ -64,6 +64,22 @@ class CapturedIncident(unittest.TestCase):
         self.assertIn('only received: resolved {alertname="HostDown", cluster="live", host="h7"', printed)
         self.assertIn("11 received, 12 replayed; 11 by receiver and group, 10 of them with the same alerts", printed)
 
+    def test_hostile_texts_stay_in_their_lines(self) -> None:
+        hostile = json.dumps("\x1b[31m\n\u202e\ud800'\"</script>")
+        with tempfile.TemporaryDirectory() as room:
+            log = Path(room) / "webhooks.jsonl"
+            log.write_text(
+                Path("webhooks.jsonl")
+                .read_text()
+                .replace('"h1"', hostile)
+                .replace('"receiver": "on"', f'"receiver": {hostile}')
+            )
+            for form in ("text", "json"):
+                words = ["config.json", "script.jsonl", "--webhooks", str(log), "--output", form]
+                status, printed, errors = run_word("compare", *words)
+                self.assertEqual((status, errors), (1, ""))
+                self.assertTrue(all(line.isprintable() for line in printed.split("\n")), printed)
+
     def test_logs_that_are_no_logs_name_their_line(self) -> None:
         with tempfile.TemporaryDirectory() as room:
             log = Path(room) / "webhooks.jsonl"
