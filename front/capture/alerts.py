@@ -17,7 +17,7 @@ LABEL_REFERENCE = re.compile(r"\{\{\s*\$labels\.([a-zA-Z_][a-zA-Z0-9_]*)\s*\}\}"
 
 @dataclass(frozen=True)
 class Posted:
-    """A post of one alert as Alertmanager got it, and the evaluation that it is of: a server, a group, and a moment."""
+    """A post of one alert as Alertmanager got it, and the group whose evaluation made it. Texts are in the order of their names."""
 
     post: Post
     group: str
@@ -97,7 +97,9 @@ def _posted(
     if not labels:
         derived.dropped += 1
         return
-    annotations = {name: _annotation(text, rule, series.labels, derived) for name, text in rule.annotations.items()}
+    labels = dict(sorted(labels.items()))
+    templates = sorted(rule.annotations.items())
+    annotations = {name: _annotation(text, rule, series.labels, derived) for name, text in templates}
     timing = Timing(rule.group.interval, prometheus.resend_delay, rule.hold)
     for post in posts_of(series.firing, series.pending, timing, derived.life, first_samples):
         yield Posted(post, rule.group.name, labels, annotations)

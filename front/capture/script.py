@@ -2,6 +2,7 @@
 
 from __future__ import annotations
 
+import functools
 import json
 from dataclasses import dataclass
 from typing import Any, Iterable, Iterator
@@ -15,6 +16,7 @@ LINE_BYTES_AT_MOST = 1_000_000
 EVENTS_AT_MOST = 1_000_000
 STAYS_ACTIVE = 5 * MINUTE
 LATENESS = 10_000_000
+ENCODER = json.JSONEncoder(ensure_ascii=False, separators=(",", ":"))
 
 
 @dataclass(frozen=True)
@@ -59,7 +61,7 @@ def alert_lines(posted: Iterable[Posted], end: int) -> Iterator[Line]:
     for each in posted:
         evaluations.setdefault((each.post.at, each.group), []).append(each)
     for (at, _), found in sorted(evaluations.items()):
-        found.sort(key=lambda each: sorted(each.labels.items()))
+        found.sort(key=lambda each: list(each.labels.items()))
         yield from _post_lines(arrival(at, end), [_posted_alert(each) for each in found])
 
 
@@ -87,13 +89,13 @@ def _posted_alert(each: Posted) -> dict[str, Any]:
 
 
 def _stored_alert(alert: StoredAlert, ends_at: int) -> dict[str, Any]:
-    return _alert(alert.labels, alert.annotations, alert.starts_at, ends_at)
+    labels, annotations = (dict(sorted(texts.items())) for texts in (alert.labels, alert.annotations))
+    return _alert(labels, annotations, alert.starts_at, ends_at)
 
 
 def _alert(labels: dict[str, str], annotations: dict[str, str], starts_at: int, ends_at: int) -> dict[str, Any]:
-    times = {"startsAt": moment_text(starts_at), "endsAt": moment_text(ends_at)}
-    kept = dict(sorted(annotations.items()))
-    return {"labels": dict(sorted(labels.items())), **({"annotations": kept} if kept else {}), **times}
+    times = {"startsAt": _moment(starts_at), "endsAt": _moment(ends_at)}
+    return {"labels": labels, **({"annotations": annotations} if annotations else {}), **times}
 
 
 def _post_lines(at: int, alerts: list[dict[str, Any]]) -> Iterator[Line]:
@@ -111,8 +113,13 @@ def _post_lines(at: int, alerts: list[dict[str, Any]]) -> Iterator[Line]:
 
 
 def _post_line(at: int, alerts: list[str]) -> Line:
-    return Line(at, 2, f'{{"at":{_json(moment_text(at))},"alerts":[{",".join(alerts)}]}}')
+    return Line(at, 2, f'{{"at":{_json(_moment(at))},"alerts":[{",".join(alerts)}]}}')
 
 
 def _json(value: Any) -> str:
-    return json.dumps(value, ensure_ascii=False, separators=(",", ":"))
+    return ENCODER.encode(value)
+
+
+@functools.lru_cache(maxsize=65_536)
+def _moment(moment: int) -> str:
+    return moment_text(moment)
