@@ -4,11 +4,11 @@ from __future__ import annotations
 
 import argparse
 import json
-import sys
 from dataclasses import dataclass
 from typing import Any, Iterable, Iterator
 
 from . import inputs
+from .arguments import parser_of
 from .moments import MINUTE, SECOND, clock_text, moment_text, nanoseconds
 from .program import Fault, Program
 
@@ -85,10 +85,10 @@ def main(arguments: list[str]) -> int:
 
 
 def _options(arguments: list[str]) -> argparse.Namespace:
-    parser = argparse.ArgumentParser(
-        prog="amreplay compare",
-        description="Sets the replay beside the notifications that webhooks really got.",
-        epilog='FILE has a line {"receivedAt": MOMENT, "body": BODY} for each body. docs/CAPTURE.md says how to log them.',
+    parser = parser_of(
+        "compare",
+        "Sets the replay beside the notifications that webhooks really got.",
+        'FILE has a line {"receivedAt": MOMENT, "body": BODY} for each body. docs/CAPTURE.md says how to log them.',
     )
     parser.add_argument("config", metavar="CONFIG", help="the configuration, as YAML or JSON")
     parser.add_argument("script", metavar="SCRIPT", help="what happened, an event on each line")
@@ -271,12 +271,16 @@ def _summary(pairs: list[Pair]) -> str:
 
 
 def _labels_text(labels: Labels) -> str:
-    return "{" + ", ".join(f"{_shown(name)}={json.dumps(value, ensure_ascii=False)}" for name, value in labels) + "}"
+    return "{" + ", ".join(f"{_shown(name)}={_quoted(value)}" for name, value in labels) + "}"
 
 
 def _shown(text: str) -> str:
     """Returns a text that a terminal can show on one line."""
-    return json.dumps(text, ensure_ascii=False)[1:-1] if not text.isprintable() else text
+    return text if text.isprintable() else _quoted(text)[1:-1]
+
+
+def _quoted(text: str) -> str:
+    return json.dumps(text, ensure_ascii=not text.isprintable())
 
 
 def _print_json(pairs: list[Pair]) -> None:
@@ -289,5 +293,4 @@ def _print_json(pairs: list[Pair]) -> None:
             "receiver": pair.either.receiver,
             "replayed": moment_text(pair.replayed.at) if pair.replayed else None,
         }
-        json.dump(line, sys.stdout, ensure_ascii=False)
-        print()
+        print(json.dumps(line))

@@ -142,4 +142,6 @@ def _shown(told: Told, telling: Telling) -> list[Span]:
 
 def _spans(told: Told, names: Names, telling: Telling) -> list[str]:
     spans = _shown(told, telling)
-    return span_lines(spans, names, len(spans) if telling.is_full else SPANS_AT_MOST, "      ")
+    lines = span_lines(spans, names, len(spans) if telling.is_full else SPANS_AT_MOST, "      ")
+    final = told.row.final if told.first.firing.is_open and (telling.is_full or not told.first.is_notified) else None
+    return [*lines, f"      {names.moment(final.start)}, the end  {names.reason(final)}"] if final else lines

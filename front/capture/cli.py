@@ -11,6 +11,7 @@ from dataclasses import dataclass
 from pathlib import Path
 from types import FrameType
 
+from ..arguments import parser_of
 from ..config.cut import cut
 from ..config.yaml_config import BadConfiguration, Reading, read_config
 from ..config.zones import BadZone, in_utc
@@ -118,10 +119,10 @@ def _file(path: str) -> bytes:
 
 
 def _options(arguments: list[str]) -> argparse.Namespace:
-    parser = argparse.ArgumentParser(
-        prog="amreplay capture",
-        description="Makes config.json, script.jsonl and a report from what a Prometheus and an Alertmanager have kept.",
-        epilog="docs/CAPTURE.md says what is asked, and how exact it is. Nothing but GET is sent.",
+    parser = parser_of(
+        "capture",
+        "Makes config.json, script.jsonl and a report from what a Prometheus and an Alertmanager have kept.",
+        "docs/CAPTURE.md says what is asked, and how exact it is. Nothing but GET is sent.",
     )
     servers = parser.add_argument_group("where from")
     servers.add_argument("--prometheus", metavar="URL", action="append", default=[], help="a Prometheus; give each one")

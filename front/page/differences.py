@@ -86,7 +86,7 @@ def _until_alike(before: bytes, i: int, after: bytes, j: int) -> tuple[list[byte
 
 
 def _some_lines(text: bytes, start: int, count: int) -> list[bytes]:
-    lines = []
+    lines: list[bytes] = []
     while start < len(text) and len(lines) < count:
         end = text.index(b"\n", start)
         lines.append(text[start:end])

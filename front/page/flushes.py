@@ -115,7 +115,8 @@ def _list(source: Source, lines: list[bytes], gaps: list[Gap], script: Path) -> 
     script.write_bytes(script_of(Path(source.script).read_bytes()).text(ticked + lines[last:]))
     commands = [command for _, _, place in places for command in (f"seek {place}", "groups")]
     answers = answers_of(Source(source.program, source.config, str(script)), commands)
-    text, groups = b"", {}
+    text = b""
+    groups: Next = {}
     for (gap, at, _), answer in zip(places, answers[1::2]):
         differs = change(text, answer.text)
         text = answer.text

@@ -7,8 +7,10 @@ from typing import Any
 from ..moments import DAY, SECOND, moment_text
 
 WEEKDAYS = ("monday", "tuesday", "wednesday", "thursday", "friday", "saturday", "sunday")
-MONTHS = ("january", "february", "march", "april", "may", "june")
-MONTHS += ("july", "august", "september", "october", "november", "december")
+MONTHS = (
+    *("january", "february", "march", "april", "may", "june"),
+    *("july", "august", "september", "october", "november", "december"),
+)
 DAYS_AHEAD = 400
 MINUTE_OF_DAY = 60 * SECOND
 

@@ -59,7 +59,7 @@ class Watched:
 
 def count_events(source: Source) -> int:
     """Returns how many events the script has. Raises the program's fault where a file is refused."""
-    return answers_of(source, ["cursor"])[0].last["events"]
+    return int(answers_of(source, ["cursor"])[0].last["events"])
 
 
 def watch(source: Source, part: Part, progress: Progress, name: str) -> Watched:
@@ -142,7 +142,9 @@ def _watch_piece(source: Source, steps: list[Step], stops: frozenset[int]) -> li
             source, {cursor: ("log",) for first, last in doubts for cursor in range(first, last + 1)}
         )
         for cursor in (cursor for first, last in doubts for cursor in range(first + 1, last + 1)):
-            found[cursor]["log"] = between[cursor]["log"]
+            changes, asked_again = found[cursor], between[cursor]
+            if changes is not None and asked_again is not None:
+                changes["log"] = asked_again["log"]
     return list(found.values())
 
 

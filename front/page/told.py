@@ -207,7 +207,7 @@ def _mutes(story: Story) -> list[str | Pairs]:
     """Returns the silences and the sources that muted rows, those that cost the most notifications first."""
     weights: dict[str | Pairs, tuple[int, int]] = {}
     for row in story.rows:
-        for what in {muted_by(span) for span in row.spans} - {None}:
+        for what in {what for what in map(muted_by, row.spans) if what is not None}:
             lasted = sum(span.end - span.start for span in row.spans if muted_by(span) == what)
             rows, length = weights.get(what, (0, 0))
             weights[what] = (rows + (not row.is_notified), length + lasted)

@@ -3,7 +3,7 @@
 from __future__ import annotations
 
 from dataclasses import dataclass, field
-from typing import Any
+from typing import Any, Optional
 
 Pairs = tuple[tuple[str, str], ...]
 
@@ -67,7 +67,8 @@ class First:
 @dataclass
 class Row:
     """One alert and one integration of a receiver: its spans, with gaps while the alert doesn't fire, what it was sent, and the first
-    notification of each firing. A receiver without integrations has one row, with an empty `integration`."""
+    notification of each firing. `final` is a verdict that only the last moment of the story has. A receiver without integrations has one
+    row, with an empty `integration`."""
 
     alert: Pairs
     receiver: str
@@ -76,6 +77,7 @@ class Row:
     spans: list[Span] = field(default_factory=list)
     sent: list[Sent] = field(default_factory=list)
     firsts: list[First] = field(default_factory=list)
+    final: Optional[Span] = None
 
     @property
     def goes_nowhere(self) -> bool:

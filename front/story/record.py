@@ -92,6 +92,9 @@ class Tracked:
 
     def finish(self, at: int) -> None:
         """Ends what is open, at the end of the story."""
+        for key, span in self._open.items():
+            if span.start == at:
+                self.row(key).final = Span(at, at, span.verdict.line, span.config)
         self._turn_to({}, at, 0)
         if self.is_active:
             self._end_firing(at, True)

@@ -44,6 +44,15 @@ class CapturedIncident(unittest.TestCase):
         self.assertEqual((status, len(lines)), (0, 12))
         self.assertTrue(all(line["alerts"] and 0 <= line["difference"] < 0.2 for line in lines))
 
+    def test_the_configuration_may_be_yaml_with_zones(self) -> None:
+        original = json.loads(Path("responses/alertmanager/status.json").read_text())["config"]["original"]
+        self.assertIn("location: Europe/Paris", original)
+        with tempfile.TemporaryDirectory() as room:
+            config = Path(room) / "alertmanager.yml"
+            config.write_text(original)
+            status, printed, _ = run_word("compare", str(config), "script.jsonl", "--webhooks", "webhooks.jsonl")
+        self.assertEqual(status, 0, printed)
+
     def test_a_missing_notification_and_other_alerts_are_differences(self) -> None:
         with tempfile.TemporaryDirectory() as room:
             log = Path(room) / "webhooks.jsonl"
@@ -54,6 +63,22 @@ class CapturedIncident(unittest.TestCase):
         self.assertEqual(len(re.findall("not received", printed)), 1)
         self.assertIn('only received: resolved {alertname="HostDown", cluster="live", host="h7"', printed)
         self.assertIn("11 received, 12 replayed; 11 by receiver and group, 10 of them with the same alerts", printed)
+
+    def test_hostile_texts_stay_in_their_lines(self) -> None:
+        hostile = json.dumps("\x1b[31m\n\u202e\ud800'\"</script>")
+        with tempfile.TemporaryDirectory() as room:
+            log = Path(room) / "webhooks.jsonl"
+            log.write_text(
+                Path("webhooks.jsonl")
+                .read_text()
+                .replace('"h1"', hostile)
+                .replace('"receiver": "on"', f'"receiver": {hostile}')
+            )
+            for form in ("text", "json"):
+                words = ["config.json", "script.jsonl", "--webhooks", str(log), "--output", form]
+                status, printed, errors = run_word("compare", *words)
+                self.assertEqual((status, errors), (1, ""))
+                self.assertTrue(all(line.isprintable() for line in printed.split("\n")), printed)
 
     def test_logs_that_are_no_logs_name_their_line(self) -> None:
         with tempfile.TemporaryDirectory() as room:

@@ -7,7 +7,7 @@ import unittest
 from pathlib import Path
 from typing import Any
 
-from .support import INCIDENT, WithRoom, run_word
+from .support import INCIDENT, TOP, WithRoom, run_word
 
 CONFIG, SCRIPT = str(INCIDENT / "config.json"), str(INCIDENT / "script.jsonl")
 OPS: dict[str, Any] = {"route": {"receiver": "ops"}, "receivers": [{"name": "ops", "webhook_configs": [{}]}]}
@@ -101,6 +101,11 @@ class SmallIncidents(WithRoom):
             '      10:00:30-11:00:00  silenced by marie, "deploy" (7f2c9a10)\n      11:00:00-11:00:30  waits for the next flush',
             printed,
         )
+
+    def test_what_begins_at_the_last_moment_is_told(self) -> None:
+        example = TOP / "examples/a-page-that-never-came"
+        _, printed, _ = run_word("why", str(example / "config.json"), str(example / "script.jsonl"))
+        self.assertIn("      10:20:00, the end  silenced (7f2c9a10)\n", printed)
 
     def test_an_alert_that_ends_before_the_first_flush(self) -> None:
         labels = {"alertname": "Short"}

@@ -230,9 +230,6 @@ class Servers:
         return int(listener.server_address[1])
 
     def _start_alertmanager(self) -> None:
-        """Starts it at a multiple of half a minute, so that empty groups are removed at the same moments as in the replay."""
-        if self.is_aligned:
-            time.sleep(30 - time.time() % 30)
         config = self.room / "alertmanager.yml"
         config.write_text(ALERTMANAGER.format(**self.ports))
         self._start("alertmanager", "prometheus-alertmanager", [
@@ -240,6 +237,10 @@ class Servers:
             f"--web.listen-address=127.0.0.1:{self.ports['alertmanager']}",
         ])  # fmt: skip
         self._wait_for(self.alertmanager_url + "/-/ready")
+        if self.is_aligned:
+            # It removes empty groups each half minute from its last reload.
+            time.sleep(30 - time.time() % 30)
+            self._ask("/-/reload", b"")
 
     def _start_prometheus(self, number: int) -> None:
         folder = self.room / f"prometheus-{number}"

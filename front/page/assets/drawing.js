@@ -45,7 +45,7 @@ class Drawing {
     this.width = Math.max(280, timeline.scroll.clientWidth);
     this.isNarrow = this.width < NARROW;
     this.laneHeight = this.isNarrow ? 42 : 24;
-    this.gutter = this.isNarrow ? 10 : Math.round(Math.min(330, Math.max(200, this.width * 0.25)));
+    this.gutter = this.isNarrow ? 10 : Math.round(Math.min(350, Math.max(230, this.width * 0.28)));
     this.lanes = timeline.visibleLanes();
     timeline.laneAt = Math.min(timeline.laneAt, this.lanes.length - 1);
     this.space.style.height = `${this.lanes.length * this.laneHeight}px`;

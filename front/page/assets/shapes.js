@@ -31,7 +31,7 @@ function bunchEl(x, y, marks) {
   const parts = share < 0 ? [svg("rect", { class: "several-events", ...box, y: top, height, rx: 2.5 })] : [
     svg("rect", { class: "several-resolved", ...box, y: top, height, rx: 2.5 }),
     share > 0 && svg("rect", { class: "several-firing", ...box, y: top, height: Math.max(3, height * share), rx: 2.5 })];
-  return [parts, svg("text", { class: "number", x: x - 0.5, y: y + 3.2, "text-anchor": "middle" }, numberText(marks.length))];
+  return [parts, svg("text", { class: marks.length < 100 ? "number" : "number long", x: x - 0.5, y: y + 3.2, "text-anchor": "middle" }, numberText(marks.length))];
 }
 
 // A pattern for each kind of span, so that none is told by its colour alone.

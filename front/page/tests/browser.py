@@ -25,7 +25,7 @@ class Browser:
     """One page in a browser: it opens files, takes keys and clicks, and answers expressions."""
 
     def __init__(self, width: int = 1280, height: int = 900) -> None:
-        self._home = tempfile.TemporaryDirectory(ignore_cleanup_errors=True)
+        self._home = tempfile.mkdtemp()
         self._held = b""
         self._count = 0
         self.messages: list[dict[str, Any]] = []
@@ -41,7 +41,7 @@ class Browser:
         self._process.wait()
         os.close(self._to)
         os.close(self._from)
-        self._home.cleanup()
+        shutil.rmtree(self._home, ignore_errors=True)
 
     def call(self, method: str, **words: Any) -> Any:
         return self._call(method, words, self._session)
@@ -117,7 +117,7 @@ class Browser:
             "--disable-component-update",
             "--disable-dev-shm-usage",
             size,
-            f"--user-data-dir={self._home.name}",
+            f"--user-data-dir={self._home}",
         ]
 
         def place_pipes() -> None:
@@ -165,7 +165,8 @@ class Browser:
                 raise AssertionError("the browser has ended")
             self._held += chunk
         text, self._held = self._held.split(b"\0", 1)
-        return json.loads(text)
+        message: dict[str, Any] = json.loads(text)
+        return message
 
 
 CODES = {

@@ -48,7 +48,7 @@ class Reader:
         return self.data["texts"][number - 1] if number else None
 
     def _labels(self, number: int) -> dict[str, str]:
-        flat = [self._text(each) for each in self.data["sets"][number]]
+        flat = [self._text(each) or "" for each in self.data["sets"][number]]
         return dict(zip(flat[::2], flat[1::2]))
 
     def _value(self, name: str, flat: list[Any], cursor: int) -> Any:
@@ -64,7 +64,7 @@ class Reader:
             return [raw, *before[1:]]
         moment, empty, flushed, joined, left = raw
         members = (set(before[3]) if before else set()) - set(left) | set(joined)
-        return [moment, empty, flushed, sorted(members, key=lambda number: self.data["places"][number])]
+        return [moment, empty, flushed, sorted(members, key=self.data["places"].__getitem__)]
 
     def _matchers(self, matchers: list[list[int]]) -> list[Any]:
         return [
@@ -148,7 +148,7 @@ class Reader:
         if integration:
             line |= {"integration": self._text(integration), "place": place}
         for key, value in zip(rest[::2], rest[1::2]):
-            line[self._text(key)] = self._rest(value)
+            line[self._text(key) or ""] = self._rest(value)
         return line
 
     def _rest(self, value: Any) -> Any:

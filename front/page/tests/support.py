@@ -46,7 +46,8 @@ class Session:
             capture_output=True,
             check=True,
         )
-        answers, lines = [], []
+        answers: list[tuple[list[str], dict[str, Any]]] = []
+        lines: list[str] = []
         for line in done.stdout.decode().split("\n")[:-1]:
             if line.startswith('{"command":'):
                 answers.append((lines, json.loads(line)))
@@ -59,7 +60,7 @@ class Session:
         """Returns the lines of each list at each cursor from 0 on, and what the event there printed."""
         count = self.ask(["cursor"])[0][1]["events"]
         answers = self.ask([*LISTS, *(command for _ in range(count) for command in ("step", *LISTS))])
-        states = [dict(zip(LISTS, [lines for lines, _ in answers[:4]]), printed=[])]
+        states: list[dict[str, list[str]]] = [{**dict(zip(LISTS, [lines for lines, _ in answers[:4]])), "printed": []}]
         for i in range(4, len(answers), 5):
             lines = [each for each, _ in answers[i : i + 5]]
             states.append(dict(zip(LISTS, lines[1:]), printed=lines[0]))
@@ -83,7 +84,10 @@ def page_of(*words: Any) -> tuple[int, str, str]:
 
 def data_of(page: str) -> dict[str, Any]:
     """Returns the data of a page."""
-    return json.loads(re.search(r'<script type="application/json" id="data">(.*?)</script>', page, re.S)[1])
+    found = re.search(r'<script type="application/json" id="data">(.*?)</script>', page, re.S)
+    assert found
+    data: dict[str, Any] = json.loads(found[1])
+    return data
 
 
 def hostile_files(room: Path) -> tuple[Path, Path]:

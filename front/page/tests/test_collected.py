@@ -5,6 +5,7 @@ import json
 import random
 import unittest
 from pathlib import Path
+from typing import Any
 
 from front.page import differences, states, verdicts
 from front.page.cli import read_words
@@ -88,13 +89,12 @@ class Collected(WithRoom):
             {"labels": {"alertname": name}, "startsAt": "2024-05-01T10:00:00Z", "endsAt": f"2024-05-01T10:{end:02}:00Z"}
             for name, end in (("Brief", 4), ("Longer", 14), ("Longest", 34))
         ]
-        events = [{"at": "2024-05-01T10:00:00Z", "alerts": alerts}]
+        events: list[dict[str, Any]] = [{"at": "2024-05-01T10:00:00Z", "alerts": alerts}]
         events += [{"at": f"2024-05-01T10:{minute:02}:31Z", "tick": True} for minute in range(30)]
         script.write_text("".join(json.dumps(event) + "\n" for event in events))
         reader = self.check(config, script)
         silent = [cursor for cursor in range(1, reader.last + 1) if not reader.printed(cursor)]
         self.assertTrue(any(reader.listed("log", cursor) != reader.listed("log", cursor - 1) for cursor in silent))
-
 
 
 class Flushes(WithRoom):

