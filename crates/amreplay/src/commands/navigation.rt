@@ -1,7 +1,7 @@
 //! The commands that move the cursor or try an event: `step`, `back`, `seek`, `seek-time` and
 //! `trial`. If memory runs out for the output, the cursor goes back, so that a refused command
 //! changes nothing. `moves_of` counts timers that fired; `moved` and `Moves` are about the cursor.
-ghost use Rattle.std.specs.Prelude.{◌≡◌, ◌+◌, ◌<◌, ◌≤◌, ◌^◌, ◌++◌, IfOk, map, length, string_bytes};
+ghost use Rattle.std.specs.Prelude.{◌≡◌, ◌+◌, ◌≤◌, IfOk, drop, map, length, string_bytes};
 ghost use Rattle.std.specs.List.{sum_by};
 ghost use Rattle.amr_engine.specs.Outcomes.{outcome_view};
 ghost use Rattle.amr_engine.specs.Events.{outcome_of};
