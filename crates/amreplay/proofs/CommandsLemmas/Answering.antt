@@ -18,7 +18,7 @@ use Rattle.amreplay.specs.declared.commands.answer.Answer.{Answer}
 use Rattle.amreplay.specs.declared.commands.answer.Answer.TheVariants.{Refused}
 
 -- the line was parsed, and done or undone
-pub outcome_done : (i : Incident) (n n' : ℕ) (line : Text) (parsed : ParsedLine) (answer : Answer) → length line ≤ longest → LineSays line parsed → Answered i n n' parsed answer → HasLineOutcome i n n' line answer
+pub outcome_done : (i : Incident) (n n' : ℕ) (line : Text) (parsed : ParsedLine) (answer : Answer) → length line ≤ longest → LineSays i.version line parsed → Answered i n n' parsed answer → HasLineOutcome i n n' line answer
 outcome_done i n n' line parsed answer short says (inl replied) = record { line_outcome = Done parsed; may_be = (short, says); replied = replied }
 outcome_done i n n' line parsed answer short says (inr w) = record { line_outcome = Undone parsed; may_be = (short, says, w.0); replied = sym w.1 }
 
@@ -34,7 +34,7 @@ reading_may_fail i n BadMoment h = h
 reading_may_fail i n (BadArgument word) h = tt
 
 -- memory ran out for parsing it
-pub outcome_unread : (i : Incident) (n : ℕ) (line : Text) (word : Word) → length line ≤ longest → FailsToRead line word → HasLineOutcome i n n line (Refused word Memory)
+pub outcome_unread : (i : Incident) (n : ℕ) (line : Text) (word : Word) → length line ≤ longest → FailsToRead i.version line word → HasLineOutcome i n n line (Refused word Memory)
 outcome_unread i n line word short fails =
     record {
       line_outcome = Undone fails.parsed;

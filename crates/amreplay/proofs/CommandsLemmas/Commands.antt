@@ -64,20 +64,20 @@ pub back_at_start : (i : Incident) (n : ℕ) → n ≡ 0 → reply_to i n (comma
 unfolding reply_to
 back_at_start i n e = let h : n ≤ 0 = omega (arith, e) in let b : nat_lt 0 n ≡ false = search (rules, tests) in rw b refl
 
-pub trial_reply : (i : Incident) (n : ℕ) (event : Event) (text : String Global) → string_bytes text ≡ tried_lines n (outcome_of (state_in i n) event) → reply_to i n (command.Trial event) ≡ left n (Built text)
+pub trial_reply : (i : Incident) (n : ℕ) (event : Event) (text : String Global) → string_bytes text ≡ tried_lines n event (outcome_of (state_in i n) event) → reply_to i n (command.Trial event) ≡ left n (Built text)
 unfolding reply_to
 trial_reply i n event text e = ap (λ t. let r : Reply = record { cursor = n; text = t } in r) (sym e)
 
-state_of : (s : View) → s ≡ at_cursor s.config s.events s.cursor → state_in (incident_of s) s.cursor ≡ s.state
+state_of : (s : View) → s ≡ at_cursor s.config s.version s.events s.cursor → state_in (incident_of s) s.cursor ≡ s.state
 state_of s view = sym (ap (λ (v : View). v.state) view)
 
-pub query_reply : (s : View) → s ≡ at_cursor s.config s.events s.cursor → (query : Query) (lines : Vec ℕ) → lines.items ≡ listed s.cursor query s.state → reply_to (incident_of s) s.cursor (command.Query query) ≡ left s.cursor (Listed lines)
+pub query_reply : (s : View) → s ≡ at_cursor s.config s.version s.events s.cursor → (query : Query) (lines : Vec ℕ) → lines.items ≡ listed s.cursor query s.state → reply_to (incident_of s) s.cursor (command.Query query) ≡ left s.cursor (Listed lines)
 unfolding reply_to
 query_reply s view query lines e =
     ap (λ (st : State). let r : Reply = record { cursor = s.cursor; text = listed s.cursor query st } in r) (state_of s view)
     ∙ ap (λ t. let r : Reply = record { cursor = s.cursor; text = t } in r) (sym e)
 
-pub place_reply : (s : View) → s ≡ at_cursor s.config s.events s.cursor → (text : String Global) → string_bytes text ≡ place_line s.cursor (length s.events) s.state.moment → reply_to (incident_of s) s.cursor command.Cursor ≡ left s.cursor (Built text)
+pub place_reply : (s : View) → s ≡ at_cursor s.config s.version s.events s.cursor → (text : String Global) → string_bytes text ≡ place_line s.cursor (length s.events) s.state.moment → reply_to (incident_of s) s.cursor command.Cursor ≡ left s.cursor (Built text)
 unfolding reply_to
 place_reply s view text e =
     ap (λ (st : State). let r : Reply = record { cursor = s.cursor; text = place_line s.cursor (length s.events) st.moment } in r) (state_of s view)

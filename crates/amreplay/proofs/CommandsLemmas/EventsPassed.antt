@@ -1,9 +1,10 @@
 -- Commands that pass events: their lines, one after another, and the cursor after them.
-use Rattle.std.proofs.Common.{◌≡◌, ℕ, ◌+◌, ◌<◌, ◌≤◌, List, [], ◌∷◌, ◌++◌, length, take, drop, map, get_or, Some, slice_get, refl, sym, ap, ◌∙◌, subst, arith, append_assoc, append-nil, length-drop, ⊎_elim, String, string_bytes}
+use Rattle.std.proofs.Common.{◌≡◌, ℕ, ◌+◌, ◌<◌, ◌≤◌, List, [], ◌∷◌, ◌++◌, length, take, drop, map, get_or, Some, slice_get, refl, sym, ap, ◌∙◌, subst, arith, append_assoc, append-nil, length-drop, length-append, ⊎_elim, String, string_bytes}
 use Rattle.std.specs.declared.alloc.Global.{Global}
-use Rattle.std.proofs.lemmas.List.{take_more, length-map, length-take, map-append, drop_all}
-use Rattle.std.proofs.lemmas.Option.{slice_get_cases}
+use Rattle.std.proofs.lemmas.List.{get_or-drop, take_more, length-map, length-take, map-append, drop_all}
+use Rattle.std.proofs.lemmas.Option.{slice_get_cases, slice_get_within, get_or_from_slice_get, slice_get_read}
 use Rattle.amr_lines.specs.Lines.Printed.{event_lines}
+use Rattle.amr_lines.specs.Lines.LastLines.{moves_line}
 use Rattle.amr_lines.specs.declared.lines.word.Word.{Word}
 use Rattle.amr_stated.specs.Config.{Config}
 use Rattle.amr_actions.specs.Events.{Event}
@@ -18,23 +19,48 @@ use Rattle.amreplay.specs.Commands.Answer.{left, Moves}
 use Rattle.amreplay.specs.declared.commands.answer.Answer.{Answer}
 use Rattle.amreplay.specs.declared.commands.answer.Answer.TheVariants.{Built, SoughtBack}
 
--- one more line
-numbered_push : (n : ℕ) (os : List Outcome) (o : Outcome) → numbered_lines n (os ++ o ∷ []) ≡ numbered_lines n os ++ event_lines (n + length os) o
-numbered_push n [] o = append-nil _ ∙ ap (λ k. event_lines k o) (omega arith)
-numbered_push n (p ∷ os) o =
-    let here : n + 1 + length os ≡ n + length (p ∷ os) = omega arith in
-    ap (λ t. event_lines n p ++ t) (numbered_push (n + 1) os o ∙ ap (λ k. numbered_lines (n + 1) os ++ event_lines k o) here)
-    ∙ sym (append_assoc (event_lines n p) (numbered_lines (n + 1) os) _)
+-- there are no lines without outcomes
+pub numbered_none : (n : ℕ) (es : List Event) → numbered_lines n es [] ≡ []
+numbered_none n [] = refl
+numbered_none n (e ∷ es) = refl
 
-pub numbered_more : (n i : ℕ) (os : List code.Outcome) (o : code.Outcome) → i < length os → o ≡ get_or os i o
-    → numbered_lines n (map outcome_view (take (i + 1) os)) ≡ numbered_lines n (map outcome_view (take i os)) ++ event_lines (n + i) (outcome_view o)
-numbered_more n i os o h is =
+-- one more line
+numbered_push : (n : ℕ) (es : List Event) (os : List Outcome) (e : Event) (o : Outcome) → length es ≡ length os
+    → numbered_lines n (es ++ e ∷ []) (os ++ o ∷ []) ≡ numbered_lines n es os ++ event_lines (n + length os) e o
+numbered_push n [] [] e o same = append-nil _ ∙ ap (λ k. event_lines k e o) (omega arith)
+numbered_push n [] (p ∷ os) e o same = absurd (omega (arith, same))
+numbered_push n (d ∷ es) [] e o same = absurd (omega (arith, same))
+numbered_push n (d ∷ es) (p ∷ os) e o same =
+    let here : n + 1 + length os ≡ n + length (p ∷ os) = omega arith in
+    ap (λ t. event_lines n d p ++ t) (numbered_push (n + 1) es os e o (omega (arith, same)) ∙ ap (λ k. numbered_lines (n + 1) es os ++ event_lines k e o) here)
+    ∙ sym (append_assoc (event_lines n d p) (numbered_lines (n + 1) es os) _)
+
+-- as many events as outcomes are enough
+numbered_enough : (n : ℕ) (es : List Event) (os : List Outcome) → length os ≤ length es → numbered_lines n (take (length os) es) os ≡ numbered_lines n es os
+numbered_enough n [] [] enough = refl
+numbered_enough n (e ∷ es) [] enough = refl
+numbered_enough n [] (o ∷ os) enough = absurd (omega (arith, enough))
+numbered_enough n (e ∷ es) (o ∷ os) enough = ap (λ t. event_lines n e o ++ t) (numbered_enough (n + 1) es os (omega (arith, enough)))
+
+pub numbered_more : (n i : ℕ) (es : List Event) (os : List code.Outcome) (e : Event) (o : code.Outcome) → i < length os → o ≡ get_or os i o → slice_get es i ≡ Some e
+    → numbered_lines n es (map outcome_view (take (i + 1) os)) ≡ numbered_lines n es (map outcome_view (take i os)) ++ event_lines (n + i) e (outcome_view o)
+numbered_more n i es os e o h is at =
+    let within : i < length es = slice_get_within es i e at in
+    let views = map outcome_view (take i os) in
     let front : take (i + 1) os ≡ take i os ++ o ∷ [] = take_more os i o h ∙ ap (λ x. take i os ++ x ∷ []) (sym is) in
-    let count : n + length (map outcome_view (take i os)) ≡ n + i = omega (arith, length-map (take i os) outcome_view, length-take i os) in
-    ap (λ x. numbered_lines n (map outcome_view x)) front
-    ∙ ap (numbered_lines n) (map-append outcome_view (take i os) (o ∷ []))
-    ∙ numbered_push n (map outcome_view (take i os)) (outcome_view o)
-    ∙ ap (λ k. numbered_lines n (map outcome_view (take i os)) ++ event_lines k (outcome_view o)) count
+    let counted : length views ≡ i = omega (arith, length-map (take i os) outcome_view, length-take i os) in
+    let grown : map outcome_view (take (i + 1) os) ≡ views ++ outcome_view o ∷ [] = ap (map outcome_view) front ∙ map-append outcome_view (take i os) (o ∷ []) in
+    let all : length (views ++ outcome_view o ∷ []) ≡ i + 1 = omega (arith, counted, length-append views (outcome_view o ∷ [])) in
+    let events : take (i + 1) es ≡ take i es ++ e ∷ [] = take_more es i e within ∙ ap (λ x. take i es ++ x ∷ []) (get_or_from_slice_get es i e e at) in
+    let same : length (take i es) ≡ length views = omega (arith, counted, length-take i es) in
+    ap (numbered_lines n es) grown
+    ∙ sym (numbered_enough n es (views ++ outcome_view o ∷ []) (omega (arith, all)))
+    ∙ ap (λ k. numbered_lines n (take k es) (views ++ outcome_view o ∷ [])) all
+    ∙ ap (λ l. numbered_lines n l (views ++ outcome_view o ∷ [])) events
+    ∙ numbered_push n (take i es) views e (outcome_view o) same
+    ∙ ap (λ k. numbered_lines n (take i es) views ++ event_lines (n + k) e (outcome_view o)) counted
+    ∙ ap (λ k. numbered_lines n (take k es) views ++ event_lines (n + i) e (outcome_view o)) (sym counted)
+    ∙ ap (λ t. t ++ event_lines (n + i) e (outcome_view o)) (numbered_enough n es views (omega (arith, counted)))
 
 length-outcomes_of : (s : State) (es : List Event) → length (outcomes_of s es) ≡ length es
 length-outcomes_of s [] = refl
@@ -53,14 +79,15 @@ passed_none c es n m h = ap (outcomes_of (state_at c es n)) (drop_all n (take m 
 pub moved_back : (i : Incident) (n to : ℕ) (word : Word) → to ≤ n → moved i n word to ≡ left to (SoughtBack word)
 unfolding moved
 moved_back i n to word h =
-    ap (λ os. let r : Reply = record { cursor = to; text = passing_text n word to os } in r) (passed_none i.config i.events n to h)
+    ap (λ os. let r : Reply = record { cursor = to; text = passing_text i.events n word to os } in r) (passed_none i.config i.events n to h)
+    ∙ ap (λ t. let r : Reply = record { cursor = to; text = t ++ moves_line word to 0 } in r) (numbered_none (n + 1) (drop n i.events))
 
 -- the text of the events that were passed was built
 pub moved_built : (i : Incident) (n to : ℕ) (word : Word) (os : List code.Outcome) (text : String Global) → map outcome_view os ≡ outcomes_passed i.config i.events n to
-    → string_bytes text ≡ passing_text n word to (map outcome_view os) → moved i n word to ≡ left to (Built text)
+    → string_bytes text ≡ passing_text i.events n word to (map outcome_view os) → moved i n word to ≡ left to (Built text)
 unfolding moved
 moved_built i n to word os text is built =
-    ap (λ os. let r : Reply = record { cursor = to; text = passing_text n word to os } in r) (sym is)
+    ap (λ os. let r : Reply = record { cursor = to; text = passing_text i.events n word to os } in r) (sym is)
     ∙ ap (λ t. let r : Reply = record { cursor = to; text = t } in r) (sym built)
 
 item : (es : List Event) (n : ℕ) → n < length es → (e : Event) × (slice_get es n ≡ Some e)
@@ -72,8 +99,8 @@ one_passed c es n e o at is =
     ap (λ os. outcome_view o ∷ os) (sym (passed_none c es (n + 1) (n + 1) (omega arith))) ∙ told_more c es n (n + 1) e [] o at (omega arith) is
 
 -- a step passes one event
-pub step_passes : (s t : View) (from : ℕ) (o : code.Outcome) → from ≡ s.cursor → s ≡ at_cursor s.config s.events s.cursor → s.cursor < length s.events
-    → ((e : Event) → slice_get s.events s.cursor ≡ Some e → outcome_view o ≡ outcome_of s.state e) → t ≡ at_cursor s.config s.events (s.cursor + 1)
+pub step_passes : (s t : View) (from : ℕ) (o : code.Outcome) → from ≡ s.cursor → s ≡ at_cursor s.config s.version s.events s.cursor → s.cursor < length s.events
+    → ((e : Event) → slice_get s.events s.cursor ≡ Some e → outcome_view o ≡ outcome_of s.state e) → t ≡ at_cursor s.config s.version s.events (s.cursor + 1)
     → map outcome_view (o ∷ []) ≡ outcomes_passed t.config t.events from t.cursor
 step_passes s t from o place view inside outcome new =
     let e = item s.events s.cursor inside in
@@ -82,7 +109,13 @@ step_passes s t from o place view inside outcome new =
     one ∙ ap (λ n. outcomes_passed s.config s.events n (s.cursor + 1)) (sym place) ∙ ap (λ (v : View). outcomes_passed v.config v.events from v.cursor) (sym new)
 
 -- the place that was reached is that of the command
-pub moves_from : (s t : View) (word : Word) (from to n : ℕ) (answer : Answer) → from ≡ s.cursor → t ≡ at_cursor s.config s.events to
+pub moves_from : (s t : View) (word : Word) (from to n : ℕ) (answer : Answer) → from ≡ s.cursor → t ≡ at_cursor s.config s.version s.events to
     → Moves (incident_of t) from word t.cursor n answer → Moves (incident_of s) s.cursor word to n answer
 moves_from s t word from to n answer place new moves =
     subst (λ k. Moves (incident_of s) k word to n answer) place (subst (λ (v : View). Moves (incident_of v) from word v.cursor n answer) new moves)
+
+-- the event at a place, among those from n on
+pub rest_item : (es : List Event) (n i : ℕ) (e : Event) → slice_get es (n + i) ≡ Some e → slice_get (drop n es) i ≡ Some e
+rest_item es n i e at =
+    let within : n + i < length es = slice_get_within es (n + i) e at in
+    slice_get_read (drop n es) (length (drop n es)) i e refl (omega (arith, within, length-drop n es)) (sym (get_or-drop n es i e ∙ get_or_from_slice_get es (n + i) e e at))

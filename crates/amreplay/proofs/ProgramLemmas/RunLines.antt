@@ -23,9 +23,9 @@ lines_from-append : (n : ℕ) (s : State) (events more : List Event)
 lines_from-append n s [] more = ap (λ m. lines_from m s more) (omega arith)
 lines_from-append n s (event ∷ events) more =
     let counted : n + 1 + length events ≡ n + suc (length events) = omega arith in
-    ap (λ l. event_lines n (outcome_of s event) ++ l) (lines_from-append (n + 1) (after_event s event) events more)
-    ∙ sym (append_assoc (event_lines n (outcome_of s event)) (lines_from (n + 1) (after_event s event) events) (lines_from (n + 1 + length events) (after_events (after_event s event) events) more))
-    ∙ ap (λ m. (event_lines n (outcome_of s event) ++ lines_from (n + 1) (after_event s event) events) ++ lines_from m (after_events (after_event s event) events) more) counted
+    ap (λ l. event_lines n event (outcome_of s event) ++ l) (lines_from-append (n + 1) (after_event s event) events more)
+    ∙ sym (append_assoc (event_lines n event (outcome_of s event)) (lines_from (n + 1) (after_event s event) events) (lines_from (n + 1 + length events) (after_events (after_event s event) events) more))
+    ∙ ap (λ m. (event_lines n event (outcome_of s event) ++ lines_from (n + 1) (after_event s event) events) ++ lines_from m (after_events (after_event s event) events) more) counted
 
 take-slice_get : (k : ℕ) (events : List Event) (event : Event) → slice_get events k ≡ Some event → take (k + 1) events ≡ take k events ++ event ∷ []
 take-slice_get k events event e =
@@ -45,14 +45,14 @@ run_more config events k event e =
 
 -- one more event
 pub run_lines-next : (config : Config) (events : List Event) (k : ℕ) (event : Event) → slice_get events k ≡ Some event
-    → run_lines config (take (k + 1) events) ≡ run_lines config (take k events) ++ event_lines (k + 1) (outcome_of (run_of config (take k events)) event)
+    → run_lines config (take (k + 1) events) ≡ run_lines config (take k events) ++ event_lines (k + 1) event (outcome_of (run_of config (take k events)) event)
 unfolding run_lines
 run_lines-next config events k event e =
     let counted : 1 + length (take k events) ≡ k + 1 = omega (arith, length-take-slice_get k events event e) in
     ap (lines_from 1 (start config)) (take-slice_get k events event e)
     ∙ lines_from-append 1 (start config) (take k events) (event ∷ [])
-    ∙ ap (λ m. lines_from 1 (start config) (take k events) ++ (event_lines m (outcome_of (run_of config (take k events)) event) ++ [])) counted
-    ∙ ap (λ l. lines_from 1 (start config) (take k events) ++ l) (append-nil (event_lines (k + 1) (outcome_of (run_of config (take k events)) event)))
+    ∙ ap (λ m. lines_from 1 (start config) (take k events) ++ (event_lines m event (outcome_of (run_of config (take k events)) event) ++ [])) counted
+    ∙ ap (λ l. lines_from 1 (start config) (take k events) ++ l) (append-nil (event_lines (k + 1) event (outcome_of (run_of config (take k events)) event)))
 
 -- no event
 pub run_lines-none : (a : Option Text) (config : Config) → Appends a a (run_lines config [])
@@ -62,14 +62,14 @@ run_lines-none a config = Appends-nil a
 module _ (a b c : Option Text) (config : Config) (events : List Event) (k : ℕ) (event : Event) (outcome : Outcome)
     (found : slice_get events k ≡ Some event) (is : outcome ≡ outcome_of (run_of config (take k events)) event)
     (before : Appends a b (run_lines config (take k events))) where
-  next_lines : run_lines config (take (k + 1) events) ≡ run_lines config (take k events) ++ event_lines (k + 1) outcome
-  next_lines = run_lines-next config events k event found ∙ ap (λ o. run_lines config (take k events) ++ event_lines (k + 1) o) (sym is)
+  next_lines : run_lines config (take (k + 1) events) ≡ run_lines config (take k events) ++ event_lines (k + 1) event outcome
+  next_lines = run_lines-next config events k event found ∙ ap (λ o. run_lines config (take k events) ++ event_lines (k + 1) event o) (sym is)
 
   -- the lines of one more event are written
-  pub Appends-next : Appends b c (event_lines (k + 1) outcome) → Appends a c (run_lines config (take (k + 1) events))
+  pub Appends-next : Appends b c (event_lines (k + 1) event outcome) → Appends a c (run_lines config (take (k + 1) events))
   Appends-next written = subst (Appends a c) (sym next_lines) (Appends-trans a b c _ _ before written)
 
-  rest_lines : (rest : Text) × (run_lines config events ≡ run_lines config (take k events) ++ (event_lines (k + 1) outcome ++ rest))
+  rest_lines : (rest : Text) × (run_lines config events ≡ run_lines config (take k events) ++ (event_lines (k + 1) event outcome ++ rest))
   unfolding run_lines
   rest_lines =
       let rest : Text = lines_from (1 + length (take (k + 1) events)) (after_events (start config) (take (k + 1) events)) (drop (k + 1) events) in (
@@ -77,11 +77,11 @@ module _ (a b c : Option Text) (config : Config) (events : List Event) (k : ℕ)
         ap (lines_from 1 (start config)) (sym (take-append-drop (k + 1) events))
             ∙ lines_from-append 1 (start config) (take (k + 1) events) (drop (k + 1) events)
             ∙ ap (λ l. l ++ rest) next_lines
-            ∙ append_assoc (run_lines config (take k events)) (event_lines (k + 1) outcome) rest,
+            ∙ append_assoc (run_lines config (take k events)) (event_lines (k + 1) event outcome) rest,
       )
 
   -- the run stops at an event
-  pub RunLeavesAt-event : (error : RunError) → LeavesAt b c (event_lines (k + 1) outcome) error → RunLeavesAt a c config events error
+  pub RunLeavesAt-event : (error : RunError) → LeavesAt b c (event_lines (k + 1) event outcome) error → RunLeavesAt a c config events error
   RunLeavesAt-event Memory left = (k, subst (Appends a c) (append-nil (run_lines config (take k events))) (Appends-trans a b c _ _ before left))
   RunLeavesAt-event CannotWrite left = AppendsBeginning-after a b c _ _ rest_lines.0 _ before left rest_lines.1
 

@@ -3,6 +3,7 @@ use Rattle.std.proofs.Common.{◌≡◌, ℕ, Bool, List, Option, Err, inr, refl
 use Rattle.amr_labels.specs.Labels.{Text}
 use Rattle.amr_stated.specs.Config.{Config}
 use Rattle.amr_actions.specs.Events.{Event}
+use Rattle.amr_events.specs.Scripts.{Script}
 use Rattle.amr_state.specs.State.{State, start}
 use Rattle.amreplay.specs.declared.commands.conversation.ConversationError.{ConversationError}
 use Rattle.amreplay.specs.declared.commands.conversation.ConversationError.TheVariants.{Reading, Writing}
@@ -20,19 +21,19 @@ StopLeaves-error a b config events Memory left = left
 StopLeaves-error a b config events CannotWrite left = left
 
 -- a run over two files stops
-pub FilesLeave-error : (a b : Option Text) (bytes script : List ℕ) (config : Config) (events : List Event) (s : State) (error : RunError)
-    → Hold bytes script config events → s ≡ start config → RunLeavesAt a b s.config events error → FilesLeave a b bytes script (Err (stop_fault error))
-FilesLeave-error a b bytes script config events s error hold is left =
-    inr (config, events, hold, StopLeaves-error a b config events error (subst (λ (t : State). RunLeavesAt a b t.config events error) is left))
+pub FilesLeave-error : (a b : Option Text) (bytes script_bytes : List ℕ) (config : Config) (script : Script) (s : State) (error : RunError)
+    → Hold bytes script_bytes config script → s ≡ start config → RunLeavesAt a b s.config script.events error → FilesLeave a b bytes script_bytes (Err (stop_fault error))
+FilesLeave-error a b bytes script_bytes config script s error hold is left =
+    inr (config, script, hold, StopLeaves-error a b config script.events error (subst (λ (t : State). RunLeavesAt a b t.config script.events error) is left))
 
 pub FaultBy-run_error : (failed failed' : Bool) (error : RunError) → StoppedAt failed failed' error → FaultBy failed failed' (stop_fault error)
 FaultBy-run_error failed failed' Memory h = h
 FaultBy-run_error failed failed' CannotWrite h = h
 
 -- an end of a session over two files fails
-pub SessionLeaves-error : (source left old new : Option Text) (bytes script : List ℕ) (config : Config) (events : List Event) (error : ConversationError)
-    → Hold bytes script config events → Converses (incident_with config events) source left old new (Err error) → SessionLeaves source left old new bytes script (Err (broken_fault error))
-SessionLeaves-error source left old new bytes script config events error hold conversed = inr (config, events, hold, error, refl, conversed)
+pub SessionLeaves-error : (source left old new : Option Text) (bytes script_bytes : List ℕ) (config : Config) (script : Script) (error : ConversationError)
+    → Hold bytes script_bytes config script → Converses (incident_with config script) source left old new (Err error) → SessionLeaves source left old new bytes script_bytes (Err (broken_fault error))
+SessionLeaves-error source left old new bytes script_bytes config script error hold conversed = inr (config, script, hold, error, refl, conversed)
 
 pub FaultOfReading-error : (error : ConversationError) (read read' : Bool) (calls : ℕ) (written written' : Bool) → BreaksBy error read read' calls written written' → FaultOfReading read read' calls (broken_fault error)
 FaultOfReading-error Reading read read' calls written written' h = h.0

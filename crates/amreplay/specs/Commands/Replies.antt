@@ -1,10 +1,11 @@
 -- What a command leaves: the cursor, and what is printed.
-use Rattle.std.specs.Prelude.{ℕ, ◌+◌, ◌-◌, ◌<◌, ◌≤◌, nat_lt, nat_le, List, [], ◌∷◌, ◌++◌, length, if◌then◌else◌, ⊤}
+use Rattle.std.specs.Prelude.{ℕ, ◌+◌, ◌-◌, ◌<◌, ◌≤◌, nat_lt, nat_le, List, [], ◌∷◌, ◌++◌, length, drop, if◌then◌else◌, ⊤}
 use Rattle.std.specs.List.{flat_map, sum_by}
 use Rattle.amr_labels.specs.Map.{entries}
 use Rattle.amr_labels.specs.Labels.{Text}
 use Rattle.amr_stated.specs.Config.{Config}
 use Rattle.amr_actions.specs.Events.{Event}
+use Rattle.amr_events.specs.declared.version.Version.{Version}
 use Rattle.amr_state.specs.State.{State}
 use Rattle.amr_engine.specs.Events.{Outcome, Accepted, Refused, outcome_of}
 use Rattle.amr_state.specs.Seen.{groups_of}
@@ -26,13 +27,14 @@ use Rattle.amr_lines.specs.declared.command_lines.command.ParsedLine.TheVariants
 use Rattle.amreplay.specs.declared.commands.answer.Refusal.TheVariants as refusal
 use Rattle.amreplay.specs.Commands.Refusals.{refusal_number}
 
--- a configuration, and the events of a script
+-- a configuration, and a script by its version and its events
 pub record Incident : Type 0 where
   pub config : Config
+  pub version : Version
   pub events : List Event
 
 abbrev pub incident_of : View → Incident
-incident_of session = record { config = session.config; events = session.events }
+incident_of session = record { config = session.config; version = session.version; events = session.events }
 
 -- the state after the first n events
 abbrev pub state_in : Incident → ℕ → State
@@ -45,24 +47,29 @@ pub record Reply : Type 0 where
 abbrev pub refused : ℕ → Word → ℕ → Reply
 refused cursor word reason = record { cursor = cursor; text = refused_line word cursor reason }
 
--- the lines of events; the first has the number n
-abbrev pub numbered_lines : ℕ → List Outcome → Text
-numbered_lines n [] = []
-numbered_lines n (outcome ∷ outcomes) = event_lines n outcome ++ numbered_lines (n + 1) outcomes
+-- the lines of events, which had these outcomes; the first has the number n
+abbrev pub numbered_lines : ℕ → List Event → List Outcome → Text
+numbered_lines n [] outcomes = []
+numbered_lines n (event ∷ events) [] = []
+numbered_lines n (event ∷ events) (outcome ∷ outcomes) = event_lines n event outcome ++ numbered_lines (n + 1) events outcomes
 
 -- the moves of an event; a refused one has none
 abbrev pub moves_in : Outcome → ℕ
 moves_in (Accepted moves notes skipped) = moves
 moves_in (Refused reason) = 0
 
-abbrev pub passing_text : ℕ → Word → ℕ → List Outcome → Text
-passing_text cursor word to passed = numbered_lines (cursor + 1) passed ++ moves_line word to (sum_by moves_in passed)
+-- the text of passing events from the cursor to a place, with these outcomes
+abbrev pub passing_text : List Event → ℕ → Word → ℕ → List Outcome → Text
+passing_text events cursor word to outcomes =
+    numbered_lines (cursor + 1) (drop cursor events) outcomes ++ moves_line word to (sum_by moves_in outcomes)
 
 -- a move to another place: the lines of the events that are passed forward, and the sum of their
 -- moves
 unfoldable pub moved : Incident → ℕ → Word → ℕ → Reply
-moved incident cursor word to =
-    record { cursor = to; text = passing_text cursor word to (outcomes_passed incident.config incident.events cursor to) }
+moved incident cursor word to = record {
+  cursor = to;
+  text = passing_text incident.events cursor word to (outcomes_passed incident.config incident.events cursor to);
+}
 
 -- the lines that a query lists, of a state
 abbrev pub lines_of : Query → State → Text
@@ -78,8 +85,8 @@ abbrev pub listed : ℕ → Query → State → Text
 listed cursor query s = lines_of query s ++ cursor_line (word_of_query query) cursor
 
 -- an event that is tried has the number 0
-abbrev pub tried_lines : ℕ → Outcome → Text
-tried_lines cursor outcome = event_lines 0 outcome ++ moves_line word.Trial cursor (moves_in outcome)
+abbrev pub tried_lines : ℕ → Event → Outcome → Text
+tried_lines cursor event outcome = event_lines 0 event outcome ++ moves_line word.Trial cursor (moves_in outcome)
 
 -- what a command leaves if memory doesn't run out
 unfoldable pub reply_to : Incident → ℕ → Command → Reply
@@ -87,7 +94,7 @@ reply_to incident n (command.Move Step) = if nat_lt n (length incident.events) t
 reply_to incident n (command.Move Back) = if nat_lt 0 n then record { cursor = n - 1; text = cursor_line word.Back (n - 1) } else refused n word.Back (refusal_number refusal.AtStart)
 reply_to incident n (command.Move (Seek to)) = if nat_le to (length incident.events) then moved incident n word.Seek to else refused n word.Seek (refusal_number refusal.OutOfRange)
 reply_to incident n (command.Move (SeekTime at)) = moved incident n word.SeekTime (events_until at incident.events)
-reply_to incident n (command.Trial event) = record { cursor = n; text = tried_lines n (outcome_of (state_in incident n) event) }
+reply_to incident n (command.Trial event) = record { cursor = n; text = tried_lines n event (outcome_of (state_in incident n) event) }
 reply_to incident n (command.Query query) = record { cursor = n; text = listed n query (state_in incident n) }
 reply_to incident n command.Cursor = record { cursor = n; text = place_line n (length incident.events) (state_in incident n).moment }
 

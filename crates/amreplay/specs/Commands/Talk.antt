@@ -38,8 +38,8 @@ reply incident cursor (Done parsed) = reply_of incident cursor parsed
 abbrev pub MayBe : Incident → ℕ → Text → LineOutcome → Type 0
 MayBe incident cursor line TooLong = longest < length line
 MayBe incident cursor line NoMemory = (0 < length line) × (length line ≤ longest)
-MayBe incident cursor line (Undone parsed) = (length line ≤ longest) × LineSays line parsed × MayFindNoMemory incident cursor parsed
-MayBe incident cursor line (Done parsed) = (length line ≤ longest) × LineSays line parsed
+MayBe incident cursor line (Undone parsed) = (length line ≤ longest) × LineSays incident.version line parsed × MayFindNoMemory incident cursor parsed
+MayBe incident cursor line (Done parsed) = (length line ≤ longest) × LineSays incident.version line parsed
 
 -- the cursor after these lines
 abbrev pub after : Incident → ℕ → List AnsweredLine → ℕ

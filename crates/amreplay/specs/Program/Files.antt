@@ -13,6 +13,7 @@ use Rattle.amr_loading.specs.declared.error.ConfigError.{ConfigError}
 use Rattle.amr_loading.specs.declared.error.ConfigError.TheVariants as config_error
 use Rattle.amr_loading.specs.Reading.{ConfigIs}
 use Rattle.amr_events.specs.Scripts.{ScriptIs}
+use Rattle.amr_events.specs.Scripts as scripts
 use Rattle.amr_replay.specs.Session.{View, at_cursor}
 use Rattle.amreplay.specs.declared.program.fault.Fault.{Fault}
 use Rattle.amreplay.specs.declared.program.fault.Fault.TheVariants.{Config, Script, CannotReadConfig, CannotReadScript, CannotReadCommands, CannotWrite, Memory, Usage}
@@ -45,32 +46,37 @@ ReadsAs bytes (Ok config) = ConfigFileIs bytes (Ok config)
 ReadsAs bytes (Err config_error.Memory) = Unit {0}
 ReadsAs bytes (Err (config_error.Refused refusal)) = ConfigFileIs bytes (Err refusal)
 
--- the files hold the configuration and the events
-pub record Hold (config_bytes script_bytes : List ℕ) (held : config.Config) (events : List Event) : Type 0 where
+-- the files hold the configuration and the script
+pub record Hold (config_bytes script_bytes : List ℕ) (held : config.Config) (script : scripts.Script) : Type 0 where
   pub config_read : ConfigFileIs config_bytes (Ok held)
-  pub script_read : ScriptIs script_bytes (Ok events)
+  pub script_read : ScriptIs script_bytes (Ok script)
 
 -- a file is refused, the configuration before the script; running out of memory says nothing about
 -- them
 abbrev pub AreRefused : List ℕ → List ℕ → Fault → Type 0
-AreRefused bytes script (Config refusal) = ConfigFileIs bytes (Err refusal)
-AreRefused bytes script (Script fault) = (held : config.Config) × ConfigFileIs bytes (Ok held) × ScriptIs script (Err fault)
-AreRefused bytes script CannotReadConfig = ⊥
-AreRefused bytes script CannotReadScript = ⊥
-AreRefused bytes script CannotReadCommands = ⊥
-AreRefused bytes script CannotWrite = ⊥
-AreRefused bytes script Memory = Unit {0}
-AreRefused bytes script Usage = ⊥
+AreRefused bytes script_bytes (Config refusal) = ConfigFileIs bytes (Err refusal)
+AreRefused bytes script_bytes (Script fault) = (held : config.Config) × ConfigFileIs bytes (Ok held) × ScriptIs script_bytes (Err fault)
+AreRefused bytes script_bytes CannotReadConfig = ⊥
+AreRefused bytes script_bytes CannotReadScript = ⊥
+AreRefused bytes script_bytes CannotReadCommands = ⊥
+AreRefused bytes script_bytes CannotWrite = ⊥
+AreRefused bytes script_bytes Memory = Unit {0}
+AreRefused bytes script_bytes Usage = ⊥
 
 -- what the two files hold, or the fault that refuses one of them
-abbrev pub FilesAre : List ℕ → List ℕ → Result (config.Config × List Event) Fault → Type 0
-FilesAre bytes script (Ok held) = Hold bytes script held.0 held.1
-FilesAre bytes script (Err fault) = AreRefused bytes script fault
+abbrev pub FilesAre : List ℕ → List ℕ → Result (config.Config × scripts.Script) Fault → Type 0
+FilesAre bytes script_bytes (Ok held) = Hold bytes script_bytes held.0 held.1
+FilesAre bytes script_bytes (Err fault) = AreRefused bytes script_bytes fault
+
+-- the script of a session
+abbrev pub script_of : View → scripts.Script
+script_of session = record { version = session.version; events = session.events }
 
 -- the session of the files at its start, or the fault that refuses one of them
 abbrev pub Opens : List ℕ → List ℕ → Result View Fault → Type 0
-Opens bytes script (Ok session) = Hold bytes script session.config session.events × (session ≡ at_cursor session.config session.events 0)
-Opens bytes script (Err fault) = AreRefused bytes script fault
+Opens bytes script_bytes (Ok session) =
+    Hold bytes script_bytes session.config (script_of session) × (session ≡ at_cursor session.config session.version session.events 0)
+Opens bytes script_bytes (Err fault) = AreRefused bytes script_bytes fault
 
 -- what a run that stops leaves: the lines of the first events if memory runs out, and a prefix of
 -- the lines if the writer fails
@@ -87,7 +93,7 @@ StopLeaves old new config events Usage = ⊥
 -- A run over two files. If one is refused, its fault is returned and nothing is written; otherwise
 -- the lines of the run are written.
 abbrev pub FilesLeave : Option Text → Option Text → List ℕ → List ℕ → Result (Unit {0}) Fault → Type 0
-FilesLeave old new bytes script (Ok u) = (held : config.Config) × (events : List Event) × Hold bytes script held events × Appends old new (run_lines held events)
-FilesLeave old new bytes script (Err fault) =
-    (AreRefused bytes script fault × Keeps old new)
-    ⊎ ((held : config.Config) × (events : List Event) × Hold bytes script held events × StopLeaves old new held events fault)
+FilesLeave old new bytes script_bytes (Ok u) = (held : config.Config) × (script : scripts.Script) × Hold bytes script_bytes held script × Appends old new (run_lines held script.events)
+FilesLeave old new bytes script_bytes (Err fault) =
+    (AreRefused bytes script_bytes fault × Keeps old new)
+    ⊎ ((held : config.Config) × (script : scripts.Script) × Hold bytes script_bytes held script × StopLeaves old new held script.events fault)

@@ -14,7 +14,7 @@ use Rattle.amr_lines.specs.Lines.Printed.{event_lines}
 -- the lines of events, one after another from a state; the first has the number n
 abbrev pub lines_from : ℕ → State → List Event → Text
 lines_from n s [] = []
-lines_from n s (event ∷ events) = event_lines n (outcome_of s event) ++ lines_from (n + 1) (after_event s event) events
+lines_from n s (event ∷ events) = event_lines n event (outcome_of s event) ++ lines_from (n + 1) (after_event s event) events
 
 -- the lines of the events of a run; the first has the number 1
 unfoldable pub run_lines : Config → List Event → Text

@@ -72,7 +72,7 @@ fn answer_bytes(alloc: Global, session: &mut Session, bytes: &[u8]) -> Answer
         → HasLineOutcome (incident_of session.old) session.old.cursor session.new.cursor
         bytes.now result }
 {
-    match ParsedLine::read(alloc, bytes) {
+    match ParsedLine::read(alloc, session.version(), bytes) {
         Ok(parsed) => answer_parsed(alloc, session, parsed),
         Err(unread) => Answer::Refused(unread.word, Refusal::Memory),
     }

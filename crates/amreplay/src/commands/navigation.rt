@@ -1,7 +1,7 @@
 //! The commands that move the cursor or try an event: `step`, `back`, `seek`, `seek-time` and
 //! `trial`. If memory runs out for the output, the cursor goes back, so that a refused command
 //! changes nothing. `moves_of` counts timers that fired; `moved` and `Moves` are about the cursor.
-ghost use Rattle.std.specs.Prelude.{◌≡◌, ◌+◌, ◌<◌, ◌≤◌, ◌^◌, ◌++◌, IfOk, map, length, string_bytes};
+ghost use Rattle.std.specs.Prelude.{◌≡◌, ◌+◌, ◌<◌, ◌≤◌, ◌^◌, IfOk, drop, map, length, string_bytes};
 ghost use Rattle.std.specs.List.{sum_by};
 ghost use Rattle.amr_engine.specs.Outcomes.{outcome_view};
 ghost use Rattle.amr_engine.specs.Events.{outcome_of};
@@ -36,12 +36,12 @@ pub(crate) fn trial(alloc: Global, session: &mut Session, event: &Event) -> Answ
 fn tried_text(alloc: Global, session: &mut Session, event: &Event) -> Result<String, AllocError>
     ensures same { session.new ≡ session.old }
     ensures text { IfOk result (λ text. string_bytes text
-        ≡ tried_lines session.old.cursor
+        ≡ tried_lines session.old.cursor event.now
         (outcome_of (state_in (incident_of session.old) session.old.cursor) event.now)) }
 {
     let cursor = session.cursor();
     let outcome = session.trial(event)?;
-    let mut text = event_text(alloc, 0, &outcome)?;
+    let mut text = event_text(alloc, 0, event, &outcome)?;
     let moves = moves_of(&outcome);
     text.push_str(moves_text(alloc, Word::Trial, cursor, moves)?.as_str())?;
     Ok(text)
@@ -137,7 +137,7 @@ fn moved(
     if to <= from {
         return Answer::SoughtBack(word);
     }
-    match passed_text(alloc, word, from, to, outcomes) {
+    match passed_text(alloc, session, word, from, outcomes) {
         Ok(text) => Answer::Built(text),
         Err(_) => {
             drop(session.seek(from));
@@ -146,35 +146,45 @@ fn moved(
     }
 }
 
-/// Returns the output of a command that passes events.
+/// Returns the output of a command that passed the events from `from` to the cursor.
 fn passed_text(
     alloc: Global,
+    session: &Session,
     word: Word,
     from: usize,
-    to: usize,
     outcomes: &[Outcome],
 ) -> Result<String, AllocError>
-    requires { from + length outcomes.now < 2 ^ 64 }
+    requires within { from + length outcomes.now ≤ length session.now.events }
+    requires fits { from + length outcomes.now < 2 ^ 64 }
     ensures { IfOk result (λ text. string_bytes text
-        ≡ passing_text from word to (map outcome_view outcomes.now)) }
+        ≡ passing_text session.now.events from word session.now.cursor
+        (map outcome_view outcomes.now)) }
 {
-    let mut text = numbered_text(alloc, from, outcomes)?;
+    let mut text = numbered_text(alloc, session, from, outcomes)?;
     let moves = sum_of_moves(outcomes)?;
-    text.push_str(moves_text(alloc, word, to, moves)?.as_str())?;
+    text.push_str(moves_text(alloc, word, session.cursor(), moves)?.as_str())?;
     Ok(text)
 }
 
-/// Returns the lines of events; `passed` is how many events come before them.
-fn numbered_text(alloc: Global, passed: usize, outcomes: &[Outcome]) -> Result<String, AllocError>
-    requires { passed + length outcomes.now < 2 ^ 64 }
+/// Returns the lines of events, given their outcomes; `passed` is how many events come before them.
+fn numbered_text(
+    alloc: Global,
+    session: &Session,
+    passed: usize,
+    outcomes: &[Outcome],
+) -> Result<String, AllocError>
+    requires within { passed + length outcomes.now ≤ length session.now.events }
+    requires fits { passed + length outcomes.now < 2 ^ 64 }
     ensures { IfOk result (λ text. string_bytes text
-        ≡ numbered_lines (passed + 1) (map outcome_view outcomes.now)) }
+        ≡ numbered_lines (passed + 1) (drop passed session.now.events)
+        (map outcome_view outcomes.now)) }
 {
     let mut text = String::new(alloc);
-    let mut event = passed as u64;
+    let mut index = passed;
     for outcome in outcomes {
-        event += 1;
-        text.push_str(event_text(alloc, event, outcome)?.as_str())?;
+        let event = session.event(index);
+        index += 1;
+        text.push_str(event_text(alloc, index as u64, event, outcome)?.as_str())?;
     }
     Ok(text)
 }

@@ -15,7 +15,7 @@ use serde_json::Value;
 use std::alloc::{AllocError, Global};
 
 /// The most bytes of a configuration, 1 MiB.
-pub const LONGEST_CONFIG: usize = 1_048_576;
+pub(crate) const LONGEST_CONFIG: usize = 1_048_576;
 
 /// Opens a session of a script under a configuration, with the cursor at the start. If both files
 /// are faulty, the fault is that of the configuration.
@@ -39,8 +39,8 @@ pub(crate) fn read_files(
     ensures { FilesAre config.now script.items result }
 {
     let config = read_config(alloc, config)?;
-    let events = Script::read(alloc, script.as_slice())?;
-    Ok((config, events))
+    let script = Script::read(alloc, script.as_slice())?;
+    Ok((config, script))
 }
 
 /// Reads a configuration from the bytes of its file, which must be JSON of at most 1 MiB.

@@ -96,7 +96,7 @@ fn write_run<W: Write>(
 ) -> Result<(), RunError>
     requires { engine.old.state ≡ start engine.old.state.config }
     ensures left { RunLeaves (W.contents out.old.writer) (W.contents out.new.writer)
-        engine.old.state.config script.now result }
+        engine.old.state.config script.now.events result }
     ensures error { StoppedBy result out.old.failed out.new.failed }
 {
     let ended = write_events(alloc, engine, script, out);
@@ -113,7 +113,7 @@ fn write_events<W: Write>(
 ) -> Result<(), RunError>
     requires { engine.old.state ≡ start engine.old.state.config }
     ensures left { RunLeaves (W.contents out.old.writer) (W.contents out.new.writer)
-        engine.old.state.config script.now result }
+        engine.old.state.config script.now.events result }
     ensures error { StoppedBy result out.old.failed out.new.failed }
 {
     for number in 0..script.len() {
@@ -132,7 +132,7 @@ fn pass_event<W: Write>(
     out: &mut Outlet<W>,
 ) -> Result<(), RunError>
     ensures left { Leaves (W.contents out.old.writer) (W.contents out.new.writer)
-        (event_lines number (outcome_of engine.old.state event.now)) result }
+        (event_lines number event.now (outcome_of engine.old.state event.now)) result }
     ensures passed { OnOk result (engine.new.state
         ≡ without_notifications (after_event engine.old.state event.now)) }
     ensures forgotten { OnOk result (engine.new.records ≡ []) }
@@ -141,22 +141,23 @@ fn pass_event<W: Write>(
     let outcome = engine.apply(event)?;
     engine.forget();
     engine.drop_notifications();
-    write_event(alloc, number, &outcome, out)
+    write_event(alloc, number, event, &outcome, out)
 }
 
-/// Writes the lines of an event's outcome. Their text is built first, so that running out of memory
-/// never leaves half a line.
+/// Writes the lines of an event that had this outcome. Their text is built first, so that running
+/// out of memory never leaves half a line.
 fn write_event<W: Write>(
     alloc: Global,
-    event: u64,
+    number: u64,
+    event: &Event,
     outcome: &Outcome,
     out: &mut Outlet<W>,
 ) -> Result<(), RunError>
     ensures left { Leaves (W.contents out.old.writer) (W.contents out.new.writer)
-        (event_lines event (outcome_view outcome.now)) result }
+        (event_lines number event.now (outcome_view outcome.now)) result }
     ensures error { StoppedBy result out.old.failed out.new.failed }
 {
-    let text = event_text(alloc, event, outcome)?;
+    let text = event_text(alloc, number, event, outcome)?;
     write_whole(out, text.as_bytes())?;
     Ok(())
 }
