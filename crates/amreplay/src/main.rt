@@ -8,12 +8,12 @@ mod commands;
 mod program;
 
 use crate::program::{
-    Fault, Form, InputError, LONGEST_CONFIG, check_config, command_of, read_whole, run_script,
-    run_session, status_of, write_fault,
+    Fault, Form, InputError, check_config, command_of, read_config_file, read_script_file,
+    run_script, run_session, status_of, write_fault,
 };
 use amr_lines::lines::{Inlet, Outlet};
 use std::alloc::AllocError;
-use std::io::{BufWriter, Error, ErrorKind, Read};
+use std::io::{BufWriter, Error, ErrorKind};
 use std::process::ExitCode;
 use std::rt::{Env, Files};
 use std::{env, fs};
@@ -40,16 +40,17 @@ fn start(rt: &HostRuntime) -> Result<(), Fault> {
     }
 }
 
-/// Reads a configuration file, stopping one byte past the limit, so that a longer file is known to
-/// be too long.
+/// Reads a configuration file.
 fn config_bytes(rt: &HostRuntime, path: &str) -> Result<Vec<u8>, Fault> {
-    let bytes = read_file(rt, path, LONGEST_CONFIG as u64 + 1);
+    let file = open_file(rt, path).map_err(|unread| fault_of(unread, Fault::CannotReadConfig))?;
+    let bytes = read_config_file(rt.alloc(), &mut Inlet::new(file));
     bytes.map_err(|unread| fault_of(unread, Fault::CannotReadConfig))
 }
 
 /// Reads a script file.
 fn script_bytes(rt: &HostRuntime, path: &str) -> Result<Vec<u8>, Fault> {
-    let bytes = read_file(rt, path, u64::MAX);
+    let file = open_file(rt, path).map_err(|unread| fault_of(unread, Fault::CannotReadScript))?;
+    let bytes = read_script_file(rt.alloc(), &mut Inlet::new(file));
     bytes.map_err(|unread| fault_of(unread, Fault::CannotReadScript))
 }
 
@@ -97,14 +98,9 @@ fn words_of(rt: &(impl Env + AllocGlobal)) -> Result<Vec<String>, Fault> {
     }
 }
 
-/// Reads a file, up to `most` bytes.
-fn read_file(
-    rt: &(impl Files + AllocGlobal),
-    path: &str,
-    most: u64,
-) -> Result<Vec<u8>, InputError> {
-    let file = fs::open(rt, path).map_err(|e| unopened(&e))?;
-    read_whole(rt.alloc(), &mut Inlet::new(file.take(most)))
+/// Opens a file.
+fn open_file<R: Files>(rt: &R, path: &str) -> Result<R::File, InputError> {
+    fs::open(rt, path).map_err(|e| unopened(&e))
 }
 
 /// Returns why a file that couldn't be opened isn't read.

@@ -11,8 +11,8 @@ mod words;
 
 pub use check::check_config;
 pub use fault::{Fault, status_of, write_fault};
-pub use input::{InputError, read_whole};
-pub use load::{LONGEST_CONFIG, open_session, read_config};
+pub use input::{InputError, read_config_file, read_script_file};
+pub use load::{open_session, read_config};
 pub use run::run_script;
 pub use session::run_session;
 pub use words::{Form, command_of};

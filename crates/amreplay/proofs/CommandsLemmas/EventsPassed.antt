@@ -4,6 +4,7 @@ use Rattle.std.specs.declared.alloc.Global.{Global}
 use Rattle.std.proofs.lemmas.List.{get_or-drop, take_more, length-map, length-take, map-append, drop_all}
 use Rattle.std.proofs.lemmas.Option.{slice_get_cases, slice_get_within, get_or_from_slice_get, slice_get_read}
 use Rattle.amr_lines.specs.Lines.Printed.{event_lines}
+use Rattle.amr_lines.specs.Lines.LastLines.{moves_line}
 use Rattle.amr_lines.specs.declared.lines.word.Word.{Word}
 use Rattle.amr_stated.specs.Config.{Config}
 use Rattle.amr_actions.specs.Events.{Event}
@@ -17,6 +18,11 @@ use Rattle.amreplay.specs.Commands.Replies.{Incident, Reply, incident_of, number
 use Rattle.amreplay.specs.Commands.Answer.{left, Moves}
 use Rattle.amreplay.specs.declared.commands.answer.Answer.{Answer}
 use Rattle.amreplay.specs.declared.commands.answer.Answer.TheVariants.{Built, SoughtBack}
+
+-- there are no lines without outcomes
+pub numbered_none : (n : ℕ) (es : List Event) → numbered_lines n es [] ≡ []
+numbered_none n [] = refl
+numbered_none n (e ∷ es) = refl
 
 -- one more line
 numbered_push : (n : ℕ) (es : List Event) (os : List Outcome) (e : Event) (o : Outcome) → length es ≡ length os
@@ -74,6 +80,7 @@ pub moved_back : (i : Incident) (n to : ℕ) (word : Word) → to ≤ n → move
 unfolding moved
 moved_back i n to word h =
     ap (λ os. let r : Reply = record { cursor = to; text = passing_text i.events n word to os } in r) (passed_none i.config i.events n to h)
+    ∙ ap (λ t. let r : Reply = record { cursor = to; text = t ++ moves_line word to 0 } in r) (numbered_none (n + 1) (drop n i.events))
 
 -- the text of the events that were passed was built
 pub moved_built : (i : Incident) (n to : ℕ) (word : Word) (os : List code.Outcome) (text : String Global) → map outcome_view os ≡ outcomes_passed i.config i.events n to

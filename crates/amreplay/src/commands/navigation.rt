@@ -1,7 +1,7 @@
 //! The commands that move the cursor or try an event: `step`, `back`, `seek`, `seek-time` and
 //! `trial`. If memory runs out for the output, the cursor goes back, so that a refused command
 //! changes nothing. `moves_of` counts timers that fired; `moved` and `Moves` are about the cursor.
-ghost use Rattle.std.specs.Prelude.{◌≡◌, ◌+◌, ◌≤◌, IfOk, drop, map, length, string_bytes};
+ghost use Rattle.std.specs.Prelude.{◌≡◌, ◌+◌, ◌<◌, ◌≤◌, ◌^◌, IfOk, drop, map, length, string_bytes};
 ghost use Rattle.std.specs.List.{sum_by};
 ghost use Rattle.amr_engine.specs.Outcomes.{outcome_view};
 ghost use Rattle.amr_engine.specs.Events.{outcome_of};
@@ -154,7 +154,8 @@ fn passed_text(
     from: usize,
     outcomes: &[Outcome],
 ) -> Result<String, AllocError>
-    requires { from + length outcomes.now ≤ length session.now.events }
+    requires within { from + length outcomes.now ≤ length session.now.events }
+    requires fits { from + length outcomes.now < 2 ^ 64 }
     ensures { IfOk result (λ text. string_bytes text
         ≡ passing_text session.now.events from word session.now.cursor
         (map outcome_view outcomes.now)) }
@@ -172,7 +173,8 @@ fn numbered_text(
     passed: usize,
     outcomes: &[Outcome],
 ) -> Result<String, AllocError>
-    requires { passed + length outcomes.now ≤ length session.now.events }
+    requires within { passed + length outcomes.now ≤ length session.now.events }
+    requires fits { passed + length outcomes.now < 2 ^ 64 }
     ensures { IfOk result (λ text. string_bytes text
         ≡ numbered_lines (passed + 1) (drop passed session.now.events)
         (map outcome_view outcomes.now)) }

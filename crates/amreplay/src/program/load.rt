@@ -15,7 +15,7 @@ use serde_json::Value;
 use std::alloc::{AllocError, Global};
 
 /// The most bytes of a configuration, 1 MiB.
-pub const LONGEST_CONFIG: usize = 1_048_576;
+pub(crate) const LONGEST_CONFIG: usize = 1_048_576;
 
 /// Opens a session of a script under a configuration, with the cursor at the start. If both files
 /// are faulty, the fault is that of the configuration.

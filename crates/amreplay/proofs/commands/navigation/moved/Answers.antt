@@ -7,9 +7,13 @@ pub returns-then-to-from-clause-moved : goal.returns-then-to-from-clause-moved
 returns-then-to-from-clause-moved c =
     inl (moved_back (incident_of c.args.session.now) c.args.from c.args.session.now.cursor c.args.word (omega (arith, c.cursor-to.ensures.cursor, c.if-to-from.true)))
 
-pub passed_text-requires : goal.passed_text-requires
-passed_text-requires c =
+pub passed_text-requires-clause-within : goal.passed_text-requires-clause-within
+passed_text-requires-clause-within c =
     omega (arith, c.cursor-to.ensures.cursor, c.cursor-to.ensures.within, passed_fit c.args.session.now.config c.args.session.now.events c.args.from c.args.session.now.cursor c.args.outcomes.now c.requires (omega (arith, c.cursor-to.ensures.cursor, c.if-to-from.false)))
+
+pub passed_text-requires-clause-fits : goal.passed_text-requires-clause-fits
+passed_text-requires-clause-fits c =
+    omega (arith, c.cursor-to.ensures.cursor, passed_fit c.args.session.now.config c.args.session.now.events c.args.from c.args.session.now.cursor c.args.outcomes.now c.requires (omega (arith, c.cursor-to.ensures.cursor, c.if-to-from.false)))
 
 pub returns-in-Ok-clause-moved : goal.returns-in-Ok-clause-moved
 returns-in-Ok-clause-moved c =

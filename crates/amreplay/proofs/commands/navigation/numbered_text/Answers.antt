@@ -1,18 +1,21 @@
 use Rattle.std.proofs.Common.{◌≡◌, ◌+◌, drop, Some, ap, sym, ◌∙◌, ◌++◌, arith, slice_get, string_bytes}
 use Rattle.amr_engine.specs.Outcomes.{outcome_view}
 use Rattle.amr_lines.specs.Lines.Printed.{event_lines}
-use Rattle.amreplay.proofs.CommandsLemmas.EventsPassed.{numbered_more, rest_item}
+use Rattle.amreplay.proofs.CommandsLemmas.EventsPassed.{numbered_none, numbered_more, rest_item}
 use Rattle.amreplay.proofs.commands.navigation.numbered_text.Goals as goal
+
+pub loop-outcome-init : goal.loop-outcome-init
+loop-outcome-init c = (omega arith, c.new-text.ensures.bytes ∙ sym (numbered_none (c.args.passed + 1) (drop c.args.passed c.args.session.now.events)))
 
 pub loop-outcome-preserved : goal.loop-outcome-preserved
 loop-outcome-preserved c =
     let n = c.args.passed in
     let i = c.loop-outcome.outcome-index in
     let o = c.outcome-item.result in
-    let e = c.event.result.now in
+    let e = c.event-event.result.now in
     let events = c.args.session.now.events in
     let number : c.loop-outcome.index + 1 ≡ n + 1 + i = omega (arith, c.loop-outcome.invariant.0) in
-    let at : slice_get events (n + i) ≡ Some e = sym (ap (slice_get events) c.loop-outcome.invariant.0) ∙ c.event.ensures in
+    let at : slice_get events (n + i) ≡ Some e = sym (ap (slice_get events) c.loop-outcome.invariant.0) ∙ c.event-event.ensures in
     let line = c.as_str.ensures.value ∙ c.in_ok-event_text.ensures ∙ ap (λ k. event_lines k e (outcome_view o)) number in (
       omega (arith, c.loop-outcome.invariant.0),
       c.in_ok-push_str.ensures.bytes

@@ -1,0 +1,16 @@
+use Rattle.std.proofs.Common.{◌≡◌, ◌≤◌, ◌-◌}
+use Rattle.std.specs.Io.KnownBytes.{Consumes}
+use Rattle.amr_events.specs.Scripts.{longest_line}
+use Rattle.amreplay.specs.Program.Input.{last_line_len}
+use Rattle.amreplay.proofs.program.input.read_script_file.Given as goal
+
+abbrev pub invariant-loop-bytes : goal.invariant-loop-bytes
+invariant-loop-bytes g l = record {
+  consumed : Consumes (g.R.Read.remaining l.initial.inlet.reader) (g.R.Read.remaining l.inlet.reader) l.bytes.items;
+  failed : l.inlet.failed ≡ l.initial.inlet.failed;
+  line : l.line ≡ last_line_len 0 l.bytes.items;
+  short : l.line ≤ longest_line;
+}
+
+abbrev pub decreases-loop-bytes : goal.decreases-loop-bytes
+decreases-loop-bytes g l = 1_099_511_627_776 - l.inlet.calls
