@@ -109,7 +109,7 @@ def _reasons(each: Difference, names: tuple[Names, Names], at_most: int) -> list
     worse, of = (each.after, names[1]) if each.kind in (LOST, LATER) else (each.before, names[0])
     if worse is None:
         return []
-    return span_lines(worse.reasons, of, at_most, f"      {'B' if of is names[1] else 'A'} ")
+    return span_lines(each.alert, worse.reasons, of, at_most, f"      {'B' if of is names[1] else 'A'} ")
 
 
 def _notifications(before: Story, after: Story) -> Iterator[str]:

@@ -125,7 +125,8 @@ def _reasons(each: Expectation, rows: list[Row], told: list[int], names: Names) 
     if not rows:
         return ["  no route takes it to this receiver"]
     spans = rows[0].spans_in(each.after, told[0] if told else max((span.end for span in rows[0].spans), default=0))
-    return span_lines([span for span in spans if span.verdict != "Told"], names, REASONS_AT_MOST, "  ")
+    untold = [span for span in spans if span.verdict != "Told"]
+    return span_lines(rows[0].alert, untold, names, REASONS_AT_MOST, "  ")
 
 
 def recorded(story: Story) -> Iterator[dict[str, Any]]:

@@ -19,6 +19,7 @@ from .lint.refused import explain
 from .moments import DAY, nanoseconds
 from .program import Fault, Program, Source
 from .script import event_of, script_of
+from .story.times import LAST
 from .telling import printable
 
 STANDARD_INPUT = "-"
@@ -66,11 +67,11 @@ class Inputs:
     def script(self, path: str) -> Given:
         return self.read(path)
 
-    def config(self, path: str, script: Optional[Given] = None) -> Config:
-        """Reads a configuration, and writes it for the program as JSON: its time intervals in UTC for the days of the script. Unknown keys are warned
-        of on standard error, and a fault says where and why the program refuses it."""
+    def config(self, path: str, script: Optional[Given] = None, days_after: int = 0) -> Config:
+        """Reads a configuration, and writes it for the program as JSON: its time intervals in UTC for the days of the script, and some after it.
+        Unknown keys are warned of on standard error, and a fault says where and why the program refuses it."""
         config = self.config_as_it_is(path)
-        config = self.in_utc(config, script)
+        config = self.in_utc(config, script, days_after)
         _check(config)
         return config
 
@@ -83,13 +84,13 @@ class Inputs:
             raise Fault(f"amreplay: {given.name}: {_why_unread(given.data, error)}") from error
         return Config(given.name, reading, self.write(reading.as_json()))
 
-    def in_utc(self, config: Config, script: Optional[Given]) -> Config:
-        """Returns a configuration with its time intervals in UTC, for the days of a script, or for one day without it."""
+    def in_utc(self, config: Config, script: Optional[Given], days_after: int = 0) -> Config:
+        """Returns a configuration with its time intervals in UTC, for the days of a script and some after it, or for one day without it."""
         if b"location" not in config.reading.original:
             return config
-        times = times_of(script.data) if script is not None else None
+        first, last = (times_of(script.data) if script is not None else None) or A_DAY
         try:
-            value, names = in_utc(config.reading.value, *(times or A_DAY))
+            value, names = in_utc(config.reading.value, first, min(last + days_after * DAY, LAST))
         except BadZone:
             return config
         if not names:

@@ -58,6 +58,12 @@ def lines_of(data: bytes) -> list[bytes]:
     return script_of(data).lines
 
 
+def plain_id(text: str) -> str:
+    """Returns an id as the program prints it, whichever of its forms the script has."""
+    digits = text.lower().removeprefix("urn:uuid:").strip("{}").replace("-", "")
+    return "-".join((digits[:8], digits[8:12], digits[12:16], digits[16:20], digits[20:])) if digits else ""
+
+
 def event_of(line: bytes) -> Event:
     """Reads one line."""
     value = json.loads(line)

@@ -5,7 +5,7 @@ from __future__ import annotations
 import re
 from typing import Iterable
 
-from .story.model import TOLD, Row, Span
+from .story.model import TOLD, Pairs, Row, Span
 from .story.names import Names
 
 HIDDEN = re.compile(r"[\x00-\x1f\x7f-\x9f\u200b-\u200f\u2028-\u202e\u2066-\u2069\ufeff\ud800-\udfff]")
@@ -30,21 +30,22 @@ def receivers_text(rows: Iterable[Row]) -> str:
     return ", ".join(f"{name} ({', '.join(listed)})" if any(listed) else name for name, listed in integrations.items())
 
 
-def joined(spans: list[Span], names: Names) -> list[tuple[int, int, str]]:
-    """Puts spans together that follow one another with the same words."""
+def joined(alert: Pairs, spans: list[Span], names: Names) -> list[tuple[int, int, str]]:
+    """Puts spans of an alert together that follow one another with the same words."""
     found: list[tuple[int, int, str]] = []
     for span in spans:
-        reason = "notified" if span.verdict == TOLD else names.reason(span)
-        if found and found[-1][1] == span.start and found[-1][2] == reason:
-            found[-1] = (found[-1][0], span.end, reason)
-        else:
-            found.append((span.start, span.end, reason))
+        told = [(span.start, span.end, "notified")] if span.verdict == TOLD else names.parts(alert, span)
+        for start, end, reason in told:
+            if found and found[-1][1] == start and found[-1][2] == reason:
+                found[-1] = (found[-1][0], end, reason)
+            else:
+                found.append((start, end, reason))
     return found
 
 
-def span_lines(spans: list[Span], names: Names, at_most: int, indent: str) -> list[str]:
-    """Returns a line for each span, as many as are wanted, and how many more there are."""
-    together = joined(spans, names)
+def span_lines(alert: Pairs, spans: list[Span], names: Names, at_most: int, indent: str) -> list[str]:
+    """Returns a line for each span of an alert, as many as are wanted, and how many more there are."""
+    together = joined(alert, spans, names)
     lines = [
         f"{indent}{names.moment(start)}-{names.moment(end)}  {reason}" for start, end, reason in together[:at_most]
     ]

@@ -14,9 +14,10 @@ from .labels import contains, labels_in
 from .meant import did_you_mean
 from .program import Fault
 from .story import Pairs, Story, story_of
+from .story.reasons import reasons_of
 from .story.sections import LATE_AFTER
 from .why_json import as_json
-from .why_text import Telling, text_of
+from .why_text import Telling, text_of, told_in_full
 
 
 def main(arguments: list[str]) -> int:
@@ -25,15 +26,20 @@ def main(arguments: list[str]) -> int:
     with opened() as inputs:
         script = inputs.script(options.script)
         config = inputs.config(options.config, script)
-        story = story_of(inputs.source(config, script), config.value)
-    part = labels_in(options.alert, "--alert") if options.alert else None
-    _check_receiver(story, options.receiver)
-    kept = _with_labels(story, part) if part is not None else story
-    if options.output == "json":
-        json.dump(as_json(story, kept, options.late, options.receiver), sys.stdout, ensure_ascii=False, indent=1)
+        source = inputs.source(config, script)
+        story = story_of(source, config.value)
+        part = labels_in(options.alert, "--alert") if options.alert else None
+        _check_receiver(story, options.receiver)
+        kept = _with_labels(story, part) if part is not None else story
+        is_json = options.output == "json"
+        telling = Telling(options.late, options.receiver, part is not None or options.all or is_json)
+        reasons = reasons_of(source, story, told_in_full(kept, telling))
+    if is_json:
+        told = as_json(story, kept, options.late, options.receiver, reasons)
+        json.dump(told, sys.stdout, ensure_ascii=False, indent=1)
         print()
     else:
-        print(text_of(story, kept, Telling(options.late, options.receiver, part is not None or options.all)), end="")
+        print(text_of(story, kept, telling, reasons), end="")
     return 0
 
 

@@ -7,10 +7,13 @@ from typing import Any, Optional
 from .moments import SECOND, moment_text
 from .story.model import First, Row, Span, Story
 from .story.names import Names
+from .story.reasons import Reasons
 from .story.sections import Entry, entries_of
 
 
-def as_json(story: Story, kept: Story, late_after: int, receiver: Optional[str]) -> dict[str, Any]:
+def as_json(
+    story: Story, kept: Story, late_after: int, receiver: Optional[str], reasons: Optional[Reasons] = None
+) -> dict[str, Any]:
     """Returns the story as an object. Moments are texts, and lengths are seconds."""
     names = Names(story)
     entries = entries_of(kept, late_after, receiver)
@@ -24,7 +27,7 @@ def as_json(story: Story, kept: Story, late_after: int, receiver: Optional[str])
             for each in story.marks
         ],
         "firings": [_firing(entry) for entry in entries],
-        "rows": [_row(row, names) for row in kept.rows if receiver in (None, row.receiver)],
+        "rows": [_row(row, names, reasons) for row in kept.rows if receiver in (None, row.receiver)],
         "unasked": story.unasked,
     }
 
@@ -54,14 +57,20 @@ def _first(first: First) -> dict[str, Any]:
     }
 
 
-def _row(row: Row, names: Names) -> dict[str, Any]:
+def _row(row: Row, names: Names, reasons: Optional[Reasons]) -> dict[str, Any]:
     sent = [{"at": moment_text(each.at), "firing": each.is_firing, "route": each.route} for each in row.sent]
     return {
         "labels": dict(row.alert),
         **_whom(row),
         "sent": sent,
-        "spans": [span_as_json(span, names) for span in row.spans],
+        "spans": [{**span_as_json(span, names), **_also(row, span, names, reasons)} for span in row.spans],
     }
+
+
+def _also(row: Row, span: Span, names: Names, reasons: Optional[Reasons]) -> dict[str, Any]:
+    """Returns what else mutes the alert within a span, where anything does."""
+    found = reasons.others(row.alert, span) if reasons is not None else []
+    return {"also": [span_as_json(each, names) for each in found]} if found else {}
 
 
 def span_as_json(span: Span, names: Names) -> dict[str, Any]:

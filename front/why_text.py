@@ -7,9 +7,22 @@ from dataclasses import dataclass
 from typing import Iterator, Optional
 
 from .moments import SECOND, clock_text, length_text
-from .story.model import NOWHERE, Span, Story
+from .story.model import NOWHERE, Pairs, Span, Story
 from .story.names import Names, is_one_day
-from .story.sections import EXPECTED, LATE, LATE_AFTER, NO_INTEGRATION, NOBODY, SECTIONS, SOME, Entry, Told, entries_of
+from .story.reasons import Reasons
+from .story.sections import (
+    EXPECTED,
+    LATE,
+    LATE_AFTER,
+    NO_INTEGRATION,
+    NOBODY,
+    SECTIONS,
+    SOME,
+    Entry,
+    Told,
+    by_section,
+    entries_of,
+)
 from .telling import count_text, joined, printable, receivers_text, span_lines
 
 TITLES = {
@@ -40,14 +53,25 @@ class Telling:
     is_full: bool = False
 
 
-def text_of(story: Story, kept: Optional[Story] = None, telling: Telling = Telling()) -> str:
-    """Returns the text of a story. `kept` has some of its alerts alone."""
-    return "".join(f"{printable(line)}\n" for line in _lines(story, kept or story, telling))
+def text_of(
+    story: Story, kept: Optional[Story] = None, telling: Telling = Telling(), reasons: Optional[Reasons] = None
+) -> str:
+    """Returns the text of a story, with the first reasons of its spans or all. `kept` has some of its alerts alone."""
+    return "".join(f"{printable(line)}\n" for line in _lines(story, kept or story, telling, reasons))
 
 
-def _lines(story: Story, kept: Story, telling: Telling) -> Iterator[str]:
+def told_in_full(kept: Story, telling: Telling) -> list[Pairs]:
+    """Returns the alerts whose reasons the text has."""
     entries = entries_of(kept, telling.late_after, telling.receiver)
-    names = Names(story)
+    if telling.is_full:
+        return by_section(entries)
+    sections = [[entry for entry in entries if entry.section == section] for section in SECTIONS if section != EXPECTED]
+    return by_section([entry for listed in sections for entry in listed[:ENTRIES_AT_MOST]])
+
+
+def _lines(story: Story, kept: Story, telling: Telling, reasons: Optional[Reasons]) -> Iterator[str]:
+    entries = entries_of(kept, telling.late_after, telling.receiver)
+    names = Names(story, reasons)
     yield from _head(story, kept, entries, names, telling)
     for section in SECTIONS:
         listed = [entry for entry in entries if entry.section == section]
@@ -142,6 +166,6 @@ def _shown(told: Told, telling: Telling) -> list[Span]:
 
 def _spans(told: Told, names: Names, telling: Telling) -> list[str]:
     spans = _shown(told, telling)
-    lines = span_lines(spans, names, len(spans) if telling.is_full else SPANS_AT_MOST, "      ")
+    lines = span_lines(told.row.alert, spans, names, len(spans) if telling.is_full else SPANS_AT_MOST, "      ")
     final = told.row.final if told.first.firing.is_open and (telling.is_full or not told.first.is_notified) else None
     return [*lines, f"      {names.moment(final.start)}, the end  {names.reason(final)}"] if final else lines

@@ -1,10 +1,12 @@
-"""The words of the front: what each is for, and where its `main(arguments) -> status` is."""
+"""The words of the front: what each does, and where its `main(arguments) -> status` is."""
 
 from __future__ import annotations
 
 import importlib
 from dataclasses import dataclass
 from typing import Callable, cast
+
+from .program import TOP
 
 Main = Callable[[list[str]], int]
 
@@ -17,18 +19,18 @@ class Word:
     summary: str
 
 
-WORDS = {
-    "capture": Word("front.capture", "makes CONFIG and SCRIPT from a running Prometheus and Alertmanager"),
-    "compare": Word("front.compare", "sets the replay beside what a receiver really got"),
-    "why": Word("front.why", "says who was notified when, who wasn't, and why"),
-    "page": Word("front.page", "writes one page of the incident, to look at and to share"),
-    "diff": Word("front.diff", "says what another configuration would have gained and lost"),
-    "expect": Word("front.expect", "tests a configuration: who is notified by when, and who never"),
-    "lint": Word(
-        "front.lint.word", "says what is wrong or odd in a configuration or a script, where, and what to write"
-    ),
-    "routes": Word("front.routes", "prints the tree of routes, and which of them take an alert"),
-}
+# Where a word's `main` is, if not in the module of its name.
+MODULES = {"lint": "front.lint.word"}
+
+
+def _listed() -> dict[str, Word]:
+    """Returns the words of the front, as the list of all words has them."""
+    lines = (TOP / "words.txt").read_text("utf-8").splitlines()
+    listed = [line.split(None, 2) for line in lines if line and not line.startswith("#")]
+    return {word: Word(MODULES.get(word, f"front.{word}"), does) for who, word, does in listed if who == "front"}
+
+
+WORDS = _listed()
 
 
 def load(word: str) -> Main:

@@ -16,11 +16,11 @@ from ..config.cut import cut
 from ..config.yaml_config import BadConfiguration, Reading, read_config
 from ..config.zones import BadZone, in_utc
 from ..moments import HOUR, length_of, nanoseconds
+from ..progress import Progress
 from .alertmanager import Alertmanager, alertmanager_of
 from .assembly import Assembly, Span, assemble
 from .faults import fault, time_limit
 from .folders import appearing, free_folder
-from .progress import Progress
 from .prometheus import prometheus_of
 from .report import report
 from .servers import Headers, HttpServer, SavedServer, Server, TooLarge, url_of

@@ -6,9 +6,9 @@ from dataclasses import dataclass, field
 from typing import Iterator
 
 from ..moments import HOUR, MINUTE, SECOND, length_of
+from ..progress import Progress
 from .answers import Answer
 from .faults import fault
-from .progress import Progress
 from .prometheus_config import PrometheusConfig, prometheus_config
 from .servers import SavedServer, Server, TooLarge
 

@@ -7,7 +7,7 @@ from typing import Any, Iterator, Union
 from ..program import Fault
 
 try:
-    import yaml  # type: ignore[import]
+    import yaml
 except ModuleNotFoundError:
     raise Fault("amreplay: reading a configuration needs PyYAML; Debian's package is python3-yaml") from None
 

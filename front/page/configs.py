@@ -6,7 +6,6 @@ import json
 from typing import Any
 
 from ..story.config import Route, Rule, routes_of, rules_of
-from .intervals import Intervals, text_of
 
 BYTES_AT_MOST = 1_000_000
 SETTINGS = ("group_wait", "group_interval", "repeat_interval")
@@ -20,8 +19,6 @@ class Configs:
     def __init__(self) -> None:
         self._numbers: dict[str, int] = {}
         self._written: list[Any] = []
-        self._intervals: list[Intervals] = []
-        self._routes: list[list[Route]] = []
         self._size = 0
 
     def number(self, config: Config) -> int:
@@ -29,14 +26,8 @@ class Configs:
         text = json.dumps(config, sort_keys=True)
         if text not in self._numbers:
             self._numbers[text] = len(self._numbers)
-            self._intervals.append(Intervals(config))
-            self._routes.append(routes_of(config))
             self._written.append(self._shown(config))
         return self._numbers[text]
-
-    def muting(self, number: int, route: int, verdict: str, moment: int) -> tuple[list[str], int | None]:
-        """Returns the intervals that muted a route of a configuration, and until when."""
-        return self._intervals[number].muting(self._routes[number][route].value, verdict, moment)
 
     def written(self) -> list[Any]:
         return self._written
@@ -46,7 +37,9 @@ class Configs:
             "routes": [_route(route) for route in routes_of(config)],
             "rules": [_rule(rule) for rule in rules_of(config)],
             "intervals": [
-                {"name": name, "text": text_of(members)} for name, members in Intervals(config).members.items()
+                {"name": each["name"], "text": text_of(each.get("time_intervals") or [])}
+                for key in ("mute_time_intervals", "time_intervals")
+                for each in config.get(key) or []
             ],
             "receivers": [{"name": each["name"], "kinds": _kinds(each)} for each in config.get("receivers") or []],
         }
@@ -72,6 +65,18 @@ def _route(route: Route) -> dict[str, Any]:
 
 def _rule(rule: Rule) -> dict[str, Any]:
     return {"number": rule.number, "source": rule.source_texts, "target": rule.target_texts, "equal": list(rule.equal)}
+
+
+def text_of(members: list[dict[str, Any]]) -> str:
+    """Returns what an interval holds, as a text: `00:00-06:00 or 22:00-24:00; or monday:friday`."""
+    return "; or ".join(_text(member) for member in members) or "never"
+
+
+def _text(member: dict[str, Any]) -> str:
+    parts = [" or ".join(f"{each['start_time']}-{each['end_time']}" for each in member.get("times") or [])]
+    for key, word in (("weekdays", ""), ("days_of_month", "days "), ("months", ""), ("years", "")):
+        parts.append(word + ", ".join(map(str, member.get(key) or [])) if member.get(key) else "")
+    return ", ".join(filter(None, parts)) or "always"
 
 
 def _kinds(receiver: Config) -> list[str]:

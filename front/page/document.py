@@ -22,6 +22,7 @@ SCRIPTS = (
     "config.js",
     "summary.js",
     "why.js",
+    "markdown.js",
     "whatif.js",
     "address.js",
     "main.js",

@@ -5,25 +5,25 @@ from __future__ import annotations
 import argparse
 import json
 from dataclasses import dataclass, replace
-from functools import partial
 from pathlib import Path
 from typing import Any
 
 from ..diff import without_reloads
-from ..inputs import Given, Inputs, opened, shown
-from ..moments import moment_text, nanoseconds
+from ..inputs import Given, Inputs, opened, shown, times_of
+from ..moments import DAY, moment_text, nanoseconds
 from ..program import Fault, Source, answers_of
+from ..progress import Progress
 from ..script import Event, Script, event_of, script_of
+from ..story.times import DAYS_AFTER
 from ..telling import count_text
 from . import document
 from .compare import compare
 from .configs import Configs
-from .progress import Progress
 from .rows import differences
 from .runs import Run, Thinning, Wanted, act, collect, note, notes_of, outcome, rows_of, written
 from .states import count_events
 from .tables import Pairs, Tables
-from .told import reloads_of, told
+from .told import Telling, reloads_of
 from .workers import Part
 
 EVENTS_AT_MOST = 20_000
@@ -58,10 +58,11 @@ class Trial:
 
 @dataclass(frozen=True)
 class Replay:
-    """What is replayed for a run: the files, and the value of the configuration."""
+    """What is replayed for a run: the files, the value of the configuration, and the last day of which its time intervals are known, if not all."""
 
     source: Source
     config: dict[str, Any]
+    last_day: int | None
 
 
 @dataclass(frozen=True)
@@ -87,9 +88,9 @@ def make(options: Options) -> str:
 
 
 def _collected(options: Options, inputs: Inputs, wanted: Wanted) -> Collected:
-    config, given = inputs.config(options.config), inputs.script(options.script)
+    given = inputs.script(options.script)
     used = without_reloads(given) if options.ignore_reloads else given
-    replay = Replay(inputs.source(config, used), config.value)
+    replay = _replay(options.config, inputs, used)
     count = count_events(replay.source)
     script = script_of(used.data) if count else Script([], [], b"")
     other = _other(options, inputs, used)
@@ -109,16 +110,23 @@ def _collected(options: Options, inputs: Inputs, wanted: Wanted) -> Collected:
 
 
 def _run(name: str, replay: Replay, lines: list[bytes], part: Part, wanted: Wanted, has_trials: bool) -> Run:
-    telling = partial(told, replay.source, replay.config, wanted.room, has_trials)
-    return collect(name, replay.source, lines, part, wanted, telling)
+    telling = Telling(replay.source, replay.config, tuple(wanted.named), replay.last_day)
+    return collect(name, telling, lines, part, wanted, has_trials)
+
+
+def _replay(path: str, inputs: Inputs, script: Given) -> Replay:
+    """Reads a configuration. Its time intervals are known for some days after the script, so that the page can say until when they mute."""
+    config = inputs.config(path, script, DAYS_AFTER)
+    times = times_of(script.data)
+    last_day = times[1] // DAY + DAYS_AFTER if config.in_zones and times else None
+    return Replay(inputs.source(config, script), config.value, last_day)
 
 
 def _other(options: Options, inputs: Inputs, script: Given) -> Replay | None:
     """Returns what is replayed under the other configuration, if one is given."""
     if options.against is None:
         return None
-    config = inputs.config(options.against)
-    replay = Replay(inputs.source(config, script), config.value)
+    replay = _replay(options.against, inputs, script)
     count_events(replay.source)
     return replay
 
@@ -167,7 +175,7 @@ def _with_tried(
     lines = [*script.lines[: trial.cursor], tried, *script.lines[trial.cursor :]]
     file = wanted.room / "tried.jsonl"
     file.write_bytes(script.text(lines))
-    changed = Replay(replace(replay.source, script=str(file)), replay.config)
+    changed = replace(replay, source=replace(replay.source, script=str(file)))
     run = _run(name, changed, lines, Part(part.first, part.last + 1), wanted, False)
     run.tried = trial.cursor + 1
     return run
@@ -229,7 +237,8 @@ def _data(collected: Collected, thinning: Thinning, options: Options) -> dict[st
         "differences": differ,
         "trials": trials,
         "named": [tables.labels(dict(labels)) for each in first.named for labels in each],
-        "notices": [*collected.notices, *([first.told.left_out] if first.told.left_out else [])],
+        "mutes": len(first.told.mutes),
+        "notices": collected.notices,
         "configs": configs.written(),
         **tables.written(),
     }

@@ -9,10 +9,17 @@ from typing import Any
 from ..moments import moment_text
 from ..story import Row, Span
 from ..story.differing import KINDS, LOST, NEW, SAME, Difference, differences_of, moment_of
+from ..story.mutes import MUTES
+from ..story.reasons import Reasoned
 from ..story.sections import SECTIONS, Entry, Told as ToldOf, entries_of
+from ..story.times import TIMES
 from .configs import Configs
 from .tables import Tables
-from .told import TIMES, Reasoned, Told, Without, key_of
+from .told import Told, Without, key_of
+
+
+ALSO_AT_MOST = 8
+HELD_AT_MOST = 500
 
 
 class RowWriter:
@@ -39,12 +46,43 @@ class RowWriter:
             "entries": [self._entry(entry) for entry in entries_of(story) if self._has(entry)],
             "receivers": [[self._tables.text(name), count] for name, count in sorted(story.receivers.items())],
             "configs": [list(each) for each in zip(starts, self._numbers)],
+            "firstAlone": self._first_alone(),
+            "times": self._times(),
             "unasked": self._tables.text(f"Not all was asked: {story.unasked}." if story.unasked else None),
         }
 
     def trials(self) -> list[Any]:
         """Returns the trials, as the page has them."""
         return [self._trial(trial) for trial in self._told.trials]
+
+    def _times(self) -> list[Any]:
+        """Writes when the time intervals hold that routes use: whether they mute, whether routes are active then, and from when to when."""
+        story, times = self._told.story, self._told.reasons.times
+        if not times.is_whole:
+            return []
+        edges = [max(self._first, story.start), *story.config_starts[1:], self._last]
+        held: dict[str, list[tuple[int, int]]] = {}
+        uses: dict[str, set[str]] = {}
+        for config, (start, end) in enumerate(zip(edges, edges[1:])):
+            for name, use in times.used(config):
+                uses.setdefault(name, set()).add(use)
+                found = times.held(config, name, max(start, edges[0]), min(end, self._last))
+                listed = held.setdefault(name, [])
+                listed += [each for each in found if each not in listed]
+        return [
+            [
+                self._tables.text(name),
+                int("mute" in uses[name]),
+                int("active" in uses[name]),
+                [self._moment(at) for span in _merged(spans)[:HELD_AT_MOST] for at in span],
+            ]
+            for name, spans in held.items()
+        ]
+
+    def _first_alone(self) -> list[int]:
+        """Returns the alerts of whose mutes the first alone is known."""
+        muted = {row.alert for row in self._rows if any(span.verdict in MUTES for span in row.spans)}
+        return [self._tables.labels(dict(alert)) for alert in sorted(muted) if not self._told.asked(alert)]
 
     def verdict(self, line: bytes) -> int:
         """Returns the number of a verdict, by the program's line."""
@@ -102,18 +140,26 @@ class RowWriter:
         span = replace(
             reasoned.span, start=max(reasoned.span.start, self._first), end=min(reasoned.span.end, self._last)
         )
-        also = [[self._verdict_of(each), *self._muting(each)] for each in reasoned.also]
-        written = [self._moment(span.start), self._moment(span.end), self._verdict_of(span), *self._muting(span)]
-        return [*written, also] if also else written if written[3] else written[:3]
+        also = [[self._verdict_of(each), *self._muting(each, span.start)] for each in reasoned.also[:ALSO_AT_MOST]]
+        more = max(0, len(reasoned.also) - ALSO_AT_MOST)
+        written = [
+            self._moment(span.start),
+            self._moment(span.end),
+            self._verdict_of(span),
+            *self._muting(span, span.start),
+        ]
+        if also:
+            return [*written, also, more] if more else [*written, also]
+        return written if written[3] else written[:3]
 
     def _verdict_of(self, span: Span) -> int:
         return self.verdict(json.dumps(span.line, ensure_ascii=False, separators=(",", ":"), sort_keys=True).encode())
 
-    def _muting(self, span: Span) -> list[Any]:
-        """Writes which intervals muted, and until when; or 0 and 0."""
+    def _muting(self, span: Span, at: int) -> list[Any]:
+        """Writes which intervals muted at a moment, and until when; or 0 and 0."""
         if span.verdict not in TIMES:
             return [0, 0]
-        names, until = self._configs.muting(self._numbers[span.config], span.line["route"], span.verdict, span.start)
+        names, until = self._told.reasons.times.muting(span.config, span.line["route"], at)
         return [[self._tables.text(name) for name in names], 0 if until is None else self._moment(until)]
 
     def _trial(self, trial: Without) -> list[Any]:
@@ -125,6 +171,17 @@ class RowWriter:
             if each.key in self._places
         ]
         return [0 if is_silence else 1, what, trial.more, trial.fewer, rows]
+
+
+def _merged(spans: list[tuple[int, int]]) -> list[tuple[int, int]]:
+    """Joins times that follow each other."""
+    merged: list[tuple[int, int]] = []
+    for start, end in spans:
+        if merged and merged[-1][1] >= start:
+            merged[-1] = (merged[-1][0], max(end, merged[-1][1]))
+        else:
+            merged.append((start, end))
+    return merged
 
 
 def _joined(spans: list[list[Any]]) -> list[list[Any]]:

@@ -9,18 +9,17 @@ from pathlib import Path
 from typing import Any
 
 from ..moments import nanoseconds
-from ..program import Source
+from ..progress import Progress
 from ..script import ACTS, Event, event_of
 from . import flushes, histories
 from .configs import Configs
 from .histories import Entry, Key
-from .progress import Progress
 from .rows import RowWriter
 from .states import LISTS, Seen, Watched, watch
 from .tables import Pairs, Tables
-from .told import Told
+from .told import Telling, Told, told, trying
 from .verdicts import Why, asking, containing, explained, known_alerts, planned
-from .workers import Part, Task, beside, over
+from .workers import Part, beside, over
 
 
 NOT_GIVEN = re.compile(r"0001-01-01T00:00:00(\.0{1,9})?Z")
@@ -58,9 +57,10 @@ class Wanted:
     progress: Progress
 
 
-def collect(name: str, source: Source, lines: list[bytes], part: Part, wanted: Wanted, telling: Task) -> Run:
-    """Collects a run over the part. The lines are those of the script's events, and `telling` tells of the run beside the rest."""
-    with beside(telling) as told:
+def collect(name: str, telling: Telling, lines: list[bytes], part: Part, wanted: Wanted, has_trials: bool) -> Run:
+    """Collects a run over the part. The lines are those of the script's events. The story is told beside the rest."""
+    source = telling.source
+    with beside(partial(told, telling)) as telling_of:
         watched = watch(source, part, wanted.progress, f"{name}: states")
         known = known_alerts(watched)
         named = [containing(known, labels) for labels in wanted.named]
@@ -68,7 +68,12 @@ def collect(name: str, source: Source, lines: list[bytes], part: Part, wanted: W
         hidden = partial(flushes.flushes_between, source, lines, watched, wanted.room)
         between, *answers = over([hidden, *asking(source, plan)], part, f"{name}: explanations", wanted.progress)
         events = [event_of(line) for line in lines[part.first - 1 : part.last]]
-        return Run(name, watched, events, explained(plan, answers), between, told(), named)
+        found = telling_of()
+    if has_trials and found.mutes:
+        tasks = trying(found, telling, wanted.room)
+        tried = over(tasks, Part(1, len(tasks)), f"{name}: what would have been", wanted.progress)
+        found.trials = [trial for trial in tried if trial is not None]
+    return Run(name, watched, events, explained(plan, answers), between, found, named)
 
 
 def notes_of(run: Run) -> list[tuple[int, dict[str, Any]]]:

@@ -7,8 +7,8 @@ from functools import partial
 from typing import Any, Callable, Iterator
 
 from .differences import Change, change
-from .progress import Progress
 from ..program import Answer, Source, answers_of, converse, converse_in_turn
+from ..progress import Progress
 from .workers import PIECES, Part, count_done, over
 
 LISTS = ("alerts", "silences", "groups", "log")

@@ -1,33 +1,33 @@
-"""What is told of a run beside its states: its story, the reasons behind the first one, and what would have been without a silence or a source."""
+"""What is told of a run beside its states: its story, all reasons of its spans, and what would have been without a silence or a source."""
 
 from __future__ import annotations
 
 import json
-from dataclasses import dataclass, field, replace
+import time
+from collections import Counter
+from dataclasses import dataclass, field
+from functools import partial
 from pathlib import Path
-from typing import Any, Callable
+from typing import Any, Callable, Counter as TypingCounter, Optional
 
-from ..program import Program, Source
-from ..script import Event, event_of, lines_of, script_of
-from ..story import Pairs, Row, Span, Story, story_of
-from .compare import compare
+from ..program import Source
+from ..script import Event, Script, event_of, lines_of, plain_id, script_of
+from ..story import Pairs, Row, Span, Story
+from ..story.build import story_from
+from ..story.mutes import sources_of
+from ..story.reasons import Reasoned, Reasons, muted_by, reasons_of
+from ..story.sections import by_section, entries_of
+from ..story.walk import Step, walk
+from .workers import Task, count_done
 
-# A story costs about as much as it has events and spans. Beyond this sum no further ones are made for a page.
-COST_AT_MOST = 30_000
-TRIALS_AT_MOST = 16
-MUTES = ("Inhibited", "OutsideActive", "TimeMuted", "Silenced")
-TIMES = ("OutsideActive", "TimeMuted")
+# Trials of a run: as many as make this many events in all, but some always, and none is begun after so many seconds.
+TRIALS_AT_MOST, FEW_TRIALS = 200, 16
+EVENTS_AT_MOST = 160_000
+SECONDS_AT_MOST = 12.0
 
 RowKey = tuple[Pairs, str, str, int]
 Change = Callable[[dict[str, Any], Event], dict[str, Any]]
-
-
-@dataclass(frozen=True)
-class Reasoned:
-    """A part of a span, and the verdicts that the alert would have had there without the first, and without the first two."""
-
-    span: Span
-    also: tuple[Span, ...] = ()
+Notes = TypingCounter[Any]
 
 
 @dataclass(frozen=True)
@@ -51,176 +51,109 @@ class Without:
 
 @dataclass
 class Told:
-    """A story, its spans with all their reasons, and the trials. `left_out` says what wasn't tried since it was too much."""
+    """A story, its spans with all their reasons, its notifications and refused events, and the trials. `mutes` are the silences and sources that
+    could be tried, those first that cost most."""
 
     story: Story
+    reasons: Reasons
     reasoned: dict[RowKey, list[Reasoned]]
+    notes: Notes
+    refused: set[int]
+    mutes: list[str | Pairs]
     trials: list[Without] = field(default_factory=list)
-    left_out: str = ""
+
+    def asked(self, alert: Pairs) -> bool:
+        """Returns whether all reasons of an alert were asked."""
+        return self.reasons.mutes.has(alert)
 
 
-def told(source: Source, config: dict[str, Any], room: Path, has_trials: bool) -> Told:
-    """Tells the story of a run, and what it would have been otherwise as far as that isn't too much."""
-    story = story_of(source, config)
-    maker = _Maker(source, config, room, story)
-    layers = _layers(story, maker)
-    reasoned = {key_of(row): _reasoned(row, [rows.get(key_of(row)) for rows in layers]) for row in story.rows}
-    trials = _trials(story, maker) if has_trials else []
-    return Told(story, reasoned, trials, maker.left_out)
+@dataclass(frozen=True)
+class Telling:
+    """What is told of a run: its files, and the labels of the alerts that are named, a part of theirs suffices. `last_day` is the last day of
+    which time intervals are known, if not all are."""
+
+    source: Source
+    config: dict[str, Any]
+    named: tuple[Pairs, ...] = ()
+    last_day: Optional[int] = None
+
+
+def told(telling: Telling) -> Told:
+    """Tells the story of a run, with all reasons of as many alerts as isn't too much: first those that are named, and then as they are listed."""
+    source = telling.source
+    script = script_of(Path(source.script).read_bytes())
+    steps = walk(source, script)
+    story = story_from(source, telling.config, script, steps)
+    listed = by_section(entries_of(story))
+    named = [alert for alert in listed if any(set(labels) <= set(alert) for labels in telling.named)]
+    reasons = reasons_of(source, story, dict.fromkeys([*named, *listed]), telling.last_day)
+    reasoned = {key_of(row): reasons.of_row(row) for row in story.rows}
+    refused = {step.number for step in steps if step.refused is not None}
+    return Told(story, reasons, reasoned, _notes(steps), refused, _mutes(story, set(named)))
 
 
 def key_of(row: Row) -> RowKey:
     return row.alert, row.receiver, row.integration, row.place
 
 
-class _Maker:
-    """Makes stories of the script and the configuration with something left out, as many as aren't too much."""
-
-    def __init__(self, source: Source, config: dict[str, Any], room: Path, story: Story) -> None:
-        self.source = source
-        self.config = config
-        self.left_out = ""
-        self._room = room
-        self._script = script_of(Path(source.script).read_bytes())
-        self._cost = story.events + sum(len(row.spans) for row in story.rows)
-        self._spent = 0
-        self._refused = {mark.event for mark in story.marks if mark.kind == "refused"}
-        self._base: list[dict[str, Any]] | None = None
-
-    def affords_one(self) -> bool:
-        """Returns whether one more story isn't too much, and remembers if it is."""
-        if self._spent + self._cost <= COST_AT_MOST:
-            return True
-        self.left_out = (
-            "The page doesn't say what would have been without some silences and sources: it would have taken too long."
-        )
-        return False
-
-    def story(self, change: Change, config: dict[str, Any]) -> tuple[Story, Source]:
-        """Returns the story under a configuration, with each event that wasn't refused changed."""
-        self._spent += self._cost
-        lines = []
-        for number, line in enumerate(self._script.lines, 1):
-            value = json.loads(line)
-            changed = value if number in self._refused else change(value, event_of(line))
-            lines.append(line if changed is value else json.dumps(changed, ensure_ascii=False).encode())
-        script, file = self._room / "without.jsonl", self._room / "without.json"
-        script.write_bytes(self._script.text(lines))
-        file.write_text(json.dumps(config), "utf-8")
-        source = Source(self.source.program, str(file), str(script))
-        return story_of(source, config), source
-
-    def differences(self, source: Source) -> tuple[int, int]:
-        """Returns how many notifications another run has more, and how many fewer."""
-        program = Program(self.source.program)
-        if self._base is None:
-            self._base = [line for line in program.run(self.source) if "receiver" in line]
-        found = compare(self._base, [line for line in program.run(source) if "receiver" in line])
-        return len(found.second_alone), len(found.first_alone)
-
-
-def _layers(story: Story, maker: _Maker) -> list[dict[RowKey, Row]]:
-    """Returns the rows without inhibition rules, and without rules and time intervals, as far as there are such verdicts. What mutes an
-    alert changes neither groups nor the moments of their flushes, so the rows have the same spans beside what muted them.
-    """
-    found = {span.verdict for row in story.rows for span in row.spans}
-    layers = []
-    if "Inhibited" in found and maker.affords_one():
-        layers.append(_rows(maker.story(_reloaded(_without_rules), _without_rules(maker.config))[0]))
-    has_times = any(verdict in found for verdict in TIMES)
-    if (has_times or (layers and _has_times(layers[0]))) and maker.affords_one():
-        bare = _reloaded(lambda config: _without_times(_without_rules(config)))
-        layers.append(_rows(maker.story(bare, _without_times(_without_rules(maker.config)))[0]))
-    return layers
-
-
-def _has_times(rows: dict[RowKey, Row]) -> bool:
-    return any(span.verdict in TIMES for row in rows.values() for span in row.spans)
-
-
-def _rows(story: Story) -> dict[RowKey, Row]:
-    return {key_of(row): row for row in story.rows}
-
-
-def _reloaded(change: Callable[[dict[str, Any]], dict[str, Any]]) -> Change:
-    return lambda value, event: {**value, "reload": change(event.value)} if event.act == "reload" else value
-
-
-def _without_rules(config: dict[str, Any]) -> dict[str, Any]:
-    return {key: value for key, value in config.items() if key != "inhibit_rules"}
-
-
-def _without_times(config: dict[str, Any]) -> dict[str, Any]:
-    return {**config, "route": _timeless(config["route"])}
-
-
-def _timeless(route: dict[str, Any]) -> dict[str, Any]:
-    kept = {key: value for key, value in route.items() if key not in ("mute_time_intervals", "active_time_intervals")}
-    return {**kept, "routes": [_timeless(child) for child in route.get("routes") or []]}
-
-
-def _reasoned(row: Row, layers: list[Row | None]) -> list[Reasoned]:
-    """Returns the spans of a row, cut where a reason behind the first one changes."""
-    parts = [Reasoned(span) for span in row.spans]
-    for layer in layers:
-        if layer is not None:
-            parts = [piece for part in parts for piece in _cut(part, layer)]
-    return parts
-
-
-def _cut(part: Reasoned, layer: Row) -> list[Reasoned]:
-    """Cuts a part at the spans of a layer that are a further reason."""
-    last = part.also[-1] if part.also else part.span
-    if last.verdict not in MUTES or last.verdict == "Silenced":
-        return [part]
-    pieces, start = [], part.span.start
-    for found in layer.spans_in(part.span.start, part.span.end):
-        if (
-            found.verdict in MUTES
-            and found.verdict != last.verdict
-            and not (last.verdict in TIMES and found.verdict in TIMES)
-        ):
-            pieces += [(start, found.start, ()), (found.start, found.end, (found,))]
-            start = found.end
-    pieces.append((start, part.span.end, ()))
+def trying(found: Told, telling: Telling, room: Path) -> list[Task]:
+    """Returns the tasks that try what would have been, those first that may have cost most. Each gives a trial, or None if it was too late."""
+    at_most = max(FEW_TRIALS, min(TRIALS_AT_MOST, EVENTS_AT_MOST // max(1, found.story.events)))
+    until = time.monotonic() + SECONDS_AT_MOST
     return [
-        Reasoned(replace(part.span, start=begin, end=end), part.also + also)
-        for begin, end, also in pieces
-        if begin < end
+        partial(_try, found, telling, room / f"without-{place}", what, until)
+        for place, what in enumerate(found.mutes[:at_most])
     ]
 
 
-def _trials(story: Story, maker: _Maker) -> list[Without]:
-    """Tries what muted most first: silences and sources by how many rows got nothing or were late because of them."""
-    trials = []
-    for what in _mutes(story)[:TRIALS_AT_MOST]:
-        if not maker.affords_one():
-            break
-        other, source = maker.story(
-            without_silence(what) if isinstance(what, str) else without_source(what), maker.config
-        )
-        trials.append(Without(what, *maker.differences(source), _outcomes(story, _rows(other), what)))
-    return trials
+def _try(found: Told, telling: Telling, file: Path, what: str | Pairs, until: float) -> Optional[Without]:
+    """Replays the script without a silence or a source, and asks about the alerts that it muted."""
+    if time.monotonic() > until:
+        return None
+    change = without_silence(what) if isinstance(what, str) else without_source(what)
+    script = _changed(Path(telling.source.script), change, found.refused)
+    file.write_bytes(script.text(script.lines))
+    source = Source(telling.source.program, telling.source.config, str(file))
+    steps = walk(source, script)
+    muted = {row.alert for row in found.story.rows if any(muted_by(span) == what for span in row.spans)}
+    only = muted | sources_of(found.story, muted)
+    other = story_from(source, telling.config, script, steps, only)
+    count_done()
+    before, after = found.notes, _notes(steps)
+    outcomes = _outcomes(found.story, {key_of(row): row for row in other.rows}, what)
+    return Without(what, sum((after - before).values()), sum((before - after).values()), outcomes)
 
 
-def _mutes(story: Story) -> list[str | Pairs]:
-    """Returns the silences and the sources that muted rows, those that cost the most notifications first."""
-    weights: dict[str | Pairs, tuple[int, int]] = {}
+def _notes(steps: list[Step]) -> Notes:
+    """Counts notifications by whom they are for, and which alerts of which group they tell of."""
+    return Counter((note.key, note.firing, note.resolved) for step in steps for note in step.notes)
+
+
+def _changed(path: Path, change: Change, refused: set[int]) -> Script:
+    """Returns a script with each event that wasn't refused changed."""
+    script = script_of(path.read_bytes())
+    lines = []
+    for number, line in enumerate(script.lines, 1):
+        value = json.loads(line)
+        changed = value if number in refused else change(value, event_of(line))
+        lines.append(line if changed is value else json.dumps(changed, ensure_ascii=False).encode())
+    return Script(lines, script.numbers, script.version)
+
+
+def _mutes(story: Story, named: set[Pairs]) -> list[str | Pairs]:
+    """Returns the silences and the sources that muted rows: first those that muted alerts that are named, and then those that cost the most
+    notifications."""
+    weights: dict[str | Pairs, tuple[bool, int, int]] = {}
     for row in story.rows:
-        for what in {what for what in map(muted_by, row.spans) if what is not None}:
-            lasted = sum(span.end - span.start for span in row.spans if muted_by(span) == what)
-            rows, length = weights.get(what, (0, 0))
-            weights[what] = (rows + (not row.is_notified), length + lasted)
+        lengths: TypingCounter[str | Pairs] = Counter()
+        for span in row.spans:
+            what = muted_by(span)
+            if what is not None:
+                lengths[what] += span.end - span.start
+        for what, length in lengths.items():
+            is_named, rows, lasted = weights.get(what, (False, 0, 0))
+            weights[what] = (is_named or row.alert in named, rows + (not row.is_notified), lasted + length)
     return sorted(weights, key=lambda what: (weights[what], str(what)), reverse=True)
-
-
-def muted_by(span: Span) -> str | Pairs | None:
-    """Returns the id of the silence, or the labels of the source, that a span is muted by."""
-    if span.verdict == "Silenced":
-        return str(span.line["id"])
-    if span.verdict == "Inhibited":
-        return tuple(sorted(span.line["source"].items()))
-    return None
 
 
 def _outcomes(story: Story, others: dict[RowKey, Row], what: str | Pairs) -> list[Outcome]:
@@ -272,12 +205,6 @@ def without_source(labels: Pairs) -> Change:
 
 def _pairs(labels: dict[str, str]) -> Pairs:
     return tuple(sorted(pair for pair in labels.items() if pair[1]))
-
-
-def plain_id(text: str) -> str:
-    """Returns an id as the session prints it, whichever of its forms the script has."""
-    digits = text.lower().removeprefix("urn:uuid:").strip("{}").replace("-", "")
-    return "-".join((digits[:8], digits[8:12], digits[12:16], digits[16:20], digits[20:])) if digits else ""
 
 
 def reloads_of(script: bytes) -> list[str]:

@@ -9,7 +9,7 @@ from dataclasses import dataclass
 from typing import Any, Callable, Iterator
 
 from ..program import Fault
-from .progress import Progress
+from ..progress import Progress
 
 PIECES = 4
 FEW_TASKS = 2

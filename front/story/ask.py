@@ -2,7 +2,7 @@
 
 from __future__ import annotations
 
-from typing import Iterable
+from typing import Iterable, Optional
 
 from ..program import Session
 from .known import Known
@@ -14,10 +14,11 @@ from .watchlist import Watchlist
 
 
 class Asker:
-    """Asks in a session, sample by sample. `past` are moments that answers named, and at which no sample was."""
+    """Asks in a session, sample by sample, about all alerts or some. `past` are moments that answers named, and at which no sample was."""
 
-    def __init__(self, session: Session, known: Known, loaded: list[Loaded]) -> None:
+    def __init__(self, session: Session, known: Known, loaded: list[Loaded], only: Optional[set[Pairs]] = None) -> None:
         self._session = session
+        self._only = only
         self._known = known
         self._loaded = loaded
         self._config = 0
@@ -82,7 +83,7 @@ class Asker:
 
     def _record(self, sample: Sample, wanted: Iterable[Pairs], fired: dict[Pairs, int | None]) -> set[Pairs]:
         """Asks about some alerts, and returns those that an alert inhibited that no longer fires."""
-        asked = [self.watch.tracked(labels) for labels in wanted]
+        asked = [self.watch.tracked(labels) for labels in wanted if self._only is None or labels in self._only]
         if not asked:
             return set()
         commands = [each.command for each in asked]

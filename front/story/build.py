@@ -6,10 +6,10 @@ import tempfile
 from bisect import bisect_left
 from collections import defaultdict
 from pathlib import Path
-from typing import Any
+from typing import Any, Optional
 
 from ..program import Source, session
-from ..script import Script, script_of
+from ..script import Script, plain_id, script_of
 from .ask import Asker
 from .config import routes_of
 from .known import Known, known_of
@@ -28,10 +28,16 @@ TICKS_AT_MOST = 100_000
 def story_of(source: Source, config: dict[str, Any]) -> Story:
     """Returns the story of a script under a configuration, whose value is given too. Raises the program's fault if it refuses a file."""
     script = script_of(Path(source.script).read_bytes())
-    steps = walk(source, script)
+    return story_from(source, config, script, walk(source, script))
+
+
+def story_from(
+    source: Source, config: dict[str, Any], script: Script, steps: list[Step], only: Optional[set[Pairs]] = None
+) -> Story:
+    """Returns the story of a script that was walked over, or of some of its alerts alone."""
     loaded = [Loaded(0, config), *(Loaded(step.number, step.event.value) for step in steps if _is_loaded(step))]
-    known = known_of(steps, loaded)
-    tracked, left_out = _asked(source, script, steps, known, loaded)
+    known = known_of(steps, loaded) if only is None else known_of(steps, loaded).of(only)
+    tracked, left_out = _asked(source, script, steps, known, loaded, only)
     return _put_together(steps, loaded, tracked, left_out)
 
 
@@ -40,7 +46,12 @@ def _is_loaded(step: Step) -> bool:
 
 
 def _asked(
-    source: Source, script: Script, steps: list[Step], known: Known, loaded: list[Loaded]
+    source: Source,
+    script: Script,
+    steps: list[Step],
+    known: Known,
+    loaded: list[Loaded],
+    only: Optional[set[Pairs]],
 ) -> tuple[list[Tracked], str]:
     """Asks in passes. Returns the alerts with what was recorded of them, and what was left out."""
     wanted = known.moments
@@ -51,7 +62,7 @@ def _asked(
             path.write_bytes(script_.text)
             named = (source.config_name or source.config, source.script_name or source.script)
             with session(Source(source.program, source.config, str(path), *named)) as opened:
-                asker = Asker(opened, known, loaded)
+                asker = Asker(opened, known, loaded, only)
                 asker.ask(script_.samples)
             if not asker.past - wanted or len(wanted) > TICKS_AT_MOST:
                 break
@@ -85,10 +96,10 @@ def _put_together(steps: list[Step], loaded: list[Loaded], tracked: list[Tracked
 def _add_sent(tracked: dict[Pairs, Tracked], notes: list[Note]) -> None:
     for note in notes:
         key: RowKey = (note.receiver, note.integration, note.place)
-        for labels in note.firing:
-            tracked[labels].row(key).sent.append(Sent(note.at, True, note.route))
-        for labels in note.resolved:
-            tracked[labels].row(key).sent.append(Sent(note.at, False, note.route))
+        for listed, is_firing in ((note.firing, True), (note.resolved, False)):
+            for labels in listed:
+                if labels in tracked:
+                    tracked[labels].row(key).sent.append(Sent(note.at, is_firing, note.route))
 
 
 def _rows(tracked: Tracked) -> list[Row]:
@@ -144,17 +155,11 @@ def _silences(steps: list[Step]) -> dict[str, SilenceStory]:
             story = found.setdefault(each.id, SilenceStory(each.id, "", "", each.start, each.end))
             story.start, story.end = each.start, each.end
         if posted is not None:
-            new_id = _hyphenated(step.event.new_id or "")
-            story_ = found.get(new_id if new_id in ids else _hyphenated(str(posted.get("id") or "")))
+            new_id = plain_id(step.event.new_id or "")
+            story_ = found.get(new_id if new_id in ids else plain_id(str(posted.get("id") or "")))
             if story_ is not None:
                 story_.created_by, story_.comment = _text(posted.get("createdBy")), _text(posted.get("comment"))
     return found
-
-
-def _hyphenated(text: str) -> str:
-    """Returns a UUID as the program prints it."""
-    digits = text.lower().removeprefix("urn:uuid:").strip("{}").replace("-", "")
-    return "-".join((digits[:8], digits[8:12], digits[12:16], digits[16:20], digits[20:]))
 
 
 def _text(value: Any) -> str:

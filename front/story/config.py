@@ -6,9 +6,12 @@ from dataclasses import dataclass
 from typing import Any
 
 from ..moments import length_of
-from .matching import Matcher, matchers_in
+from .matching import Matcher, matchers_in, may_match_all
 
 DEFAULT_TIMEOUT = 300_000_000_000
+
+# A rule by its number, with values of its `equal`.
+Keyed = tuple[int, tuple[str, ...]]
 
 
 @dataclass(frozen=True)
@@ -100,6 +103,15 @@ def _rule(number: int, value: dict[str, Any]) -> Rule:
         _matchers(value, f"{side}_match", f"{side}_match_re", f"{side}_matchers") for side in ("source", "target")
     )
     return Rule(number, value, source, target, tuple(_list(value, "equal")))
+
+
+def keys_of(rules: list[Rule], by_name: dict[str, str], is_source: bool) -> list[Keyed]:
+    """Returns the rules of which an alert may be a source, or a target, each with its values of the rule's `equal`."""
+    return [
+        (rule.number, tuple(by_name.get(name, "") for name in rule.equal))
+        for rule in rules
+        if may_match_all((rule.source if is_source else rule.target) or (), by_name)
+    ]
 
 
 def timeout_of(config: dict[str, Any]) -> int:

@@ -2,7 +2,7 @@
 
 from __future__ import annotations
 
-from dataclasses import dataclass, field
+from dataclasses import dataclass, field, replace
 
 from ..moments import DAY, SECOND
 from .config import edges_of, routes_of, sharing_entries
@@ -36,6 +36,15 @@ class Known:
     posts: dict[int, list[Posted]] = field(default_factory=dict)
     changed: dict[int, list[Silence]] = field(default_factory=dict)
     left_out: str = ""
+
+    def of(self, some: set[Pairs]) -> Known:
+        """Returns what concerns some alerts. All posts stay, since an alert may move the flush of others."""
+        told = {
+            at: [each for each in listed if not some.isdisjoint(each.firing) or not some.isdisjoint(each.gone)]
+            for at, listed in self.told.items()
+        }
+        resolved = {at: ended & some for at, ended in self.resolved.items() if not ended.isdisjoint(some)}
+        return replace(self, told={at: listed for at, listed in told.items() if listed}, resolved=resolved)
 
     @property
     def moments(self) -> set[int]:

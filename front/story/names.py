@@ -2,19 +2,24 @@
 
 from __future__ import annotations
 
+from typing import Optional
+
 from ..moments import clock_text, nanoseconds
 from .config import Route, routes_of, rules_of
 from .model import DUE, NOWHERE, TOLD, WAITING, Pairs, Span, Story
+from .reasons import Reasoned, Reasons
 
 NAME, SEVERITY = "alertname", "severity"
 LONG = 110
+ALSO_AT_MOST = 3
 
 
 class Names:
     """Names for the alerts of a story: their labels without those that all of them have, and the reasons of spans."""
 
-    def __init__(self, story: Story) -> None:
+    def __init__(self, story: Story, reasons: Optional[Reasons] = None) -> None:
         self._story = story
+        self._reasons = reasons
         self._shared = _shared([alert.labels for alert in story.alerts])
         self._with_date = not is_one_day(story)
         self._routes: dict[int, list[Route]] = {}
@@ -46,8 +51,20 @@ class Names:
         matchers = " > ".join(",".join(each.matchers) or "all" for each in way[1:])
         return f"route {number} ({route.receiver}: {matchers or 'the root'})"
 
+    def parts(self, alert: Pairs, span: Span) -> list[tuple[int, int, str]]:
+        """Returns a span of an alert with all its reasons in words, cut where one of them begins or ends."""
+        if self._reasons is None:
+            return [(span.start, span.end, self.reason(span))]
+        return [(part.span.start, part.span.end, self._all(part)) for part in self._reasons.of_span(alert, span)]
+
+    def _all(self, part: Reasoned) -> str:
+        also = [self.reason(each) for each in part.also[:ALSO_AT_MOST]]
+        if part.also[ALSO_AT_MOST:]:
+            also.append(f"{len(part.also) - ALSO_AT_MOST} more reasons")
+        return self.reason(part.span) + (f"; also {', and '.join(also)}" if also else "")
+
     def reason(self, span: Span) -> str:
-        """Returns a span's reason in words."""
+        """Returns a span's first reason in words."""
         line, verdict = span.line, span.verdict
         if verdict == WAITING:
             return "waits for the first flush of its group"

@@ -45,6 +45,11 @@ def entries_of(story: Story, late_after: int = LATE_AFTER, receiver: Optional[st
     return sorted(found, key=lambda entry: (entry.firing.fired, entry.alert))
 
 
+def by_section(entries: list[Entry]) -> list[Pairs]:
+    """Returns the alerts of some firings, those in the first section first."""
+    return list(dict.fromkeys(entry.alert for section in SECTIONS for entry in entries if entry.section == section))
+
+
 def _entries(alert: AlertStory, late_after: int, receiver: Optional[str]) -> list[Entry]:
     told = [
         _told(row, first, late_after) for row in alert.rows if receiver in (None, row.receiver) for first in row.firsts

@@ -6,13 +6,12 @@ import heapq
 from collections import defaultdict
 from typing import Any
 
-from .config import Route, Rule, routes_of, rules_of
+from .config import Keyed, Route, Rule, keys_of, routes_of, rules_of
 from .matching import may_match, may_match_all
 from .model import WAITING, Pairs
 from .record import Tracked, Verdict
 from .walk import Silence
 
-Keyed = tuple[int, tuple[str, ...]]
 Group = tuple[object, ...]
 
 
@@ -115,7 +114,7 @@ class Watchlist:
     def may_be_inhibited_by(self, labels: Pairs) -> set[Pairs]:
         """Returns the active alerts that this one may inhibit."""
         if labels not in self._source_keys:
-            self._source_keys[labels] = self._keys(self.alerts[labels], is_source=True)
+            self._source_keys[labels] = keys_of(self._rules, self.alerts[labels].by_name, is_source=True)
         return set().union(*(self._targets[key] for key in self._source_keys[labels] if key in self._targets))
 
     def turn(self, tracked: Tracked, before: list[Verdict]) -> None:
@@ -169,15 +168,6 @@ class Watchlist:
     def _add_target(self, tracked: Tracked) -> None:
         labels = tracked.labels
         if labels not in self._target_keys:
-            self._target_keys[labels] = self._keys(tracked, is_source=False)
+            self._target_keys[labels] = keys_of(self._rules, tracked.by_name, is_source=False)
         for key in self._target_keys[labels]:
             self._targets[key].add(labels)
-
-    def _keys(self, tracked: Tracked, is_source: bool) -> list[Keyed]:
-        """Returns the rules of which an alert may be a source, or a target, each with its values of the rule's `equal`."""
-        by_name = tracked.by_name
-        return [
-            (rule.number, tuple(by_name.get(name, "") for name in rule.equal))
-            for rule in self._rules
-            if may_match_all((rule.source if is_source else rule.target) or (), by_name)
-        ]

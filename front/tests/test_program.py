@@ -28,6 +28,12 @@ class Faults(WithRoom):
             self.assertIn("No such file or directory", errors)
             self.assertIn("nope.json" if words[0] == "diff" else "cannot read s", errors)
 
+    def test_a_file_that_the_program_cannot_read_is_named(self) -> None:
+        config, gone = self.write_json("config.json", CONFIG), str(self.room / "gone")
+        with self.assertRaises(Fault) as raised:
+            Program.found().run(Program.found().source(config, gone))
+        self.assertEqual(raised.exception.line, f"amreplay: cannot read script ({gone}: No such file or directory)")
+
     def test_the_refused_file_of_two_is_named(self) -> None:
         good, bad = self.write_json("good.json", CONFIG), self.write_json(
             "bad.json", {**CONFIG, "route": {"receiver": "oops"}}

@@ -1,10 +1,11 @@
-// The address of a place in the page: the event, the alert, the run and the view.
+// The address of a place in the page: the event, the alert, the run, the view, and whether it has local times too.
 const LONGEST_LABELS = 1000;
 
 function addressOf({ run, cursor, chosen, timeline }) {
   const words = [`event=${cursor}`];
   if (chosen !== null) words.push(`alert=${encodeURIComponent(alertAddress(chosen))}`);
   if (RUNS.indexOf(run) > 0) words.push(`run=${RUNS.indexOf(run)}`);
+  if (zone.isLocal) words.push("time=local");
   if (!timeline.isWhole) words.push(`view=${isoOf(Math.round(timeline.view.from))}..${isoOf(Math.round(timeline.view.to))}`);
   return `#${words.join("&")}`;
 }
@@ -18,7 +19,8 @@ function alertAddress(set) {
 function readAddress(hash) {
   const words = new Map(hash.slice(1).split("&").map((word) => [word.slice(0, word.indexOf("=")), word.slice(word.indexOf("=") + 1)]));
   const number = (name) => (/^\d{1,7}$/.test(words.get(name) || "") ? Number(words.get(name)) : null);
-  return { event: number("event"), run: number("run"), alert: words.has("alert") ? alertOf(words.get("alert")) : null, view: viewOf(words.get("view") || "") };
+  return { event: number("event"), run: number("run"), alert: words.has("alert") ? alertOf(words.get("alert")) : null, view: viewOf(words.get("view") || ""),
+    isLocal: words.get("time") === "local" };
 }
 
 function alertOf(text) {

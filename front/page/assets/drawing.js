@@ -1,5 +1,6 @@
 // How the timeline is drawn: an axis, and of the lanes those that are in sight.
-const AXIS_HEIGHT = 40;
+// The axis has a line more for the reader's own time.
+const axisHeight = () => (zone.isLocal ? 54 : 40);
 const NEAR = 17;
 const STEPS = [1, 2, 5, 10, 20, 50, 100, 200, 500, 1000, 2000, 5000, 10000, 15000, 30000, 60000, 120000, 300000, 600000, 900000, 1800000,
   3600000, 7200000, 10800000, 21600000, 43200000, 86400000, 172800000, 604800000, 2592000000, 31536000000];
@@ -10,7 +11,7 @@ class Drawing {
     this.timeline = timeline;
     this.lanes = [];
     this.targets = [];
-    this.axis = svg("svg", { class: "axis", "aria-hidden": "true", height: AXIS_HEIGHT });
+    this.axis = svg("svg", { class: "axis", "aria-hidden": "true", height: axisHeight() });
     this.picture = svg("svg", { class: "lanes", role: "group", "aria-label": "Lanes" });
     this.names = el("div", { class: "lane-names" });
     this.space = el("div", { class: "lane-space" }, this.picture, this.names);
@@ -84,7 +85,8 @@ class Drawing {
   // The axis has the time of day, and below the first tick of each day its weekday and date.
   drawAxis() {
     const { ticks, step } = this.ticks();
-    filled(this.axis, { width: this.width, viewBox: `0 0 ${this.width} ${AXIS_HEIGHT}` }, []);
+    const height = axisHeight();
+    filled(this.axis, { width: this.width, height, viewBox: `0 0 ${this.width} ${height}` }, []);
     let day = "";
     const labels = ticks.map((time) => {
       const iso = new Date(time).toISOString();
@@ -94,9 +96,10 @@ class Drawing {
       day = iso.slice(0, 10);
       const anchor = x < 34 ? "start" : x > this.width - 50 ? "end" : "middle";
       const at = anchor === "start" ? Math.max(4, x - 16) : anchor === "end" ? this.width - 4 : x;
-      return [svg("line", { class: "grid", x1: x, x2: x, y1: AXIS_HEIGHT - 5, y2: AXIS_HEIGHT }),
+      return [svg("line", { class: "grid", x1: x, x2: x, y1: height - 5, y2: height }),
         svg("text", { class: "tick", x: at, y: 15, "text-anchor": anchor }, iso.slice(11, step < 1000 ? 23 : step < 60000 ? 19 : 16)),
-        isNew && svg("text", { class: "tick date", x: at, y: 30, "text-anchor": anchor }, `${weekdayOf(iso)} ${this.isNarrow ? day.slice(5) : day}`)];
+        isNew && svg("text", { class: "tick date", x: at, y: zone.isLocal ? 43 : 30, "text-anchor": anchor }, `${weekdayOf(iso)} ${this.isNarrow ? day.slice(5) : day}`),
+        zone.isLocal && svg("text", { class: "tick local", x: at, y: 29, "text-anchor": anchor }, localOf(iso, step < 60000))];
     });
     replace(this.axis, labels, this.cursorHead());
   }
@@ -105,7 +108,7 @@ class Drawing {
   cursorHead() {
     const { view, app } = this.timeline;
     const now = app.time();
-    const y = AXIS_HEIGHT - 9;
+    const y = axisHeight() - 9;
     if (now < view.from) return svg("path", { class: "cursor-head away", d: `M${this.gutter + 10} ${y - 3}v12l-9-6z` });
     if (now > view.to) return svg("path", { class: "cursor-head away", d: `M${this.width - 12} ${y - 3}v12l9-6z` });
     return svg("path", { class: "cursor-head", d: `M${this.x(now) - 6} ${y}h12l-6 9z` });
@@ -251,7 +254,7 @@ const rowName = (each) => {
 };
 
 const spanName = (row, span) => `${shortText(row.set)} to ${seen(row.receiver)}\n${when(span.start)} to ${when(span.end)}: ${verdictText(span.verdict, row.run, span.from, row.set, span.muting)}`
-  + span.also.map(({ verdict, muting }) => `\nwithout that: ${verdictText(verdict, row.run, span.from, row.set, muting)}`).join("");
+  + span.also.map(({ verdict, muting }, i) => `\n${alsoWord(i)}${verdictText(verdict, row.run, span.from, row.set, muting)}`).join("") + (span.more ? `\nand ${many(span.more, "more reason")}` : "");
 
 // How many rows of a receiver have a verdict of each kind in each column, by the column's middle.
 function columnsOf(each, view, columns) {

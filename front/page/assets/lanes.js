@@ -3,9 +3,9 @@
 // A mark: a moment, a shape, a way to its name, and the cursor that a click goes to. Names are made when they are needed: a lane may have very many.
 const mark = (time, shape, name, cursor, more) => ({ time, shape, name, cursor, ...more });
 
-// The lanes of a run: events, each receiver with its alerts, and silences.
+// The lanes of a run: events, each receiver with its alerts, time intervals that routes use, and silences.
 function lanesOf(run) {
-  return [eventLane(run), ...labelLanes(run), ...exceptionLanes(run), ...receiverLanes(run), ...silenceLanes(run)];
+  return [eventLane(run), ...labelLanes(run), ...exceptionLanes(run), ...receiverLanes(run), ...timesLanes(run), ...silenceLanes(run)];
 }
 
 const lane = (kind, name, make, more) => ({ kind, name, make, made: null, ...more });
@@ -129,6 +129,15 @@ function flushTimes(row) {
     for (let i = 1; i < between.length; i += 2) times.add(millisecondsOf(textOf(between[i])));
   }
   return [...times].filter((time) => row.spanAt(time) || row.spanAt(time - 1));
+}
+
+// A lane for each time interval that a route uses: when it holds. It mutes then, or its routes are active then alone.
+function timesLanes(run) {
+  return run.times.map(({ name, mutes, activates, spans }) => {
+    const does = [mutes && "mutes", activates && "active"].filter(Boolean).join(", ");
+    const make = () => ({ spans: spans.map(([start, end]) => ({ from: millisecondsOf(start), to: millisecondsOf(end), kind: mutes ? "muting" : "active", name: `${seen(name)} (${does}): ${when(start)} to ${when(end)}` })) });
+    return lane("times", `${seen(name)}: ${does}`, make, { full: `time interval ${seen(name)}, ${does}` });
+  });
 }
 
 function silenceLanes(run) {

@@ -114,9 +114,20 @@ class App {
     acts[event.key]();
   }
 
+  // Shows the reader's own time beside UTC, or no more.
+  showLocal(isLocal) {
+    if (isLocal === zone.isLocal) return;
+    zone.isLocal = isLocal;
+    this.timeline.show(this.run);
+    this.config.shown = null;
+    this.showRun();
+    this.writePlace();
+  }
+
   // The address has the event, the alert, the run and the view, so that a place can be passed on.
   readPlace() {
     const place = readAddress(window.location.hash);
+    this.showLocal(place.isLocal);
     if (RUNS[place.run]) this.turnTo(RUNS[place.run]);
     if (place.alert !== null) this.chosen = place.alert;
     if (place.event !== null) this.go(place.event);
@@ -170,8 +181,9 @@ class Controls {
     this.last = button("M11.5 2H14v12h-2.5zM2 2v12l9-6z", "The last event (End)", () => app.go(app.run.last));
     this.slider = el("input", { type: "range", "aria-label": "Event", oninput: () => app.go(Number(this.slider.value)) });
     this.place = el("div", { class: "place" });
+    this.local = el("button", { type: "button", id: "local", title: `Also in ${zoneName()}`, onclick: () => app.showLocal(!zone.isLocal) }, "Local time");
     this.root = el("div", { class: "controls", role: "toolbar", "aria-label": "Cursor" },
-      el("span", { class: "steps" }, this.first, this.back, this.step, this.last), this.slider, this.place);
+      el("span", { class: "steps" }, this.first, this.back, this.step, this.last), this.slider, this.place, this.local);
   }
 
   draw() {
@@ -180,6 +192,7 @@ class Controls {
     this.step.disabled = this.last.disabled = cursor >= run.last;
     filled(this.slider, { min: run.first - 1, max: run.last, "aria-valuetext": placeText(this.app) }, []);
     this.slider.value = String(cursor);
+    this.local.setAttribute("aria-pressed", String(zone.isLocal));
     const moment = cursor < run.first ? run.start : run.event(cursor).reason ? instant(run.event(cursor).at) : run.clock(cursor);
     replace(this.place, el("b", { id: "clock" }, cursor < run.first && run.first === 1 ? "Start" : `${weekdayOf(moment)} ${whole(moment)}`), " ",
       el("span", { class: "quiet", id: "place" }, cursor < run.first ? "before the first event" : `event ${cursor.toLocaleString("en")} of ${(DATA.total + (run.tried ? 1 : 0)).toLocaleString("en")}`));
@@ -187,6 +200,12 @@ class Controls {
 }
 
 // The header says what is shown: the script, the configuration of the run, and its notifications.
+// The name of the reader's zone, as the browser knows it.
+function zoneName() {
+  const name = new Intl.DateTimeFormat().resolvedOptions().timeZone;
+  return name ? `the time of ${name}` : "your own time";
+}
+
 function drawHeader(app) {
   const { run } = app;
   const span = run.events.length ? `${weekdayOf(run.events[0].now)} ${whole(run.events[0].now)} to ${whole(run.clock(run.last))} UTC` : "no events";
@@ -219,7 +238,7 @@ const KEYS = [["← →", "back and on one event"], ["Home End", "before the fir
 
 function keysEl() {
   return el("footer", { id: "keys" }, el("h2", {}, "Keys"), el("dl", {}, KEYS.map(([key, what]) => el("div", {}, el("dt", {}, key), el("dd", {}, what)))),
-    el("p", { class: "quiet" }, "All times are in UTC. All that is shown was answered by a session of amreplay."));
+    el("p", { class: "quiet" }, "All times are in UTC, and with “Local time” your own are in brackets. All that is shown was answered by a session of amreplay."));
 }
 
 new App().start();

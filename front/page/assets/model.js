@@ -156,6 +156,8 @@ class Run {
     this.configs = raw.configs.map(([time, number]) => ({ at: textOf(time), time: time ? millisecondsOf(textOf(time)) : -Infinity, config: DATA.configs[number] }));
     this.receivers = raw.receivers.map(([name, count]) => ({ name: textOf(name), count }));
     this.unasked = textOf(raw.unasked);
+    this.firstAlone = new Set(raw.firstAlone);
+    this.times = raw.times.map(([name, mutes, activates, flat]) => ({ name: textOf(name), mutes: !!mutes, activates: !!activates, spans: pairsOf(flat.map(textOf)) }));
     this.rows = raw.rows.map((each) => new Row(this, each));
     this.rowsOf = groupedBy(this.rows, (row) => row.set);
     giveNotes(this);
@@ -238,12 +240,13 @@ class Row {
   }
 }
 
-// A time with one verdict: which intervals muted then, and the verdicts that it would have had without the first.
-function spanOf(run, [start, end, number, intervals, until, also]) {
+// A time with one verdict: which intervals muted then, and what else muted it, in the order in which the program would name it. `more` counts those
+// that aren't listed.
+function spanOf(run, [start, end, number, intervals, until, also, more]) {
   const verdict = run.verdicts[number];
   const mutingOf = (names, to) => (names ? { intervals: names.map(textOf), until: textOf(to) } : null);
   return { start: textOf(start), end: textOf(end), from: millisecondsOf(textOf(start)), to: millisecondsOf(textOf(end)), verdict,
-    kind: KIND_OF[verdict.verdict] || "nowhere", muting: mutingOf(intervals, until),
+    kind: KIND_OF[verdict.verdict] || "nowhere", muting: mutingOf(intervals, until), more: more || 0,
     also: (also || []).map(([each, names, to]) => ({ verdict: run.verdicts[each], muting: mutingOf(names, to) })) };
 }
 
@@ -267,6 +270,12 @@ function giveNotes(run) {
     give(note.firing, true);
     give(note.resolved, false);
   }
+}
+
+function pairsOf(items) {
+  const pairs = [];
+  for (let i = 0; i + 1 < items.length; i += 2) pairs.push([items[i], items[i + 1]]);
+  return pairs;
 }
 
 function groupedBy(items, keyOf) {

@@ -57,5 +57,6 @@ function legend(run) {
   const kinds = new Set(run.rows.flatMap((row) => row.spans.map((span) => span.kind)));
   const marks = [["firing", "sent: firing"], ["resolved", "sent: resolved"], ["both", "sent: both"], ...(otherOf(run) ? [["ghost", `first sent ${nameOf(otherOf(run))}`]] : []),
     ...Object.entries(EVENT_WORDS).filter(([shape]) => shapes.has(shape)), ["several", "several, with their number"]];
-  return el("ul", { class: "keys", "aria-label": "What is drawn" }, Object.entries(KINDS).filter(([kind]) => kinds.has(kind)).map(spanKey), marks.map(markKey));
+  const times = [["muting", "time that mutes"], ["active", "active time"]].filter(([kind]) => run.times.some((each) => (kind === "muting") === each.mutes));
+  return el("ul", { class: "keys", "aria-label": "What is drawn" }, [...Object.entries(KINDS).filter(([kind]) => kinds.has(kind)), ...times].map(spanKey), marks.map(markKey));
 }

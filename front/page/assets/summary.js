@@ -108,12 +108,15 @@ function spanEl(app, row, span) {
   return el("li", { class: `turn ${span.kind}`, "aria-current": isHere ? "true" : null },
     el("button", { type: "button", class: "turn-at", title: "Go there", onclick: () => app.lookAt(row.set, span.from) },
       svg("svg", { width: 12, height: 12, "aria-hidden": "true" }, svg("rect", { class: `span ${span.kind}`, width: 12, height: 12, rx: 2 })),
-      " ", when(span.start), "\u2013", when(span.end)),
+      " ", whenUtc(span.start), "\u2013", whenUtc(span.end), zone.isLocal && el("span", { class: "own" }, `(${localOf(span.start)}\u2013${localOf(span.end)})`)),
     el("span", {}, partsEl(app, row, span.verdict, span), alsoEl(app, row, span)));
 }
 
 // The reasons behind the first one.
-const alsoEl = (app, row, span) => span.also.map((each) => el("div", { class: "also" }, "without that: ", partsEl(app, row, each.verdict, { from: span.from, muting: each.muting })));
+const alsoEl = (app, row, span) => [span.also.map((each, i) => el("div", { class: "also" }, alsoWord(i), partsEl(app, row, each.verdict, { from: span.from, muting: each.muting }))),
+  span.more > 0 && el("div", { class: "also" }, `and ${many(span.more, "more reason")}`)];
+
+const alsoWord = (i) => (i ? "without these: " : "without that: ");
 
 // A verdict in words, with what can be looked up as buttons.
 function partsEl(app, row, verdict, span) {

@@ -235,7 +235,7 @@ class Timeline {
     this.laneAt = place;
     this.markAt = -1;
     const top = place * laneHeight;
-    const height = this.scroll.clientHeight - AXIS_HEIGHT - 4;
+    const height = this.scroll.clientHeight - axisHeight() - 4;
     if (top - laneHeight < this.scroll.scrollTop) this.scroll.scrollTop = top - laneHeight;
     if (top + laneHeight > this.scroll.scrollTop + height) this.scroll.scrollTop = top + laneHeight - height;
     this.app.announce(laneText(lanes[place]));
@@ -256,7 +256,7 @@ class Timeline {
     this.app.go(marks[place].cursor, true);
     this.app.announce(marks[place].name());
     const box = this.scroll.getBoundingClientRect();
-    this.tell(marks[place].name, box.left + this.drawing.x(marks[place].time), box.top + AXIS_HEIGHT + this.laneAt * this.drawing.laneHeight - this.scroll.scrollTop + 14);
+    this.tell(marks[place].name, box.left + this.drawing.x(marks[place].time), box.top + axisHeight() + this.laneAt * this.drawing.laneHeight - this.scroll.scrollTop + 14);
   }
 }
 

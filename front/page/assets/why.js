@@ -14,7 +14,7 @@ class WhyView {
       return;
     }
     const rows = run.rowsOf.get(chosen) || [];
-    replace(this.root, title, el("p", { class: "chosen-alert" }, labelsEl(chosen)), this.now(rows), this.receivers(rows), this.trials(), this.expectations(rows));
+    replace(this.root, title, el("p", { class: "chosen-alert" }, labelsEl(chosen)), this.now(rows), this.receivers(rows), this.firstAlone(), this.trials(rows), el("p", { class: "buttons" }, copyEl(this.app)), this.expectations(rows));
   }
 
   // The verdicts at the cursor.
@@ -46,11 +46,21 @@ class WhyView {
     return alike.map((each) => el("section", { class: "receiver-spans" }, el("h3", {}, rowStatusEl(each)), spansEl(this.app, each[0], each[0].spans, 60), sentEl(this.app, each[0])));
   }
 
-  // What would have been without a silence or a source.
-  trials() {
+  // Says that other reasons may be there.
+  firstAlone() {
     const { run, chosen } = this.app;
-    const trials = RUNS.indexOf(run) === 0 ? DATA.trials.map((raw, i) => trialOf(run, raw, i)).filter((trial) => trial.rows.some(({ row }) => row.set === chosen)) : [];
-    if (!trials.length) return null;
+    return run.firstAlone.has(chosen) && el("p", { class: "flag" }, "Of several reasons at once this page has the first alone for this alert. ", namingEl(chosen));
+  }
+
+  // What would have been without a silence or a source.
+  trials(rows) {
+    const { run, chosen } = this.app;
+    if (RUNS.indexOf(run) !== 0) return null;
+    const trials = trialsOf(run, chosen);
+    if (!trials.length) {
+      const isMuted_ = rows.some((row) => row.spans.some((span) => span.kind === "inhibited" || span.kind === "silenced"));
+      return isMuted_ && el("p", { class: "flag" }, `What would have been without a silence or a source was tried for ${DATA.trials.length} of ${DATA.mutes.toLocaleString("en")}, and not for those of this alert. `, namingEl(chosen));
+    }
     const shown = trials.find((trial) => trial.number === this.without);
     return el("section", { class: "trials" }, el("h3", {}, "What if it had not been there?"),
       el("div", { class: "buttons" }, trials.map((trial) => el("button", { type: "button", "aria-pressed": String(trial === shown), onclick: () => {
@@ -73,6 +83,9 @@ class WhyView {
   }
 }
 
+// How to make a page that knows more of an alert.
+const namingEl = (set) => ["Make the page with ", el("code", {}, `--explain '${cut(seen(setJson(set)), 1000)}'`), " for more."];
+
 const SIGNS = { Told: "●", Due: "○", Waiting: "◔", Ended: "✓", Unknown: "–", Nowhere: "∅" };
 const signOf = (verdict) => SIGNS[verdict.verdict] || "⊘";
 
@@ -82,6 +95,12 @@ function sentEl(app, row) {
   const sent = row.sent.slice(0, 40);
   return el("p", { class: "sent" }, "Sent: ", sent.map(({ note, isFiring }, i) => [i > 0 && ", ", el("button", { type: "button", class: "link", onclick: () => app.go(note.cursor) },
     `${isFiring ? "▲" : "○"} ${when(note.at)}`)]), row.sent.length > 40 && ` and ${row.sent.length - 40} more`);
+}
+
+// The trials of what muted an alert. They are of the first run alone.
+function trialsOf(run, set) {
+  if (RUNS.indexOf(run) !== 0) return [];
+  return DATA.trials.map((raw, i) => trialOf(run, raw, i)).filter((trial) => trial.rows.some(({ row }) => row.set === set));
 }
 
 // A trial of the page: what was left out, and for each row that it concerns the first notification and the verdicts instead.

@@ -58,10 +58,24 @@ function timeOf(moment) {
 const WEEKDAYS = ["Sun", "Mon", "Tue", "Wed", "Thu", "Fri", "Sat"];
 const weekdayOf = (moment) => WEEKDAYS[new Date(millisecondsOf(moment)).getUTCDay()];
 
-const whole = (moment) => `${moment.slice(0, 10)} ${timeOf(moment)}`;
+// Whether moments also have the time of the reader's own zone, in brackets.
+const zone = { isLocal: false };
+const besideLocal = (text, moment) => (zone.isLocal ? `${text} (${localOf(moment)})` : text);
+
+// The time of day in the reader's zone, with its weekday where that is another one.
+function localOf(moment, hasSeconds = true) {
+  const date = new Date(millisecondsOf(moment));
+  const two = (number) => String(number).padStart(2, "0");
+  const time = `${two(date.getHours())}:${two(date.getMinutes())}${hasSeconds ? `:${two(date.getSeconds())}` : ""}`;
+  return date.getDate() === date.getUTCDate() ? time : `${WEEKDAYS[date.getDay()]} ${time}`;
+}
+
+const wholeUtc = (moment) => `${moment.slice(0, 10)} ${timeOf(moment)}`;
+const whole = (moment) => besideLocal(wholeUtc(moment), moment);
 
 // A moment without its date where that is the usual one.
-const when = (moment) => (!moment ? "" : moment.slice(0, 10) === USUAL_DATE ? timeOf(moment) : whole(moment));
+const whenUtc = (moment) => (moment.slice(0, 10) === USUAL_DATE ? timeOf(moment) : wholeUtc(moment));
+const when = (moment) => (moment ? besideLocal(whenUtc(moment), moment) : "");
 
 // A length of time in its two largest units.
 function lengthText(milliseconds) {

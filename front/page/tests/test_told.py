@@ -9,16 +9,20 @@ import time
 import unittest
 from typing import Any
 
-from front.moments import HOUR, moment_text, nanoseconds
-from front.page.configs import Configs
-from front.page.intervals import Intervals, text_of
-from front.page.told import plain_id, told, without_silence, without_source
+from front.moments import moment_text
+from front.page.configs import Configs, text_of
+import front.page.told as told_module
+from front.page.told import Telling, key_of, told, trying, without_silence, without_source
 from front.program import Source
-from front.script import event_of
+from front.script import event_of, plain_id
+from front.story import story_of
+from front.story.reasons import muted_by
 from front.story.sections import SECTIONS
 
+from front.tests.random_incident import Dice
+
 from .incidents import GAP, SILENCE, alert, config, post, silence, tick
-from .support import ENVIRONMENT, EXAMPLES, PAGE, PROGRAM, Session, TOP, WithRoom, data_of, page_of
+from .support import ENVIRONMENT, EXAMPLES, PAGE, PROGRAM, TOP, WithRoom, data_of, page_of
 
 INCIDENT = TOP / "front" / "tests" / "incident"
 OTHER = "00000000-0000-4000-8000-000000000002"
@@ -48,7 +52,10 @@ class Sections(WithRoom):
 class Trials(WithRoom):
     def told(self, config_: Any, events: list[Any]) -> Any:
         paths = self.files(config_, events)
-        return told(Source(PROGRAM, *map(str, paths)), config_, self.room, True)
+        telling = Telling(Source(PROGRAM, *map(str, paths)), config_)
+        found = told(telling)
+        found.trials = [trial for trial in (task() for task in trying(found, telling, self.room)) if trial is not None]
+        return found
 
     def test_without_a_silence_the_receiver_is_notified(self) -> None:
         found = self.told(config(), GAP)
@@ -80,14 +87,47 @@ class Trials(WithRoom):
         alone = post("10:00", alert("A", "10:00", "11:00"))
         self.assertEqual(change(alone, event_of(json.dumps(alone).encode())), tick("10:00"))
 
-    def test_too_many_are_left_out_and_said(self) -> None:
-        from front.page import told as module
-
-        self.addCleanup(setattr, module, "COST_AT_MOST", module.COST_AT_MOST)
-        module.COST_AT_MOST = 0
+    def test_no_trial_is_begun_too_late(self) -> None:
+        self.addCleanup(setattr, told_module, "SECONDS_AT_MOST", told_module.SECONDS_AT_MOST)
+        told_module.SECONDS_AT_MOST = -1.0
         found = self.told(config(), GAP)
-        self.assertEqual(found.trials, [])
-        self.assertIn("would have been", found.left_out)
+        self.assertEqual((found.trials, found.mutes), ([], [SILENCE]))
+
+    def test_what_muted_a_named_alert_is_tried_first(self) -> None:
+        events = [
+            *(
+                silence("09:00", "13:00", name, f"00000000-0000-4000-8000-00000000000{i}")
+                for i, name in enumerate("ABC")
+            ),
+            post("10:00", alert("A", "10:00", "12:00"), alert("B", "10:00", "11:00"), alert("C", "10:00", "13:00")),
+            tick("14:00"),
+        ]
+        paths = self.files(config(), events)
+        for named, first in (((), "2"), (((("alertname", "B"),),), "1")):
+            found = told(Telling(Source(PROGRAM, *map(str, paths)), config(), named))
+            self.assertEqual((len(found.mutes), str(found.mutes[0])[-1]), (3, first))
+
+    def test_trials_are_those_of_the_whole_script(self) -> None:
+        """Of a trial some alerts alone are asked. What is said of them is what a whole story says."""
+        for seed in range(3):
+            dice = Dice(seed + 40)
+            config_, events = dice.config(), dice.events(40)
+            found = self.told(config_, events)
+            for trial in found.trials:
+                change = without_silence(trial.what) if isinstance(trial.what, str) else without_source(trial.what)
+                lines = [
+                    line if number in found.refused else change(line, event_of(json.dumps(line).encode()))
+                    for number, line in enumerate(events, 1)
+                ]
+                whole = story_of(Source(PROGRAM, *map(str, self.files(config_, lines))), config_)
+                rows = {key_of(row): row for row in whole.rows}
+                for outcome in trial.outcomes:
+                    row = rows[outcome.key]
+                    first = next((sent.at for sent in row.sent if sent.is_firing), None)
+                    own = [span for span in found.story.rows if key_of(span) == outcome.key]
+                    muted = [span for span in own[0].spans if muted_by(span) == trial.what]
+                    spans = [part for span in muted for part in row.spans_in(span.start, span.end)]
+                    self.assertEqual((outcome.first, outcome.spans), (first, spans))
 
     def test_reasons_behind_the_first(self) -> None:
         rule = {"source_matchers": ['alertname="Down"'], "target_matchers": ['alertname="Slow"']}
@@ -122,50 +162,32 @@ class Trials(WithRoom):
             self.assertEqual(plain_id(text), SILENCE)
 
 
-class TimeIntervals(WithRoom):
-    def test_the_program_agrees(self) -> None:
-        """Each named interval is asked of the program at moments of a year, as the only mute time of a route of its own."""
-        members: list[dict[str, Any]] = [
-            {"times": [{"start_time": "22:00", "end_time": "24:00"}, {"start_time": "00:00", "end_time": "06:30"}]},
-            {"weekdays": ["monday:friday"], "times": [{"start_time": "07:00", "end_time": "19:00"}]},
-            {"days_of_month": ["-3:-1", 1]},
-            {"days_of_month": ["30:-1"]},
-            {"months": ["february", "june:august"], "weekdays": ["Sunday"]},
-            {"years": ["2024"]},
-            {"years": ["2025:2030"]},
-            {},
-            {"times": []},
-        ]
-        named = [{"name": f"i{i}", "time_intervals": [member]} for i, member in enumerate(members)]
-        routes = [{"matchers": [f'alertname="A{i}"'], "mute_time_intervals": [f"i{i}"]} for i in range(len(members))]
-        config_ = config(*routes, time_intervals=named)
-        config_["route"]["group_interval"] = "30d"
-        start = nanoseconds("2024-01-01T00:30:00Z")
-        moments = [start + step * 211 * HOUR for step in range(42)]
-        alerts = [alert(f"A{i}", "2024-01-01T00:00:00Z", "2026-01-01T00:00:00Z") for i in range(len(members))]
-        events = [post("2024-01-01T00:00:00Z", *alerts), *({"at": moment_text(at), "tick": True} for at in moments)]
-        answers = Session(*self.files(config_, events)).explanations(
-            [{"alertname": f"A{i}"} for i in range(len(members))], len(events)
-        )
-        intervals = Intervals(config_)
-        for at, lines in zip(moments, answers[2:]):
-            own = [json.loads(line[0])["verdict"] == "TimeMuted" for line in lines]
-            self.assertEqual([intervals.holds(f"i{i}", at) for i in range(len(members))], own, moment_text(at))
+class Configurations(WithRoom):
+    def test_the_text_of_an_interval(self) -> None:
+        times = [{"start_time": "00:00", "end_time": "06:00"}, {"start_time": "22:00", "end_time": "24:00"}]
+        self.assertEqual(text_of([{"times": times}]), "00:00-06:00 or 22:00-24:00")
 
-    def test_until_when(self) -> None:
-        nights = [
-            {"times": [{"start_time": "00:00", "end_time": "06:00"}, {"start_time": "22:00", "end_time": "24:00"}]}
+    def test_intervals_with_a_zone_are_those_of_why(self) -> None:
+        day = {"times": [{"start_time": "09:00", "end_time": "18:00"}], "location": "Europe/Paris"}
+        config_ = config(
+            {"matchers": ['alertname="A"'], "active_time_intervals": ["day"]},
+            time_intervals=[{"name": "day", "time_intervals": [day]}],
+        )
+        files = self.files(
+            config_,
+            [
+                post("2024-07-05T06:00:00Z", alert("A", "2024-07-05T06:00:00Z", "2024-07-05T20:00:00Z")),
+                tick("2024-07-05T18:00:00Z"),
+            ],
+        )
+        data = data_of(page_of(*files)[1])
+        texts = [None, *data["texts"]]
+        spans = [
+            [texts[span[0]], texts[span[1]], texts[span[4]] if len(span) > 4 else None]
+            for span in data["runs"][0]["rows"][0][4]
         ]
-        intervals = Intervals({"time_intervals": [{"name": "nights", "time_intervals": nights}]})
-        names, until = intervals.muting(
-            {"mute_time_intervals": ["nights"]}, "TimeMuted", nanoseconds("2024-05-01T22:30:00Z")
-        )
-        self.assertEqual((names, moment_text(until or 0)), (["nights"], "2024-05-02T06:00:00Z"))
-        names, until = intervals.muting(
-            {"active_time_intervals": ["nights"]}, "OutsideActive", nanoseconds("2024-05-01T12:00:00Z")
-        )
-        self.assertEqual((names, moment_text(until or 0)), (["nights"], "2024-05-01T22:00:00Z"))
-        self.assertEqual(text_of(nights), "00:00-06:00 or 22:00-24:00")
+        self.assertEqual(spans[1], ["2024-07-05T06:00:30Z", "2024-07-05T07:00:00Z", "2024-07-05T07:00:00Z"])
+        self.assertEqual(spans[-1], ["2024-07-05T16:00:00Z", "2024-07-05T18:00:00Z", "2024-07-06T07:00:00Z"])
 
     def test_configurations_are_written_once(self) -> None:
         configs = Configs()

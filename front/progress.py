@@ -1,12 +1,16 @@
 """A progress bar on standard error, where that is a terminal."""
+
 from __future__ import annotations
 
 import sys
 import time
 from typing import TextIO
 
+from .telling import printable
+
 WIDTH = 30
 PAUSE = 0.1
+LONGEST_NAME = 100
 
 
 class Progress:
@@ -24,7 +28,7 @@ class Progress:
         self._last = time.monotonic()
         filled = WIDTH * done // max(total, 1)
         bar = "#" * filled + "." * (WIDTH - filled)
-        self._stream.write(f"\r\x1b[K{task} [{bar}] {done:,} of {total:,}")
+        self._stream.write(f"\r\x1b[K{printable(task)[:LONGEST_NAME]} [{bar}] {done:,} of {total:,}")
         self._stream.flush()
 
     def clear(self) -> None:

@@ -1,10 +1,10 @@
-"""Which time intervals of a route a moment is in, and until when. The program says that a route is muted; this names what muted it."""
+"""A reading of the rule of time intervals of its own, to compare the program's answers with: which hold a moment, and until when."""
 
 from __future__ import annotations
 
 from typing import Any
 
-from ..moments import DAY, SECOND, moment_text
+from front.moments import DAY, SECOND, moment_text
 
 WEEKDAYS = ("monday", "tuesday", "wednesday", "thursday", "friday", "saturday", "sunday")
 MONTHS = (
@@ -107,15 +107,3 @@ def _length(year: int, month: int) -> int:
     if month == 2:
         return 29 if year % 4 == 0 and (year % 100 != 0 or year % 400 == 0) else 28
     return 30 if month in (4, 6, 9, 11) else 31
-
-
-def text_of(members: list[dict[str, Any]]) -> str:
-    """Returns what an interval holds, as a text: `00:00-06:00 or 22:00-24:00; monday:friday`."""
-    return "; or ".join(_text(member) for member in members) or "never"
-
-
-def _text(member: dict[str, Any]) -> str:
-    parts = [" or ".join(f"{each['start_time']}-{each['end_time']}" for each in member.get("times") or [])]
-    for key, word in (("weekdays", ""), ("days_of_month", "days "), ("months", ""), ("years", "")):
-        parts.append(word + ", ".join(map(str, member.get(key) or [])) if member.get(key) else "")
-    return ", ".join(filter(None, parts)) or "always"
