@@ -1,7 +1,5 @@
 //! Tests of what no command of the program shows: places of faulty matcher texts, a refused
-//! pattern, texts of errors, the last moment, numbers of label sets, copies, and label sets of names
-//! that aren't in order.
-use amr_interner::Interner;
+//! pattern, texts of errors, the last moment, copies, and label sets of names that aren't in order.
 use amr_labels::{Labels, Text};
 use amr_matchers::{MatcherError, Matchers, ParseError};
 use amr_time::{BadDuration, BadTime, Moment, Span, next_multiple, write_moment};
@@ -105,47 +103,10 @@ fn label_set(alloc: Global, name: &str) -> Result<Labels, Fail> {
     Ok(found.ok_or("the name is empty")?)
 }
 
-/// Returns the number of a label set, and gives it one if it has none.
-fn number_of(alloc: Global, seen: &mut Interner, name: &str) -> Result<usize, Fail> {
-    let labels = label_set(alloc, name)?;
-    Ok(seen.id_of(&labels)?)
-}
-
-/// Returns the number of a label set, if it has one.
-fn known_number(alloc: Global, seen: &Interner, name: &str) -> Result<Option<usize>, Fail> {
-    let labels = label_set(alloc, name)?;
-    Ok(seen.find(&labels))
-}
-
-/// Shows three label sets to the interner, the last the same as the first, and returns whether
-/// their numbers are right.
-fn see(alloc: Global, seen: &mut Interner) -> Result<bool, Fail> {
-    let is_new = known_number(alloc, seen, "b")?.is_none();
-    let first = number_of(alloc, seen, "b")?;
-    let second = number_of(alloc, seen, "a")?;
-    let third = number_of(alloc, seen, "b")?;
-    Ok(is_new && first == 0 && second == 1 && third == 0)
-}
-
-/// Returns whether they are known by their numbers.
-fn are_known(alloc: Global, seen: &Interner) -> Result<bool, Fail> {
-    let number = known_number(alloc, seen, "a")?;
-    Ok(number == Some(1) && seen.len() == 2 && seen.labels_of(1).value_of("a") == "1")
-}
-
-#[test]
-fn label_sets_are_numbered_in_order_of_first_sight(rt: HostRuntime) -> Result<(), Fail> {
-    let mut seen = Interner::new(rt.alloc());
-    assert!(rt; see(rt.alloc(), &mut seen)?);
-    let copy = seen.clone()?;
-    assert!(rt; are_known(rt.alloc(), &copy)?);
-    Ok(())
-}
-
 #[test]
 fn a_copy_of_a_label_set_is_equal(rt: HostRuntime) -> Result<(), Fail> {
     let labels = label_set(rt.alloc(), "alertname")?;
-    let copy = labels.copy()?;
+    let copy = labels.clone()?;
     assert!(rt; copy == labels && copy.len() == 1 && copy.value_of("alertname") == "1");
     Ok(())
 }

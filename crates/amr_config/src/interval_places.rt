@@ -1,5 +1,5 @@
-//! Where each time interval is, by its name. A route may name thousands of thousands, and each flush
-//! asks for all of them.
+//! Where each time interval is, by its name. There may be thousands, and a route may name one of them
+//! tens of thousands of times; each flush asks for all that its route names.
 ghost use Rattle.std.specs.Prelude.{◌≡◌, IfOk};
 ghost use Rattle.amr_config.specs.Intervals.{AreIntervals};
 

@@ -31,3 +31,4 @@ pub mod Told
 pub mod Telling
 pub mod Explained
 pub mod Repeating
+mod Values

@@ -131,7 +131,7 @@ pub(crate) fn let_through(
 fn learn_silences(store: &mut Store, at: Moment, members: &[Member]) -> Result<(), AllocError>
     ensures { store.new ≡ store.old }
 {
-    if store.silences().iter().next().is_none() {
+    if store.silences().values().next().is_none() {
         return Ok(());
     }
     let label_sets = label_sets_of(store.alloc(), members)?;

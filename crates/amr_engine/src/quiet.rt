@@ -735,7 +735,7 @@ fn silence_turn(store: &Store, at: Moment, until: u128) -> u128
     ensures still { no_silence_turns at result store.now.state.silences ≡ true }
 {
     let mut until = until;
-    for (_, silence) in store.silences().iter() {
+    for silence in store.silences().values() {
         until = sooner(at, silence.starts_at, until);
         until = sooner(at, silence.ends_at, until);
     }
@@ -749,7 +749,7 @@ fn alert_end(store: &Store, at: Moment, until: u128) -> u128
     ensures still { no_alert_ends at result store.now.state.alerts ≡ true }
 {
     let mut until = until;
-    for (_, alert) in store.alerts().iter() {
+    for alert in store.alerts().values() {
         until = sooner(at, alert.ends_at, until);
     }
     until

@@ -7,7 +7,7 @@ ghost use Rattle.amr_engine.specs.Stages.{taken_away};
 
 use crate::explain::Finding;
 use amr_labels::Labels;
-use amr_rules::inhibited_by_matched;
+use amr_rules::inhibited_by;
 use amr_state::Store;
 use amr_stated::RuleMatch;
 use amr_time::Moment;
@@ -117,7 +117,7 @@ fn inhibition_by(
     ensures { IfOk result (λ found. found ≡ inhibition_from 0 at labels.now
         store.now.state.alerts store.now.state.config.rules) }
 {
-    inhibited_by_matched(
+    inhibited_by(
         store.alloc(),
         store.config().rules(),
         matched,

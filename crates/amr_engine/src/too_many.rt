@@ -36,7 +36,8 @@ fn is_one_beyond(store: &Store, at: Moment, left: usize) -> Result<bool, AllocEr
     requires { left ≤ move_limit }
     ensures { IfOk result (λ beyond. beyond ≡ true → advance left at store.now.state ≡ None) }
 {
-    for (group, _) in store.timers().iter() {
+    let timers = store.timers().sorted(store.alloc())?;
+    for &(group, _) in timers.as_slice() {
         if is_beyond(store, at, left, group)? {
             return Ok(true);
         }

@@ -1,3 +1,4 @@
+pub mod Nesting
 pub mod Steps
 pub mod Stating
 pub mod Drafting

@@ -1,6 +1,8 @@
 //! Reading a line of a script: an object with a moment and exactly one action. `read_event` in
 //! `script.rt` says which keys it has.
-ghost use Rattle.std.specs.Prelude.{◌≡◌, codes, option_map, IfOk};
+ghost use Rattle.std.specs.Prelude.{◌≡◌, ◌≤◌, codes, option_map, IfOk};
+ghost use Rattle.serde_json.specs.Data.{depth};
+ghost use Rattle.serde_json.specs.Read.{max_depth};
 ghost use Rattle.serde_json.specs.View.{view};
 ghost use Rattle.amr_posts.specs.Reasons.{reason_number};
 ghost use Rattle.amr_loading.specs.Refusals.{number_of};
@@ -21,7 +23,6 @@ use amr_actions::{Act, Event};
 use amr_config::Config;
 use amr_labels::Text;
 use amr_loading::{ConfigError, Refusal, load_config_sharing};
-use amr_matchers::Patterns;
 use amr_posts::Reason;
 use json::Scratch;
 use serde_json::Value;
@@ -69,6 +70,7 @@ fn event(
     seen: &mut SeenTexts,
     line: &Value,
 ) -> Result<Event, LineError>
+    requires { depth (view line.now) ≤ max_depth }
     ensures { ReadsSuch (λ event. EventIs version (view line.now) event) result
         (event_in version (view line.now)) }
 {
@@ -85,6 +87,7 @@ fn act(
     seen: &mut SeenTexts,
     line: &Value,
 ) -> Result<Act, LineError>
+    requires { depth (view line.now) ≤ max_depth }
     ensures { ReadsSuch (λ act. ActIs version (view line.now) (act_of act)) result
         (act_in version (view line.now)) }
 {
@@ -101,7 +104,7 @@ fn act(
         return Ok(Act::Expire(id(stated)?));
     }
     if let Some(stated) = line.get("reload") {
-        return Ok(Act::Reload(reload(alloc, seen.patterns_for_line(), stated)?));
+        return Ok(Act::Reload(reload(alloc, seen, stated)?));
     }
     if let Some(stated) = line.get("tick") {
         tick(stated)?;
@@ -130,16 +133,25 @@ fn label(alloc: Global, value: &Value) -> Result<Text, LineError>
     Ok(Text::from_str(alloc, text)?)
 }
 
-/// Reads the configuration of a reload, or returns why it can't be loaded.
+/// Reads the configuration of a reload, or returns why it can't be loaded. It shares the
+/// configuration with that of an equal value that was read before.
 fn reload(
     alloc: Global,
-    patterns: &mut Patterns,
+    seen: &mut SeenTexts,
     value: &Value,
 ) -> Result<Result<Config, Reason>, AllocError>
+    requires { depth (view value.now) ≤ max_depth }
     ensures { IfOk result (λ read. ReloadIs (view value.now) (by_number read)) }
 {
-    match load_config_sharing(alloc, patterns, value) {
-        Ok(config) => Ok(Ok(config)),
+    let text = value.to_string(alloc)?;
+    if let Some(known) = seen.reloads.get(text.as_str())? {
+        return Ok(Ok(known));
+    }
+    match load_config_sharing(alloc, seen.patterns_for_line(), value) {
+        Ok(config) => {
+            seen.reloads.keep(text, &config)?;
+            Ok(Ok(config))
+        }
         Err(ConfigError::Refused(refusal)) => Ok(Err(reason_of(&refusal))),
         Err(ConfigError::Memory) => Err(AllocError),
     }
@@ -194,7 +206,8 @@ fn count_of(value: &Value, key: &str) -> u64
 /// Returns the JSON value that a text spells.
 #[tactic(auto, unfolding(crate::specs::Lines::json_of))]
 pub(crate) fn json(alloc: Global, line: &[u8]) -> Result<Value, LineError>
-    ensures { Reads view result (json_of line.now) }
+    ensures read { Reads view result (json_of line.now) }
+    ensures nests { IfOk result (λ value. depth (view value) ≤ max_depth) }
 {
     match Value::from_slice(alloc, line) {
         Ok(value) => Ok(value),

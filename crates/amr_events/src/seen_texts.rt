@@ -2,19 +2,20 @@
 //! repeated in most lines, and most alerts are posted again, so `Script::read` shares them: it
 //! holds each text once, and the labels of an alert once, however often they are posted. They are
 //! found by comparing them with what a line states, before any text is copied. It also keeps the
-//! patterns of silences and reloads, so that each is built once.
+//! patterns of silences and reloads, so that each is built once, and the configurations of reloads.
 ghost use Rattle.std.specs.Prelude.{◌≡◌, true, reverse, IfOk, IfSome};
 ghost use Rattle.amr_labels.specs.Map as map;
 ghost use Rattle.amr_events.specs.Tokens.{spelled};
 
 use crate::places::{Places, Spread};
+use crate::seen_reloads::SeenReloads;
 use amr_labels::{Text, TextMap, spread_of};
 use amr_matchers::Patterns;
 use amr_posts::PostedLabels;
 use std::alloc::{AllocError, Global};
 
-/// Texts, labels and patterns that were read before. Looking up a text or labels mostly takes one
-/// or two comparisons.
+/// Texts, labels, patterns and configurations that were read before. Looking up a text or labels
+/// mostly takes one or two comparisons.
 #[derive(Drop)]
 pub(crate) struct SeenTexts {
     texts: Places<Text>,
@@ -22,16 +23,18 @@ pub(crate) struct SeenTexts {
     /// An empty map, if one was needed. All alerts without annotations share it.
     none: Option<TextMap>,
     patterns: Patterns,
+    pub(crate) reloads: SeenReloads,
 }
 
 impl SeenTexts {
-    /// Returns a memory of texts, labels and patterns that holds none.
+    /// Returns a memory of texts, labels, patterns and configurations that holds none.
     pub(crate) fn new(alloc: Global) -> SeenTexts {
         SeenTexts {
             texts: Places::new(alloc),
             labels: Places::new(alloc),
             none: None,
             patterns: Patterns::new(alloc),
+            reloads: SeenReloads::new(alloc),
         }
     }
 

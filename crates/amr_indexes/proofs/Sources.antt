@@ -1,8 +1,8 @@
 -- What the sides of inhibition rules list, and how they take in label sets.
-use Rattle.std.proofs.Common.{◌≡◌, ◌+◌, ◌<◌, ◌≤◌, Bool, true, false, cond, ◌||◌, ◌&&◌, T, List, [], ◌∷◌, Option, Some, None, ◌↔◌, map, length, take, refl, sym, ap, ◌∙◌, IsTrue, is_some, arith}
+use Rattle.std.proofs.Common.{◌≡◌, ℕ, ◌+◌, ◌<◌, ◌≤◌, Bool, true, false, cond, ◌||◌, ◌&&◌, T, List, [], ◌∷◌, Option, Some, None, ◌↔◌, map, length, take, refl, sym, ap, ◌∙◌, IsTrue, is_some, arith}
 use Rattle.std.specs.Prelude.{Result, Ok, Err, OnOk, OnErr, option_map, unwrap_or}
 use Rattle.std.proofs.Math.ListN.{get_or}
-use Rattle.std.specs.List.{cons_option}
+use Rattle.std.specs.List.{cons_option, filter_map}
 use Rattle.std.specs.declared.cmp.Ordering.{Ordering}
 use Rattle.std.specs.declared.cmp.Ordering.TheVariants.{Less, Equal, Greater}
 use Rattle.std.specs.Ordering.{eq_by_cmp, is_eq, is_lt, ordering_then}
@@ -11,17 +11,17 @@ use Rattle.std.specs.Cmp.Lexicographic.{slice_cmp, lists_total}
 use Rattle.std.specs.FinMap.{find, is_sorted, slice_cmp-IsAntisymmetric}
 use Rattle.std.specs.FinMap.Entries.{below_all, find-where_key, is_sorted-where_key, same_entries}
 use Rattle.std.proofs.lemmas.Bool.{true≢false}
-use Rattle.std.proofs.lemmas.List.{take_all}
+use Rattle.std.proofs.lemmas.List.{take_all, nil_from_length}
 use Rattle.std.proofs.lemmas.List.Folds.{list_any_more}
 use Rattle.std.proofs.lemmas.Map.Views.{tells_apart}
-use Rattle.amr_labels.specs.Map.{get, set, insert, empty, entries, get-empty, get-insert, get-set, get-entries, entries-sorted}
+use Rattle.amr_labels.specs.Map.{get, set, insert, empty, entries, from_sorted, checked, get-empty, get-insert, get-set, get-entries, entries-sorted}
 use Rattle.amr_labels.specs.Set.{Set, contains, items}
 use Rattle.amr_labels.specs.Labels.{Text, text_cmp, text_cmp-IsAntisymmetric, LabelSet, label_set_cmp, label_set_cmp_total, label_set_cmp-IsAntisymmetric, value_of}
 use Rattle.amr_matchers.specs.Matchers.{Matcher, all_hold, matcher_cmp, matcher_cmp_total, matcher_cmp-IsAntisymmetric}
 use Rattle.amr_stated.specs.declared.rule.InhibitRule.{InhibitRule}
 use Rattle.amr_rules.specs.declared.alert.Alert.{Alert}
 use Rattle.amr_rules.specs.Muting.{Alerts, agree_on, sources_of}
-use Rattle.amr_tables.specs.Numbered.{shown}
+use Rattle.amr_tables.specs.Numbered.{shown, next_number, entry_at}
 use Rattle.amr_tables.specs.Queued.{has}
 use Rattle.amr_indexes.specs.declared.rule_source.SourceSide.{SourceSide}
 use Rattle.amr_indexes.specs.declared.rule_source.KnownSide.{KnownSide}
@@ -146,6 +146,16 @@ side_same arrived old new is same side seen = record {
   exact = λ values q. same values q ∙ is.exact values q ∙ (λ i. has label_set_cmp (take (sym seen i) arrived) q && is_source (sym side i) q values);
 }
 
+-- nothing is listed under any values where there is no place
+no_entries : (keys : List (List Text × ℕ)) → filter_map (entry_at {V = Set label_set_cmp} []) keys ≡ []
+no_entries [] = refl
+no_entries (key ∷ keys) = no_entries keys
+
+pub none_listed : (sources : ByValues) (values : List Text) → next_number sources ≡ 0 → None ≡ get (shown values_cmp sources) values
+unfolding shown get from_sorted checked
+none_listed sources values none =
+    sym (ap (λ es. get (from_sorted {R = values_cmp} es) values) (ap (λ cells. filter_map (entry_at cells) sources.numbers) (nil_from_length sources.cells none) ∙ no_entries sources.numbers))
+
 -- a side of which nothing is known yet
 pub side_new : (arrived : List LabelSet) (known : KnownSide) → known.seen ≡ 0 → shown values_cmp known.sources ≡ empty → ListsSide arrived known
 side_new arrived known seen none = record {
@@ -159,11 +169,6 @@ pub is_put : (old changed : KnownSide) (labels : LabelSet) (values : List Text) 
 is_put old changed labels values matches are too under other =
     too under other
     ∙ (λ i. ((sym matches i) && (eq_by_cmp values_cmp under (are i) && eq_by_cmp label_set_cmp other labels)) || is_under old.sources under other)
-
-pub put_if_listed : {A E : Type 0} (r : Result A E) (old changed : KnownSide) (labels : LabelSet) (values : List Text) → all_hold old.side.source labels ≡ true → values ≡ label_values old.side.equal.items labels
-    → OnOk r (IsListedToo values labels old.sources changed.sources) → OnOk r (IsPut labels old changed)
-put_if_listed (Ok _) old changed labels values matches are too = is_put old changed labels values matches are too
-put_if_listed (Err _) old changed labels values matches are too = tt
 
 -- ---- what a side lists under values
 

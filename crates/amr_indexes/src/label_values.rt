@@ -13,6 +13,7 @@ use amr_labels::{Exact, Labels, Listing, Text, spread_of};
 use amr_tables::Key;
 use std::alloc::{AllocError, Global};
 use std::cmp::Ordering;
+use std::hash::{Hash, Hasher};
 use std::marker::Model;
 
 /// Values of labels, in the order of the labels' names in `equal`. Contracts see their list.
@@ -99,14 +100,23 @@ impl PartialOrd for LabelValues {
     }
 }
 
-impl Key for LabelValues {
-    ghost spread = { values_spread };
+impl Hash for LabelValues {
+    ghost use Rattle.std.specs.Hash as fed;
+    ghost use Rattle.std.proofs.Common.{ap};
+    ghost use Rattle.std.proofs.lemmas.Map.Views.{tells_apart};
+    ghost use Rattle.amr_indexes.specs.LabelValues.{values_cmp-IsAntisymmetric, values_spread};
 
-    ghost exact = { values_cmp-IsAntisymmetric };
+    ghost hash_input = { λ values. fed.usize (values_spread values) };
 
-    fn spread(&self) -> usize {
-        spread_of_texts(self.texts.as_slice())
+    ghost respects_eq = { λ x y h. ap (λ values. fed.usize (values_spread values)) (tells_apart values_cmp-IsAntisymmetric x y h) };
+
+    fn hash<H: Hasher>(&self, state: &mut H) {
+        state.write_usize(spread_of_texts(self.texts.as_slice()));
     }
+}
+
+impl Key for LabelValues {
+    ghost exact = { values_cmp-IsAntisymmetric };
 }
 
 /// Returns the value of a label in a label set, an absent label being empty.

@@ -14,8 +14,13 @@ use std::alloc::{AllocError, Global};
 use std::collections::BTreeMap;
 use std::marker::Model;
 
-/// How many sides are known at most. When one more comes, all the others are forgotten.
-const MOST_SIDES: usize = 1_000;
+/// How many label sets all sides list together before no more are learned. The next event forgets
+/// them. A list counts as `LIST` label sets more, and a side as `SIDE`, by the memory that they take.
+const MOST_LISTED: usize = 10_000_000;
+
+const LIST: usize = 10;
+
+const SIDE: usize = 25;
 
 /// The source side of an inhibition rule: its source matchers, and the names in `equal`.
 #[derive(PartialEq, Eq, PartialOrd, Ord, Drop)]
@@ -31,6 +36,8 @@ pub(crate) struct KnownSide {
     pub side: SourceSide,
     pub seen: usize,
     pub sources: Keyed<LabelValues, LabelMap<()>>,
+    /// How many label sets are listed.
+    pub listed: usize,
 }
 
 /// A side that was learned: the number of its `KnownSide`, and how many label sets had come then.
@@ -53,6 +60,8 @@ pub(crate) struct RuleSources {
     /// The side of each rule that was learned in this event, by the rule's place in the
     /// configuration. It saves look-ups, and no answer depends on it.
     learned: Vec<Option<LearnedSide>>,
+    /// How many label sets the sides list, with what lists and sides count as.
+    listed: usize,
 }
 
 impl Model for RuleSources {
@@ -84,6 +93,7 @@ impl RuleSources {
             numbers: BTreeMap::new(alloc),
             sides: Vec::new(alloc),
             learned: Vec::new(alloc),
+            listed: 0,
         }
     }
 
@@ -122,27 +132,55 @@ impl RuleSources {
         if known.seen < self.arrived.len() {
             return Ok(None);
         }
+        if known.sources.next_number() == 0 {
+            return Ok(Some(None));
+        }
         let values = LabelValues::of(self.alloc, rule.equal.as_slice(), target)?;
         Ok(Some(known.sources.get(&values)))
     }
 
     /// Takes in all label sets at the source side of the rule at a place of the configuration, so
-    /// that `agreeing` answers for it.
-    pub(crate) fn learn(&mut self, place: usize, rule: &InhibitRule) -> Result<(), AllocError>
+    /// that `agreeing` answers for it. It learns nothing if the sides list many label sets by now,
+    /// and forgets them all if there is no room.
+    pub(crate) fn learn(&mut self, place: usize, rule: &InhibitRule)
         ensures { self.new ≡ self.old }
     {
-        if self.has_learned(place) {
-            return Ok(());
+        if self.has_learned(place) || self.listed >= MOST_LISTED {
+            return;
         }
-        let number = self.learn_afresh(rule)?;
-        self.note_learned(place, number)
+        if self.learn_side(place, rule).is_err() {
+            self.forget_sides();
+        }
     }
 
-    /// Forgets which rules were learned, since other rules may be at their places from now on.
+    /// Forgets which rules were learned, since other rules may be at their places from now on. If
+    /// the sides list too many label sets, it forgets them too.
     pub(crate) fn forget_places(&mut self)
         ensures { self.new ≡ self.old }
     {
         self.learned.clear();
+        if self.listed >= MOST_LISTED {
+            self.forget_sides();
+        }
+    }
+
+    /// Forgets all sides.
+    fn forget_sides(&mut self)
+        ensures { self.new ≡ self.old }
+    {
+        self.numbers.clear();
+        self.sides.clear();
+        self.learned.clear();
+        self.listed = 0;
+    }
+
+    /// Takes in all label sets at the source side of the rule at a place, and notes that it did.
+    fn learn_side(&mut self, place: usize, rule: &InhibitRule) -> Result<(), AllocError>
+        ensures { self.new ≡ self.old }
+    {
+        let number = self.number_of(rule)?;
+        self.see_all(number)?;
+        self.note_learned(place, number)
     }
 
     /// Returns whether the rule at a place was learned, and no label set came since.
@@ -167,20 +205,20 @@ impl RuleSources {
         Ok(())
     }
 
-    /// Takes in all label sets at a rule's source side, and returns the side's number.
-    fn learn_afresh(&mut self, rule: &InhibitRule) -> Result<usize, AllocError>
+    /// Takes in all label sets at the side with this number.
+    fn see_all(&mut self, number: usize) -> Result<(), AllocError>
         ensures { self.new ≡ self.old }
     {
-        let number = self.number_of(rule)?;
         if number < self.sides.len() {
-            see_all(
+            let more = see_all(
                 self.alloc,
                 &mut self.answers,
                 &mut self.sides[number],
                 self.arrived.as_slice(),
             )?;
+            self.listed = self.listed.saturating_add(more);
         }
-        Ok(number)
+        Ok(())
     }
 
     /// Returns what is known of the side of the rule at a place. If the rule was learned in this
@@ -224,21 +262,7 @@ impl RuleSources {
         let side = side_of(self.alloc, rule)?;
         match self.numbers.get(&side) {
             Some(number) => Ok(*number),
-            None => {
-                self.forget_many();
-                self.add_side(side, rule)
-            }
-        }
-    }
-
-    /// Forgets all sides if there are as many as may be known.
-    fn forget_many(&mut self)
-        ensures { self.new ≡ self.old }
-    {
-        if self.sides.len() >= MOST_SIDES {
-            self.numbers.clear();
-            self.sides.clear();
-            self.learned.clear();
+            None => self.add_side(side, rule),
         }
     }
 
@@ -251,7 +275,9 @@ impl RuleSources {
             side: side_of(self.alloc, rule)?,
             seen: 0,
             sources: Keyed::new(self.alloc),
+            listed: 0,
         };
+        self.listed = self.listed.saturating_add(SIDE);
         self.sides.push(known)?;
         self.numbers.insert(side, number)?;
         Ok(number)
@@ -280,21 +306,28 @@ fn side_of(alloc: Global, rule: &InhibitRule) -> Result<SourceSide, AllocError>
     })
 }
 
-/// Takes in at a side those of the label sets that it hasn't seen. If memory runs out, it has seen
-/// some of them.
+/// Takes in at a side those of the label sets that it hasn't seen. Returns how much more it lists
+/// then. If memory runs out, it has seen some of them.
 fn see_all(
     alloc: Global,
     answers: &mut Answers,
     known: &mut KnownSide,
     arrived: &[Labels],
-) -> Result<(), AllocError>
+) -> Result<usize, AllocError>
     requires { ListsSide arrived.now known.old }
     ensures { ListsSide arrived.now known.new }
 {
+    let before = size_of(known);
     while known.seen < arrived.len() {
         see_next(alloc, answers, known, arrived)?;
     }
-    Ok(())
+    Ok(size_of(known).saturating_sub(before))
+}
+
+/// Returns how many label sets a side lists, with what its lists count as.
+fn size_of(known: &KnownSide) -> usize {
+    let lists = known.sources.next_number().saturating_mul(LIST);
+    known.listed.saturating_add(lists)
 }
 
 /// Takes in at a side the first of the label sets that it hasn't seen.
@@ -331,7 +364,9 @@ fn see(
         return Ok(());
     }
     let values = LabelValues::of(alloc, known.side.equal.as_slice(), labels)?;
-    list_under(alloc, &mut known.sources, &values, labels)
+    list_under(alloc, &mut known.sources, &values, labels)?;
+    known.listed = known.listed.saturating_add(1);
+    Ok(())
 }
 
 /// Lists a label set under values, too.

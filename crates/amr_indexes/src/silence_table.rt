@@ -134,8 +134,32 @@ impl SilenceTable {
     /// Works out when silences that match these label sets are active from a moment on, and
     /// remembers it. Skips label sets that are known, and does nothing if no silence is stored. If
     /// some are unknown and many arrived, it first asks for those that arrived, which the next
-    /// flushes most likely meet: the search of each pattern is then prepared once for all.
-    pub fn learn(
+    /// flushes most likely meet: the search of each pattern is then prepared once for all. If there
+    /// is no room, it forgets what it knows of label sets.
+    pub fn learn(&mut self, at: Moment, label_sets: &[Labels], arrived: &[Labels])
+        ensures { self.new ≡ self.old }
+    {
+        if self.learn_unknown(at, label_sets, arrived).is_err() {
+            self.forget();
+        }
+    }
+
+    /// Forgets what it knows of label sets.
+    fn forget(&mut self)
+        ensures { self.new ≡ self.old }
+    {
+        forget(
+            self.alloc,
+            &mut self.known,
+            &mut self.places,
+            &mut self.changes,
+            &mut self.asked_ahead,
+        );
+    }
+
+    /// Works out when silences that match those of these label sets are active of which nothing is
+    /// known, and remembers it. It may do so for others that arrived.
+    fn learn_unknown(
         &mut self,
         at: Moment,
         label_sets: &[Labels],
@@ -143,7 +167,7 @@ impl SilenceTable {
     ) -> Result<(), AllocError>
         ensures { self.new ≡ self.old }
     {
-        if self.silences.iter().next().is_none() {
+        if self.silences.values().next().is_none() {
             return Ok(());
         }
         let unknown = self.unknown(at, label_sets)?;
@@ -437,11 +461,25 @@ fn note_change(
     if count < MOST_CHANGES && count < changes.capacity() {
         changes.push_reserved(noted);
     } else {
-        known.clear();
-        *places = Keyed::new(alloc);
-        changes.clear();
-        *asked_ahead = 0;
+        forget(alloc, known, places, changes, asked_ahead);
     }
+}
+
+/// Forgets all that is known of label sets.
+fn forget(
+    alloc: Global,
+    known: &mut Vec<KnownPeriods>,
+    places: &mut Keyed<Labels, usize>,
+    changes: &mut Vec<SilenceChange>,
+    asked_ahead: &mut usize,
+)
+    ensures known { known.new.items ≡ [] }
+    ensures changes { changes.new.items ≡ [] }
+{
+    known.clear();
+    *places = Keyed::new(alloc);
+    changes.clear();
+    *asked_ahead = 0;
 }
 
 /// Keeps what is known of a label set in place of what was known of it before.

@@ -5,15 +5,16 @@ ghost use Rattle.std.specs.Option.{option_copied};
 ghost use Rattle.std.specs.Ordering.{eq_by_cmp};
 ghost use Rattle.amr_labels.specs.Labels.{text_cmp, label_set_cmp};
 ghost use Rattle.amr_labels.specs.SortKey.{key_of_text, key_of_label, sort_key, has_zero, label_has_zero, has_zeros};
-ghost use Rattle.amr_labels.specs.Spread.{label_set_spread};
+ghost use Rattle.amr_labels.specs.Spread.{text_hash, label_set_spread};
 ghost use Rattle.amr_labels.specs.Mark.{text_mark, headed};
 ghost use Rattle.amr_labels.specs.ObjectText.{plain_object};
 
 use crate::object_text::object_text;
-use crate::text::{Text, spread_of};
+use crate::text::Text;
 use crate::text_map::TextMap;
 use std::alloc::{AllocError, Global};
 use std::cmp::Ordering;
+use std::hash::{DefaultHasher, Hasher};
 use std::marker::Model;
 
 /// Texts under names, with their sort key. Contracts see the texts.
@@ -66,10 +67,12 @@ impl KeyedTexts {
     pub(crate) fn new(alloc: Global, texts: TextMap) -> Result<KeyedTexts, AllocError>
         ensures { IfOk result (λ keyed. keyed ≡ texts) }
     {
-        let key = sort_key(alloc, texts.entries())?;
-        let spread = match &key {
-            Some(key) => spread_of(key.as_str()),
-            None => 0,
+        let joined = joined(alloc, texts.entries())?;
+        let spread = hash_of(joined.as_str());
+        let key = if has_zeros(texts.entries()) {
+            None
+        } else {
+            Some(joined)
         };
         let mark = match &key {
             Some(key) => mark_of(key.as_str()),
@@ -133,17 +136,15 @@ impl KeyedTexts {
     }
 }
 
-/// Returns the sort key of names and values, or `None` if one of them has a zero byte.
-fn sort_key(alloc: Global, labels: &[(Text, Text)]) -> Result<Option<String>, AllocError>
-    ensures key { IfOk result (λ found. IfSome found (λ key.
-        string_bytes key ≡ sort_key labels.now)) }
-    ensures zeros { IfOk result (λ found. IfSome found (λ key. has_zeros labels.now ≡ false)) }
-    ensures none { IfOk result (λ found. IfNone found (has_zeros labels.now ≡ true)) }
+/// Returns the hash of a text, SipHash-1-3 with both keys zero. Nobody knows how to write many texts
+/// with one hash but by trying.
+#[tactic(auto, unfolding(crate::specs::Spread::text_hash))]
+fn hash_of(text: &str) -> usize
+    ensures { result ≡ text_hash text.now }
 {
-    if has_zeros(labels) {
-        return Ok(None);
-    }
-    Ok(Some(joined(alloc, labels)?))
+    let mut hasher = DefaultHasher::new();
+    hasher.write(text.as_bytes());
+    hasher.finish() as usize
 }
 
 /// Returns whether a name or a value has a zero byte.

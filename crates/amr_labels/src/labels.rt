@@ -130,13 +130,6 @@ impl Labels {
         self.shared.get().printed()
     }
 
-    /// Returns an equal label set. It shares the texts.
-    pub fn copy(&self) -> Result<Labels, AllocError>
-        ensures { IfOk result (λ copy. copy ≡ self.now) }
-    {
-        self.clone()
-    }
-
     /// Returns the labels with these names.
     pub fn kept_by_names(&self, alloc: Global, names: &Names) -> Result<Labels, AllocError>
         ensures { IfOk result (λ kept. kept
@@ -195,18 +188,17 @@ impl PartialOrd for Labels {
 }
 
 impl Hash for Labels {
-    ghost use Rattle.std.specs.Prelude.{◌++◌, List, ℕ};
     ghost use Rattle.std.specs.Hash as fed;
     ghost use Rattle.std.proofs.Common.{ap};
     ghost use Rattle.std.proofs.lemmas.Map.Views.{tells_apart};
-    ghost use Rattle.amr_labels.specs.Map as map;
-    ghost use Rattle.amr_labels.specs.Labels.{label_set_cmp-IsAntisymmetric, label_set_writes};
+    ghost use Rattle.amr_labels.specs.Labels.{label_set_cmp-IsAntisymmetric};
+    ghost use Rattle.amr_labels.specs.Spread.{label_set_spread};
 
-    ghost hash_input = { label_set_writes };
+    ghost hash_input = { λ labels. fed.usize (label_set_spread labels) };
 
-    ghost respects_eq = { λ x y h. ap label_set_writes (tells_apart label_set_cmp-IsAntisymmetric x y h) };
+    ghost respects_eq = { λ x y h. ap (λ labels. fed.usize (label_set_spread labels)) (tells_apart label_set_cmp-IsAntisymmetric x y h) };
 
     fn hash<H: Hasher>(&self, state: &mut H) {
-        self.entries().hash(state);
+        state.write_usize(self.spread());
     }
 }

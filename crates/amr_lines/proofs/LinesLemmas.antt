@@ -1,10 +1,9 @@
 pub mod Parts
-pub mod Tokens
+pub mod Members
 pub mod Plain
 pub mod Pushed
 pub mod PlainObjects
 pub mod MomentTexts
 pub mod LineParts
+pub mod ObjectTexts
 pub mod VerdictTexts
-pub mod NotificationTexts
-pub mod ListedTokens

@@ -1,6 +1,5 @@
 pub mod Inlet
 pub mod Outlet
 pub mod Printed
-pub mod Tokens
 pub mod LastLines
 pub mod Verdicts

@@ -10,7 +10,7 @@ mod listings;
 mod notification_text;
 mod outlet;
 mod plain;
-mod pushed_text;
+mod strings;
 mod verdicts;
 mod word;
 

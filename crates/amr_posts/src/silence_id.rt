@@ -11,6 +11,7 @@ use amr_labels::Exact;
 use amr_tables::Key;
 use std::alloc::{AllocError, Global};
 use std::cmp::Ordering;
+use std::hash::{Hash, Hasher};
 use std::marker::Model;
 use uuid::Uuid;
 
@@ -100,15 +101,23 @@ impl Exact for SilenceId {
     ghost exact = { λ x y same. same };
 }
 
+impl Hash for SilenceId {
+    ghost use Rattle.std.specs.FinMap.{nat_cmp-IsAntisymmetric};
+    ghost use Rattle.std.specs.Hash as fed;
+    ghost use Rattle.std.proofs.Common.{ap};
+    ghost use Rattle.std.proofs.lemmas.Map.Views.{tells_apart};
+
+    ghost hash_input = { fed.u128 };
+
+    ghost respects_eq = { λ x y h. ap fed.u128 (tells_apart nat_cmp-IsAntisymmetric x y h) };
+
+    fn hash<H: Hasher>(&self, state: &mut H) {
+        state.write_u128(self.bits);
+    }
+}
+
 impl Key for SilenceId {
     ghost use Rattle.std.specs.FinMap.{nat_cmp-IsAntisymmetric};
-    ghost use Rattle.std.specs.Prelude.{bit_and, ◌-◌, ◌^◌};
-
-    ghost spread = { λ id. bit_and id (2 ^ 64 - 1) };
 
     ghost exact = { nat_cmp-IsAntisymmetric };
-
-    fn spread(&self) -> usize {
-        (self.bits & 0xffff_ffff_ffff_ffff) as usize
-    }
 }

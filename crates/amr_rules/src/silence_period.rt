@@ -45,8 +45,9 @@ pub fn unexpired(
 ) -> Result<Vec<(SilenceId, Silence)>, AllocError>
     ensures { IfOk result (λ listed. listed.items ≡ unexpired from (shown nat_cmp silences.now)) }
 {
+    let stored = silences.sorted(alloc)?;
     let mut listed = Vec::new(alloc);
-    for (id, silence) in silences.iter() {
+    for &(id, silence) in stored.as_slice() {
         if !silence.is_expired_at(from) {
             listed.push((*id, silence.clone()?))?;
         }

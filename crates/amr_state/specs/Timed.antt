@@ -1,96 +1,86 @@
--- The stored alerts and the group timers, with the queue of pending timers.
-use Rattle.std.specs.Prelude.{◌≡◌, ◌≤◌, ◌+◌, ◌*◌, ℕ, Bool, true, false, List, length, Option, Some, None, option_map, IfSome}
+-- The stored alerts and the group timers, with the moments of their pending timers by number.
+use Rattle.std.specs.Prelude.{◌≡◌, ◌<◌, ℕ, Bool, false, IsTrue, List, length, Option, Some, None, is_some, option_map, nat_lt, if◌then◌else◌}
 use Rattle.std.specs.Option.{option_and_then}
-use Rattle.std.specs.Ordering.{nat_cmp, eq_by_cmp}
-use Rattle.std.specs.List.Sorted.{IsStrictlySortedBy}
-use Rattle.std.specs.BTreeSet.{insert_key}
+use Rattle.std.specs.declared.cmp.Ordering.{Ordering}
+use Rattle.std.specs.Ordering.{is_gt}
 use Rattle.amr_labels.specs.Labels.{LabelSet, label_set_cmp}
+use Rattle.amr_labels.specs.Map.{get}
 use Rattle.amr_time.specs.Time.{Moment}
 use Rattle.amr_rules.specs.declared.alert.Alert.{Alert}
-use Rattle.amr_tables.specs.Numbered.{Numbered, shown, HasPlaces}
-use Rattle.amr_tables.specs.Queued.{Queued, has, in_order, without, count_of}
+use Rattle.amr_rules.specs.Muting.{Alerts}
+use Rattle.amr_tables.specs.Numbered.{Numbered, shown, has_place, number_of, rank_of, IsNumber}
+use Rattle.amr_tables.specs.Earliest.{Earliest, moment_at, IsTournament}
+use Rattle.amr_tables.specs.Queued.{has}
 use Rattle.amr_state.specs.declared.notification.GroupTimer.{GroupTimer}
 use Rattle.amr_state.specs.declared.route_labels.RouteLabels.{RouteLabels}
 use Rattle.amr_state.specs.declared.due.Due.{Due}
+use Rattle.amr_state.specs.declared.due.Kind.{Kind}
 use Rattle.amr_state.specs.declared.due.Kind.TheVariants.{AlertRemoval, GroupRemoval, GroupFlush}
-use Rattle.amr_state.specs.declared.timetable.GroupMoments.{GroupMoments}
+use Rattle.amr_state.specs.declared.timetable.Pending.{Pending}
 use Rattle.amr_state.specs.State.{route_labels_cmp}
-use Rattle.amr_state.specs.Dues.{due_cmp, place_cmp, dues_of, alert_removal_at, group_removal_at}
+use Rattle.amr_state.specs.Dues.{due_cmp, alert_removal_at, group_removal_at}
 
 pub record Timed : Type 0 where
   pub alerts : Numbered LabelSet Alert
   pub timers : Numbered RouteLabels GroupTimer
 
--- The queue is the sorted list of pending timers. Its timers and its spare room together are enough
--- for one timer of each alert's place and two of each group's.
-pub record IsTimed (alerts : Numbered LabelSet Alert) (timers : Numbered RouteLabels GroupTimer) (queue : Queued Due) : Type 0 where
-  pub dues : queue.dues ≡ in_order due_cmp (dues_of (shown label_set_cmp alerts) (shown route_labels_cmp timers))
-  pub room : length alerts.numbers + 2 * length timers.numbers ≤ queue.room + length queue.dues
-  pub alert_places : HasPlaces label_set_cmp alerts
-  pub timer_places : HasPlaces route_labels_cmp timers
-
--- ---- a timer at another moment
-
--- whether two timers are of the same kind, and of the same alert or group
-abbrev pub is_same : Due → Due → Bool
-is_same = eq_by_cmp place_cmp
-
-abbrev pub is_at : Moment → Option Moment → Bool
-is_at moment None = false
-is_at moment (Some other) = eq_by_cmp nat_cmp moment other
-
--- the timer at a moment
-abbrev pub due_at : Due → Moment → Due
-due_at due moment = record due { moment = moment }
-
--- the list without the timer at its old moment, if it has one
-abbrev pub taken_at : List Due → Due → Option Moment → List Due
-taken_at dues due None = dues
-taken_at dues due (Some moment) = without due_cmp dues (due_at due moment)
-
--- the list with the timer at its new moment, if it has one
-abbrev pub put_at : List Due → Due → Option Moment → List Due
-put_at dues due None = dues
-put_at dues due (Some moment) = insert_key due_cmp dues (due_at due moment)
-
--- the list with the timer moved from the old moment to the new one
-abbrev pub moved : List Due → Due → Option Moment → Option Moment → List Due
-moved dues due old new = put_at (taken_at dues due old) due new
-
--- the list is in order, and has the timer at the old moment, and not yet at the new one, for which
--- there is room
-pub record CanMove (dues : List Due) (spare : ℕ) (due : Due) (old new : Option Moment) : Type 0 where
-  pub sorted : IsStrictlySortedBy due_cmp dues
-  pub room : count_of new ≤ spare + count_of old
-  pub there : IfSome old (λ moment. has due_cmp dues (due_at due moment) ≡ true)
-  pub absent : IfSome new (λ moment. has due_cmp (taken_at dues due old) (due_at due moment) ≡ false)
-
-abbrev pub removal_of_alert : LabelSet → Due
-removal_of_alert labels = record { moment = 0; kind = AlertRemoval; route = 0; labels = labels }
-
-abbrev pub removal_of_group : RouteLabels → Due
-removal_of_group group = record { moment = 0; kind = GroupRemoval; route = group.route; labels = group.labels }
-
-abbrev pub flush_of_group : RouteLabels → Due
-flush_of_group group = record { moment = 0; kind = GroupFlush; route = group.route; labels = group.labels }
-
 -- when an alert is removed
 abbrev pub alert_moment : Option Alert → Option Moment
 alert_moment = option_map alert_removal_at
 
--- when a group is flushed and removed
-abbrev pub group_moments : Option GroupTimer → GroupMoments
-group_moments timer = record { flush = option_map (λ timer. timer.next_flush) timer; removal = option_and_then group_removal_at timer }
+-- when a group is flushed
+abbrev pub flush_moment : Option GroupTimer → Option Moment
+flush_moment = option_map (λ timer. timer.next_flush)
 
--- the list with the group's flush moved
-abbrev pub flush_moved : List Due → RouteLabels → GroupMoments → GroupMoments → List Due
-flush_moved dues group old new = moved dues (flush_of_group group) old.flush new.flush
+-- when a group is removed
+abbrev pub removal_moment : Option GroupTimer → Option Moment
+removal_moment = option_and_then group_removal_at
 
--- the list with the group's flush and removal moved
-abbrev pub group_moved : List Due → RouteLabels → GroupMoments → GroupMoments → List Due
-group_moved dues group old new = moved (flush_moved dues group old new) (removal_of_group group) old.removal new.removal
+-- when the group's timer of a kind is due
+abbrev pub group_moment : Kind → Option GroupTimer → Option Moment
+group_moment AlertRemoval timer = None
+group_moment GroupRemoval timer = removal_moment timer
+group_moment GroupFlush timer = flush_moment timer
 
--- the flush can be moved, and after it the removal
-pub record CanMoveGroup (dues : List Due) (spare : ℕ) (group : RouteLabels) (old new : GroupMoments) : Type 0 where
-  pub flush : CanMove dues spare (flush_of_group group) old.flush new.flush
-  pub removal : (left : ℕ) → left + length (flush_moved dues group old new) ≡ spare + length dues → CanMove (flush_moved dues group old new) left (removal_of_group group) old.removal new.removal
+module _ {K V : Type 0} (R : K → K → Ordering) where
+  -- the key of each value has a number, and no other key has the same
+  pub record AreNumbered (t : Numbered K V) : Type 0 where
+    pub placed : (key : K) → IsTrue (is_some (get (shown R t) key)) → IsTrue (has_place R t key)
+    pub apart : (a b : K) (n : ℕ) → number_of R t a ≡ Some n → number_of R t b ≡ Some n → a ≡ b
+
+  -- The moment of each key's number is that of the key's value. A number that no key has has no
+  -- moment.
+  pub record IsScheduled (moment_of : Option V → Option Moment) (t : Numbered K V) (moments : Earliest) : Type 0 where
+    pub timed : (key : K) (n : ℕ) → number_of R t key ≡ Some n → moment_at moments n ≡ moment_of (get (shown R t) key)
+    pub named : (n : ℕ) (moment : Moment) → moment_at moments n ≡ Some moment → IsNumber R t n
+    pub room : (key : K) (n : ℕ) → number_of R t key ≡ Some n → n < length moments.moments
+    pub tournament : IsTournament (rank_of R t) moments
+
+-- The moments are those of the alerts and timers, and of several at one moment the names decide.
+pub record IsTimed (alerts : Numbered LabelSet Alert) (timers : Numbered RouteLabels GroupTimer) (alert_removals group_removals flushes : Earliest) : Type 0 where
+  pub alerts_numbered : AreNumbered label_set_cmp alerts
+  pub timers_numbered : AreNumbered route_labels_cmp timers
+  pub alerts_removed : IsScheduled label_set_cmp alert_moment alerts alert_removals
+  pub groups_removed : IsScheduled route_labels_cmp removal_moment timers group_removals
+  pub groups_flushed : IsScheduled route_labels_cmp flush_moment timers flushes
+
+-- ---- the first timer
+
+-- the timer that a reference to its labels stands for
+abbrev pub due_of : Pending → Due
+due_of pending = record { moment = pending.moment; kind = pending.kind; route = pending.route; labels = pending.labels.now }
+
+-- the earlier of two timers; of two at one moment, the first
+abbrev pub earlier : Option Due → Option Due → Option Due
+earlier None b = b
+earlier (Some a) None = Some a
+earlier (Some a) (Some b) = if nat_lt b.moment a.moment then Some b else Some a
+
+-- the timer is one of these kinds in the list, and none of these kinds is before it; without a
+-- timer, the list has none of these kinds
+abbrev pub IsFirstAmong : (Kind → Type 0) → List Due → Option Due → Type 0
+IsFirstAmong kinds dues None = (other : Due) → kinds other.kind → has due_cmp dues other ≡ false
+IsFirstAmong kinds dues (Some due) = kinds due.kind × (IsTrue (has due_cmp dues due) × ((other : Due) → kinds other.kind → IsTrue (has due_cmp dues other) → is_gt (due_cmp due other) ≡ false))
+
+abbrev pub IsFirstOfKind : Kind → List Due → Option Due → Type 0
+IsFirstOfKind kind = IsFirstAmong (λ other. other ≡ kind)

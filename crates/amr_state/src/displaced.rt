@@ -4,7 +4,7 @@ ghost use Rattle.std.specs.Prelude.{◌≡◌, IfOk};
 
 use crate::membership::Membership;
 use crate::notification::{GroupTimer, LogKey};
-use crate::route_labels::TimedGroup;
+use crate::route_labels::RouteLabels;
 use amr_config::{Config, Router};
 use amr_labels::Labels;
 use amr_posts::SilenceId;
@@ -28,7 +28,7 @@ pub enum Displaced {
     /// The member of a group with these labels.
     WasPlacement(Membership, Option<Alert>),
     /// The timer of a group.
-    WasTimer(TimedGroup, Option<GroupTimer>),
+    WasTimer(RouteLabels, Option<GroupTimer>),
     /// The entry of the notification log under this key.
     WasLogged(LogKey, Option<LogEntry>),
     /// The number of notifications before the event.

@@ -4,7 +4,7 @@
 ghost use Rattle.std.specs.Prelude.{◌≡◌};
 ghost use Rattle.std.proofs.Common.{rules};
 ghost use Rattle.amr_state.specs.State.{log_key_cmp_integration, log_key_cmp_group};
-ghost use Rattle.amr_state.specs.Spread.{text_sample, byte_at};
+ghost use Rattle.amr_state.specs.Spread.{text_sample, byte_at, log_key_spread};
 
 use amr_config::RoutePath;
 use amr_labels::{Exact, Labels, Listing, Text, TextMap};
@@ -12,6 +12,7 @@ use amr_tables::Key;
 use amr_time::Moment;
 use std::alloc::AllocError;
 use std::cmp::Ordering;
+use std::hash::{Hash, Hasher};
 
 /// A group timer. A group exists as long as it has one.
 #[derive(Clone, Copy)]
@@ -140,16 +141,28 @@ impl PartialOrd for LogKey {
     }
 }
 
-impl Key for LogKey {
+impl Hash for LogKey {
+    ghost use Rattle.std.specs.Hash as fed;
+    ghost use Rattle.std.proofs.Common.{ap};
+    ghost use Rattle.std.proofs.lemmas.Map.Views.{tells_apart};
     ghost use Rattle.amr_state.specs.State.{log_key_cmp-IsAntisymmetric};
     ghost use Rattle.amr_state.specs.Spread.{log_key_spread};
 
-    ghost spread = { log_key_spread };
+    ghost hash_input = { λ key. fed.usize (log_key_spread key) };
 
-    ghost exact = { log_key_cmp-IsAntisymmetric };
+    ghost respects_eq = { λ x y h. ap (λ key. fed.usize (log_key_spread key)) (tells_apart log_key_cmp-IsAntisymmetric x y h) };
 
+    fn hash<H: Hasher>(&self, state: &mut H) {
+        state.write_usize(self.spread());
+    }
+}
+
+impl LogKey {
+    /// Returns a number made of all parts of the key, which it is hashed by.
     #[tactic(auto, unfolding(crate::specs::Spread::log_key_spread))]
-    fn spread(&self) -> usize {
+    fn spread(&self) -> usize
+        ensures { result ≡ log_key_spread self.now }
+    {
         let integration = self
             .place
             .wrapping_add(self.kind.as_str().len().wrapping_mul(256))
@@ -160,6 +173,12 @@ impl Key for LogKey {
             .wrapping_mul(0x9e37_79b9_7f4a_7c15)
             .wrapping_add(self.group.spread())
     }
+}
+
+impl Key for LogKey {
+    ghost use Rattle.amr_state.specs.State.{log_key_cmp-IsAntisymmetric};
+
+    ghost exact = { log_key_cmp-IsAntisymmetric };
 }
 
 /// Returns a number that spreads texts out, by their length, the two bytes in the middle, and the

@@ -1,7 +1,7 @@
 //! The configuration in force with the members of all groups, and an index of the members by group.
 //! `Store` changes it. The group of a member depends on the configuration, so both are kept
 //! together.
-ghost use Rattle.std.specs.Prelude.{Some, ◌≡◌, ◌<◌, ◌+◌, ◌++◌, [], IsTrue, is_some, option_map, length, OnOk, OnErr, IfOk};
+ghost use Rattle.std.specs.Prelude.{Some, ◌≡◌, ◌≤◌, ◌<◌, ◌+◌, ◌++◌, [], IsTrue, is_some, option_map, if◌then◌else◌, length, OnOk, OnErr, IfOk};
 ghost use Rattle.std.specs.Option.{option_copied};
 ghost use Rattle.amr_labels.specs.Map as map;
 ghost use Rattle.amr_config.specs.Groups.{groups_of};
@@ -16,7 +16,6 @@ use crate::displaced::BoxedRouter;
 use crate::members::Member;
 use crate::membership::{IndexedMember, Membership};
 use crate::route_labels::RouteLabels;
-use crate::timetable::make_room;
 use amr_config::{Config, RouteGroup, Router};
 use amr_labels::{Labels, Listing, Shared};
 use amr_rules::Alert;
@@ -169,7 +168,7 @@ impl Roster {
         let group = group.clone()?;
         let (number, former) = self.placements.look_up_number(route_labels);
         let was = is_member(former);
-        make_room(&mut self.index, number.is_some(), 1)?;
+        make_room(&mut self.index, number.is_some())?;
         let place = ensure_place(&mut self.placements, route_labels, number)?;
         let is = alert.is_some();
         let entry = change_found(
@@ -308,6 +307,22 @@ fn ensure_place(
             Ok(number)
         }
     }
+}
+
+/// Makes room in the index for the member of a new place. Does nothing if the place exists, since
+/// its room is there.
+fn make_room(index: &mut Queue<IndexedMember>, is_there: bool) -> Result<(), AllocError>
+    ensures room { OnOk result (index.old.room + (if is_there then 0 else 1) ≤ index.new.room) }
+    ensures more { index.old.room ≤ index.new.room }
+    ensures dues { index.new.dues ≡ index.old.dues }
+{
+    if is_there {
+        return Ok(());
+    }
+    let Some(room) = index.room().checked_add(1) else {
+        return Err(AllocError);
+    };
+    index.reserve(room)
 }
 
 /// Returns the entry of the index for a member whose place has this number.

@@ -11,11 +11,10 @@ ghost use Rattle.amr_stated.specs.RuleMatches.{rule_matches};
 ghost use Rattle.amr_labels.specs.Map as map;
 ghost use Rattle.amr_labels.specs.Map.{len};
 ghost use Rattle.amr_tables.specs.Numbered.{shown};
-ghost use Rattle.amr_tables.specs.Queued.{in_order};
 ghost use Rattle.amr_time.specs.Time.{latest_read};
 ghost use Rattle.amr_rules.specs.Muting.{is_silenced, silencer_of};
 ghost use Rattle.amr_state.specs.State.{start, members, group_key, timers_after_flush, route_labels_cmp, log_key_cmp};
-ghost use Rattle.amr_state.specs.Dues.{due_cmp, dues};
+ghost use Rattle.amr_state.specs.Dues.{next_due};
 ghost use Rattle.amr_state.specs.Logged.{is_due};
 ghost use Rattle.amr_state.specs.Kept.{GrownBy, undone};
 ghost use Rattle.amr_state.specs.Rostered.{labels_of_members};
@@ -27,7 +26,7 @@ use crate::members::Member;
 use crate::notification::{GroupTimer, LogKey, Notification};
 use crate::placing::group_key;
 use crate::roster::Roster;
-use crate::route_labels::{RouteLabels, TimedGroup};
+use crate::route_labels::RouteLabels;
 use crate::tables::Tables;
 use crate::timetable::Timetable;
 use amr_config::{Config, RouteGroup};
@@ -36,7 +35,7 @@ use amr_labels::{Labels, Listing, Shared};
 use amr_posts::SilenceId;
 use amr_rules::{Alert, LogEntry, Silence};
 use amr_stated::RuleMatch;
-use amr_tables::{Journal, Keyed, Queue, change_found};
+use amr_tables::{Journal, Keyed, change_found};
 use amr_time::{Moment, Span};
 use std::alloc::{AllocError, Global};
 use std::marker::Model;
@@ -139,10 +138,10 @@ impl Store {
         match self.journal.pop() {
             Displaced::WasMoment(was) => self.moment = was,
             Displaced::WasConfig(was) => drop(self.tables.roster.replace_config(was)),
-            Displaced::WasAlert(labels, was) => self.tables.timetable.put_back_alert(labels, was),
+            Displaced::WasAlert(labels, was) => self.tables.timetable.put_back_alert(&labels, was),
             Displaced::WasSilence(id, was) => self.tables.silences.put_back(&id, was),
             Displaced::WasPlacement(member, was) => self.tables.roster.put_back_member(member, was),
-            Displaced::WasTimer(group, was) => self.tables.timetable.put_back_timer(group, was),
+            Displaced::WasTimer(group, was) => self.tables.timetable.put_back_timer(&group, was),
             Displaced::WasLogged(key, was) => drop(self.tables.log.displace(&key, was)),
             Displaced::WasNotes(count) => self.notes.truncate(count),
         }
@@ -246,7 +245,8 @@ impl Store {
         ensures same { self.new ≡ self.old }
     {
         let arrived = self.tables.timetable.alerts().arrived();
-        self.tables.silences.learn(at, label_sets, arrived)
+        self.tables.silences.learn(at, label_sets, arrived);
+        Ok(())
     }
 
     /// Works out which label sets can be sources of the inhibition rules that have labels as a
@@ -313,12 +313,13 @@ impl Store {
         &self.tables.log
     }
 
-    /// Returns the queue of pending timers.
-    #[tactic(auto, unfolding(crate::specs::Dues::dues))]
-    pub fn queue(&self) -> &Queue<Due>
-        ensures { result.now.dues ≡ in_order due_cmp (dues self.now.state) }
+    /// Returns the first pending timer at or before a moment, or `None` if no timer is pending then.
+    #[tactic(auto, unfolding(crate::specs::Dues::next_due, crate::specs::Dues::dues))]
+    pub(crate) fn next_due(&self, at: Moment) -> Result<Option<Due>, AllocError>
+        ensures due { IfOk result (λ due. due ≡ next_due at self.now.state) }
+        ensures within { IfOk result (λ due. IfSome due (λ d. d.moment ≤ at)) }
     {
-        self.tables.timetable.queue()
+        self.tables.timetable.next_due(at)
     }
 
     /// Returns all notifications so far, in order.
@@ -473,7 +474,6 @@ impl Store {
         let Some(former) = former.copied() else {
             return Ok(());
         };
-        let Some(number) = number else { unreachable!() };
         let timer = GroupTimer {
             next_flush: next,
             flushed: true,
@@ -482,7 +482,7 @@ impl Store {
         let entry = self
             .tables
             .timetable
-            .change_flush(&mut self.journal, group, number, former, timer)?;
+            .change_timer(&mut self.journal, group, number, Some(timer))?;
         if let Some((group, was)) = entry {
             self.journal.push(Displaced::WasTimer(group, was));
         }
@@ -654,13 +654,13 @@ impl Store {
         ensures kept { undone self.new ≡ undone self.old }
         ensures grown { GrownBy 1 self.old self.new }
     {
-        let copy = TimedGroup::of(group)?;
+        let number = self.tables.timetable.timers().number_of(group);
         let entry = self
             .tables
             .timetable
-            .change_timer(&mut self.journal, group, timer)?;
-        if let Some((_route_labels, was)) = entry {
-            self.journal.push(Displaced::WasTimer(copy, was));
+            .change_timer(&mut self.journal, group, number, timer)?;
+        if let Some((group, was)) = entry {
+            self.journal.push(Displaced::WasTimer(group, was));
         }
         Ok(())
     }
@@ -717,7 +717,8 @@ fn keys_of<V: Drop>(
     ensures { IfOk result (λ found. found.items ≡ map.keys (shown route_labels_cmp table.now)) }
 {
     let mut found = Vec::new(alloc);
-    for (route_labels, _) in table.iter() {
+    let sorted = table.sorted(alloc)?;
+    for &(route_labels, _) in sorted.as_slice() {
         found.push(route_labels.clone()?)?;
     }
     Ok(found)

@@ -1,34 +1,40 @@
-//! The stored alerts and the group timers, with the queue of pending timers. `Store` changes them
-//! here, and the queue follows: the removal of each alert, the flush of each group, and the removal
-//! of each empty group. Nothing is fired here.
-ghost use Rattle.std.specs.Prelude.{None, Some, ◌≡◌, ◌≤◌, ◌<◌, ◌+◌, ◌-◌, IsTrue, is_some, if◌then◌else◌, false, length, OnOk, OnErr, IfOk};
-ghost use Rattle.std.specs.Option.{option_copied};
-ghost use Rattle.amr_labels.specs.Labels.{LabelSet, label_set_cmp};
+//! The stored alerts and the group timers, with the moments at which each alert is removed, and each
+//! group flushed or removed. `Store` changes alerts and timers here, and the moments follow. Nothing
+//! is fired here.
+ghost use Rattle.std.specs.Prelude.{◌≡◌, ◌≢◌, ◌<◌, ◌≤◌, ℕ, IsTrue, is_some, length, option_map, None, Some, OnOk, OnErr, IfOk};
+ghost use Rattle.amr_tables.specs.Earliest.{moment_at, IsTournament};
+ghost use Rattle.amr_labels.specs.Labels.{label_set_cmp};
 ghost use Rattle.amr_labels.specs.Map as map;
-ghost use Rattle.amr_tables.specs.Numbered.{shown, has_place, number_of, entry_of, Enters, KeepsPlaces, SamePlaces, SameEntered, NoneEntered, IsUnchanged};
-ghost use Rattle.amr_tables.specs.Queued.{in_order, count_of};
+ghost use Rattle.amr_tables.specs.Numbered.{shown, has_place, number_of, entry_of, Enters, KeepsPlaces, SamePlaces, SameEntered, NoneEntered, IsUnchanged, IsNumbering, next_number, rank_of};
 ghost use Rattle.amr_state.specs.State.{route_labels_cmp};
-ghost use Rattle.amr_state.specs.Dues.{due_cmp, dues_of};
-ghost use Rattle.amr_state.specs.Timed.{put_at, moved, CanMove, CanMoveGroup, group_moved, removal_of_alert, alert_moment, group_moments};
+ghost use Rattle.amr_state.specs.Dues.{dues_of, least_due, due_by};
+ghost use Rattle.amr_state.specs.declared.due.Kind.TheVariants.{AlertRemoval};
+ghost use Rattle.amr_state.specs.Timed.{AreNumbered, IsScheduled, IsFirstOfKind, alert_moment, flush_moment, removal_moment, group_moment, due_of, earlier};
 
 use crate::due::{Due, Kind, alert_removal, group_removal};
 use crate::notification::GroupTimer;
-use crate::route_labels::{RouteLabels, TimedGroup};
+use crate::route_labels::RouteLabels;
 use amr_indexes::AlertTable;
 use amr_labels::Labels;
 use amr_rules::Alert;
 use amr_stated::{InhibitRule, RuleMatch};
-use amr_tables::{Journal, Keyed, Queue, change_found};
+use amr_tables::{Earliest, Journal, Key, Keyed, change_found};
 use amr_time::Moment;
 use std::alloc::{AllocError, Global};
 use std::marker::Model;
 
-/// The stored alerts and the group timers. Every change of them updates the queue.
+/// The stored alerts and the group timers. Every change of them updates the moments, which go by the
+/// numbers of the label sets and groups.
 #[derive(Drop)]
 pub(crate) struct Timetable {
     alerts: AlertTable,
     timers: Keyed<RouteLabels, GroupTimer>,
-    queue: Queue<Due>,
+    /// When each alert is removed.
+    alert_removals: Earliest,
+    /// When each group without members is removed.
+    group_removals: Earliest,
+    /// When each group is flushed.
+    flushes: Earliest,
 }
 
 impl Model for Timetable {
@@ -42,7 +48,7 @@ impl Model for Timetable {
 
     ghost view = { λ t. record { alerts = t.alerts; timers = t.timers } };
 
-    ghost invariant = { λ t. IsTimed t.alerts t.timers t.queue };
+    ghost invariant = { λ t. IsTimed t.alerts t.timers t.alert_removals t.group_removals t.flushes };
 }
 
 impl Timetable {
@@ -56,7 +62,9 @@ impl Timetable {
         Timetable {
             alerts: AlertTable::new(alloc),
             timers: Keyed::new(alloc),
-            queue: Queue::new(alloc),
+            alert_removals: Earliest::new(alloc),
+            group_removals: Earliest::new(alloc),
+            flushes: Earliest::new(alloc),
         }
     }
 
@@ -74,14 +82,16 @@ impl Timetable {
         &self.timers
     }
 
-    /// Returns the queue of pending timers.
-    pub(crate) fn queue(&self) -> &Queue<Due>
-        ensures { result.now.dues ≡
-            in_order due_cmp
+    /// Returns the first pending timer at or before a moment, or `None` if no timer is pending then.
+    pub(crate) fn next_due(&self, at: Moment) -> Result<Option<Due>, AllocError>
+        ensures { IfOk result (λ due. due ≡ due_by at (least_due
             (dues_of (shown label_set_cmp self.now.alerts)
-            (shown route_labels_cmp self.now.timers)) }
+            (shown route_labels_cmp self.now.timers)))) }
     {
-        &self.queue
+        let alert = first_alert(&self.alerts, &self.alert_removals);
+        let removal = first_group(&self.timers, &self.group_removals, Kind::GroupRemoval);
+        let flush = first_group(&self.timers, &self.flushes, Kind::GroupFlush);
+        if_due(at, earlier(alert, earlier(removal, flush)))
     }
 
     /// Works out which label sets can be sources of those rules that have a label set as a target,
@@ -134,24 +144,25 @@ impl Timetable {
         ensures current { journal.new.current ≡ journal.old.current }
         ensures record_room { journal.new.record_room ≡ journal.old.record_room }
     {
-        let due = alert_due(labels.clone()?);
-        let (number, stored) = self.alerts.look_up_number(labels);
-        let old = moment_of(stored);
-        make_room(&mut self.queue, number.is_some(), 1)?;
-        let new = alert_moment(&alert);
+        let number = self.place_alert(labels)?;
+        let moment = alert_moment(&alert);
         let entry = self.alerts.change_found(journal, labels, number, alert)?;
-        move_due(&mut self.queue, due, old, new);
+        self.alert_removals
+            .set(self.alerts.by_number(), number, moment);
         Ok(entry)
     }
 
-    /// Sets or removes a group timer. Returns the entry that the open record needs, and leaves room
-    /// for it there.
+    /// Sets or removes the timer of a group, given the number of its place, if it has one. Returns
+    /// the entry that the open record needs, and leaves room for it there. It doesn't look for the
+    /// group again.
     pub(crate) fn change_timer<E>(
         &mut self,
         journal: &mut Journal<E>,
         group: &RouteLabels,
+        number: Option<usize>,
         timer: Option<GroupTimer>,
     ) -> Result<Option<(RouteLabels, Option<GroupTimer>)>, AllocError>
+        requires { number ≡ number_of route_labels_cmp self.old.timers group.now }
         ensures entry { IfOk result (λ entry. entry
             ≡ entry_of route_labels_cmp self.old.timers group.now) }
         ensures shown { OnOk result (shown route_labels_cmp self.new.timers ≡
@@ -167,94 +178,233 @@ impl Timetable {
         ensures current { journal.new.current ≡ journal.old.current }
         ensures record_room { journal.new.record_room ≡ journal.old.record_room }
     {
-        let copy = TimedGroup::of(group)?;
-        let (number, former) = self.timers.look_up_number(group);
-        let old = moments_of(former);
-        make_room(&mut self.queue, number.is_some(), 2)?;
-        let new = group_moments(&timer);
-        let entry = change_found(&mut self.timers, journal, group, number, timer)?;
-        move_group(&mut self.queue, copy, old, new);
-        Ok(entry)
-    }
-
-    /// Sets the timer of a group that has this number, from a timer with the same removal. Returns
-    /// the entry that the open record needs, and leaves room for it there. It doesn't look for the
-    /// group again.
-    pub(crate) fn change_flush<E>(
-        &mut self,
-        journal: &mut Journal<E>,
-        group: &RouteLabels,
-        number: usize,
-        former: GroupTimer,
-        timer: GroupTimer,
-    ) -> Result<Option<(TimedGroup, Option<GroupTimer>)>, AllocError>
-        requires number { number_of route_labels_cmp self.old.timers group.now ≡ Some number }
-        requires former { map.get (shown route_labels_cmp self.old.timers) group.now ≡ Some former }
-        requires removal { timer.empty_since ≡ former.empty_since }
-        ensures entry { IfOk result (λ entry. entry
-            ≡ entry_of route_labels_cmp self.old.timers group.now) }
-        ensures shown { OnOk result (shown route_labels_cmp self.new.timers ≡
-            map.set (shown route_labels_cmp self.old.timers) group.now (Some timer)) }
-        ensures entered { OnOk result
-            (Enters route_labels_cmp self.old.timers self.new.timers group.now) }
-        ensures made { OnOk result (IsTrue (has_place route_labels_cmp self.new.timers group.now)) }
-        ensures err { OnErr result (IsUnchanged route_labels_cmp self.old.timers self.new.timers) }
-        ensures places { KeepsPlaces route_labels_cmp self.old.timers self.new.timers }
-        ensures alerts { self.new.alerts ≡ self.old.alerts }
-        ensures room { IfOk result (λ entry. IsTrue (is_some entry) → 0 < journal.new.entry_room) }
-        ensures closed { journal.new.closed ≡ journal.old.closed }
-        ensures current { journal.new.current ≡ journal.old.current }
-        ensures record_room { journal.new.record_room ≡ journal.old.record_room }
-    {
-        let copy = group.clone()?;
-        let is_entered = self.timers.is_entered_at(number);
-        let entry = entry_for(journal, group, is_entered, former)?;
-        let old = timer_moments(&former);
-        let new = timer_moments(&timer);
-        let _was = self.timers.exchange_at(number, Some(timer));
-        move_group_flush(&mut self.queue, copy, old, new);
+        let number = self.place_timer(group, number)?;
+        let flush = flush_moment(&timer);
+        let removal = removal_moment(&timer);
+        let entry = change_found(&mut self.timers, journal, group, Some(number), timer)?;
+        self.flushes.set(&self.timers, number, flush);
+        self.group_removals.set(&self.timers, number, removal);
         Ok(entry)
     }
 
     /// Restores a stored alert, or its absence. It looks for the labels once and takes no memory.
-    pub(crate) fn put_back_alert(&mut self, labels: Labels, alert: Option<Alert>)
-        requires { IsTrue (has_place label_set_cmp self.old.alerts labels) }
+    pub(crate) fn put_back_alert(&mut self, labels: &Labels, alert: Option<Alert>)
+        requires { IsTrue (has_place label_set_cmp self.old.alerts labels.now) }
         ensures shown { shown label_set_cmp self.new.alerts ≡
-            map.set (shown label_set_cmp self.old.alerts) labels alert }
+            map.set (shown label_set_cmp self.old.alerts) labels.now alert }
         ensures places { SamePlaces label_set_cmp self.old.alerts self.new.alerts }
         ensures entered { SameEntered label_set_cmp self.old.alerts self.new.alerts }
         ensures timers { self.new.timers ≡ self.old.timers }
     {
-        let new = alert_moment(&alert);
-        let former = self.alerts.displace(&labels, alert);
-        let old = alert_moment(&former);
-        move_due(&mut self.queue, alert_due(labels), old, new);
+        let Some(number) = self.alerts.by_number().number_of(labels) else {
+            unreachable!()
+        };
+        let moment = alert_moment(&alert);
+        let _former = self.alerts.displace_at(number, alert);
+        self.alert_removals
+            .set(self.alerts.by_number(), number, moment);
     }
 
     /// Restores a group timer, or its absence. It looks for the group once and takes no memory.
-    pub(crate) fn put_back_timer(&mut self, group: TimedGroup, timer: Option<GroupTimer>)
-        requires { IsTrue (has_place route_labels_cmp self.old.timers group) }
+    pub(crate) fn put_back_timer(&mut self, group: &RouteLabels, timer: Option<GroupTimer>)
+        requires { IsTrue (has_place route_labels_cmp self.old.timers group.now) }
         ensures shown { shown route_labels_cmp self.new.timers ≡
-            map.set (shown route_labels_cmp self.old.timers) group timer }
+            map.set (shown route_labels_cmp self.old.timers) group.now timer }
         ensures places { SamePlaces route_labels_cmp self.old.timers self.new.timers }
         ensures entered { SameEntered route_labels_cmp self.old.timers self.new.timers }
         ensures alerts { self.new.alerts ≡ self.old.alerts }
     {
-        let new = group_moments(&timer);
+        let Some(number) = self.timers.number_of(group) else {
+            unreachable!()
+        };
+        let flush = flush_moment(&timer);
+        let removal = removal_moment(&timer);
         // The prover needs to see the type of moments here.
         let _start = Moment::START;
-        let former = self.timers.displace(group.route_labels(), timer);
-        let old = group_moments(&former);
-        move_group(&mut self.queue, group, old, new);
+        let _former = self.timers.displace_at(number, timer);
+        self.flushes.set(&self.timers, number, flush);
+        self.group_removals.set(&self.timers, number, removal);
+    }
+
+    /// Returns the number of a label set's place. Makes the place if there is none.
+    fn place_alert(&mut self, labels: &Labels) -> Result<usize, AllocError>
+        ensures number { IfOk result (λ number.
+            number_of label_set_cmp self.new.alerts labels.now ≡ Some number) }
+        ensures shown { shown label_set_cmp self.new.alerts
+            ≡ shown label_set_cmp self.old.alerts }
+        ensures entered { SameEntered label_set_cmp self.old.alerts self.new.alerts }
+        ensures places { KeepsPlaces label_set_cmp self.old.alerts self.new.alerts }
+        ensures timers { self.new.timers ≡ self.old.timers }
+    {
+        match self.alerts.by_number().number_of(labels) {
+            Some(number) => Ok(number),
+            None => self.add_alert(labels),
+        }
+    }
+
+    /// Makes a place for a label set that has none, with room for its moment. Returns its number.
+    fn add_alert(&mut self, labels: &Labels) -> Result<usize, AllocError>
+        requires { number_of label_set_cmp self.old.alerts labels.now ≡ None }
+        ensures number { IfOk result (λ number.
+            number_of label_set_cmp self.new.alerts labels.now ≡ Some number) }
+        ensures shown { shown label_set_cmp self.new.alerts
+            ≡ shown label_set_cmp self.old.alerts }
+        ensures entered { SameEntered label_set_cmp self.old.alerts self.new.alerts }
+        ensures places { KeepsPlaces label_set_cmp self.old.alerts self.new.alerts }
+        ensures timers { self.new.timers ≡ self.old.timers }
+    {
+        make_room(&mut self.alert_removals, self.alerts.by_number())?;
+        self.alerts.make_place(labels)?;
+        match self.alerts.by_number().number_of(labels) {
+            Some(number) => Ok(number),
+            None => unreachable!(),
+        }
+    }
+
+    /// Returns the number of a group's place, given the number that it has, if there is one. Makes
+    /// the place if there is none.
+    fn place_timer(
+        &mut self,
+        group: &RouteLabels,
+        number: Option<usize>,
+    ) -> Result<usize, AllocError>
+        requires { number ≡ number_of route_labels_cmp self.old.timers group.now }
+        ensures number { IfOk result (λ number.
+            number_of route_labels_cmp self.new.timers group.now ≡ Some number) }
+        ensures shown { shown route_labels_cmp self.new.timers
+            ≡ shown route_labels_cmp self.old.timers }
+        ensures entered { SameEntered route_labels_cmp self.old.timers self.new.timers }
+        ensures places { KeepsPlaces route_labels_cmp self.old.timers self.new.timers }
+        ensures alerts { self.new.alerts ≡ self.old.alerts }
+    {
+        match number {
+            Some(number) => Ok(number),
+            None => self.add_timer(group),
+        }
+    }
+
+    /// Makes a place for a group that has none, with room for its moments. Returns its number.
+    fn add_timer(&mut self, group: &RouteLabels) -> Result<usize, AllocError>
+        requires { number_of route_labels_cmp self.old.timers group.now ≡ None }
+        ensures number { IfOk result (λ number.
+            number_of route_labels_cmp self.new.timers group.now ≡ Some number) }
+        ensures shown { shown route_labels_cmp self.new.timers
+            ≡ shown route_labels_cmp self.old.timers }
+        ensures entered { SameEntered route_labels_cmp self.old.timers self.new.timers }
+        ensures places { KeepsPlaces route_labels_cmp self.old.timers self.new.timers }
+        ensures alerts { self.new.alerts ≡ self.old.alerts }
+    {
+        let key = group.clone()?;
+        make_room(&mut self.flushes, &self.timers)?;
+        make_room(&mut self.group_removals, &self.timers)?;
+        self.timers.make_place(key)?;
+        match self.timers.number_of(group) {
+            Some(number) => Ok(number),
+            None => unreachable!(),
+        }
     }
 }
 
-/// When a group is flushed and when it is removed, in nanoseconds since 1970. Both are `None` if
-/// there is no such group; `removal` is also `None` while the group has members.
+/// Makes room for the moment of the number that the next new key of a table gets.
+fn make_room<K: Key + Drop, V: Drop>(
+    moments: &mut Earliest,
+    table: &Keyed<K, V>,
+) -> Result<(), AllocError>
+    requires { IsTournament (rank_of K.cmp table.now) moments.old }
+    ensures room { OnOk result (next_number table.now < length moments.new.moments) }
+    ensures more { length moments.old.moments ≤ length moments.new.moments }
+    ensures same { (n : ℕ) → moment_at moments.new n ≡ moment_at moments.old n }
+    ensures kept { IsTournament (rank_of K.cmp table.now) moments.new }
+    ensures numbering { IsNumbering K.cmp table.now }
+{
+    match table.next_number().checked_add(1) {
+        Some(count) => moments.reserve(table, count),
+        None => Err(AllocError),
+    }
+}
+
+/// A pending timer that borrows its labels.
 #[derive(Clone, Copy)]
-struct GroupMoments {
-    flush: Option<u128>,
-    removal: Option<u128>,
+struct Pending<'a> {
+    moment: u128,
+    kind: Kind,
+    route: usize,
+    labels: &'a Labels,
+}
+
+/// Copies a timer, with its labels, if it is pending at or before a moment.
+fn if_due(at: Moment, first: Option<Pending<'_>>) -> Result<Option<Due>, AllocError>
+    ensures { IfOk result (λ due. due ≡ due_by at (option_map due_of first.entry)) }
+{
+    match first {
+        None => Ok(None),
+        Some(first) => {
+            if first.moment <= at.nanoseconds() {
+                let labels = first.labels.clone()?;
+                Ok(Some(Due {
+                    moment: first.moment,
+                    kind: first.kind,
+                    route: first.route,
+                    labels,
+                }))
+            } else {
+                Ok(None)
+            }
+        }
+    }
+}
+
+/// Returns the first removal of an alert, given the moments of all.
+fn first_alert<'a>(alerts: &'a AlertTable, removals: &Earliest) -> Option<Pending<'a>>
+    requires numbered { AreNumbered label_set_cmp alerts.now }
+    requires scheduled { IsScheduled label_set_cmp alert_moment alerts.now removals.now }
+    ensures { (timers : map.Map route_labels_cmp GroupTimer) → IsFirstOfKind AlertRemoval
+        (dues_of (shown label_set_cmp alerts.now) timers) (option_map due_of result) }
+{
+    let number = removals.first()?;
+    let moment = removals.at(number)?;
+    let labels = alerts.by_number().key_at(number)?;
+    Some(Pending {
+        moment,
+        kind: Kind::AlertRemoval,
+        route: 0,
+        labels,
+    })
+}
+
+/// Returns the first timer of a kind of groups, given the moments of all.
+fn first_group<'a>(
+    timers: &'a Keyed<RouteLabels, GroupTimer>,
+    moments: &Earliest,
+    kind: Kind,
+) -> Option<Pending<'a>>
+    requires group { kind ≢ AlertRemoval }
+    requires numbered { AreNumbered route_labels_cmp timers.now }
+    requires scheduled { IsScheduled route_labels_cmp (group_moment kind) timers.now moments.now }
+    ensures { (alerts : map.Map label_set_cmp Alert) → IsFirstOfKind kind
+        (dues_of alerts (shown route_labels_cmp timers.now)) (option_map due_of result) }
+{
+    let number = moments.first()?;
+    let moment = moments.at(number)?;
+    let group = timers.key_at(number)?;
+    Some(Pending {
+        moment,
+        kind,
+        route: group.route,
+        labels: &group.labels,
+    })
+}
+
+/// Returns the earlier of two timers. If both are of one moment, that is the first.
+fn earlier<'a>(a: Option<Pending<'a>>, b: Option<Pending<'a>>) -> Option<Pending<'a>>
+    ensures { option_map due_of result
+        ≡ earlier (option_map due_of a.entry) (option_map due_of b.entry) }
+{
+    match (a, b) {
+        (Some(x), Some(y)) => { if y.moment < x.moment { b } else { a } }
+        (None, _) => b,
+        (_, None) => a,
+    }
 }
 
 /// Works out which label sets can be sources of those rules that have a label set as a target,
@@ -268,63 +418,11 @@ fn learn_sides(
 {
     for (place, rule) in rules.iter().enumerate() {
         match matched.get(place) {
-            Some(side) if side.is_target => alerts.learn_side(place, rule)?,
+            Some(side) if side.is_target => alerts.learn_side(place, rule),
             _ => {}
         }
     }
     Ok(())
-}
-
-/// Returns the entry that the open record needs for a change of a group's timer, and leaves room for
-/// it there. Returns `None` if the place of the group is entered already, and copies nothing then.
-fn entry_for<E>(
-    journal: &mut Journal<E>,
-    group: &RouteLabels,
-    is_entered: bool,
-    former: GroupTimer,
-) -> Result<Option<(TimedGroup, Option<GroupTimer>)>, AllocError>
-    ensures entry { IfOk result (λ entry. entry
-        ≡ (if is_entered then None else Some (group.now, Some former))) }
-    ensures room { IfOk result (λ entry. IsTrue (is_some entry) → 0 < journal.new.entry_room) }
-    ensures closed { journal.new.closed ≡ journal.old.closed }
-    ensures current { journal.new.current ≡ journal.old.current }
-    ensures record_room { journal.new.record_room ≡ journal.old.record_room }
-{
-    if is_entered {
-        return Ok(None);
-    }
-    journal.reserve_entry()?;
-    Ok(Some((TimedGroup::of(group)?, Some(former))))
-}
-
-/// Makes room in a queue for `n` items of a new place. Does nothing if the place exists, since its
-/// room is there.
-pub(crate) fn make_room<D: Ord + Drop>(
-    queue: &mut Queue<D>,
-    is_there: bool,
-    n: usize,
-) -> Result<(), AllocError>
-    ensures room { OnOk result (queue.old.room + (if is_there then 0 else n) ≤ queue.new.room) }
-    ensures more { queue.old.room ≤ queue.new.room }
-    ensures dues { queue.new.dues ≡ queue.old.dues }
-{
-    if is_there {
-        return Ok(());
-    }
-    let Some(room) = queue.room().checked_add(n) else {
-        return Err(AllocError);
-    };
-    queue.reserve(room)
-}
-
-/// Returns when an alert is removed, in nanoseconds since 1970, or `None` without an alert.
-fn moment_of(alert: Option<&Alert>) -> Option<u128>
-    ensures { result ≡ alert_moment (option_copied alert.entry) }
-{
-    match alert {
-        None => None,
-        Some(alert) => Some(alert_removal(alert)),
-    }
 }
 
 /// Returns when an alert is removed, in nanoseconds since 1970, or `None` without an alert.
@@ -337,153 +435,24 @@ fn alert_moment(alert: &Option<Alert>) -> Option<u128>
     }
 }
 
-/// Returns the removal timer of an alert. Its moment is still to be set.
-fn alert_due(labels: Labels) -> Due
-    ensures { result ≡ removal_of_alert labels }
-{
-    Due {
-        moment: 0,
-        kind: Kind::AlertRemoval,
-        route: 0,
-        labels,
-    }
-}
-
-/// Moves a timer in the queue from one moment to another; `None` means that it isn't in the queue.
-/// Does nothing if both are equal, as when an alert is posted again whose group has it already. It
-/// takes no memory.
-fn move_due(queue: &mut Queue<Due>, mut due: Due, old: Option<u128>, new: Option<u128>)
-    requires { CanMove queue.old.dues queue.old.room due old new }
-    ensures dues { queue.new.dues ≡ moved queue.old.dues due old new }
-    ensures all { queue.new.room + length queue.new.dues ≡ queue.old.room + length queue.old.dues }
-{
-    if let (Some(before), Some(after)) = (old, new) {
-        if before == after {
-            return;
-        }
-    }
-    match old {
-        None => put_due(queue, due, new),
-        Some(moment) => {
-            due.moment = moment;
-            let _found = queue.take(&due);
-            put_due(queue, due, new);
-        }
-    }
-}
-
-/// Moves a flush in the queue, as `move_due` does. It is faster if the flush is the first timer, as
-/// when it fires.
-fn move_flush(queue: &mut Queue<Due>, mut due: Due, old: Option<u128>, new: Option<u128>)
-    requires { CanMove queue.old.dues queue.old.room due old new }
-    ensures dues { queue.new.dues ≡ moved queue.old.dues due old new }
-    ensures all { queue.new.room + length queue.new.dues ≡ queue.old.room + length queue.old.dues }
-{
-    if let (Some(before), Some(after)) = (old, new) {
-        due.moment = before;
-        if queue.is_first(&due) {
-            due.moment = after;
-            queue.replace_first(due);
-            return;
-        }
-    }
-    move_due(queue, due, old, new);
-}
-
-/// Moves the flush of a group in the queue, while its removal stays. It takes no memory.
-fn move_group_flush(
-    queue: &mut Queue<Due>,
-    group: RouteLabels,
-    old: GroupMoments,
-    new: GroupMoments,
-)
-    requires moves { CanMoveGroup queue.old.dues queue.old.room group old new }
-    requires stays { new.removal ≡ old.removal }
-    ensures dues { queue.new.dues ≡ group_moved queue.old.dues group old new }
-    ensures all { queue.new.room + length queue.new.dues ≡ queue.old.room + length queue.old.dues }
-{
-    let flush = Due {
-        moment: 0,
-        kind: Kind::GroupFlush,
-        route: group.route,
-        labels: group.labels,
-    };
-    move_flush(queue, flush, old.flush, new.flush);
-}
-
-/// Adds a timer to the queue at a moment, if one is given. It takes no memory.
-fn put_due(queue: &mut Queue<Due>, mut due: Due, moment: Option<u128>)
-    requires { CanMove queue.old.dues queue.old.room due None moment }
-    ensures dues { queue.new.dues ≡ put_at queue.old.dues due moment }
-    ensures all { queue.new.room + length queue.new.dues ≡ queue.old.room + length queue.old.dues }
-{
-    match moment {
-        None => {}
-        Some(moment) => {
-            due.moment = moment;
-            queue.put(due);
-        }
-    }
-}
-
-/// Moves the flush and the removal of a group in the queue. It takes no memory.
-fn move_group(queue: &mut Queue<Due>, group: TimedGroup, old: GroupMoments, new: GroupMoments)
-    requires { CanMoveGroup queue.old.dues queue.old.room group old new }
-    ensures dues { queue.new.dues ≡ group_moved queue.old.dues group old new }
-    ensures all { queue.new.room + length queue.new.dues ≡ queue.old.room + length queue.old.dues }
-{
-    let (route_labels, labels) = group.into_parts();
-    let route = route_labels.route;
-    let flush = Due {
-        moment: 0,
-        kind: Kind::GroupFlush,
-        route,
-        labels: route_labels.labels,
-    };
-    let removal = Due {
-        moment: 0,
-        kind: Kind::GroupRemoval,
-        route,
-        labels,
-    };
-    move_due(queue, flush, old.flush, new.flush);
-    if old.removal.is_some() || new.removal.is_some() {
-        move_due(queue, removal, old.removal, new.removal);
-    }
-}
-
-/// Returns when a group with this timer is flushed and removed; never, without a timer.
-fn moments_of(timer: Option<&GroupTimer>) -> GroupMoments
-    ensures { result ≡ group_moments (option_copied timer.entry) }
+/// Returns when a group with this timer is flushed, in nanoseconds since 1970, or `None` without a
+/// timer.
+fn flush_moment(timer: &Option<GroupTimer>) -> Option<u128>
+    ensures { result ≡ flush_moment timer.now }
 {
     match timer {
-        None => GroupMoments {
-            flush: None,
-            removal: None,
-        },
-        Some(timer) => timer_moments(timer),
+        None => None,
+        Some(timer) => Some(timer.next_flush.nanoseconds()),
     }
 }
 
-/// Returns when a group with this timer is flushed and removed; never, without a timer.
-fn group_moments(timer: &Option<GroupTimer>) -> GroupMoments
-    ensures { result ≡ group_moments timer.now }
+/// Returns when a group with this timer is removed, in nanoseconds since 1970, or `None` without a
+/// timer or while the group has members.
+fn removal_moment(timer: &Option<GroupTimer>) -> Option<u128>
+    ensures { result ≡ removal_moment timer.now }
 {
     match timer {
-        None => GroupMoments {
-            flush: None,
-            removal: None,
-        },
-        Some(timer) => timer_moments(timer),
-    }
-}
-
-/// Returns when a group with this timer is flushed and removed.
-fn timer_moments(timer: &GroupTimer) -> GroupMoments
-    ensures { result ≡ group_moments (Some timer.now) }
-{
-    GroupMoments {
-        flush: Some(timer.next_flush.nanoseconds()),
-        removal: group_removal(timer),
+        None => None,
+        Some(timer) => group_removal(timer),
     }
 }

@@ -37,7 +37,8 @@ pub fn alerts(store: &Store) -> Result<Vec<(Labels, Alert)>, AllocError>
     ensures { IfOk result (λ found. found.items ≡ entries store.now.state.alerts) }
 {
     let mut found = Vec::new(store.alloc());
-    for (labels, alert) in store.alerts().iter() {
+    let sorted = store.alerts().sorted(store.alloc())?;
+    for &(labels, alert) in sorted.as_slice() {
         found.push((labels.clone()?, alert.clone()?))?;
     }
     Ok(found)
@@ -75,7 +76,8 @@ pub fn groups(store: &Store) -> Result<Vec<Group>, AllocError>
     ensures { IfOk result (λ found. found.items ≡ groups_of store.now.state) }
 {
     let mut found = Vec::new(store.alloc());
-    for (route_labels, timer) in store.timers().iter() {
+    let sorted = store.timers().sorted(store.alloc())?;
+    for &(route_labels, timer) in sorted.as_slice() {
         found.push(group_at(store, route_labels, timer)?)?;
     }
     Ok(found)

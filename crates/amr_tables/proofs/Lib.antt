@@ -1,5 +1,5 @@
-mod Adding
-mod Noting
+pub mod Listed
+pub mod Counting
 pub mod Leaning
 pub mod Entering
 pub mod Marking
@@ -9,3 +9,6 @@ pub mod Ascending
 pub mod Queueing
 pub mod Opening
 pub mod Closing
+pub mod Playing
+pub mod Keying
+pub mod Naming

@@ -181,7 +181,7 @@ value_set [] n v h = absurd (omega arith)
 value_set (c ∷ cells) zero v h = refl
 value_set (c ∷ cells) (suc n) v h = value_set cells n v (omega arith)
 
-length-slice_set : {A : Type 0} (xs : List A) (n : ℕ) (x : A) → length (slice_set xs n x) ≡ length xs
+pub length-slice_set : {A : Type 0} (xs : List A) (n : ℕ) (x : A) → length (slice_set xs n x) ≡ length xs
 length-slice_set [] n x = refl
 length-slice_set (y ∷ xs) zero x = refl
 length-slice_set (y ∷ xs) (suc n) x = ap suc (length-slice_set xs n x)
@@ -380,14 +380,15 @@ module _ {K V : Type 0} (R : K → K → Ordering) where
     pub placed : (q : K) → IsTrue (has_place R t q) → IsTrue (has_place R u q)
 
   -- what a place more comes with
-  pub record HasRoom (t : Numbered K V) (cells : List (Option V)) (marks : List Bool) : Type 0 where
+  pub record HasRoom (t : Numbered K V) (numbers : List (K × ℕ)) (cells : List (Option V)) (marks : List Bool) : Type 0 where
     pub numbering : IsNumbering R t
+    pub numbers_are : numbers ≡ t.numbers
     pub marks_are : marks ≡ t.marks ++ false ∷ []
     pub values : (n : ℕ) → value_at cells n ≡ value_at t.cells n
     pub more : length t.cells ≤ length cells
     pub bound : length cells ≤ length t.cells + 1
 
-  grown_pushed : (o : IsTotalOrder R) (t : Numbered K V) (cells : List (Option V)) → HasRoom t cells (t.marks ++ false ∷ []) → Grows t (record { numbers = t.numbers; cells = cells; marks = t.marks ++ false ∷ [] })
+  grown_pushed : (o : IsTotalOrder R) (t : Numbered K V) (cells : List (Option V)) → HasRoom t t.numbers cells (t.marks ++ false ∷ []) → Grows t (record { numbers = t.numbers; cells = cells; marks = t.marks ++ false ∷ [] })
   unfolding is_entered has_place
   grown_pushed o t cells h =
       let same = length-push t.marks false in
@@ -400,16 +401,17 @@ module _ {K V : Type 0} (R : K → K → Ordering) where
         placed = λ q p. p;
       }
 
-  pub grown_table : (o : IsTotalOrder R) (t : Numbered K V) (cells : List (Option V)) (marks : List Bool) → HasRoom t cells marks → Grows t (record { numbers = t.numbers; cells = cells; marks = marks })
-  grown_table o t cells marks h =
-      subst (λ m. Grows t (record { numbers = t.numbers; cells = cells; marks = m })) (sym h.marks_are)
-      (grown_pushed o t cells (record { numbering = h.numbering; marks_are = refl; values = h.values; more = h.more; bound = h.bound }))
+  pub grown_table : (o : IsTotalOrder R) (t : Numbered K V) (numbers : List (K × ℕ)) (cells : List (Option V)) (marks : List Bool) → HasRoom t numbers cells marks → Grows t (record { numbers = numbers; cells = cells; marks = marks })
+  grown_table o t numbers cells marks h =
+      subst (λ n. Grows t (record { numbers = n; cells = cells; marks = marks })) (sym h.numbers_are)
+      (subst (λ m. Grows t (record { numbers = t.numbers; cells = cells; marks = m })) (sym h.marks_are)
+      (grown_pushed o t cells (record { numbering = h.numbering; numbers_are = refl; marks_are = refl; values = h.values; more = h.more; bound = h.bound })))
 
-  pub added_table : (o : IsTotalOrder R) (t : Numbered K V) (k : K) (numbers : List (K × ℕ)) (cells : List (Option V)) (marks : List Bool) → HasRoom t cells marks → find R k t.numbers ≡ None → length t.cells < length cells → numbers ≡ put R k (length t.cells) t.numbers → Grows t (record { numbers = numbers; cells = cells; marks = marks }) × IsTrue (has_place R (record { numbers = numbers; cells = cells; marks = marks }) k)
-  added_table o t k numbers cells marks h none lt is =
+  pub added_table : (o : IsTotalOrder R) (t : Numbered K V) (k : K) (reserved numbers : List (K × ℕ)) (cells : List (Option V)) (marks : List Bool) → HasRoom t reserved cells marks → find R k t.numbers ≡ None → length t.cells < length cells → numbers ≡ put R k (length t.cells) t.numbers → Grows t (record { numbers = numbers; cells = cells; marks = marks }) × IsTrue (has_place R (record { numbers = numbers; cells = cells; marks = marks }) k)
+  added_table o t k reserved numbers cells marks h none lt is =
       let n = length t.cells in
       let u : Numbered K V = record { numbers = t.numbers; cells = cells; marks = marks } in
-      let grown = grown_table o t cells marks h in
+      let grown = grown_table o t t.numbers cells marks (record { numbering = h.numbering; numbers_are = refl; marks_are = h.marks_are; values = h.values; more = h.more; bound = h.bound }) in
       let no_value : value_at cells n ≡ None = h.values n ∙ value_past t.cells n (omega arith) in
       let no_mark : is_marked marks n ≡ false = ap (λ m. is_marked m n) h.marks_are ∙ mark-push t.marks n ∙ h.numbering.spare n (omega arith) in
       subst (λ x. Grows t (record { numbers = x; cells = cells; marks = marks }) × IsTrue (has_place R (record { numbers = x; cells = cells; marks = marks }) k)) (sym is) (
@@ -421,3 +423,7 @@ module _ {K V : Type 0} (R : K → K → Ordering) where
         },
         subst IsTrue (sym (placed-added o u k k n)) (ap (λ r. is_eq r || has_place R u k) (tied_itself o k)),
       )
+
+-- a key more has a number more
+pub length-added : {K : Type 0} (R : K → K → Ordering) (o : IsTotalOrder R) (k : K) (n : ℕ) (numbers : List (K × ℕ)) → T (is_sorted R numbers) → find R k numbers ≡ None → length (put R k n numbers) ≡ length numbers + 1
+length-added R o k n numbers up none = length-put R o k n numbers up ∙ ap (λ (x : Option ℕ). cond (is_some x) (length numbers) (length numbers + 1)) none

@@ -3,9 +3,9 @@ pub mod Records
 pub mod Laws
 pub mod Marked
 pub mod Numbered
-pub mod Hinted
 pub mod Balanced
 pub mod BalancedFalls
 pub mod Parted
 pub mod InParts
 pub mod Queued
+pub mod Earliest

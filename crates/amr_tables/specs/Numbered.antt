@@ -1,10 +1,11 @@
 -- Tables of values by key, in which each key has a number.
-use Rattle.std.specs.Prelude.{◌≡◌, ℕ, Bool, false, List, Option, None, Some, if◌then◌else◌, is_some, ◌||◌, option_map, ◌<◌, ◌≤◌, ◌+◌, T, IsTrue, length, refl}
-use Rattle.std.specs.Option.{option_map_or}
+use Rattle.std.specs.Prelude.{◌≡◌, ◌==◌, ℕ, suc, Bool, false, List, [], ◌∷◌, Option, None, Some, if◌then◌else◌, is_some, ◌||◌, option_map, ◌<◌, ◌≤◌, ◌+◌, T, IsTrue, length, refl}
+use Rattle.std.specs.Option.{option_map_or, option_cmp}
 use Rattle.std.specs.List.{filter_map}
 use Rattle.std.specs.declared.cmp.Ordering.{Ordering}
 use Rattle.std.specs.Ordering.{eq_by_cmp}
-use Rattle.std.specs.FinMap.{find, is_sorted}
+use Rattle.std.specs.FinMap.{find, put, is_sorted}
+use Rattle.std.specs.Borrow.{Bor}
 use Rattle.std.specs.Coded.{Coded, code_by, coded×, coded_ℕ, coded_bool, coded_list, coded_option}
 use Rattle.amr_labels.specs.Map.{Map, from_sorted, get, set, len}
 use Rattle.amr_tables.specs.Places.{value_at}
@@ -24,16 +25,48 @@ numbered_code {K} {V} k v =
     (λ p. record { numbers = p.0; cells = p.1.0; marks = p.1.1 })
     (λ _. refl)
 
+-- The number of each key, in the order of the keys, and how many more keys there is room for.
+pub record Numbering (K : Type 0) : Type 0 where
+  pub list : List (K × ℕ)
+  pub room : ℕ
+
+abbrev pub numbering_code : {K : Type 0} → Coded K → Coded (Numbering K)
+numbering_code {K} k =
+    code_by (List (K × ℕ) × ℕ) (coded× (coded_list (coded× k coded_ℕ)) coded_ℕ) (λ n. (n.list, n.room)) (λ p. record { list = p.0; room = p.1 }) (λ _. refl)
+
+-- the keys of a list in their order, the first of the list with this number, and each further one
+-- with the next
+abbrev pub numbered_from : {K : Type 0} → (K → K → Ordering) → ℕ → List K → List (K × ℕ)
+numbered_from R n [] = []
+numbered_from R n (key ∷ keys) = put R key n (numbered_from R (suc n) keys)
+
+-- the key with a number, in a list of keys with their numbers
+abbrev pub key_with : {K : Type 0} → List (K × ℕ) → ℕ → Option K
+key_with [] n = None
+key_with (key ∷ keys) n = if key.1 == n then Some key.0 else key_with keys n
+
+-- the key that is borrowed, with its number
+abbrev pub numbered_key : {K : Type 0} → Bor K × ℕ → K × ℕ
+numbered_key key = (key.0.now, key.1)
+
 module _ {K V : Type 0} where
   -- the key with its value, if it has one
   abbrev pub entry_at : List (Option V) → K × ℕ → Option (K × V)
   entry_at cells key = option_map (λ value. (key.0, value)) (value_at cells key.1)
+
+  -- the key with a number
+  abbrev pub key_at : Numbered K V → ℕ → Option K
+  key_at t n = key_with t.numbers n
 
   -- the number that the next new key gets
   abbrev pub next_number : Numbered K V → ℕ
   next_number t = length t.cells
 
   module _ (R : K → K → Ordering) where
+    -- the order of the keys with two numbers; a number without a key comes before
+    abbrev pub rank_of : Numbered K V → ℕ → ℕ → Ordering
+    rank_of t a b = option_cmp R (key_at t a) (key_at t b)
+
     -- the number of a key
     abbrev pub number_of : Numbered K V → K → Option ℕ
     number_of t key = find R key t.numbers

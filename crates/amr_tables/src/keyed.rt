@@ -1,47 +1,36 @@
 //! Values by key. Each key has a number, and its value is at the place with that number, so that a
 //! value can be swapped without memory. The state keeps alerts, silences, members, timers and the
 //! notification log in such tables.
-ghost use Rattle.std.specs.Prelude.{◌≡◌, ℕ, [], IsTrue, Option, is_some, false, OnOk, OnErr, IfOk, IfErr, ◌<◌};
+ghost use Rattle.std.specs.Prelude.{◌≡◌, [], IsTrue, Option, is_some, false, OnOk, OnErr, IfOk, IfErr, ◌<◌, map};
+ghost use Rattle.std.specs.Map.Iter.{deref_pair};
 ghost use Rattle.std.specs.Option.{option_copied};
 ghost use Rattle.std.specs.FinMap.{IsAntisymmetric};
 ghost use Rattle.amr_labels.specs.Map as map;
-ghost use Rattle.amr_tables.specs.Places.{value_at};
-ghost use Rattle.amr_tables.specs.Numbered.{shown, has_place, is_entered, entry_of, next_number, number_of, Enters, KeepsPlaces, GetsPlace, GetsNumber, IsValueOf, IsNumber, IsMarkOf, IsSetAt, EntersAt, SamePlaces, SameEntered, NoneEntered, IsUnchanged, GrowsBy, HasPlaces, places_for};
+ghost use Rattle.amr_tables.specs.Places.{value_at, present};
+ghost use Rattle.amr_tables.specs.Numbered.{shown, has_place, is_entered, entry_of, next_number, number_of, Enters, KeepsPlaces, GetsPlace, GetsNumber, IsValueOf, IsNumber, IsMarkOf, IsSetAt, EntersAt, SamePlaces, SameEntered, NoneEntered, IsUnchanged, GrowsBy, HasPlaces, places_for, IsNumbering, key_at};
 
-use crate::entries::Entries;
 use crate::journal::Journal;
 use crate::marks::Marks;
 use crate::numbers::Numbers;
+use crate::ranking::Ranking;
 use crate::slots::Slots;
 use crate::table::Table;
+use crate::values::Values;
 use amr_labels::{Exact, Labels};
 use std::alloc::{AllocError, Global};
+use std::cmp::Ordering;
+use std::hash::Hash;
 use std::marker::Model;
 
 /// A type of keys. Keys that compare equal are the same value.
-pub trait Key: Ord + Exact {
-    /// The number that a value is spread by.
-    ghost spread: { Self → ℕ };
-
-    /// Returns a number that spreads keys out. Nothing depends on which one but how fast a key is
-    /// found: other keys should seldom have the same one.
-    fn spread(&self) -> usize
-        ensures { result ≡ spread self.now };
-
+pub trait Key: Ord + Hash + Exact {
     ghost exact: { IsAntisymmetric Self.Ord.cmp };
 }
 
 impl Key for Labels {
     ghost use Rattle.amr_labels.specs.Labels.{label_set_cmp-IsAntisymmetric};
-    ghost use Rattle.amr_labels.specs.Spread.{label_set_spread};
-
-    ghost spread = { label_set_spread };
 
     ghost exact = { label_set_cmp-IsAntisymmetric };
-
-    fn spread(&self) -> usize {
-        self.spread()
-    }
 }
 
 /// A table of values by key. A key gets the next number, and its place, when it is first seen, and
@@ -55,15 +44,17 @@ pub struct Keyed<K: Key, V> {
 }
 
 impl<K: Key, V> Model for Keyed<K, V> {
+    ghost use Rattle.std.specs.Prelude.{◌≡◌, length};
     ghost use Rattle.amr_tables.specs.Numbered.{Numbered, numbered_code, IsNumbering};
 
     ghost Value = { Numbered K V };
 
     ghost coded = { numbered_code K.code V.code };
 
-    ghost view = { λ t. record { numbers = t.numbers; cells = t.slots; marks = t.entered } };
+    ghost view = { λ t. record { numbers = t.numbers.list; cells = t.slots; marks = t.entered } };
 
-    ghost invariant = { λ t. IsNumbering K.cmp (record { numbers = t.numbers; cells = t.slots; marks = t.entered }) };
+    ghost invariant = { λ t. IsNumbering K.cmp (record { numbers = t.numbers.list; cells = t.slots; marks = t.entered })
+        × (length t.numbers.list ≡ length t.slots) };
 }
 
 impl<K: Key + Drop, V: Drop> Keyed<K, V> {
@@ -91,13 +82,28 @@ impl<K: Key + Drop, V: Drop> Keyed<K, V> {
         }
     }
 
-    /// Returns the values with their keys, in the order of the keys.
-    pub fn iter(&self) -> Entries<'_, K, V>
-        ensures { result ≡ map.entries (shown K.cmp self.now) }
+    /// Returns the values with their keys, in the order of the keys. It sorts them, so it is for
+    /// listings.
+    pub fn sorted(&self, alloc: Global) -> Result<Vec<(&K, &V)>, AllocError>
+        ensures { IfOk result (λ found. map deref_pair found.items
+            ≡ map.entries (shown K.cmp self.now)) }
     {
-        Entries {
-            numbers: self.numbers.iter(),
-            slots: &self.slots,
+        let numbers = self.numbers.sorted(alloc)?;
+        let mut found = Vec::with_capacity(alloc, numbers.len())?;
+        for (key, number) in numbers.as_slice() {
+            if let Some(value) = self.slots.look(*number) {
+                found.push((*key, value))?;
+            }
+        }
+        Ok(found)
+    }
+
+    /// Returns the values, in the order in which their keys came. It takes no memory.
+    pub fn values(&self) -> Values<'_, V>
+        ensures { result ≡ present self.now.cells }
+    {
+        Values {
+            cells: self.slots.as_slice(),
         }
     }
 
@@ -123,14 +129,24 @@ impl<K: Key + Drop, V: Drop> Keyed<K, V> {
 
     /// Returns the number of a key, if it has a place.
     pub fn number_of(&self, key: &K) -> Option<usize>
-        ensures { result ≡ number_of K.cmp self.now key.now }
+        ensures number { result ≡ number_of K.cmp self.now key.now }
+        ensures numbering { IsNumbering K.cmp self.now }
     {
         self.numbers.get(key)
     }
 
+    /// Returns the key with a number.
+    pub fn key_at(&self, number: usize) -> Option<&K>
+        ensures key { option_copied result ≡ key_at self.now number }
+        ensures numbering { IsNumbering K.cmp self.now }
+    {
+        self.numbers.key_at(number)
+    }
+
     /// Returns the number that the next new key gets.
     pub fn next_number(&self) -> usize
-        ensures { result ≡ next_number self.now }
+        ensures next { result ≡ next_number self.now }
+        ensures numbering { IsNumbering K.cmp self.now }
     {
         self.slots.len()
     }
@@ -169,10 +185,10 @@ impl<K: Key + Drop, V: Drop> Keyed<K, V> {
         if self.numbers.contains_key(&key) {
             return Ok(());
         }
-        let number = self.slots.len();
+        self.numbers.reserve()?;
         self.entered.add_place()?;
-        self.slots.make_place(number)?;
-        self.numbers.insert(key, number)?;
+        self.slots.make_place(self.slots.len())?;
+        self.numbers.insert(key);
         Ok(())
     }
 
@@ -251,6 +267,17 @@ impl<K: Key + Drop, V: Drop> Keyed<K, V> {
         ensures keys { self.new.numbers ≡ self.old.numbers }
     {
         self.entered.clear();
+    }
+}
+
+/// Numbers are compared by the keys that have them.
+impl<K: Key + Drop, V: Drop> Ranking for Keyed<K, V> {
+    ghost use Rattle.amr_tables.specs.Numbered.{rank_of};
+
+    ghost rank = { rank_of K.cmp };
+
+    fn compare(&self, a: usize, b: usize) -> Ordering {
+        self.key_at(a).cmp(&self.key_at(b))
     }
 }
 

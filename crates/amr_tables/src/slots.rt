@@ -41,6 +41,13 @@ impl<V> Slots<V> {
     {
         self.cells.len()
     }
+
+    /// Returns all places.
+    pub(crate) fn as_slice(&self) -> &[Option<V>]
+        ensures { result.now ≡ self.now }
+    {
+        self.cells.as_slice()
+    }
 }
 
 impl<V> Table for Slots<V> {

@@ -2,5 +2,5 @@ pub mod Unflushed
 pub mod Stopping
 pub mod FirstPage
 pub mod RunLines
-pub mod LongLines
+pub mod SettledLines
 pub mod Reading

@@ -1,18 +1,12 @@
 -- The lines that are written part by part are those of their values.
-use Rattle.std.proofs.Common.{◌≡◌, ◌++◌, ℕ, List, codes, decimal, map, refl, sym, ap, ◌∙◌, append_assoc}
+use Rattle.std.proofs.Common.{◌≡◌, ◌++◌, ℕ, codes, decimal, refl, append_assoc}
 use Rattle.std.specs.Fmt.{digits}
-use Rattle.json.specs.Print.{escape, quoted}
+use Rattle.json.specs.Print.{escape}
 use Rattle.serde_json.proofs.OnLiterals.{serde_json_on_literals}
-use Rattle.serde_json.specs.Data.{array}
-use Rattle.serde_json.specs.View.{items_of}
-use Rattle.serde_json.specs.Written.{compact_text}
-use Rattle.amr_time.specs.Time.{Moment}
-use Rattle.amr_time.specs.MomentText.{moment_text}
-use Rattle.amr_lines.specs.Lines.Printed.{number_data, skipped_line, refused_event_line, label_line}
-use Rattle.amr_lines.specs.Lines.LastLines.{word_text, moves_line, cursor_line, place_data, place_line, refused_line}
+use Rattle.amr_lines.specs.Lines.Printed.{refused_event_line}
+use Rattle.amr_lines.specs.Lines.LastLines.{word_text, moves_line, cursor_line, refused_line}
 use Rattle.amr_lines.specs.declared.lines.word.Word.{Word}
 use Rattle.amr_lines.specs.declared.lines.word.Word.TheVariants.{Step, Back, Seek, SeekTime, Trial, Explain, Alerts, Silences, Groups, Log, Transcript, Cursor, Unknown}
-use Rattle.amr_lines.proofs.LinesLemmas.MomentTexts.{quoted_moment}
 
 -- no word needs an escape
 escape_word : (word : Word) → escape (word_text word) ≡ word_text word
@@ -51,24 +45,7 @@ pub refused_line-parts : (word : Word) (cursor reason : ℕ)
 unfolding serde_json_on_literals
 refused_line-parts word cursor reason = simp (append_assoc, escape_word)
 
-pub place_line-parts : (cursor events : ℕ) (now : Moment)
-    → (codes "{\"command\":\"cursor\",\"cursor\":" ++ (decimal cursor ++ (codes ",\"events\":" ++ (decimal events ++ codes ",\"now\":\"")))) ++ (moment_text now ++ codes "\"}\n") ≡ place_line cursor events now
-unfolding place_data serde_json_on_literals
-place_line-parts cursor events now =
-    let before : List ℕ → List ℕ = λ l. codes "{\"command\":\"cursor\",\"cursor\":" ++ (decimal cursor ++ (codes ",\"events\":" ++ (decimal events ++ (codes ",\"now\":" ++ l)))) in
-    (simp append_assoc) ∙ ap before (sym (quoted_moment now (codes "}\n"))) ∙ (simp append_assoc)
-
 pub refused_event_line-parts : (event reason : ℕ)
     → codes "{\"event\":" ++ (decimal event ++ (codes ",\"reason\":" ++ (decimal reason ++ codes "}\n"))) ≡ refused_event_line event reason
 unfolding serde_json_on_literals
 refused_event_line-parts event reason = simp append_assoc
-
-pub skipped_line-parts : (event : ℕ) (places : List ℕ)
-    → (codes "{\"event\":" ++ (decimal event ++ codes ",\"skipped\":")) ++ (compact_text (array (items_of (map number_data places))) ++ codes "}\n") ≡ skipped_line event places
-unfolding serde_json_on_literals
-skipped_line-parts event places = simp append_assoc
-
-pub label_line-parts : (event : ℕ) (text : List ℕ)
-    → (codes "{\"event\":" ++ (decimal event ++ codes ",\"label\":")) ++ (quoted text ++ codes "}\n") ≡ label_line event text
-unfolding serde_json_on_literals
-label_line-parts event text = simp append_assoc

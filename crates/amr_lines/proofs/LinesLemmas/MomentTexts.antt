@@ -1,5 +1,5 @@
 -- A moment's text needs no escape.
-use Rattle.std.proofs.Common.{◌≡◌, ℕ, ◌%◌, ◌≤◌, Bool, true, false, eqb, cond, List, [], ◌∷◌, ◌++◌, refl, ap, ◌∙◌, append_assoc, arith}
+use Rattle.std.proofs.Common.{◌≡◌, ℕ, ◌%◌, ◌≤◌, Bool, true, false, eqb, cond, List, [], ◌∷◌, ◌++◌, refl, ap, arith}
 use Rattle.std.specs.List.{AllByRecursion}
 use Rattle.json.specs.Print.{escape}
 use Rattle.json.proofs.Printed.Strings.{escape_byte_plain}
@@ -36,9 +36,6 @@ all_plain m =
     let t = of_mark 84 (omega arith) (omega arith) in
     (d _, (d _, (d _, (d _, (dash, (d _, (d _, (dash, (d _, (d _, (t, (d _, (d _, (colon, (d _, (d _, (colon, (d _, (d _, tail_plain (m % second) (eqb (m % second) 0))))))))))))))))))))
 
--- with what follows it
-pub quoted_moment : (m : Moment) (rest : List ℕ) → compact_text (moment_data m) ++ rest ≡ 34 ∷ (moment_text m ++ 34 ∷ rest)
+pub moment_json : (m : Moment) → compact_text (moment_data m) ≡ 34 ∷ (moment_text m ++ 34 ∷ [])
 unfolding moment_data
-quoted_moment m rest =
-    ap (λ l. 34 ∷ ((l ++ 34 ∷ []) ++ rest)) (plain (moment_text m) (all_plain m))
-    ∙ ap (λ l. 34 ∷ l) (append_assoc (moment_text m) (34 ∷ []) rest)
+moment_json m = ap (λ l. 34 ∷ (l ++ 34 ∷ [])) (plain (moment_text m) (all_plain m))

@@ -10,7 +10,7 @@ use Rattle.amr_labels.specs.ObjectText as plain
 use Rattle.amr_lines.specs.Lines.Printed.{texts_data, labels_data}
 use Rattle.amr_lines.proofs.LinesLemmas.Plain.{both, own_escape}
 use Rattle.amr_lines.proofs.LinesLemmas.Pushed.{texts_text, member_text, first_member}
-use Rattle.amr_lines.proofs.LinesLemmas.Tokens.{in_order}
+use Rattle.amr_lines.proofs.LinesLemmas.Members.{in_order}
 
 quoted_as_it_is : (text : Text) → plain.is_plain_text text ≡ true → plain.quoted_text text ≡ quoted text
 quoted_as_it_is text h = ap (λ t. 34 ∷ (t ++ 34 ∷ [])) (sym (own_escape true text (sym h)))

@@ -1,5 +1,6 @@
 -- The text of an object or an array, from the texts that are pushed one after another.
 use Rattle.std.proofs.Common.{◌≡◌, ℕ, ◌+◌, ◌<◌, ◌≤◌, Bool, true, false, T, List, [], ◌∷◌, ◌++◌, length, drop, get_or, map, Result, Ok, Err, OnOk, is_ok, if◌then◌else◌, sym, ap, ◌∙◌, append_assoc, append-nil}
+use Rattle.std.proofs.lemmas.Result.{on_ok_weaker}
 use Rattle.std.proofs.lemmas.List.{at_drop_more, at_drop_all}
 use Rattle.std.specs.FinMap.{is_sorted}
 use Rattle.json.specs.Token as token
@@ -9,27 +10,26 @@ use Rattle.serde_json.specs.View.{items_of}
 use Rattle.serde_json.specs.Written.{compact_text, items_text, members_text, comma_if}
 use Rattle.amr_labels.specs.Labels.{Text, text_cmp}
 use Rattle.amr_lines.specs.Lines.Printed.{texts_data}
-use Rattle.amr_lines.proofs.LinesLemmas.Tokens.{in_order, fold_in_order}
+use Rattle.amr_lines.proofs.LinesLemmas.Members.{in_order, fold_in_order}
 
 -- ---- one push after another
 
--- of a push that succeeded
+-- a push that succeeded
 pub push_done : {E : Type 0} (r : Result (Unit {0}) E) (u : Unit {0}) (old new x : List ℕ) → r ≡ Ok u → new ≡ (if is_ok r then old ++ x else old) → new ≡ old ++ x
 push_done r u old new x was made = made ∙ ap (λ q. if is_ok q then old ++ x else old) was
 
--- two pushes that succeeded
-pub both : (a b c x y : List ℕ) → b ≡ a ++ x → c ≡ b ++ y → c ≡ a ++ (x ++ y)
-both a b c x y first next = next ∙ ap (λ l. l ++ y) first ∙ append_assoc a x y
-
--- of the last push, which may still fail
+-- the last push, which may still fail
 pub push_last : {E : Type 0} (r : Result (Unit {0}) E) (old new x : List ℕ) → new ≡ (if is_ok r then old ++ x else old) → OnOk r (new ≡ old ++ x)
 push_last (Ok u) old new x made = made
 push_last (Err e) old new x made = tt
 
--- one after another
+-- one push, and those that follow it
 pub followed : {E : Type 0} (r : Result (Unit {0}) E) (a b c x y : List ℕ) → b ≡ a ++ x → OnOk r (c ≡ b ++ y) → OnOk r (c ≡ a ++ (x ++ y))
-followed (Ok u) a b c x y first next = next ∙ ap (λ l. l ++ y) first ∙ append_assoc a x y
-followed (Err e) a b c x y first next = tt
+followed r a b c x y first next = on_ok_weaker r (λ e. e ∙ ap (λ l. l ++ y) first ∙ append_assoc a x y) next
+
+-- the last piece, which may still fail, is pushed onto what makes up the whole with it
+pub joined : {E : Type 0} (r : Result (Unit {0}) E) (new pushed whole : List ℕ) → OnOk r (new ≡ pushed) → pushed ≡ whole → OnOk r (new ≡ whole)
+joined r new pushed whole last same = on_ok_weaker r (λ made. made ∙ same) last
 
 -- a piece more is pushed of the text that is left
 pub kept : (out next piece rest left whole : List ℕ) → next ≡ out ++ piece → rest ≡ piece ++ left → out ++ rest ≡ whole → next ++ left ≡ whole
@@ -42,11 +42,11 @@ pub kept_two : (out middle next first second rest left whole : List ℕ)
 kept_two out middle next first second rest left whole a b split all =
     kept out next (first ++ second) rest left whole (b ∙ ap (λ l. l ++ second) a ∙ append_assoc out first second) split all
 
--- the bracket that closes is what is left at last
-pub closed : (before start out end bracket all close rest : List ℕ)
-    → start ≡ before ++ bracket → out ++ rest ≡ start ++ all → rest ≡ close → end ≡ out ++ close → end ≡ before ++ (bracket ++ all)
-closed before start out end bracket all close rest begun kept none made =
-    made ∙ ap (λ l. out ++ l) (sym none) ∙ kept ∙ ap (λ l. l ++ all) begun ∙ append_assoc before bracket all
+-- the bracket that closes is pushed last
+pub closed : {E : Type 0} (r : Result (Unit {0}) E) (before start out end bracket all close rest : List ℕ)
+    → start ≡ before ++ bracket → out ++ rest ≡ start ++ all → rest ≡ close → OnOk r (end ≡ out ++ close) → OnOk r (end ≡ before ++ (bracket ++ all))
+closed r before start out end bracket all close rest begun kept none made =
+    on_ok_weaker r (λ m. m ∙ ap (λ l. out ++ l) (sym none) ∙ kept ∙ ap (λ l. l ++ all) begun ∙ append_assoc before bracket all) made
 
 -- ---- an object of texts whose names ascend
 

@@ -1,173 +1,214 @@
-//! JSON written straight into a writer's buffer: texts under their names, label sets, moments,
-//! numbers. The writer sets commas, colons and escapes; a caller keeps members in the order of
-//! their names.
-ghost use Rattle.std.specs.Prelude.{◌≡◌, ◌∷◌, [], ◌++◌, T, codes, IfOk, OnOk};
-ghost use Rattle.std.specs.FinMap.{is_sorted};
-ghost use Rattle.json.specs.Print.{print};
-ghost use Rattle.serde_json.specs.Data.{string, boolean, null};
-ghost use Rattle.amr_labels.specs.Map.{entries};
-ghost use Rattle.amr_labels.specs.Set.{items};
-ghost use Rattle.amr_labels.specs.Labels.{text_cmp};
-ghost use Rattle.amr_lines.specs.Lines.Printed.{texts_data, labels_data, label_sets_data, moment_data, since_data, number_data};
-ghost use Rattle.amr_lines.specs.Lines.Tokens.{data_tokens, member_tokens, Adds};
+//! Writing JSON: whatever is printed appends itself to one text. Objects have their names and marks
+//! as literals, in the order of the names; `push` appends such a literal with the value after it.
+ghost use Rattle.std.specs.Prelude.{◌≡◌, ◌++◌, codes, map, IfOk, OnOk, string_bytes};
+ghost use Rattle.std.specs.List.{flat_map};
+ghost use Rattle.serde_json.specs.Data.{Data, array, boolean, string};
+ghost use Rattle.serde_json.specs.View.{items_of};
+ghost use Rattle.serde_json.specs.Written.{compact_text, comma_if};
+ghost use Rattle.amr_lines.specs.Lines.Printed.{data_line};
 
-use amr_labels::{LabelMap, Labels, Text, TextMap};
-use amr_time::{Moment, write_moment};
-use json::Writer;
+use crate::lines::strings::{push_string, push_texts};
+use amr_labels::{LabelMap, Labels, Shared, Text, TextMap};
+use amr_posts::SilenceId;
+use amr_time::{Moment, push_moment};
+use itoa::Buffer;
 use std::alloc::{AllocError, Global};
 
-/// The room of a line's buffer at first, in bytes: most lines of listings are shorter.
+/// The room that is made at once for a line, in bytes: most are shorter.
 const LINE_ROOM: usize = 1024;
 
-/// Writes an object with these texts under their names. The names are in order.
-fn write_texts(out: &mut Writer, texts: &[(Text, Text)]) -> Result<(), AllocError>
-    requires { T (is_sorted text_cmp texts.now) }
-    ensures { OnOk result (Adds out.old out.new (data_tokens (texts_data texts.now))) }
+/// For this many lines room is made at once. More than that are rare, and the text grows.
+const LINES_WITH_ROOM: usize = 64;
+
+/// What is printed as JSON.
+pub(crate) trait ToJson {
+    /// The value that is printed.
+    ghost json: { Self → Data };
+
+    /// Appends the value as compact JSON.
+    fn push_json(&self, out: &mut String) -> Result<(), AllocError>
+        ensures { OnOk result (string_bytes out.new
+            ≡ string_bytes out.old ++ compact_text (json self.now)) };
+}
+
+/// Returns the lines of values.
+pub(crate) fn lines_text<T: ToJson>(alloc: Global, values: &[T]) -> Result<String, AllocError>
+    ensures { IfOk result (λ text. string_bytes text
+        ≡ flat_map (λ value. data_line (T.json value)) values.now) }
 {
-    out.begin_object()?;
-    for text in texts {
-        out.key(text.0.as_str())?;
-        out.string(text.1.as_str())?;
+    let mut lines = String::with_capacity(alloc, values.len().min(LINES_WITH_ROOM) * LINE_ROOM)?;
+    for value in values {
+        push_line(&mut lines, value)?;
     }
-    out.end_object()
-}
-
-/// Writes a label set.
-fn write_label_set(out: &mut Writer, labels: &Labels) -> Result<(), AllocError>
-    ensures { OnOk result (Adds out.old out.new (data_tokens (labels_data labels.now))) }
-{
-    write_texts(out, labels.entries())
-}
-
-/// Writes a label set as a member of an object.
-pub(crate) fn write_labels(out: &mut Writer, name: &str, labels: &Labels) -> Result<(), AllocError>
-    ensures { OnOk result (Adds out.old out.new
-        (member_tokens name.now (labels_data labels.now))) }
-{
-    out.key(name)?;
-    write_label_set(out, labels)
-}
-
-/// Writes label sets as a member of an object.
-pub(crate) fn write_label_sets(
-    out: &mut Writer,
-    name: &str,
-    sets: &[Labels],
-) -> Result<(), AllocError>
-    ensures { OnOk result (Adds out.old out.new
-        (member_tokens name.now (label_sets_data sets.now))) }
-{
-    out.key(name)?;
-    out.begin_array()?;
-    for labels in sets {
-        write_label_set(out, labels)?;
-    }
-    out.end_array()
-}
-
-/// Writes a set of label sets as a member of an object, in the order of the label sets.
-pub(crate) fn write_set(out: &mut Writer, name: &str, sets: &LabelMap<()>) -> Result<(), AllocError>
-    ensures { OnOk result (Adds out.old out.new
-        (member_tokens name.now (label_sets_data (items sets.now)))) }
-{
-    out.key(name)?;
-    out.begin_array()?;
-    for (labels, _) in sets.iter() {
-        write_label_set(out, labels)?;
-    }
-    out.end_array()
-}
-
-/// Writes annotations as the member `annotations` of an object.
-pub(crate) fn write_annotations(out: &mut Writer, texts: &TextMap) -> Result<(), AllocError>
-    ensures { OnOk result (Adds out.old out.new
-        (member_tokens (codes "annotations") (texts_data (entries texts.now)))) }
-{
-    out.key("annotations")?;
-    write_texts(out, texts.entries())
-}
-
-/// Writes a moment as a member of an object, in RFC 3339.
-pub(crate) fn write_moment_member(
-    out: &mut Writer,
-    alloc: Global,
-    name: &str,
-    moment: Moment,
-) -> Result<(), AllocError>
-    ensures { OnOk result (Adds out.old out.new (member_tokens name.now (moment_data moment))) }
-{
-    out.key(name)?;
-    out.string(write_moment(alloc, moment)?.as_str())
-}
-
-/// Writes a moment as a member of an object, or null for `None`.
-#[tactic(auto, unfolding(crate::specs::Lines::Tokens::data_tokens))]
-pub(crate) fn write_since(
-    out: &mut Writer,
-    alloc: Global,
-    name: &str,
-    since: Option<Moment>,
-) -> Result<(), AllocError>
-    ensures { OnOk result (Adds out.old out.new (member_tokens name.now (since_data since))) }
-{
-    match since {
-        None => write_null(out, name),
-        Some(moment) => write_moment_member(out, alloc, name, moment),
-    }
-}
-
-/// Writes null as a member of an object.
-#[tactic(auto, unfolding(crate::specs::Lines::Tokens::data_tokens))]
-fn write_null(out: &mut Writer, name: &str) -> Result<(), AllocError>
-    ensures { OnOk result (Adds out.old out.new (member_tokens name.now null)) }
-{
-    out.key(name)?;
-    out.null()
-}
-
-/// Writes a boolean as a member of an object.
-#[tactic(auto, unfolding(crate::specs::Lines::Tokens::data_tokens))]
-pub(crate) fn write_flag(out: &mut Writer, name: &str, flag: bool) -> Result<(), AllocError>
-    ensures { OnOk result (Adds out.old out.new (member_tokens name.now (boolean flag))) }
-{
-    out.key(name)?;
-    out.boolean(flag)
-}
-
-/// Writes a text as a member of an object.
-#[tactic(auto, unfolding(crate::specs::Lines::Tokens::data_tokens))]
-pub(crate) fn write_text(out: &mut Writer, name: &str, text: &str) -> Result<(), AllocError>
-    ensures { OnOk result (Adds out.old out.new (member_tokens name.now (string text.now))) }
-{
-    out.key(name)?;
-    out.string(text)
-}
-
-/// Writes a number as a member of an object.
-#[tactic(auto, unfolding(crate::specs::Lines::Tokens::data_tokens))]
-pub(crate) fn write_number(out: &mut Writer, name: &str, number: usize) -> Result<(), AllocError>
-    ensures { OnOk result (Adds out.old out.new (member_tokens name.now (number_data number))) }
-{
-    out.key(name)?;
-    out.u64(number as u64)
-}
-
-/// Returns a writer for one line, with a buffer of its own. A writer zeroes up to 16 KiB of its
-/// buffer ahead, so one that wrote straight after the lines before would zero more than it writes.
-pub(crate) fn line_writer(alloc: Global) -> Result<Writer, AllocError>
-    ensures { IfOk result (λ out. (out.before ≡ []) × (out.tokens ≡ [])) }
-{
-    Ok(Writer::new(Vec::with_capacity(alloc, LINE_ROOM)?))
-}
-
-/// Returns the lines with that of a writer, and a line feed, after them.
-pub(crate) fn end_line(mut lines: Vec<u8>, out: Writer) -> Result<Vec<u8>, AllocError>
-    requires { out.before ≡ [] }
-    ensures { IfOk result (λ more. more.items
-        ≡ (lines.items ++ print out.tokens) ++ codes "\n") }
-{
-    let line = out.into_inner();
-    lines.extend_from_slice(line.as_slice())?;
-    lines.push(b'\n')?;
     Ok(lines)
+}
+
+/// Appends the line of a value.
+pub(crate) fn push_line<T: ToJson>(out: &mut String, value: &T) -> Result<(), AllocError>
+    ensures { OnOk result (string_bytes out.new
+        ≡ string_bytes out.old ++ data_line (T.json value.now)) }
+{
+    value.push_json(out)?;
+    out.push('\n')
+}
+
+/// Appends a literal, and a value after it.
+pub(crate) fn push<T: ToJson>(out: &mut String, before: &str, value: &T) -> Result<(), AllocError>
+    ensures { OnOk result (string_bytes out.new
+        ≡ string_bytes out.old ++ (before.now ++ compact_text (T.json value.now))) }
+{
+    out.push_str(before)?;
+    value.push_json(out)
+}
+
+/// Appends a literal, and an array of values after it.
+pub(crate) fn push_array<T: ToJson>(
+    out: &mut String,
+    before: &str,
+    values: &[T],
+) -> Result<(), AllocError>
+    ensures { OnOk result (string_bytes out.new ≡ string_bytes out.old
+        ++ (before.now ++ compact_text (array (items_of (map T.json values.now))))) }
+{
+    out.push_str(before)?;
+    out.push('[')?;
+    let mut later = false;
+    for value in values {
+        push_comma(out, later)?;
+        value.push_json(out)?;
+        later = true;
+    }
+    out.push(']')
+}
+
+/// Appends a comma if there is something before.
+pub(crate) fn push_comma(out: &mut String, later: bool) -> Result<(), AllocError>
+    ensures { OnOk result (string_bytes out.new ≡ string_bytes out.old ++ comma_if later) }
+{
+    if later {
+        out.push(',')?;
+    }
+    Ok(())
+}
+
+impl<T: ToJson + Drop> ToJson for Shared<T> {
+    ghost json = { T.json };
+
+    fn push_json(&self, out: &mut String) -> Result<(), AllocError> {
+        self.get().push_json(out)
+    }
+}
+
+impl ToJson for Labels {
+    ghost use Rattle.amr_lines.specs.Lines.Printed.{labels_data};
+
+    ghost json = { labels_data };
+
+    /// Appends a label set. One that needs no escape has its text already.
+    fn push_json(&self, out: &mut String) -> Result<(), AllocError> {
+        match self.printed() {
+            Some(text) => out.push_str(text),
+            None => push_texts(out, self.entries()),
+        }
+    }
+}
+
+impl ToJson for LabelMap<()> {
+    ghost use Rattle.amr_labels.specs.Set.{items};
+    ghost use Rattle.amr_lines.specs.Lines.Printed.{label_sets_data};
+
+    ghost json = { λ sets. label_sets_data (items sets) };
+
+    fn push_json(&self, out: &mut String) -> Result<(), AllocError> {
+        out.push('[')?;
+        let mut later = false;
+        for (labels, _) in self.iter() {
+            push_comma(out, later)?;
+            labels.push_json(out)?;
+            later = true;
+        }
+        out.push(']')
+    }
+}
+
+impl ToJson for TextMap {
+    ghost use Rattle.amr_labels.specs.Map.{entries};
+    ghost use Rattle.amr_lines.specs.Lines.Printed.{texts_data};
+
+    ghost json = { λ texts. texts_data (entries texts) };
+
+    fn push_json(&self, out: &mut String) -> Result<(), AllocError> {
+        push_texts(out, self.entries())
+    }
+}
+
+impl ToJson for Text {
+    ghost json = { string };
+
+    fn push_json(&self, out: &mut String) -> Result<(), AllocError> {
+        push_string(out, self.as_str())
+    }
+}
+
+impl ToJson for &str {
+    ghost json = { λ text. string text.now };
+
+    fn push_json(&self, out: &mut String) -> Result<(), AllocError> {
+        push_string(out, self)
+    }
+}
+
+impl ToJson for SilenceId {
+    ghost use Rattle.amr_posts.specs.Ids.{id_text};
+
+    ghost json = { λ id. string (id_text id) };
+
+    fn push_json(&self, out: &mut String) -> Result<(), AllocError> {
+        let text = self.text(*out.allocator())?;
+        push_string(out, text.as_str())
+    }
+}
+
+impl ToJson for Moment {
+    ghost use Rattle.amr_lines.specs.Lines.Printed.{moment_data};
+
+    ghost json = { moment_data };
+
+    fn push_json(&self, out: &mut String) -> Result<(), AllocError> {
+        out.push_str("\"")?;
+        push_moment(out, *self)?;
+        out.push_str("\"")
+    }
+}
+
+impl ToJson for Option<Moment> {
+    ghost use Rattle.amr_lines.specs.Lines.Printed.{since_data};
+
+    ghost json = { since_data };
+
+    fn push_json(&self, out: &mut String) -> Result<(), AllocError> {
+        match self {
+            None => out.push_str("null"),
+            Some(moment) => moment.push_json(out),
+        }
+    }
+}
+
+impl ToJson for usize {
+    ghost use Rattle.amr_lines.specs.Lines.Printed.{number_data};
+
+    ghost json = { number_data };
+
+    fn push_json(&self, out: &mut String) -> Result<(), AllocError> {
+        let mut digits = Buffer::new();
+        out.push_str(digits.format(*self))
+    }
+}
+
+impl ToJson for bool {
+    ghost json = { boolean };
+
+    fn push_json(&self, out: &mut String) -> Result<(), AllocError> {
+        out.push_str(if *self { "true" } else { "false" })
+    }
 }

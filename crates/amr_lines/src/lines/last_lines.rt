@@ -5,9 +5,10 @@ ghost use Rattle.amr_lines.specs.Lines.LastLines.{moves_line, cursor_line, place
 ghost use Rattle.amr_lines.specs.Lines.Outlet.{WritesText, FailsAt};
 ghost use Rattle.amr_lines.specs.declared.lines.word.Word.TheVariants.{Back};
 
+use crate::lines::json_text::push;
 use crate::lines::outlet::{Outlet, WriteFailed, write_parts};
 use crate::lines::word::{Word, word_text};
-use amr_time::{Moment, push_moment};
+use amr_time::Moment;
 use itoa::Buffer;
 use std::alloc::{AllocError, Global};
 use std::io::Write;
@@ -43,10 +44,10 @@ pub fn place_text(
     ensures { IfOk result (λ text. string_bytes text ≡ place_line cursor events now) }
 {
     let mut line = format!(in alloc;
-        "{{\"command\":\"cursor\",\"cursor\":{cursor},\"events\":{events},\"now\":\""
+        "{{\"command\":\"cursor\",\"cursor\":{cursor},\"events\":{events}"
     )?;
-    push_moment(&mut line, now)?;
-    line.push_str("\"}\n")?;
+    push(&mut line, ",\"now\":", &now)?;
+    line.push_str("}\n")?;
     Ok(line)
 }
 

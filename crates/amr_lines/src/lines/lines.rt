@@ -6,20 +6,13 @@ ghost use Rattle.amr_lines.specs.Lines.Printed.{notification_line, skipped_line,
 ghost use Rattle.amr_actions.specs.Acts.{act_of};
 ghost use Rattle.amr_engine.specs.Outcomes.{outcome_view};
 
-use crate::lines::notification_text::push_notification_line;
-use crate::lines::pushed_text::{push_numbers, push_string};
+use crate::lines::json_text::{lines_text, push, push_array};
 use amr_actions::{Act, Event};
 use amr_engine::Outcome;
-use amr_labels::Shared;
+use amr_labels::{Shared, Text};
 use amr_state::Notification;
 use std::alloc::{AllocError, Global};
 use std::fmt::Write;
-
-/// The room that is made at once for the line of a notification, in bytes: most are shorter.
-const LINE_ROOM: usize = 1024;
-
-/// For this many notifications room is made at once. More than that are rare, and the text grows.
-const LINES_WITH_ROOM: usize = 64;
 
 /// Returns the lines of an event that had this outcome. Events are numbered from 1; an event that
 /// is only tried has number 0.
@@ -33,7 +26,7 @@ pub fn event_text(
         ≡ event_lines number event.now (outcome_view outcome.now)) }
 {
     let mut text = outcome_text(alloc, number, outcome)?;
-    push_label_lines(&mut text, alloc, number, event.act())?;
+    push_label_lines(&mut text, number, event.act())?;
     Ok(text)
 }
 
@@ -56,41 +49,27 @@ fn outcome_text(alloc: Global, event: u64, outcome: &Outcome) -> Result<String, 
 pub fn notes_text(alloc: Global, notes: &[Shared<Notification>]) -> Result<String, AllocError>
     ensures { IfOk result (λ text. string_bytes text ≡ flat_map notification_line notes.now) }
 {
-    let mut lines = String::with_capacity(alloc, notes.len().min(LINES_WITH_ROOM) * LINE_ROOM)?;
-    for notification in notes {
-        push_notification_line(&mut lines, alloc, notification.get())?;
-    }
-    Ok(lines)
+    lines_text(alloc, notes)
 }
 
 /// Appends the line of an action that is a label.
-fn push_label_lines(
-    out: &mut String,
-    alloc: Global,
-    event: u64,
-    act: &Act,
-) -> Result<(), AllocError>
+fn push_label_lines(out: &mut String, event: u64, act: &Act) -> Result<(), AllocError>
     ensures { OnOk result (string_bytes out.new
         ≡ string_bytes out.old ++ label_lines event (act_of act.now)) }
 {
     match act {
-        Act::Label(text) => push_label_line(out, alloc, event, text.as_str()),
+        Act::Label(text) => push_label_line(out, event, text),
         _ => Ok(()),
     }
 }
 
 /// Appends the line of a label.
-fn push_label_line(
-    out: &mut String,
-    alloc: Global,
-    event: u64,
-    text: &str,
-) -> Result<(), AllocError>
+fn push_label_line(out: &mut String, event: u64, text: &Text) -> Result<(), AllocError>
     ensures { OnOk result (string_bytes out.new
         ≡ string_bytes out.old ++ label_line event text.now) }
 {
-    write!(out, "{{\"event\":{event},\"label\":")?;
-    push_string(out, alloc, text)?;
+    write!(out, "{{\"event\":{event}")?;
+    push(out, ",\"label\":", text)?;
     out.push_str("}\n")
 }
 
@@ -124,7 +103,7 @@ fn push_skipped_line(out: &mut String, event: u64, places: &[usize]) -> Result<(
     ensures { OnOk result (string_bytes out.new
         ≡ string_bytes out.old ++ skipped_line event places.now) }
 {
-    write!(out, "{{\"event\":{event},\"skipped\":")?;
-    push_numbers(out, places)?;
+    write!(out, "{{\"event\":{event}")?;
+    push_array(out, ",\"skipped\":", places)?;
     out.push_str("}\n")
 }

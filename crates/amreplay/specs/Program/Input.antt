@@ -1,6 +1,8 @@
 -- What is read of a file, and why a file couldn't be read.
-use Rattle.std.specs.Prelude.{◌≡◌, ℕ, ◌+◌, ◌==◌, List, fold, Bool, Option, Some, None, ⊤, if◌then◌else◌}
+use Rattle.std.specs.Prelude.{◌≡◌, ◌⊎◌, ℕ, ◌+◌, ◌<◌, ◌==◌, ◌&&◌, List, fold, Bool, true, Option, Some, None, ⊤, if◌then◌else◌}
 use Rattle.amr_lines.specs.Lines.Inlet.{HasEnded}
+use Rattle.amr_events.specs.Scripts.{is_space, longest_line}
+use Rattle.amreplay.specs.declared.program.input.LinesRead.{LinesRead}
 use Rattle.amreplay.specs.declared.program.input.InputError.{InputError}
 use Rattle.amreplay.specs.declared.program.input.InputError.TheVariants.{Memory, CannotRead}
 
@@ -15,10 +17,20 @@ abbrev pub StandFor : {A : Type 0} → (List ℕ → A → Type 0) → Option (L
 StandFor Is None bytes = ⊤
 StandFor {A} Is (Some all) bytes = (answer : A) → Is bytes answer → Is all answer
 
--- how long the last line is after one more byte; a line feed begins another line
-abbrev pub len_after : ℕ → ℕ → ℕ
-len_after line byte = if byte == 10 then 0 else line + 1
+-- what is known of the lines after one more byte; a line feed begins another line
+abbrev pub after_byte : LinesRead → ℕ → LinesRead
+after_byte lines byte =
+    if byte == 10 then record { full = if lines.is_blank then lines.full else lines.full + 1; len = 0; is_blank = true }
+    else record { full = lines.full; len = lines.len + 1; is_blank = lines.is_blank && is_space byte }
 
--- how long the last line is after these bytes, if it was `before` long before them
-abbrev pub last_line_len : ℕ → List ℕ → ℕ
-last_line_len before bytes = fold len_after before bytes
+-- what is known of them after these bytes
+abbrev pub after_bytes : LinesRead → List ℕ → LinesRead
+after_bytes lines bytes = fold after_byte lines bytes
+
+-- the most lines of a script that aren't blank: the header, and its events
+abbrev pub most_full_lines : ℕ
+most_full_lines = 1_000_001
+
+-- there is a line too many, or one that is too long
+abbrev pub AreSettled : LinesRead → Type 0
+AreSettled lines = (most_full_lines < lines.full) ⊎ (longest_line < lines.len)

@@ -1,9 +1,10 @@
 //! Reading the files, as far as they decide what they hold. `main` opens them; a reader that fails
 //! isn't taken for the end of a file.
-ghost use Rattle.std.specs.Prelude.{◌≡◌, ◌+◌, ◌<◌, ◌≤◌, ◌^◌, IfOk, MatchResult, length};
+ghost use Rattle.std.specs.Prelude.{◌≡◌, ◌+◌, ◌<◌, ◌≤◌, ◌^◌, true, false, IfOk, MatchResult, length};
 ghost use Rattle.amr_events.specs.Scripts.{ScriptIs};
 ghost use Rattle.amreplay.specs.Program.Files.{ConfigFileIs};
-ghost use Rattle.amreplay.specs.Program.Input.{UnreadBy, StandFor, len_after, last_line_len};
+ghost use Rattle.amreplay.specs.Program.Input.{UnreadBy, StandFor, after_byte, after_bytes, most_full_lines, AreSettled};
+ghost use Rattle.amr_events.specs.Scripts.{is_space as is_space_byte, longest_line};
 
 use crate::program::load::LONGEST_CONFIG;
 use amr_lines::lines::{Inlet, ReadFailed};
@@ -17,6 +18,9 @@ const CHUNK: usize = 8192;
 
 /// The longest line of a script, in bytes before its line feed.
 const LONGEST_LINE: usize = 1_048_576;
+
+/// The most lines of a script that aren't blank: the one that states its version, and its events.
+const MOST_FULL_LINES: usize = 1_000_001;
 
 /// Why a file couldn't be read.
 #[derive(Clone, Copy, Debug, PartialEq, Eq)]
@@ -83,8 +87,8 @@ pub fn read_config_file<R: Read>(alloc: Global, inlet: &mut Inlet<R>) -> Result<
     }
 }
 
-/// Reads the bytes of a script's file: all of them, or up to a line that is too long. Whatever
-/// follows such a line, the script is refused for it or for one before it.
+/// Reads the bytes of a script's file: all of them, or up to a line that is too long or one line too
+/// many. Whatever follows such a line, the script is refused for it or for one before it.
 ///
 /// Reading also ends as that of a configuration does.
 pub fn read_script_file<R: Read>(alloc: Global, inlet: &mut Inlet<R>) -> Result<Vec<u8>, InputError>
@@ -96,37 +100,88 @@ pub fn read_script_file<R: Read>(alloc: Global, inlet: &mut Inlet<R>) -> Result<
 {
     let mut bytes = Vec::new(alloc);
     let mut chunk = [0; CHUNK];
-    let mut line = 0;
+    let mut lines = LinesRead {
+        full: 0,
+        len: 0,
+        is_blank: true,
+    };
     loop {
         let taken = inlet.read(&mut chunk)?;
         if taken == 0 {
             return Ok(bytes);
         }
         bytes.extend_from_slice(&chunk[..taken])?;
-        line = last_line_len(line, &chunk[..taken]);
-        if line > LONGEST_LINE {
+        lines = lines.after_bytes(&chunk[..taken]);
+        if lines.are_settled() {
             return Ok(bytes);
         }
     }
 }
 
-/// Returns how long the last line is after these bytes, if it was `before` long before them.
-fn last_line_len(before: usize, bytes: &[u8]) -> usize
-    requires { before + length bytes.now < 2 ^ 64 }
-    ensures { result ≡ last_line_len before bytes.now }
-{
-    let mut line = before;
-    for byte in bytes {
-        line = len_after(line, *byte);
-    }
-    line
+/// What is known of the lines of a script while it is read.
+#[derive(Clone, Copy, Debug)]
+struct LinesRead {
+    /// How many lines have ended that aren't blank.
+    full: usize,
+    /// How long the last line is, in bytes.
+    len: usize,
+    /// Whether the last line is blank so far.
+    is_blank: bool,
 }
 
-/// Returns how long a line is after one more byte. A line feed begins another line.
-fn len_after(line: usize, byte: u8) -> usize
-    requires { line + 1 < 2 ^ 64 }
-    ensures value { result ≡ len_after line byte }
-    ensures bound { result ≤ line + 1 }
+impl LinesRead {
+    /// Returns whether the script is refused for these lines, whatever follows them.
+    fn are_settled(self) -> bool
+        ensures yes { result ≡ true → AreSettled self }
+        ensures no { result ≡ false → (self.full ≤ most_full_lines) × (self.len ≤ longest_line) }
+    {
+        self.full > MOST_FULL_LINES || self.len > LONGEST_LINE
+    }
+
+    /// Returns what is known of the lines after these bytes.
+    fn after_bytes(self, bytes: &[u8]) -> LinesRead
+        requires full { self.full + length bytes.now < 2 ^ 64 }
+        requires len { self.len + length bytes.now < 2 ^ 64 }
+        ensures { result ≡ after_bytes self bytes.now }
+    {
+        let mut lines = self;
+        for byte in bytes {
+            lines = lines.after_byte(*byte);
+        }
+        lines
+    }
+
+    /// Returns what is known of the lines after one more byte. A line feed begins another line.
+    fn after_byte(self, byte: u8) -> LinesRead
+        requires full { self.full + 1 < 2 ^ 64 }
+        requires len { self.len + 1 < 2 ^ 64 }
+        ensures value { result ≡ after_byte self byte }
+        ensures full { result.full ≤ self.full + 1 }
+        ensures len { result.len ≤ self.len + 1 }
+    {
+        if byte == b'\n' {
+            LinesRead {
+                full: if self.is_blank {
+                    self.full
+                } else {
+                    self.full + 1
+                },
+                len: 0,
+                is_blank: true,
+            }
+        } else {
+            LinesRead {
+                full: self.full,
+                len: self.len + 1,
+                is_blank: self.is_blank && is_space(byte),
+            }
+        }
+    }
+}
+
+/// Returns whether the byte is white space of JSON (RFC 8259).
+fn is_space(byte: u8) -> bool
+    ensures { result ≡ is_space_byte byte }
 {
-    if byte == b'\n' { 0 } else { line + 1 }
+    matches!(byte, b' ' | b'\t' | b'\n' | b'\r')
 }

@@ -7,6 +7,6 @@ use Rattle.amr_engine.proofs.quiet.alert_end.Given as goal
 abbrev pub invariant-loop-alert : goal.invariant-loop-alert
 invariant-loop-alert l = record {
   within : l.until ≤ l.fn.until;
-  still : (end : ℕ) → end ≤ l.until → list_all (λ stored. is_outside l.at end stored.1.ends_at) l.alert-iterator ≡ true
+  still : (end : ℕ) → end ≤ l.until → list_all (λ alert. is_outside l.at end alert.ends_at) l.alert-iterator ≡ true
       → no_alert_ends l.at end l.fn.store.state.alerts ≡ true;
 }

@@ -8,6 +8,6 @@ use Rattle.amr_engine.proofs.quiet.silence_turn.Given as goal
 abbrev pub invariant-loop-silence : goal.invariant-loop-silence
 invariant-loop-silence l = record {
   within : l.until ≤ l.fn.until;
-  still : (end : ℕ) → end ≤ l.until → list_all (λ stored. is_outside l.at end stored.1.starts_at && is_outside l.at end stored.1.ends_at) l.silence-iterator ≡ true
+  still : (end : ℕ) → end ≤ l.until → list_all (λ silence. is_outside l.at end silence.starts_at && is_outside l.at end silence.ends_at) l.silence-iterator ≡ true
       → no_silence_turns l.at end l.fn.store.state.silences ≡ true;
 }

@@ -13,9 +13,11 @@ pub returns-in-Ok : goal.returns-in-Ok
 unfolding json_of
 returns-in-Ok c =
     let yes = is_utf8-from_IsUtf8 c.args.line.now c.in-Ok.ensures.ok.0 in
-    rw yes c.in-Ok.ensures.ok.1
+    record { read = rw yes c.in-Ok.ensures.ok.1; nests = c.in-Ok.ensures.nests }
 
 pub returns-else-is_memory : goal.returns-else-is_memory
 unfolding json_of
-returns-else-is_memory c =
-    none_if (is_utf8 c.args.line.now) _ (λ yes. c.in-Err.ensures.err (λ m. false≢true (c.if-is_memory.ensures.1 m)) (IsUtf8-from_is_utf8 c.args.line.now yes))
+returns-else-is_memory c = record {
+  read = none_if (is_utf8 c.args.line.now) _ (λ yes. c.in-Err.ensures.err (λ m. false≢true (c.if-is_memory.ensures.1 m)) (IsUtf8-from_is_utf8 c.args.line.now yes));
+  nests = tt;
+}

@@ -2,7 +2,7 @@ use Rattle.std.proofs.Common.{◌≡◌, true, rules, arith, ap, ◌∙◌}
 use Rattle.std.proofs.lemmas.Grind.{common_steps}
 use Rattle.amr_matchers.specs.Matchers.{all_hold}
 use Rattle.amr_indexes.specs.LabelValues.{label_values}
-use Rattle.amr_indexes.proofs.Sources.{put_if_listed}
+use Rattle.amr_indexes.proofs.Sources.{is_put}
 use Rattle.amr_indexes.proofs.rule_source.see.Goals as goal
 
 pub returns-clause-listed : goal.returns-clause-listed
@@ -10,5 +10,5 @@ returns-clause-listed c =
     let known = c.args.known.now in
     let labels = c.args.labels.now in
     let matches : all_hold known.side.source labels ≡ true = first_of (search rules, grind (arith, common_steps)) in
-    put_if_listed c.list_under.result known (record known { sources = c.list_under.new.sources }) labels c.in_ok-values.values matches
-    (c.in_ok-values.ensures ∙ ap (λ names. label_values names labels) c.as_slice.ensures.value) c.list_under.ensures.ok
+    is_put known (record known { sources = c.list_under.new.sources }) labels c.in_ok-values.values matches
+    (c.in_ok-values.ensures ∙ ap (λ names. label_values names labels) c.as_slice.ensures.value) c.in_ok-list_under.ensures.ok

@@ -5,7 +5,7 @@ use Rattle.amr_indexes.proofs.rule_source.see_next.Goals as goal
 pub returns-clause-lists : goal.returns-clause-lists
 returns-clause-lists c =
     let put = c.see.new.known in
-    side_seen c.args.arrived.now c.args.known.now put (record { side = put.side; seen = put.seen + 1; sources = put.sources }) c.index-arrived-number.result c.requires.lists c.requires.left
+    side_seen c.args.arrived.now c.args.known.now put (record put { seen = put.seen + 1 }) c.index-arrived-number.result c.requires.lists c.requires.left
     c.index-arrived-number.is c.in_ok-see.ensures.listed c.see.ensures.side refl (ap (λ n. n + 1) c.see.ensures.seen) refl
 
 pub returns-in_err-see-clause-lists : goal.returns-in_err-see-clause-lists

@@ -15,7 +15,7 @@ returns-then-count-capacity-clause-noted c = λ before after same own are_noted.
     (noted_more before after c.args.changes.now.items c.args.noted same own are_noted)
 
 pub returns-else-count-lt-MOST_CHANGES-clause-known : goal.returns-else-count-lt-MOST_CHANGES-clause-known
-returns-else-count-lt-MOST_CHANGES-clause-known c = λ before after same are_known. none_known after _ _ c.clear.ensures.items
+returns-else-count-lt-MOST_CHANGES-clause-known c = λ before after same are_known. none_known after _ _ c.forget.ensures.known
 
 pub returns-else-count-lt-MOST_CHANGES-clause-noted : goal.returns-else-count-lt-MOST_CHANGES-clause-noted
-returns-else-count-lt-MOST_CHANGES-clause-noted c = λ before after same own are_noted. none_noted after _ c.clear-else-count-lt-MOST_CHANGES.ensures.items
+returns-else-count-lt-MOST_CHANGES-clause-noted c = λ before after same own are_noted. none_noted after _ c.forget.ensures.changes

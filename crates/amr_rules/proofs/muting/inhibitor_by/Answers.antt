@@ -5,9 +5,9 @@ use Rattle.std.specs.Option.{option_copied}
 use Rattle.std.specs.Map.Iter.{deref_pair}
 use Rattle.amr_labels.specs.Map.{entries}
 use Rattle.amr_matchers.specs.Matchers.{all_hold}
-use Rattle.amr_rules.specs.Muting.{first_source, inhibitor_by, is_agreeing, sources_of, ListsSources}
+use Rattle.amr_rules.specs.Muting.{first_source, inhibitor_by, is_agreeing, sources_of}
 use Rattle.amr_rules.proofs.MutingLaws.{no_source}
-use Rattle.amr_rules.proofs.Searching.{list_all-filter, sources-sources_of}
+use Rattle.amr_rules.proofs.Searching.{list_all-filter, first-sources_of}
 use Rattle.amr_rules.proofs.muting.inhibitor_by.Goals as goal
 
 pub returns-then-not-side : goal.returns-then-not-side
@@ -15,26 +15,13 @@ returns-then-not-side g c =
     let unmatched : all_hold c.args.rule.now.target c.args.target.now ≡ false = first_of (search rules, grind (arith, common_steps)) in
     no_source c.args.now c.args.target.now (g.A.AlertStore.alerts c.args.alerts.now) c.args.rule.now unmatched
 
-pub first_agreeing-requires-clause-agreeing : goal.first_agreeing-requires-clause-agreeing
-first_agreeing-requires-clause-agreeing g c =
+pub first_source-requires-clause-agreeing : goal.first_source-requires-clause-agreeing
+first_source-requires-clause-agreeing g c =
     let rule = c.args.rule.now in
     let target = c.args.target.now in
     let alerts = g.A.AlertStore.alerts c.args.alerts.now in
-    let found : map deref_pair c.in-Some.sources.items ≡ sources_of rule target alerts = rw c.in-Some.is at c.in_ok-sources.ensures in
-    let listed : map deref_pair c.deref.result.now ≡ sources_of rule target alerts = ap (map deref_pair) c.deref.ensures.value ∙ found in
+    let listed : map deref_pair c.deref.result.now ≡ sources_of rule target alerts = ap (map deref_pair) c.deref.ensures.value ∙ c.in_ok-sources.ensures in
     ap (list_all (λ source. is_agreeing rule target source.0)) listed ∙ list_all-filter (λ source. is_agreeing rule target source.0) (entries alerts)
-
-pub returns-in-Some : goal.returns-in-Some
-returns-in-Some g c =
-    let now = c.args.now in
-    let rule = c.args.rule.now in
-    let target = c.args.target.now in
-    let alerts = g.A.AlertStore.alerts c.args.alerts.now in
-    let found : map deref_pair c.in-Some.sources.items ≡ sources_of rule target alerts = rw c.in-Some.is at c.in_ok-sources.ensures in
-    let listed : map deref_pair c.deref.result.now ≡ sources_of rule target alerts = ap (map deref_pair) c.deref.ensures.value ∙ found in
-    let same : first_source now rule target (map deref_pair c.deref.result.now) ≡ inhibitor_by now target alerts rule =
-    ap (first_source now rule target) listed ∙ sources-sources_of rule target alerts now in
-    subst (λ source. IfOk c.first_agreeing.result (λ found. option_copied found ≡ source)) same c.first_agreeing.ensures
 
 pub returns : goal.returns
 returns g c =
@@ -42,7 +29,7 @@ returns g c =
     let rule = c.args.rule.now in
     let target = c.args.target.now in
     let alerts = g.A.AlertStore.alerts c.args.alerts.now in
-    let listed : ListsSources rule target alerts (map deref_pair c.in_ok-stored.stored.items) = c.in_ok-stored.ensures in
-    let same : first_source now rule target (map deref_pair c.deref-2.result.now) ≡ inhibitor_by now target alerts rule =
-    ap (λ items. first_source now rule target (map deref_pair items)) c.deref-2.ensures.value ∙ listed now in
+    let listed : map deref_pair c.deref.result.now ≡ sources_of rule target alerts = ap (map deref_pair) c.deref.ensures.value ∙ c.in_ok-sources.ensures in
+    let same : first_source now rule target (map deref_pair c.deref.result.now) ≡ inhibitor_by now target alerts rule =
+    ap (first_source now rule target) listed ∙ first-sources_of now rule target alerts in
     subst (λ source. IfOk c.first_source.result (λ found. option_copied found ≡ source)) same c.first_source.ensures

@@ -8,7 +8,7 @@ use Rattle.amr_rules.proofs.muting.silenced_by.Goals as goal
 
 pub returns-then-branch-clause-exactly : goal.returns-then-branch-clause-exactly
 returns-then-branch-clause-exactly c =
-    let named : Some c.in-Some.id.now ≡ silencer_of c.args.now c.args.labels.now (shown nat_cmp c.args.silences.now) =
+    let named : Some c.loop-id-item.result.0.now ≡ silencer_of c.args.now c.args.labels.now (shown nat_cmp c.args.silences.now) =
     first_of (search rules, grind (arith, common_steps)) in
     is_silenced-named (shown nat_cmp c.args.silences.now) c.args.now c.args.labels.now ∙ ap is_some (sym named)
 

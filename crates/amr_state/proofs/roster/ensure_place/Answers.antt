@@ -14,7 +14,7 @@ returns-in_ok-make_place-in-None-clause-place c =
     let none : number_of route_labels_cmp a key ≡ None = sym c.requires ∙ c.in-None.is in
     let gets : GetsNumber route_labels_cmp a b key (next_number a) =
     subst (λ (k : RouteLabels). GetsNumber route_labels_cmp a b k (next_number a)) same (c.in_ok-make_place-in-None.ensures.number (absent a _ (ap (λ (k : RouteLabels). number_of route_labels_cmp a k) same ∙ none))) in
-    new_number a b key (next_number a) gets ∙ ap Some (sym c.next_number-number.ensures)
+    new_number a b key (next_number a) gets ∙ ap Some (sym c.next_number-number.ensures.next)
 
 pub returns-in_ok-make_place-in-None-clause-numbers : goal.returns-in_ok-make_place-in-None-clause-numbers
 returns-in_ok-make_place-in-None-clause-numbers c =

@@ -1,4 +1,4 @@
-use Rattle.std.proofs.Common.{List, Bor, None, Some, map, ap, subst, ◌∙◌}
+use Rattle.std.proofs.Common.{◌≡◌, IfOk, List, Bor, None, Some, map, ap, subst, ◌∙◌}
 use Rattle.std.specs.Map.Iter.{deref_pair}
 use Rattle.std.specs.Option.{option_copied}
 use Rattle.amr_labels.specs.Labels.{LabelSet, label_set_cmp}
@@ -20,14 +20,15 @@ returns-in-None c =
     ∙ sources_are (shown label_set_cmp t.alerts) rule target t.sources None none (λ q h. c.self.invariant.arrived q (c.self.invariant.stored q h))
     ∙ ap (λ (v : Numbered LabelSet Alert). sources_of rule target (shown label_set_cmp v)) c.self.view_is
 
-pub returns-in_ok-stored_of-in-Some-listed : goal.returns-in_ok-stored_of-in-Some-listed
-returns-in_ok-stored_of-in-Some-listed c =
+pub returns-in-Some-listed : goal.returns-in-Some-listed
+returns-in-Some-listed c =
     let t = c.self.inside in
     let rule = c.args.rule.now in
     let target = c.args.target.now in
     let listed = rw c.in-Some.is at c.in_ok-known.ensures in
     let source = c.in-Some-listed.listed.now in
     let some : ListsAgreeing rule target t.sources (Some source) = subst (λ found. ListsAgreeing rule target t.sources (option_copied found)) c.in-Some-listed.is listed in
-    c.in_ok-stored_of-in-Some-listed.ensures
-    ∙ sources_are (shown label_set_cmp t.alerts) rule target t.sources (Some source) some (λ q h. c.self.invariant.arrived q (c.self.invariant.stored q h))
-    ∙ ap (λ (v : Numbered LabelSet Alert). sources_of rule target (shown label_set_cmp v)) c.self.view_is
+    subst (λ pairs. IfOk c.stored_of.result (λ found. map deref_pair found.items ≡ pairs))
+    (sources_are (shown label_set_cmp t.alerts) rule target t.sources (Some source) some (λ q h. c.self.invariant.arrived q (c.self.invariant.stored q h))
+    ∙ ap (λ (v : Numbered LabelSet Alert). sources_of rule target (shown label_set_cmp v)) c.self.view_is)
+    c.stored_of.ensures

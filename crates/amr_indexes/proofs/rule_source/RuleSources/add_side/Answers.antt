@@ -9,13 +9,13 @@ use Rattle.amr_indexes.proofs.rule_source.RuleSources.add_side.Goals as goal
 pub invariant_of-self-in_err-insert : goal.invariant_of-self-in_err-insert
 invariant_of-self-in_err-insert c =
     let t = c.self.inside in
-    let known : KnownSide = record { side = c.in_ok-side_of.field-0; seen = 0; sources = c.new.result } in
+    let known : KnownSide = record { side = c.in_ok-side_of.field-0; seen = 0; sources = c.new.result; listed = 0 } in
     subst (All (ListsSide t.arrived.items)) (sym c.in_ok-push.ensures.items)
     (All-push (ListsSide t.arrived.items) t.sides.items known c.self.invariant (side_new t.arrived.items known refl c.new.ensures.shown))
 
 pub invariant_of-self-2 : goal.invariant_of-self-2
 invariant_of-self-2 c =
     let t = c.self.inside in
-    let known : KnownSide = record { side = c.in_ok-side_of.field-0; seen = 0; sources = c.new.result } in
+    let known : KnownSide = record { side = c.in_ok-side_of.field-0; seen = 0; sources = c.new.result; listed = 0 } in
     subst (All (ListsSide t.arrived.items)) (sym c.in_ok-push.ensures.items)
     (All-push (ListsSide t.arrived.items) t.sides.items known c.self.invariant (side_new t.arrived.items known refl c.new.ensures.shown))

@@ -16,9 +16,9 @@ invariant_of-self-in_err-place g c =
     let placed = c.ensure_place.new.placements in
     let route_labels = c.args.route_labels.now in
     let n = places_for route_labels_cmp a route_labels in
-    let room : r.index.room + n ≤ c.make_room.new.queue.room =
-    subst (λ b. r.index.room + cond b 0 1 ≤ c.make_room.new.queue.room) (c.is_some.ensures ∙ has_number a route_labels c.look_up_number-number.result.0 c.look_up_number-number.ensures.number) c.in_ok-make_room.ensures.room in
-    indexed_still r.config a placed r.index c.make_room.new.queue c.self.invariant c.ensure_place.ensures.numbers n c.ensure_place.ensures.keys.0 c.ensure_place.ensures.keys.1 c.make_room.ensures.dues room c.ensure_place.ensures.shown
+    let room : r.index.room + n ≤ c.make_room.new.index.room =
+    subst (λ b. r.index.room + cond b 0 1 ≤ c.make_room.new.index.room) (c.is_some.ensures ∙ has_number a route_labels c.look_up_number-number.result.0 c.look_up_number-number.ensures.number) c.in_ok-make_room.ensures.room in
+    indexed_still r.config a placed r.index c.make_room.new.index c.self.invariant c.ensure_place.ensures.numbers n c.ensure_place.ensures.keys.0 c.ensure_place.ensures.keys.1 c.make_room.ensures.dues room c.ensure_place.ensures.shown
 
 pub returns-in_err-place-clause-places : goal.returns-in_err-place-clause-places
 returns-in_err-place-clause-places g c =
@@ -31,12 +31,12 @@ invariant_of-self-in_err-entry g c =
     let placed = c.ensure_place.new.placements in
     let route_labels = c.args.route_labels.now in
     let n = places_for route_labels_cmp a route_labels in
-    let room : r.index.room + n ≤ c.make_room.new.queue.room =
-    subst (λ b. r.index.room + cond b 0 1 ≤ c.make_room.new.queue.room) (c.is_some.ensures ∙ has_number a route_labels c.look_up_number-number.result.0 c.look_up_number-number.ensures.number) c.in_ok-make_room.ensures.room in
+    let room : r.index.room + n ≤ c.make_room.new.index.room =
+    subst (λ b. r.index.room + cond b 0 1 ≤ c.make_room.new.index.room) (c.is_some.ensures ∙ has_number a route_labels c.look_up_number-number.result.0 c.look_up_number-number.ensures.number) c.in_ok-make_room.ensures.room in
     let b = c.change_found.new.table in
     let numbers : b.numbers ≡ placed.numbers = c.change_found.ensures.numbers (has_place_at placed route_labels c.in_ok-place.place c.in_ok-place.ensures.place) in
     let keeps : KeepsNumbers a b = keeps_more a placed b c.ensure_place.ensures.numbers numbers in
-    indexed_still r.config a b r.index c.make_room.new.queue c.self.invariant keeps n (omega (arith, c.ensure_place.ensures.keys.0, ap length numbers)) (omega (arith, c.ensure_place.ensures.keys.1, ap length numbers)) c.make_room.ensures.dues room
+    indexed_still r.config a b r.index c.make_room.new.index c.self.invariant keeps n (omega (arith, c.ensure_place.ensures.keys.0, ap length numbers)) (omega (arith, c.ensure_place.ensures.keys.1, ap length numbers)) c.make_room.ensures.dues room
     (c.in_err-entry.ensures.err.0 ∙ c.ensure_place.ensures.shown)
 
 pub returns-in_err-entry-clause-err : goal.returns-in_err-entry-clause-err
@@ -56,15 +56,15 @@ enrol-requires g c =
     let placed = c.ensure_place.new.placements in
     let route_labels = c.args.route_labels.now in
     let n = places_for route_labels_cmp a route_labels in
-    let room : r.index.room + n ≤ c.make_room.new.queue.room =
-    subst (λ b. r.index.room + cond b 0 1 ≤ c.make_room.new.queue.room) (c.is_some.ensures ∙ has_number a route_labels c.look_up_number-number.result.0 c.look_up_number-number.ensures.number) c.in_ok-make_room.ensures.room in
+    let room : r.index.room + n ≤ c.make_room.new.index.room =
+    subst (λ b. r.index.room + cond b 0 1 ≤ c.make_room.new.index.room) (c.is_some.ensures ∙ has_number a route_labels c.look_up_number-number.result.0 c.look_up_number-number.ensures.number) c.in_ok-make_room.ensures.room in
     let b = c.change_found.new.table in
     let numbers : b.numbers ≡ placed.numbers = c.change_found.ensures.numbers (has_place_at placed route_labels c.in_ok-place.place c.in_ok-place.ensures.place) in
     let keeps : KeepsNumbers a b = keeps_more a placed b c.ensure_place.ensures.numbers numbers in
     let membership : ◌≡◌ {A = Membership} (record { group = c.in_ok-clone.field-0; labels = c.in_ok-clone-2.field-0 }) (membership_of r.config route_labels) =
     λ i. record { group = (c.in_ok-clone.ensures.cases ∙ c.requires ∙ ap (λ (r : Rostered). group_key r.config route_labels) (sym c.self.view_is)) i; labels = c.in_ok-clone-2.ensures.cases i } in
-    subst (λ x. CanEnrol c.make_room.new.queue.dues c.make_room.new.queue.room x c.is_member-was.result c.is_some-is.result) (sym c.indexed.ensures)
-    (may_enrol r.config a b r.index c.make_room.new.queue c.self.invariant keeps n (omega (arith, c.ensure_place.ensures.keys.0, ap length numbers)) (omega (arith, c.ensure_place.ensures.keys.1, ap length numbers)) c.make_room.ensures.dues room
+    subst (λ x. CanEnrol c.make_room.new.index.dues c.make_room.new.index.room x c.is_member-was.result c.is_some-is.result) (sym c.indexed.ensures)
+    (may_enrol r.config a b r.index c.make_room.new.index c.self.invariant keeps n (omega (arith, c.ensure_place.ensures.keys.0, ap length numbers)) (omega (arith, c.ensure_place.ensures.keys.1, ap length numbers)) c.make_room.ensures.dues room
     _ c.in_ok-place.place route_labels c.args.alert c.is_member-was.result c.is_some-is.result
     membership (ap (find route_labels_cmp route_labels) numbers ∙ c.in_ok-place.ensures.place) (c.is_member-was.ensures ∙ ap is_some c.look_up_number-number.ensures.value) c.is_some-is.ensures
     (c.in_ok-entry.ensures.shown ∙ ap (λ m. map.set m route_labels c.args.alert) c.ensure_place.ensures.shown) c.in_ok-entry.ensures.enough)
@@ -76,18 +76,18 @@ invariant_of-self-2 g c =
     let placed = c.ensure_place.new.placements in
     let route_labels = c.args.route_labels.now in
     let n = places_for route_labels_cmp a route_labels in
-    let room : r.index.room + n ≤ c.make_room.new.queue.room =
-    subst (λ b. r.index.room + cond b 0 1 ≤ c.make_room.new.queue.room) (c.is_some.ensures ∙ has_number a route_labels c.look_up_number-number.result.0 c.look_up_number-number.ensures.number) c.in_ok-make_room.ensures.room in
+    let room : r.index.room + n ≤ c.make_room.new.index.room =
+    subst (λ b. r.index.room + cond b 0 1 ≤ c.make_room.new.index.room) (c.is_some.ensures ∙ has_number a route_labels c.look_up_number-number.result.0 c.look_up_number-number.ensures.number) c.in_ok-make_room.ensures.room in
     let b = c.change_found.new.table in
     let numbers : b.numbers ≡ placed.numbers = c.change_found.ensures.numbers (has_place_at placed route_labels c.in_ok-place.place c.in_ok-place.ensures.place) in
     let keeps : KeepsNumbers a b = keeps_more a placed b c.ensure_place.ensures.numbers numbers in
     let membership : ◌≡◌ {A = Membership} (record { group = c.in_ok-clone.field-0; labels = c.in_ok-clone-2.field-0 }) (membership_of r.config route_labels) =
     λ i. record { group = (c.in_ok-clone.ensures.cases ∙ c.requires ∙ ap (λ (r : Rostered). group_key r.config route_labels) (sym c.self.view_is)) i; labels = c.in_ok-clone-2.ensures.cases i } in
-    indexed_after r.config a b r.index c.make_room.new.queue c.self.invariant keeps n (omega (arith, c.ensure_place.ensures.keys.0, ap length numbers)) (omega (arith, c.ensure_place.ensures.keys.1, ap length numbers)) c.make_room.ensures.dues room
+    indexed_after r.config a b r.index c.make_room.new.index c.self.invariant keeps n (omega (arith, c.ensure_place.ensures.keys.0, ap length numbers)) (omega (arith, c.ensure_place.ensures.keys.1, ap length numbers)) c.make_room.ensures.dues room
     _ c.in_ok-place.place route_labels c.args.alert c.is_member-was.result c.is_some-is.result
     membership (ap (find route_labels_cmp route_labels) numbers ∙ c.in_ok-place.ensures.place) (c.is_member-was.ensures ∙ ap is_some c.look_up_number-number.ensures.value) c.is_some-is.ensures
     (c.in_ok-entry.ensures.shown ∙ ap (λ m. map.set m route_labels c.args.alert) c.ensure_place.ensures.shown) c.in_ok-entry.ensures.enough
-    c.enrol.new.index (c.enrol.ensures.dues ∙ ap (λ x. enrolled c.make_room.new.queue.dues x c.is_member-was.result c.is_some-is.result) c.indexed.ensures) c.enrol.ensures.all
+    c.enrol.new.index (c.enrol.ensures.dues ∙ ap (λ x. enrolled c.make_room.new.index.dues x c.is_member-was.result c.is_some-is.result) c.indexed.ensures) c.enrol.ensures.all
 
 pub returns-clause-entry : goal.returns-clause-entry
 returns-clause-entry g c =

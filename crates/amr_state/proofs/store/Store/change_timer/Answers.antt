@@ -19,9 +19,8 @@ invariant_of-self-in-Some c =
     let a = c.self.inside in
     let t = c.change_timer.new.self in
     let b : Inside = record a { tables = record a.tables { timetable = t }; journal = c.push.new.self } in
-    let e : Displaced = WasTimer c.in_ok-copy.copy c.in-Some.was in
-    let found : ◌≡◌ (c.in-Some._route_labels, c.in-Some.was) (c.args.group.now, map.get (shown route_labels_cmp a.tables.timetable.timers) c.args.group.now) = entry_of-some route_labels_cmp a.tables.timetable.timers c.args.group.now (c.in-Some._route_labels, c.in-Some.was) (sym c.in-Some.is ∙ c.in_ok-entry.ensures.entry) in
-    let is : ◌≡◌ {A = RouteLabels × Option GroupTimer} (c.in_ok-copy.copy, c.in-Some.was) (c.args.group.now, map.get (shown route_labels_cmp a.tables.timetable.timers) c.args.group.now) = λ i. (c.in_ok-copy.ensures i, (found i).1) in
+    let e : Displaced = WasTimer c.in-Some.group c.in-Some.was in
+    let is : ◌≡◌ (c.in-Some.group, c.in-Some.was) (c.args.group.now, map.get (shown route_labels_cmp a.tables.timetable.timers) c.args.group.now) = entry_of-some route_labels_cmp a.tables.timetable.timers c.args.group.now (c.in-Some.group, c.in-Some.was) (sym c.in-Some.is ∙ c.in_ok-entry.ensures.entry) in
     let pushed : c.push.new.self.current ≡ c.change_timer.new.journal.current ++ e ∷ [] = c.push.ensures.current in
     kept_entered a b e c.self.invariant (record { alerts = λ k h. subst (λ v. IsTrue (has_place label_set_cmp v k)) (sym c.change_timer.ensures.alerts) h; silences = λ k h. h; placements = λ k h. h; timers = c.change_timer.ensures.places; log = λ k h. h })
     c.self.invariant.moment (c.push.ensures.closed ∙ c.change_timer.ensures.closed) (pushed ∙ ap (λ es. es ++ e ∷ []) c.change_timer.ensures.current)
@@ -36,8 +35,8 @@ invariant_of-self c =
     kept_grown a b c.self.invariant (record { alerts = λ k h. subst (λ v. IsTrue (has_place label_set_cmp v k)) (sym c.change_timer.ensures.alerts) h; silences = λ k h. h; placements = λ k h. h; timers = c.change_timer.ensures.places; log = λ k h. h }) refl c.change_timer.ensures.closed c.change_timer.ensures.current
     (by_place (NoNewMark a.tables b.tables) (λ x h. h) (λ x h. h) (λ k v h. subst (λ x. IsTrue (is_entered label_set_cmp x k)) c.change_timer.ensures.alerts h) (λ k v h. h) (λ k v h. h) (λ q w h. subst IsTrue (c.in_err-entry.ensures.err.1 q) h) (λ k v h. h) (λ x h. h)) refl (fits_alike a b c.change_timer.ensures.closed c.change_timer.ensures.current (refl, refl) c.self.invariant.fits)
 
-pub invariant_of-self-in-None-1 : goal.invariant_of-self-in-None-1
-invariant_of-self-in-None-1 c =
+pub invariant_of-self-in_default : goal.invariant_of-self-in_default
+invariant_of-self-in_default c =
     let a = c.self.inside in
     let t = c.change_timer.new.self in
     let b : Inside = record a { tables = record a.tables { timetable = t }; journal = c.change_timer.new.journal } in
@@ -50,9 +49,8 @@ returns-in-Some-clause-kept c =
     let a = c.self.inside in
     let b : Inside = record a { tables = record a.tables { timetable = c.change_timer.new.self }; journal = c.push.new.self } in
     let change : Displaced = WasTimer c.args.group.now c.args.timer in
-    let e : Displaced = WasTimer c.in_ok-copy.copy c.in-Some.was in
-    let found : ◌≡◌ (c.in-Some._route_labels, c.in-Some.was) (c.args.group.now, map.get (shown route_labels_cmp a.tables.timetable.timers) c.args.group.now) = entry_of-some route_labels_cmp a.tables.timetable.timers c.args.group.now (c.in-Some._route_labels, c.in-Some.was) (sym c.in-Some.is ∙ c.in_ok-entry.ensures.entry) in
-    let is : ◌≡◌ {A = RouteLabels × Option GroupTimer} (c.in_ok-copy.copy, c.in-Some.was) (c.args.group.now, map.get (shown route_labels_cmp a.tables.timetable.timers) c.args.group.now) = λ i. (c.in_ok-copy.ensures i, (found i).1) in
+    let e : Displaced = WasTimer c.in-Some.group c.in-Some.was in
+    let is : ◌≡◌ (c.in-Some.group, c.in-Some.was) (c.args.group.now, map.get (shown route_labels_cmp a.tables.timetable.timers) c.args.group.now) = entry_of-some route_labels_cmp a.tables.timetable.timers c.args.group.now (c.in-Some.group, c.in-Some.was) (sym c.in-Some.is ∙ c.in_ok-entry.ensures.entry) in
     let pushed : c.push.new.self.current ≡ c.change_timer.new.journal.current ++ e ∷ [] = c.push.ensures.current in
     undone_pushed a b change e tt (λ i. record (state_of a) { alerts = shown label_set_cmp (c.change_timer.ensures.alerts i); timers = c.in_ok-entry.ensures.shown i }) (ap (λ p. WasTimer p.0 p.1) is)
     (pushed ∙ ap (λ es. es ++ e ∷ []) c.change_timer.ensures.current) (c.push.ensures.closed ∙ c.change_timer.ensures.closed) (c.push.ensures.records ∙ c.change_timer.ensures.record_room)

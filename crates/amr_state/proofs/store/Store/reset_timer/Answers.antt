@@ -17,52 +17,52 @@ use Rattle.amr_state.proofs.store.Store.reset_timer.Goals as goal
 pub invariant_of-self-in-Some-entry : goal.invariant_of-self-in-Some-entry
 invariant_of-self-in-Some-entry c =
     let a = c.self.inside in
-    let t = c.change_flush.new.self in
+    let t = c.change_timer.new.self in
     let b : Inside = record a { tables = record a.tables { timetable = t }; journal = c.push.new.self } in
     let e : Displaced = WasTimer c.in-Some-entry.group c.in-Some-entry.was in
     let is : ◌≡◌ (c.in-Some-entry.group, c.in-Some-entry.was) (c.args.group.now, map.get (shown route_labels_cmp a.tables.timetable.timers) c.args.group.now) = entry_of-some route_labels_cmp a.tables.timetable.timers c.args.group.now (c.in-Some-entry.group, c.in-Some-entry.was) (sym c.in-Some-entry.is ∙ c.in_ok-entry.ensures.entry) in
-    let pushed : c.push.new.self.current ≡ c.change_flush.new.journal.current ++ e ∷ [] = c.push.ensures.current in
-    kept_entered a b e c.self.invariant (record { alerts = λ k h. subst (λ v. IsTrue (has_place label_set_cmp v k)) (sym c.change_flush.ensures.alerts) h; silences = λ k h. h; placements = λ k h. h; timers = c.change_flush.ensures.places; log = λ k h. h })
-    c.self.invariant.moment (c.push.ensures.closed ∙ c.change_flush.ensures.closed) (pushed ∙ ap (λ es. es ++ e ∷ []) c.change_flush.ensures.current)
+    let pushed : c.push.new.self.current ≡ c.change_timer.new.journal.current ++ e ∷ [] = c.push.ensures.current in
+    kept_entered a b e c.self.invariant (record { alerts = λ k h. subst (λ v. IsTrue (has_place label_set_cmp v k)) (sym c.change_timer.ensures.alerts) h; silences = λ k h. h; placements = λ k h. h; timers = c.change_timer.ensures.places; log = λ k h. h })
+    c.self.invariant.moment (c.push.ensures.closed ∙ c.change_timer.ensures.closed) (pushed ∙ ap (λ es. es ++ e ∷ []) c.change_timer.ensures.current)
     (subst (λ k. IsTrue (has_place route_labels_cmp t.timers k)) (sym (ap (λ p. p.0) is)) c.in_ok-entry.ensures.made)
-    (subst (λ k. (place : Displaced) → NewMarkAt (WasTimer k c.in-Some-entry.was) a.tables b.tables place) (sym (ap (λ p. p.0) is)) (by_place (NewMarkAt (WasTimer c.args.group.now c.in-Some-entry.was) a.tables b.tables) (λ x h. h) (λ x h. h) (λ k v h. subst (λ x. IsTrue (is_entered label_set_cmp x k)) c.change_flush.ensures.alerts h) (λ k v h. h) (λ k v h. h) (λ q w h. subst IsTrue (c.in_ok-entry.ensures.entered q) h) (λ k v h. h) (λ x h. h))) refl refl refl (refl, refl) tt
+    (subst (λ k. (place : Displaced) → NewMarkAt (WasTimer k c.in-Some-entry.was) a.tables b.tables place) (sym (ap (λ p. p.0) is)) (by_place (NewMarkAt (WasTimer c.args.group.now c.in-Some-entry.was) a.tables b.tables) (λ x h. h) (λ x h. h) (λ k v h. subst (λ x. IsTrue (is_entered label_set_cmp x k)) c.change_timer.ensures.alerts h) (λ k v h. h) (λ k v h. h) (λ q w h. subst IsTrue (c.in_ok-entry.ensures.entered q) h) (λ k v h. h) (λ x h. h))) refl refl refl (refl, refl) tt
 
 pub invariant_of-self : goal.invariant_of-self
 invariant_of-self c =
     let a = c.self.inside in
-    let t = c.change_flush.new.self in
-    let b : Inside = record a { tables = record a.tables { timetable = t }; journal = c.change_flush.new.journal } in
-    kept_grown a b c.self.invariant (record { alerts = λ k h. subst (λ v. IsTrue (has_place label_set_cmp v k)) (sym c.change_flush.ensures.alerts) h; silences = λ k h. h; placements = λ k h. h; timers = c.change_flush.ensures.places; log = λ k h. h }) refl c.change_flush.ensures.closed c.change_flush.ensures.current
-    (by_place (NoNewMark a.tables b.tables) (λ x h. h) (λ x h. h) (λ k v h. subst (λ x. IsTrue (is_entered label_set_cmp x k)) c.change_flush.ensures.alerts h) (λ k v h. h) (λ k v h. h) (λ q w h. subst IsTrue (c.in_err-entry.ensures.err.1 q) h) (λ k v h. h) (λ x h. h)) refl (fits_alike a b c.change_flush.ensures.closed c.change_flush.ensures.current (refl, refl) c.self.invariant.fits)
+    let t = c.change_timer.new.self in
+    let b : Inside = record a { tables = record a.tables { timetable = t }; journal = c.change_timer.new.journal } in
+    kept_grown a b c.self.invariant (record { alerts = λ k h. subst (λ v. IsTrue (has_place label_set_cmp v k)) (sym c.change_timer.ensures.alerts) h; silences = λ k h. h; placements = λ k h. h; timers = c.change_timer.ensures.places; log = λ k h. h }) refl c.change_timer.ensures.closed c.change_timer.ensures.current
+    (by_place (NoNewMark a.tables b.tables) (λ x h. h) (λ x h. h) (λ k v h. subst (λ x. IsTrue (is_entered label_set_cmp x k)) c.change_timer.ensures.alerts h) (λ k v h. h) (λ k v h. h) (λ q w h. subst IsTrue (c.in_err-entry.ensures.err.1 q) h) (λ k v h. h) (λ x h. h)) refl (fits_alike a b c.change_timer.ensures.closed c.change_timer.ensures.current (refl, refl) c.self.invariant.fits)
 
 pub invariant_of-self-in_default-entry : goal.invariant_of-self-in_default-entry
 invariant_of-self-in_default-entry c =
     let a = c.self.inside in
-    let t = c.change_flush.new.self in
-    let b : Inside = record a { tables = record a.tables { timetable = t }; journal = c.change_flush.new.journal } in
+    let t = c.change_timer.new.self in
+    let b : Inside = record a { tables = record a.tables { timetable = t }; journal = c.change_timer.new.journal } in
     let marked = entry_of-none route_labels_cmp a.tables.timetable.timers c.args.group.now (taken _ c.in_default-entry.not-Some ∙ c.in_ok-entry.ensures.entry) in
-    kept_grown a b c.self.invariant (record { alerts = λ k h. subst (λ v. IsTrue (has_place label_set_cmp v k)) (sym c.change_flush.ensures.alerts) h; silences = λ k h. h; placements = λ k h. h; timers = c.change_flush.ensures.places; log = λ k h. h }) refl c.change_flush.ensures.closed c.change_flush.ensures.current
-    (by_place (NoNewMark a.tables b.tables) (λ x h. h) (λ x h. h) (λ k v h. subst (λ x. IsTrue (is_entered label_set_cmp x k)) c.change_flush.ensures.alerts h) (λ k v h. h) (λ k v h. h) (λ q w h. entered_again route_labels_cmp route_labels_cmp-IsAntisymmetric a.tables.timetable.timers t.timers c.args.group.now q marked c.in_ok-entry.ensures.entered h) (λ k v h. h) (λ x h. h)) refl (fits_alike a b c.change_flush.ensures.closed c.change_flush.ensures.current (refl, refl) c.self.invariant.fits)
+    kept_grown a b c.self.invariant (record { alerts = λ k h. subst (λ v. IsTrue (has_place label_set_cmp v k)) (sym c.change_timer.ensures.alerts) h; silences = λ k h. h; placements = λ k h. h; timers = c.change_timer.ensures.places; log = λ k h. h }) refl c.change_timer.ensures.closed c.change_timer.ensures.current
+    (by_place (NoNewMark a.tables b.tables) (λ x h. h) (λ x h. h) (λ k v h. subst (λ x. IsTrue (is_entered label_set_cmp x k)) c.change_timer.ensures.alerts h) (λ k v h. h) (λ k v h. h) (λ q w h. entered_again route_labels_cmp route_labels_cmp-IsAntisymmetric a.tables.timetable.timers t.timers c.args.group.now q marked c.in_ok-entry.ensures.entered h) (λ k v h. h) (λ x h. h)) refl (fits_alike a b c.change_timer.ensures.closed c.change_timer.ensures.current (refl, refl) c.self.invariant.fits)
 
 pub returns-in-Some-entry-clause-kept : goal.returns-in-Some-entry-clause-kept
 returns-in-Some-entry-clause-kept c =
     let a = c.self.inside in
-    let b : Inside = record a { tables = record a.tables { timetable = c.change_flush.new.self }; journal = c.push.new.self } in
+    let b : Inside = record a { tables = record a.tables { timetable = c.change_timer.new.self }; journal = c.push.new.self } in
     let change : Displaced = WasTimer c.args.group.now (Some (record c.in-Some.former { next_flush = c.args.next; flushed = true })) in
     let e : Displaced = WasTimer c.in-Some-entry.group c.in-Some-entry.was in
     let is : ◌≡◌ (c.in-Some-entry.group, c.in-Some-entry.was) (c.args.group.now, map.get (shown route_labels_cmp a.tables.timetable.timers) c.args.group.now) = entry_of-some route_labels_cmp a.tables.timetable.timers c.args.group.now (c.in-Some-entry.group, c.in-Some-entry.was) (sym c.in-Some-entry.is ∙ c.in_ok-entry.ensures.entry) in
-    let pushed : c.push.new.self.current ≡ c.change_flush.new.journal.current ++ e ∷ [] = c.push.ensures.current in
-    undone_pushed a b change e tt (λ i. record (state_of a) { alerts = shown label_set_cmp (c.change_flush.ensures.alerts i); timers = c.in_ok-entry.ensures.shown i }) (ap (λ p. WasTimer p.0 p.1) is)
-    (pushed ∙ ap (λ es. es ++ e ∷ []) c.change_flush.ensures.current) (c.push.ensures.closed ∙ c.change_flush.ensures.closed) (c.push.ensures.records ∙ c.change_flush.ensures.record_room)
+    let pushed : c.push.new.self.current ≡ c.change_timer.new.journal.current ++ e ∷ [] = c.push.ensures.current in
+    undone_pushed a b change e tt (λ i. record (state_of a) { alerts = shown label_set_cmp (c.change_timer.ensures.alerts i); timers = c.in_ok-entry.ensures.shown i }) (ap (λ p. WasTimer p.0 p.1) is)
+    (pushed ∙ ap (λ es. es ++ e ∷ []) c.change_timer.ensures.current) (c.push.ensures.closed ∙ c.change_timer.ensures.closed) (c.push.ensures.records ∙ c.change_timer.ensures.record_room)
     ∙ ap undone c.self.view_is
 
 pub returns-in_default-entry-clause-kept : goal.returns-in_default-entry-clause-kept
 returns-in_default-entry-clause-kept c =
     let a = c.self.inside in
-    let b : Inside = record a { tables = record a.tables { timetable = c.change_flush.new.self }; journal = c.change_flush.new.journal } in
+    let b : Inside = record a { tables = record a.tables { timetable = c.change_timer.new.self }; journal = c.change_timer.new.journal } in
     let change : Displaced = WasTimer c.args.group.now (Some (record c.in-Some.former { next_flush = c.args.next; flushed = true })) in
     let marked = entry_of-none route_labels_cmp a.tables.timetable.timers c.args.group.now (taken _ c.in_default-entry.not-Some ∙ c.in_ok-entry.ensures.entry) in
-    undone_covered a b change c.self.invariant tt marked (λ i. record (state_of a) { alerts = shown label_set_cmp (c.change_flush.ensures.alerts i); timers = c.in_ok-entry.ensures.shown i }) c.change_flush.ensures.current c.change_flush.ensures.closed c.change_flush.ensures.record_room
+    undone_covered a b change c.self.invariant tt marked (λ i. record (state_of a) { alerts = shown label_set_cmp (c.change_timer.ensures.alerts i); timers = c.in_ok-entry.ensures.shown i }) c.change_timer.ensures.current c.change_timer.ensures.closed c.change_timer.ensures.record_room
     ∙ ap undone c.self.view_is
 
 pub returns-in_default-clause-ok : goal.returns-in_default-clause-ok
@@ -77,7 +77,7 @@ returns-in-Some-entry-clause-ok c =
     let found : c.copied.result ≡ map.get c.args.self.now.state.timers c.args.group.now =
     c.copied.ensures ∙ c.look_up_number-number.ensures.value ∙ ap (λ t. map.get (shown route_labels_cmp t) c.args.group.now) c.timers.ensures ∙ ap (λ (k : Kept). map.get k.state.timers c.args.group.now) c.self.view_is in
     let timer : GroupTimer = record c.in-Some.former { next_flush = c.args.next; flushed = true } in
-    (λ i. record (state_of a) { alerts = shown label_set_cmp (c.change_flush.ensures.alerts i); timers = c.in_ok-entry.ensures.shown i })
+    (λ i. record (state_of a) { alerts = shown label_set_cmp (c.change_timer.ensures.alerts i); timers = c.in_ok-entry.ensures.shown i })
     ∙ (λ i. record (c.self.view_is i).state { timers = map.insert (c.self.view_is i).state.timers c.args.group.now timer })
     ∙ ap (λ m. record c.args.self.now.state { timers = m }) (one_flushed c.args.next c.args.group.now c.args.self.now.state.timers c.in-Some.former (sym found ∙ c.in-Some.is))
 
@@ -87,6 +87,6 @@ returns-in_default-entry-clause-ok c =
     let found : c.copied.result ≡ map.get c.args.self.now.state.timers c.args.group.now =
     c.copied.ensures ∙ c.look_up_number-number.ensures.value ∙ ap (λ t. map.get (shown route_labels_cmp t) c.args.group.now) c.timers.ensures ∙ ap (λ (k : Kept). map.get k.state.timers c.args.group.now) c.self.view_is in
     let timer : GroupTimer = record c.in-Some.former { next_flush = c.args.next; flushed = true } in
-    (λ i. record (state_of a) { alerts = shown label_set_cmp (c.change_flush.ensures.alerts i); timers = c.in_ok-entry.ensures.shown i })
+    (λ i. record (state_of a) { alerts = shown label_set_cmp (c.change_timer.ensures.alerts i); timers = c.in_ok-entry.ensures.shown i })
     ∙ (λ i. record (c.self.view_is i).state { timers = map.insert (c.self.view_is i).state.timers c.args.group.now timer })
     ∙ ap (λ m. record c.args.self.now.state { timers = m }) (one_flushed c.args.next c.args.group.now c.args.self.now.state.timers c.in-Some.former (sym found ∙ c.in-Some.is))

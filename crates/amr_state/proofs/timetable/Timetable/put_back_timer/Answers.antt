@@ -1,30 +1,48 @@
-use Rattle.std.proofs.Common.{length, refl, ap, ◌∙◌, arith}
-use Rattle.amr_labels.specs.Map as map
-use Rattle.amr_tables.specs.Numbered.{shown, has_place, is_entered}
+use Rattle.std.proofs.Common.{◌≡◌, Some, IsTrue, sym, ap, subst, ◌∙◌}
+use Rattle.std.specs.Prelude.{slice_set}
+use Rattle.amr_tables.specs.Numbered.{number_of, has_place, is_entered}
 use Rattle.amr_state.specs.State.{route_labels_cmp}
-use Rattle.amr_state.specs.Timed.{Timed, group_moments}
-use Rattle.amr_state.proofs.Timing.{group_timed, group_may_move}
+use Rattle.amr_state.specs.Timed.{Timed}
+use Rattle.amr_state.proofs.Scheduling.{timer_set, has_number, ranked}
 use Rattle.amr_state.proofs.timetable.Timetable.put_back_timer.Goals as goal
 
-pub move_group-requires : goal.move_group-requires
-move_group-requires c =
+pub unreachable-requires : goal.unreachable-requires
+unreachable-requires c =
     let t = c.self.inside in
-    let old = c.group_moments-old.ensures ∙ ap group_moments (c.displace-former.ensures.answer ∙ ap (map.get (shown route_labels_cmp t.timers)) c.route_labels.ensures) in
-    let shows = c.displace-former.ensures.shown ∙ ap (λ g. map.set (shown route_labels_cmp t.timers) g c.args.timer) c.route_labels.ensures in
-    group_may_move t.alerts t.timers c.displace-former.new.self t.queue t.queue c.self.invariant c.args.group c.args.group c.args.timer c.group_moments-old.result c.group_moments-new.result 0
-    refl old c.group_moments-new.ensures shows (omega (arith, ap length c.displace-former.ensures.keys)) c.displace-former.ensures.enough refl (omega arith)
+    let group = c.args.group.now in
+    has_number route_labels_cmp t.timers group (subst (λ (v : Timed). IsTrue (has_place route_labels_cmp v.timers group)) (sym c.self.view_is) c.requires) (sym c.number_of.ensures.number ∙ c.in_default.is)
+
+pub displace_at-former-requires : goal.displace_at-former-requires
+displace_at-former-requires c = (c.args.group.now, sym c.number_of.ensures.number ∙ c.in-Some.is)
+
+pub set-requires-clause-room : goal.set-requires-clause-room
+set-requires-clause-room c = c.self.invariant.groups_flushed.room c.args.group.now c.in-Some.number (sym c.number_of.ensures.number ∙ c.in-Some.is)
+
+pub set-requires-2-clause-room : goal.set-requires-2-clause-room
+set-requires-2-clause-room c = c.self.invariant.groups_removed.room c.args.group.now c.in-Some.number (sym c.number_of.ensures.number ∙ c.in-Some.is)
+
+pub set-requires-clause-kept : goal.set-requires-clause-kept
+set-requires-clause-kept c =
+    let t = c.self.inside in
+    ranked route_labels_cmp t.timers c.displace_at-former.new.self c.displace_at-former.ensures.keys t.flushes c.self.invariant.groups_flushed.tournament
+
+pub set-requires-2-clause-kept : goal.set-requires-2-clause-kept
+set-requires-2-clause-kept c =
+    let t = c.self.inside in
+    ranked route_labels_cmp t.timers c.displace_at-former.new.self c.displace_at-former.ensures.keys t.group_removals c.self.invariant.groups_removed.tournament
 
 pub invariant_of-self : goal.invariant_of-self
 invariant_of-self c =
     let t = c.self.inside in
-    let old = c.group_moments-old.ensures ∙ ap group_moments (c.displace-former.ensures.answer ∙ ap (map.get (shown route_labels_cmp t.timers)) c.route_labels.ensures) in
-    let shows = c.displace-former.ensures.shown ∙ ap (λ g. map.set (shown route_labels_cmp t.timers) g c.args.timer) c.route_labels.ensures in
-    group_timed t.alerts t.timers c.displace-former.new.self t.queue t.queue c.self.invariant c.args.group c.args.group c.args.timer c.group_moments-old.result c.group_moments-new.result 0
-    refl old c.group_moments-new.ensures shows (omega (arith, ap length c.displace-former.ensures.keys)) c.displace-former.ensures.enough refl (omega arith)
-    c.move_group.new.queue c.move_group.ensures.dues c.move_group.ensures.all
+    let group = c.args.group.now in
+    let n = c.in-Some.number in
+    let number : number_of route_labels_cmp t.timers group ≡ Some n = sym c.number_of.ensures.number ∙ c.in-Some.is in
+    timer_set t.alerts t.timers t.alert_removals t.group_removals t.flushes c.self.invariant c.displace_at-former.new.self c.set-2.new.self c.set.new.self group n c.args.timer number c.displace_at-former.ensures.keys (c.displace_at-former.ensures.shown group number)
+    (c.set-2.ensures.moments ∙ ap (slice_set t.group_removals.moments n) c.removal_moment-removal.ensures) c.set-2.ensures.kept
+    (c.set.ensures.moments ∙ ap (slice_set t.flushes.moments n) c.flush_moment-flush.ensures) c.set.ensures.kept
 
 pub returns-clause-places : goal.returns-clause-places
-returns-clause-places c = λ other. c.displace-former.ensures.places other ∙ ap (λ (t : Timed). has_place route_labels_cmp t.timers other) c.self.view_is
+returns-clause-places c = λ other. c.displace_at-former.ensures.places other ∙ ap (λ (v : Timed). has_place route_labels_cmp v.timers other) c.self.view_is
 
 pub returns-clause-entered : goal.returns-clause-entered
-returns-clause-entered c = λ other. c.displace-former.ensures.entered other ∙ ap (λ (t : Timed). is_entered route_labels_cmp t.timers other) c.self.view_is
+returns-clause-entered c = λ other. c.displace_at-former.ensures.entered other ∙ ap (λ (v : Timed). is_entered route_labels_cmp v.timers other) c.self.view_is

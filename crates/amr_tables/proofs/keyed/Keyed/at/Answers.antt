@@ -11,7 +11,7 @@ pub returns-clause-key : goal.returns-clause-key
 returns-clause-key g c = λ key is.
     let R = g.K.Ord.cmp in
     let t = c.self.inside in
-    let at : find R key t.numbers ≡ Some c.args.number = ap (λ v. number_of R v key) c.self.view_is ∙ is in
+    let at : find R key t.numbers.list ≡ Some c.args.number = ap (λ v. number_of R v key) c.self.view_is ∙ is in
     c.look.ensures
-    ∙ sym (get-shown R g.met.K.Ord.total _ key c.self.invariant ∙ ap (option_and_then (value_at t.slots)) at)
+    ∙ sym (get-shown R g.met.K.Ord.total _ key c.self.invariant.0 ∙ ap (option_and_then (value_at t.slots)) at)
     ∙ ap (λ v. map.get (shown R v) key) c.self.view_is

@@ -6,8 +6,8 @@ use Rattle.amr_tables.proofs.keyed.Keyed.clear_entered.Goals as goal
 pub returns-clause-entered : goal.returns-clause-entered
 returns-clause-entered g c = λ key.
     let t = c.self.inside in
-    ap (λ m. is_entered g.K.Ord.cmp (record { numbers = t.numbers; cells = t.slots; marks = m }) key) c.clear.ensures
-    ∙ entered-cleared g.met.K.Ord.total (record { numbers = t.numbers; cells = t.slots; marks = t.entered }) key
+    ap (λ m. is_entered g.K.Ord.cmp (record { numbers = t.numbers.list; cells = t.slots; marks = m }) key) c.clear.ensures
+    ∙ entered-cleared g.met.K.Ord.total (record { numbers = t.numbers.list; cells = t.slots; marks = t.entered }) key
 
 pub returns-clause-shown : goal.returns-clause-shown
 unfolding shown
@@ -19,6 +19,8 @@ returns-clause-places g c = λ key. ap (λ v. has_place g.K.Ord.cmp v key) c.sel
 
 pub invariant_of-self : goal.invariant_of-self
 invariant_of-self g c =
-    let t = c.self.inside in
-    subst (λ m. IsNumbering g.K.Ord.cmp (record { numbers = t.numbers; cells = t.slots; marks = m })) (sym c.clear.ensures)
-    (cleared_is g.met.K.Ord.total (record { numbers = t.numbers; cells = t.slots; marks = t.entered }) c.self.invariant)
+    let t = c.self.inside in (
+      subst (λ m. IsNumbering g.K.Ord.cmp (record { numbers = t.numbers.list; cells = t.slots; marks = m })) (sym c.clear.ensures)
+          (cleared_is g.met.K.Ord.total (record { numbers = t.numbers.list; cells = t.slots; marks = t.entered }) c.self.invariant.0),
+      c.self.invariant.1,
+    )

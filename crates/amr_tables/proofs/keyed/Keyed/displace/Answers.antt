@@ -1,25 +1,25 @@
-use Rattle.std.proofs.Common.{◌≡◌, true, false, None, Some, sym, ap, subst, ◌∙◌, arith, is_some, IsTrue}
+use Rattle.std.proofs.Common.{length, ◌≡◌, true, false, None, Some, sym, ap, subst, ◌∙◌, arith, is_some, IsTrue}
 use Rattle.std.specs.Prelude.{option_and_then}
 use Rattle.std.specs.FinMap.{find}
 use Rattle.std.proofs.lemmas.Bool.Decides.{nat_tests}
 use Rattle.amr_labels.specs.Map as map
 use Rattle.amr_tables.specs.Places.{value_at}
 use Rattle.amr_tables.specs.Numbered.{IsNumbering, shown, has_place, is_entered}
-use Rattle.amr_tables.proofs.Numbering.{get-shown, displaced_is, shown-displaced, enough_places}
+use Rattle.amr_tables.proofs.Numbering.{get-shown, displaced_is, length-slice_set, shown-displaced, enough_places}
 use Rattle.amr_tables.proofs.keyed.Keyed.displace.Goals as goal
 
 pub displace-requires : goal.displace-requires
 displace-requires g c =
     let R = g.K.Ord.cmp in
-    let at : find R c.args.key.now c.self.inside.numbers ≡ Some c.in-Some.number = sym c.get.ensures ∙ c.in-Some.is in
-    let lt = c.self.invariant.within c.args.key.now c.in-Some.number at in
+    let at : find R c.args.key.now c.self.inside.numbers.list ≡ Some c.in-Some.number = sym c.get.ensures ∙ c.in-Some.is in
+    let lt = c.self.invariant.0.within c.args.key.now c.in-Some.number at in
     grind (arith, nat_tests)
 
 pub unreachable-requires : goal.unreachable-requires
 unfolding has_place
 unreachable-requires g c =
     let R = g.K.Ord.cmp in
-    let at : find R c.args.key.now c.self.inside.numbers ≡ None = sym c.get.ensures ∙ c.in-None.is in
+    let at : find R c.args.key.now c.self.inside.numbers.list ≡ None = sym c.get.ensures ∙ c.in-None.is in
     let no : has_place R c.args.self.now c.args.key.now ≡ false = sym (ap (λ v. has_place R v c.args.key.now) c.self.view_is) ∙ ap is_some at in
     let yes : false ≡ true = subst IsTrue no c.requires in
     absurd (cc)
@@ -27,18 +27,18 @@ unreachable-requires g c =
 pub returns-clause-answer : goal.returns-clause-answer
 returns-clause-answer g c =
     let R = g.K.Ord.cmp in
-    let at : find R c.args.key.now c.self.inside.numbers ≡ Some c.in-Some.number = sym c.get.ensures ∙ c.in-Some.is in
+    let at : find R c.args.key.now c.self.inside.numbers.list ≡ Some c.in-Some.number = sym c.get.ensures ∙ c.in-Some.is in
     c.displace.ensures.answer
-    ∙ sym (get-shown R g.met.K.Ord.total _ c.args.key.now c.self.invariant ∙ ap (option_and_then (value_at c.self.inside.slots)) at)
+    ∙ sym (get-shown R g.met.K.Ord.total _ c.args.key.now c.self.invariant.0 ∙ ap (option_and_then (value_at c.self.inside.slots)) at)
     ∙ ap (λ v. map.get (shown R v) c.args.key.now) c.self.view_is
 
 pub returns-clause-shown : goal.returns-clause-shown
 returns-clause-shown g c =
     let R = g.K.Ord.cmp in
     let t = c.self.inside in
-    let at : find R c.args.key.now t.numbers ≡ Some c.in-Some.number = sym c.get.ensures ∙ c.in-Some.is in
-    ap (λ s. shown R (record { numbers = t.numbers; cells = s; marks = t.entered })) c.displace.ensures.table
-    ∙ shown-displaced g.met.K.Ord.total g.met.K.Key.exact (record { numbers = t.numbers; cells = t.slots; marks = t.entered }) c.args.key.now c.in-Some.number c.args.value c.self.invariant at
+    let at : find R c.args.key.now t.numbers.list ≡ Some c.in-Some.number = sym c.get.ensures ∙ c.in-Some.is in
+    ap (λ s. shown R (record { numbers = t.numbers.list; cells = s; marks = t.entered })) c.displace.ensures.table
+    ∙ shown-displaced g.met.K.Ord.total g.met.K.Key.exact (record { numbers = t.numbers.list; cells = t.slots; marks = t.entered }) c.args.key.now c.in-Some.number c.args.value c.self.invariant.0 at
     ∙ ap (λ v. map.set (shown R v) c.args.key.now c.args.value) c.self.view_is
 
 pub returns-clause-places : goal.returns-clause-places
@@ -52,13 +52,11 @@ returns-clause-entered g c = λ other. ap (λ v. is_entered g.K.Ord.cmp v other)
 pub invariant_of-self : goal.invariant_of-self
 invariant_of-self g c =
     let R = g.K.Ord.cmp in
-    let t = c.self.inside in
-    subst (λ s. IsNumbering R (record { numbers = t.numbers; cells = s; marks = t.entered })) (sym c.displace.ensures.table)
-    (displaced_is g.met.K.Ord.total (record { numbers = t.numbers; cells = t.slots; marks = t.entered }) c.in-Some.number c.args.value c.self.invariant)
+    let t = c.self.inside in (
+      subst (λ s. IsNumbering R (record { numbers = t.numbers.list; cells = s; marks = t.entered })) (sym c.displace.ensures.table)
+          (displaced_is g.met.K.Ord.total (record { numbers = t.numbers.list; cells = t.slots; marks = t.entered }) c.in-Some.number c.args.value c.self.invariant.0),
+      c.self.invariant.1 ∙ sym (ap length c.displace.ensures.table ∙ length-slice_set t.slots c.in-Some.number c.args.value),
+    )
 
 pub returns-clause-enough : goal.returns-clause-enough
-returns-clause-enough g c =
-    let R = g.K.Ord.cmp in
-    let t = c.self.inside in
-    enough_places R _ (subst (λ s. IsNumbering R (record { numbers = t.numbers; cells = s; marks = t.entered })) (sym c.displace.ensures.table)
-    (displaced_is g.met.K.Ord.total (record { numbers = t.numbers; cells = t.slots; marks = t.entered }) c.in-Some.number c.args.value c.self.invariant))
+returns-clause-enough g c = enough_places g.K.Ord.cmp _ (invariant_of-self g c).0

@@ -1,27 +1,27 @@
-use Rattle.std.proofs.Common.{◌≡◌, Some, sym, ap, subst, ◌∙◌, arith}
+use Rattle.std.proofs.Common.{length, ◌≡◌, Some, sym, ap, subst, ◌∙◌, arith}
 use Rattle.std.specs.Prelude.{option_and_then}
 use Rattle.std.specs.FinMap.{find}
 use Rattle.std.proofs.lemmas.Bool.Decides.{nat_tests}
 use Rattle.amr_labels.specs.Map as map
 use Rattle.amr_tables.specs.Places.{value_at}
 use Rattle.amr_tables.specs.Numbered.{IsNumbering, shown, number_of, has_place, is_entered}
-use Rattle.amr_tables.proofs.Numbering.{get-shown, displaced_is, shown-displaced, enough_places}
+use Rattle.amr_tables.proofs.Numbering.{get-shown, displaced_is, length-slice_set, shown-displaced, enough_places}
 use Rattle.amr_tables.proofs.keyed.Keyed.displace_at.Goals as goal
 
 pub displace-requires : goal.displace-requires
 displace-requires g c =
     let R = g.K.Ord.cmp in
     let key = c.requires.0 in
-    let at : find R key c.self.inside.numbers ≡ Some c.args.number = ap (λ v. number_of R v key) c.self.view_is ∙ c.requires.1 in
-    let lt = c.self.invariant.within key c.args.number at in
+    let at : find R key c.self.inside.numbers.list ≡ Some c.args.number = ap (λ v. number_of R v key) c.self.view_is ∙ c.requires.1 in
+    let lt = c.self.invariant.0.within key c.args.number at in
     grind (arith, nat_tests)
 
 pub returns-clause-answer : goal.returns-clause-answer
 returns-clause-answer g c = λ key is.
     let R = g.K.Ord.cmp in
-    let at : find R key c.self.inside.numbers ≡ Some c.args.number = ap (λ v. number_of R v key) c.self.view_is ∙ is in
+    let at : find R key c.self.inside.numbers.list ≡ Some c.args.number = ap (λ v. number_of R v key) c.self.view_is ∙ is in
     c.displace.ensures.answer
-    ∙ sym (get-shown R g.met.K.Ord.total _ key c.self.invariant ∙ ap (option_and_then (value_at c.self.inside.slots)) at)
+    ∙ sym (get-shown R g.met.K.Ord.total _ key c.self.invariant.0 ∙ ap (option_and_then (value_at c.self.inside.slots)) at)
     ∙ ap (λ v. map.get (shown R v) key) c.self.view_is
 
 pub returns-clause-shown : goal.returns-clause-shown
@@ -29,9 +29,9 @@ unfolding shown
 returns-clause-shown g c = λ key is.
     let R = g.K.Ord.cmp in
     let t = c.self.inside in
-    let at : find R key t.numbers ≡ Some c.args.number = ap (λ v. number_of R v key) c.self.view_is ∙ is in
-    ap (λ s. shown R (record { numbers = t.numbers; cells = s; marks = t.entered })) c.displace.ensures.table
-    ∙ shown-displaced g.met.K.Ord.total g.met.K.Key.exact (record { numbers = t.numbers; cells = t.slots; marks = t.entered }) key c.args.number c.args.value c.self.invariant at
+    let at : find R key t.numbers.list ≡ Some c.args.number = ap (λ v. number_of R v key) c.self.view_is ∙ is in
+    ap (λ s. shown R (record { numbers = t.numbers.list; cells = s; marks = t.entered })) c.displace.ensures.table
+    ∙ shown-displaced g.met.K.Ord.total g.met.K.Key.exact (record { numbers = t.numbers.list; cells = t.slots; marks = t.entered }) key c.args.number c.args.value c.self.invariant.0 at
     ∙ ap (λ v. map.set (shown R v) key c.args.value) c.self.view_is
 
 pub returns-clause-places : goal.returns-clause-places
@@ -45,9 +45,11 @@ returns-clause-entered g c = λ other. ap (λ v. is_entered g.K.Ord.cmp v other)
 pub invariant_of-self : goal.invariant_of-self
 invariant_of-self g c =
     let R = g.K.Ord.cmp in
-    let t = c.self.inside in
-    subst (λ s. IsNumbering R (record { numbers = t.numbers; cells = s; marks = t.entered })) (sym c.displace.ensures.table)
-    (displaced_is g.met.K.Ord.total (record { numbers = t.numbers; cells = t.slots; marks = t.entered }) c.args.number c.args.value c.self.invariant)
+    let t = c.self.inside in (
+      subst (λ s. IsNumbering R (record { numbers = t.numbers.list; cells = s; marks = t.entered })) (sym c.displace.ensures.table)
+          (displaced_is g.met.K.Ord.total (record { numbers = t.numbers.list; cells = t.slots; marks = t.entered }) c.args.number c.args.value c.self.invariant.0),
+      c.self.invariant.1 ∙ sym (ap length c.displace.ensures.table ∙ length-slice_set t.slots c.args.number c.args.value),
+    )
 
 pub returns-clause-enough : goal.returns-clause-enough
-returns-clause-enough g c = enough_places g.K.Ord.cmp _ (invariant_of-self g c)
+returns-clause-enough g c = enough_places g.K.Ord.cmp _ (invariant_of-self g c).0

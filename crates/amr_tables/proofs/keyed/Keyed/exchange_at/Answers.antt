@@ -1,4 +1,4 @@
-use Rattle.std.proofs.Common.{◌≡◌, false, Some, sym, ap, subst, ◌∙◌, arith}
+use Rattle.std.proofs.Common.{length, ◌≡◌, false, Some, sym, ap, subst, ◌∙◌, arith}
 use Rattle.std.specs.Prelude.{option_and_then, ◌||◌}
 use Rattle.std.specs.Option.{option_map_or}
 use Rattle.std.specs.Ordering.{eq_by_cmp}
@@ -8,48 +8,48 @@ use Rattle.amr_labels.specs.Map as map
 use Rattle.amr_tables.specs.Places.{value_at}
 use Rattle.amr_tables.specs.Marked.{is_marked}
 use Rattle.amr_tables.specs.Numbered.{IsNumbering, shown, number_of, has_place, is_entered}
-use Rattle.amr_tables.proofs.Numbering.{get-shown, displaced_is, shown-displaced, enough_places, marked_is, entered-marked}
+use Rattle.amr_tables.proofs.Numbering.{get-shown, displaced_is, length-slice_set, shown-displaced, enough_places, marked_is, entered-marked}
 use Rattle.amr_tables.proofs.keyed.Keyed.exchange_at.Goals as goal
 
 pub is_marked-was_entered-requires : goal.is_marked-was_entered-requires
 is_marked-was_entered-requires g c =
     let R = g.K.Ord.cmp in
     let key = c.requires.0 in
-    let at : find R key c.self.inside.numbers ≡ Some c.args.number = ap (λ v. number_of R v key) c.self.view_is ∙ c.requires.1 in
-    let lt = c.self.invariant.within key c.args.number at in
-    let most = c.self.invariant.marked in
+    let at : find R key c.self.inside.numbers.list ≡ Some c.args.number = ap (λ v. number_of R v key) c.self.view_is ∙ c.requires.1 in
+    let lt = c.self.invariant.0.within key c.args.number at in
+    let most = c.self.invariant.0.marked in
     omega arith
 
 pub mark-requires : goal.mark-requires
 mark-requires g c =
     let R = g.K.Ord.cmp in
     let key = c.requires.0 in
-    let at : find R key c.self.inside.numbers ≡ Some c.args.number = ap (λ v. number_of R v key) c.self.view_is ∙ c.requires.1 in
-    let lt = c.self.invariant.within key c.args.number at in
-    let most = c.self.invariant.marked in
+    let at : find R key c.self.inside.numbers.list ≡ Some c.args.number = ap (λ v. number_of R v key) c.self.view_is ∙ c.requires.1 in
+    let lt = c.self.invariant.0.within key c.args.number at in
+    let most = c.self.invariant.0.marked in
     omega arith
 
 pub displace-requires : goal.displace-requires
 displace-requires g c =
     let R = g.K.Ord.cmp in
     let key = c.requires.0 in
-    let at : find R key c.self.inside.numbers ≡ Some c.args.number = ap (λ v. number_of R v key) c.self.view_is ∙ c.requires.1 in
-    let lt = c.self.invariant.within key c.args.number at in
+    let at : find R key c.self.inside.numbers.list ≡ Some c.args.number = ap (λ v. number_of R v key) c.self.view_is ∙ c.requires.1 in
+    let lt = c.self.invariant.0.within key c.args.number at in
     grind (arith, nat_tests)
 
 pub returns-clause-answer : goal.returns-clause-answer
 returns-clause-answer g c = λ key is.
     let R = g.K.Ord.cmp in
-    let at : find R key c.self.inside.numbers ≡ Some c.args.number = ap (λ v. number_of R v key) c.self.view_is ∙ is in
+    let at : find R key c.self.inside.numbers.list ≡ Some c.args.number = ap (λ v. number_of R v key) c.self.view_is ∙ is in
     c.displace.ensures.answer
-    ∙ sym (get-shown R g.met.K.Ord.total _ key c.self.invariant ∙ ap (option_and_then (value_at c.self.inside.slots)) at)
+    ∙ sym (get-shown R g.met.K.Ord.total _ key c.self.invariant.0 ∙ ap (option_and_then (value_at c.self.inside.slots)) at)
     ∙ ap (λ v. map.get (shown R v) key) c.self.view_is
 
 pub returns-clause-was_entered : goal.returns-clause-was_entered
 unfolding is_entered
 returns-clause-was_entered g c = λ key is.
     let R = g.K.Ord.cmp in
-    let at : find R key c.self.inside.numbers ≡ Some c.args.number = ap (λ v. number_of R v key) c.self.view_is ∙ is in
+    let at : find R key c.self.inside.numbers.list ≡ Some c.args.number = ap (λ v. number_of R v key) c.self.view_is ∙ is in
     c.is_marked-was_entered.ensures ∙ ap (λ x. option_map_or (is_marked c.self.inside.entered) x false) (sym at)
     ∙ ap (λ v. is_entered R v key) c.self.view_is
 
@@ -58,9 +58,9 @@ unfolding shown
 returns-clause-shown g c = λ key is.
     let R = g.K.Ord.cmp in
     let t = c.self.inside in
-    let at : find R key t.numbers ≡ Some c.args.number = ap (λ v. number_of R v key) c.self.view_is ∙ is in
-    ap (λ s. shown R (record { numbers = t.numbers; cells = s; marks = t.entered })) c.displace.ensures.table
-    ∙ shown-displaced g.met.K.Ord.total g.met.K.Key.exact (record { numbers = t.numbers; cells = t.slots; marks = t.entered }) key c.args.number c.args.value c.self.invariant at
+    let at : find R key t.numbers.list ≡ Some c.args.number = ap (λ v. number_of R v key) c.self.view_is ∙ is in
+    ap (λ s. shown R (record { numbers = t.numbers.list; cells = s; marks = t.entered })) c.displace.ensures.table
+    ∙ shown-displaced g.met.K.Ord.total g.met.K.Key.exact (record { numbers = t.numbers.list; cells = t.slots; marks = t.entered }) key c.args.number c.args.value c.self.invariant.0 at
     ∙ ap (λ v. map.set (shown R v) key c.args.value) c.self.view_is
 
 pub returns-clause-places : goal.returns-clause-places
@@ -72,9 +72,9 @@ unfolding is_entered
 returns-clause-entered g c = λ key is other.
     let R = g.K.Ord.cmp in
     let t = c.self.inside in
-    let at : find R key t.numbers ≡ Some c.args.number = ap (λ v. number_of R v key) c.self.view_is ∙ is in
-    ap (λ m. is_entered R (record { numbers = t.numbers; cells = t.slots; marks = m }) other) c.mark.ensures
-    ∙ entered-marked g.met.K.Ord.total (record { numbers = t.numbers; cells = t.slots; marks = t.entered }) key other c.args.number c.self.invariant at
+    let at : find R key t.numbers.list ≡ Some c.args.number = ap (λ v. number_of R v key) c.self.view_is ∙ is in
+    ap (λ m. is_entered R (record { numbers = t.numbers.list; cells = t.slots; marks = m }) other) c.mark.ensures
+    ∙ entered-marked g.met.K.Ord.total (record { numbers = t.numbers.list; cells = t.slots; marks = t.entered }) key other c.args.number c.self.invariant.0 at
     ∙ ap (λ v. eq_by_cmp R other key || is_entered R v other) c.self.view_is
 
 pub invariant_of-self : goal.invariant_of-self
@@ -82,11 +82,13 @@ invariant_of-self g c =
     let R = g.K.Ord.cmp in
     let t = c.self.inside in
     let key = c.requires.0 in
-    let at : find R key t.numbers ≡ Some c.args.number = ap (λ v. number_of R v key) c.self.view_is ∙ c.requires.1 in
-    subst (λ s. IsNumbering R (record { numbers = t.numbers; cells = s; marks = c.mark.new.self })) (sym c.displace.ensures.table)
-    (displaced_is g.met.K.Ord.total (record { numbers = t.numbers; cells = t.slots; marks = c.mark.new.self }) c.args.number c.args.value
-    (subst (λ m. IsNumbering R (record { numbers = t.numbers; cells = t.slots; marks = m })) (sym c.mark.ensures)
-    (marked_is g.met.K.Ord.total (record { numbers = t.numbers; cells = t.slots; marks = t.entered }) c.args.number (c.self.invariant.within key c.args.number at) c.self.invariant)))
+    let at : find R key t.numbers.list ≡ Some c.args.number = ap (λ v. number_of R v key) c.self.view_is ∙ c.requires.1 in (
+      subst (λ s. IsNumbering R (record { numbers = t.numbers.list; cells = s; marks = c.mark.new.self })) (sym c.displace.ensures.table)
+          (displaced_is g.met.K.Ord.total (record { numbers = t.numbers.list; cells = t.slots; marks = c.mark.new.self }) c.args.number c.args.value
+          (subst (λ m. IsNumbering R (record { numbers = t.numbers.list; cells = t.slots; marks = m })) (sym c.mark.ensures)
+          (marked_is g.met.K.Ord.total (record { numbers = t.numbers.list; cells = t.slots; marks = t.entered }) c.args.number (c.self.invariant.0.within key c.args.number at) c.self.invariant.0))),
+      c.self.invariant.1 ∙ sym (ap length c.displace.ensures.table ∙ length-slice_set t.slots c.args.number c.args.value),
+    )
 
 pub returns-clause-enough : goal.returns-clause-enough
-returns-clause-enough g c = enough_places g.K.Ord.cmp _ (invariant_of-self g c)
+returns-clause-enough g c = enough_places g.K.Ord.cmp _ (invariant_of-self g c).0

@@ -1,6 +1,0 @@
-//! Label sets and their numbers.
-#![tactic(auto)]
-
-mod interner;
-
-pub use interner::Interner;

@@ -1,0 +1,58 @@
+-- The values of a table that are listed with their keys, or alone.
+use Rattle.std.proofs.Common.{◌≡◌, ℕ, zero, suc, ◌+◌, ◌<◌, T, Bool, true, false, List, [], ◌∷◌, ◌++◌, Option, None, Some, length, map, take, get_or, refl, sym, ap, subst, ◌∙◌, append-nil, is_some, true≢false}
+use Rattle.std.specs.Prelude.{option_map, unwrap_or}
+use Rattle.std.specs.Borrow.{Bor}
+use Rattle.std.specs.FinMap.{is_sorted}
+use Rattle.std.specs.declared.cmp.Ordering.{Ordering}
+use Rattle.std.specs.List.{filter_map, cons_option, list_all}
+use Rattle.std.proofs.lemmas.List.{take_more, map-append}
+use Rattle.std.proofs.lemmas.List.Elements.{filter_map-append}
+use Rattle.amr_labels.proofs.Sorted.{both, first, second}
+use Rattle.amr_labels.specs.Map.{entries, from_sorted, checked, empty}
+use Rattle.amr_tables.specs.Places.{value_at, present}
+use Rattle.amr_tables.specs.Numbered.{Numbered, entry_at, numbered_key, shown}
+
+module _ {K V : Type 0} (cells : List (Option V)) where
+  -- one key more
+  pub listed_more : (items : List (Bor K × ℕ)) (i : ℕ) (item : Bor K × ℕ) → i < length items → item ≡ get_or items i item → filter_map (entry_at cells) (map numbered_key (take (i + 1) items)) ≡ filter_map (entry_at cells) (map numbered_key (take i items)) ++ cons_option (entry_at cells (numbered_key item)) []
+  listed_more items i item lt is =
+      ap (λ xs. filter_map (entry_at cells) (map numbered_key xs)) (take_more items i item lt ∙ ap (λ x. take i items ++ x ∷ []) (sym is))
+      ∙ ap (filter_map (entry_at cells)) (map-append numbered_key (take i items) (item ∷ []))
+      ∙ filter_map-append (entry_at cells) (map numbered_key (take i items)) (numbered_key item ∷ [])
+
+  pub with_value : (es : List (K × V)) (key : K × ℕ) (value : V) → value_at cells key.1 ≡ Some value → es ++ (key.0, value) ∷ [] ≡ es ++ cons_option (entry_at cells key) []
+  with_value es key value is = ap (λ (o : Option V). es ++ cons_option (option_map (λ v. (key.0, v)) o) []) (sym is)
+
+  pub without_value : (es : List (K × V)) (key : K × ℕ) → value_at cells key.1 ≡ None → es ≡ es ++ cons_option (entry_at cells key) []
+  without_value es key is = sym (append-nil es) ∙ ap (λ (o : Option V). es ++ cons_option (option_map (λ v. (key.0, v)) o) []) (sym is)
+
+-- ---- what holds of each value holds of each entry
+
+value_passes : {V : Type 0} (p : V → Bool) (cells : List (Option V)) (n : ℕ) (value : V) → T (list_all p (present cells)) → value_at cells n ≡ Some value → T (p value)
+value_passes p [] n value all is = absurd (true≢false (sym (ap is_some is)))
+value_passes p (None ∷ cells) zero value all is = absurd (true≢false (sym (ap is_some is)))
+value_passes p (None ∷ cells) (suc n) value all is = value_passes p cells n value all is
+value_passes p (Some first_value ∷ cells) zero value all is = subst (λ v. T (p v)) (ap (λ o. unwrap_or o first_value) is) (first _ _ all)
+value_passes p (Some first_value ∷ cells) (suc n) value all is = value_passes p cells n value (second _ _ all) is
+
+module _ {K V : Type 0} (p : V → Bool) where
+  one_more : (key : K) (found : Option V) (rest : List (K × V)) → ((value : V) → found ≡ Some value → T (p value)) → T (list_all (λ entry. p entry.1) rest) → T (list_all (λ entry. p entry.1) (cons_option (option_map (λ value. (key, value)) found) rest))
+  one_more key None rest passes all = all
+  one_more key (Some value) rest passes all = both _ _ (passes value refl) all
+
+  covers : (cells : List (Option V)) (keys : List (K × ℕ)) → T (list_all p (present cells)) → T (list_all (λ entry. p entry.1) (filter_map (entry_at cells) keys))
+  covers cells [] all = tt
+  covers cells (key ∷ keys) all =
+      one_more key.0 (value_at cells key.1) _ (λ value is. value_passes p cells key.1 value all is) (covers cells keys all)
+
+module _ {K V : Type 0} (R : K → K → Ordering) where
+  of_entries : (P : List (K × V) → Type 0) (es : List (K × V)) (b : Bool) (e : is_sorted R es ≡ b) → P es → P [] → P (entries (checked es b e empty))
+  unfolding entries checked empty
+  of_entries P es true e all none = all
+  of_entries P es false e all none = none
+
+  -- what holds of all values of a table holds of all values of the map that it shows
+  pub present_covers : (p : V → Bool) (t : Numbered K V) → T (list_all p (present t.cells)) → T (list_all (λ entry. p entry.1) (entries (shown R t)))
+  unfolding shown from_sorted
+  present_covers p t all =
+      of_entries (λ es. T (list_all (λ entry. p entry.1) es)) (filter_map (entry_at t.cells) t.numbers) _ refl (covers p t.cells t.numbers all) tt

@@ -1,0 +1,444 @@
+-- A tournament of numbers by their moments: who wins it, and what a new moment changes.
+use Rattle.std.proofs.Common.{◌≡◌, ◌≢◌, inl, inr, ℕ, suc, zero, ◌+◌, ◌-◌, ◌*◌, ◌/◌, ◌%◌, ◌<◌, ◌≤◌, Bool, true, false, nat_lt, List, [], ◌∷◌, Option, Some, None, length, get_or, slice_set, refl, sym, ap, subst, ◌∙◌, arith}
+use Rattle.std.specs.Prelude.{if◌then◌else◌, ◌⊎◌}
+use Rattle.std.proofs.lemmas.Bool.Decides.{nat_tests}
+use Rattle.std.proofs.lemmas.List.{get_or-set_same, get_or-set_other}
+use Rattle.std.proofs.Math.Nat.{div-add-mod, mod-lt}
+use Rattle.std.specs.declared.cmp.Ordering.{Ordering}
+use Rattle.std.specs.declared.cmp.Ordering.TheVariants.{Less, Equal, Greater}
+use Rattle.std.specs.Ordering.{nat_cmp, ordering_then, ordering_reverse, is_lt, is_gt}
+use Rattle.std.specs.Cmp.{IsTotalOrder, nat_cmp_total}
+use Rattle.std.proofs.lemmas.Cmp.{on_total, then_total}
+use Rattle.std.proofs.lemmas.Map.Lookups.{exact_unsigned}
+use Rattle.amr_tables.specs.Places.{value_at}
+use Rattle.amr_tables.specs.Earliest.{Earliest, moment_at, timer_at, winner_at, timer_cmp, later_winner, IsTournament, IsEarliest, AgreeOn}
+
+pub split : (a b : ℕ) → (a ≤ b) ⊎ (b < a)
+split zero b = inl (omega arith)
+split (suc a) zero = inr (omega arith)
+split (suc a) (suc b) = raised (split a b)
+  where
+    raised : (a ≤ b) ⊎ (b < a) → (suc a ≤ suc b) ⊎ (suc b < suc a)
+    raised (inl h) = inl (omega (arith, h))
+    raised (inr h) = inr (omega (arith, h))
+
+past : (ms : List (Option ℕ)) (n : ℕ) → length ms ≤ n → value_at ms n ≡ None
+past [] n h = refl
+past (m ∷ ms) zero h = absurd (omega (arith, h))
+past (m ∷ ms) (suc n) h = past ms n (omega (arith, h))
+
+value_at-other : (ms : List (Option ℕ)) (n a : ℕ) (m : Option ℕ) → a ≢ n → value_at (slice_set ms n m) a ≡ value_at ms a
+value_at-other [] n a m apart = refl
+value_at-other (x ∷ ms) zero zero m apart = absurd (apart refl)
+value_at-other (x ∷ ms) zero (suc a) m apart = refl
+value_at-other (x ∷ ms) (suc n) zero m apart = refl
+value_at-other (x ∷ ms) (suc n) (suc a) m apart = value_at-other ms n a m (λ e. apart (ap suc e))
+
+-- ---- the order of timers
+
+module _ {rank : ℕ → ℕ → Ordering} (order : IsTotalOrder rank) where
+  pairs_total : IsTotalOrder (λ (x y : ℕ × ℕ). ordering_then (nat_cmp x.0 y.0) (rank x.1 y.1))
+  pairs_total = then_total (on_total (λ (x : ℕ × ℕ). x.0) nat_cmp_total) (on_total (λ (x : ℕ × ℕ). x.1) order)
+
+  timer_antisymm : (x y : Option ℕ × ℕ) → timer_cmp rank x y ≡ ordering_reverse (timer_cmp rank y x)
+  timer_antisymm (Some m, a) (Some n, b) = pairs_total.antisymm (m, a) (n, b)
+  timer_antisymm (Some m, a) (None, b) = refl
+  timer_antisymm (None, a) (Some n, b) = refl
+  timer_antisymm (None, a) (None, b) = refl
+
+  timer_trans : (x y z : Option ℕ × ℕ) → timer_cmp rank x y ≡ Less → timer_cmp rank y z ≡ Less → timer_cmp rank x z ≡ Less
+  timer_trans (Some m, a) (Some n, b) (Some o, c) p q = pairs_total.trans (m, a) (n, b) (o, c) p q
+  timer_trans (Some m, a) y (None, c) p q = refl
+  timer_trans (Some m, a) (None, b) (Some o, c) p q = cc
+  timer_trans (None, a) (Some n, b) z p q = cc
+  timer_trans (None, a) (None, b) z p q = cc
+
+  timer_congr : (x y z : Option ℕ × ℕ) → timer_cmp rank x y ≡ Equal → timer_cmp rank x z ≡ timer_cmp rank y z
+  timer_congr (Some m, a) (Some n, b) (Some o, c) p = pairs_total.congr (m, a) (n, b) (o, c) p
+  timer_congr (Some m, a) (Some n, b) (None, c) p = refl
+  timer_congr (Some m, a) (None, b) z p = cc
+  timer_congr (None, a) (Some n, b) z p = cc
+  timer_congr (None, a) (None, b) (Some o, c) p = refl
+  timer_congr (None, a) (None, b) (None, c) p = refl
+
+  pub timer_total : IsTotalOrder (timer_cmp rank)
+  timer_total = record { antisymm = timer_antisymm; trans = timer_trans; congr = timer_congr }
+
+-- ---- who is not after whom
+
+module _ {K : Type 0} {R : K → K → Ordering} (o : IsTotalOrder R) where
+  turned : (w : Ordering) → is_gt (ordering_reverse w) ≡ is_lt w
+  turned Less = refl
+  turned Equal = refl
+  turned Greater = refl
+
+  -- what wins against the first is not after it
+  won : (x y : K) → is_lt (R x y) ≡ true → is_gt (R x y) ≡ false
+  won x y h = from (R x y) h
+    where
+      from : (w : Ordering) → is_lt w ≡ true → is_gt w ≡ false
+      from Less e = refl
+      from Equal e = cc
+      from Greater e = cc
+
+  -- what doesn't lose against the other is not after it
+  kept : (x y : K) → is_lt (R x y) ≡ false → is_gt (R y x) ≡ false
+  kept x y h = ap is_gt (o.antisymm y x) ∙ turned (R x y) ∙ h
+
+  itself : (x : K) → is_gt (R x x) ≡ false
+  itself x = from (R x x) (o.antisymm x x)
+    where
+      from : (w : Ordering) → w ≡ ordering_reverse w → is_gt w ≡ false
+      from Less e = refl
+      from Equal e = refl
+      from Greater e = cc
+
+  then_not : (x y z : K) (v w : Ordering) → R x y ≡ v → R y z ≡ w → is_gt v ≡ false → is_gt w ≡ false → is_gt (R x z) ≡ false
+  then_not x y z Less Less p q g h = ap is_gt (o.trans x y z p q)
+  then_not x y z Less Equal p q g h = ap is_gt (o.antisymm x z ∙ ap ordering_reverse (sym (o.congr y z x q)) ∙ sym (o.antisymm x y) ∙ p)
+  then_not x y z Equal w p q g h = ap is_gt (o.congr x y z p ∙ q) ∙ h
+  then_not x y z Less Greater p q g h = cc
+  then_not x y z Greater w p q g h = cc
+
+  pub not_after_then : (x y z : K) → is_gt (R x y) ≡ false → is_gt (R y z) ≡ false → is_gt (R x z) ≡ false
+  not_after_then x y z g h = then_not x y z (R x y) (R y z) refl refl g h
+
+-- ---- places above others
+
+parity : (n q r : ℕ) → r < 2 → 2 * q + r ≡ n → (n ≡ q * 2) ⊎ (n ≡ q * 2 + 1)
+parity n q zero h e = inl (omega (arith, e))
+parity n q (suc zero) h e = inr (omega (arith, e))
+parity n q (suc (suc r)) h e = absurd (omega (arith, h))
+
+-- a place is one of the two below its half
+pub halves : (n : ℕ) → (n ≡ n / 2 * 2) ⊎ (n ≡ n / 2 * 2 + 1)
+halves n = parity n (n / 2) (n % 2) (mod-lt n (omega arith)) (div-add-mod n 2)
+
+-- the half of a place, taken k times
+unfoldable pub halved : ℕ → ℕ → ℕ
+halved zero place = place
+halved (suc k) place = halved k (place / 2)
+
+pub halved-half : (k place : ℕ) → halved k place / 2 ≡ halved (suc k) place
+unfolding halved
+halved-half zero place = refl
+halved-half (suc k) place = halved-half k (place / 2)
+
+half_of_left : (j n : ℕ) → n ≡ j * 2 → n / 2 ≡ j
+half_of_left j n e = from (halves n)
+  where
+    from : (n ≡ n / 2 * 2) ⊎ (n ≡ n / 2 * 2 + 1) → n / 2 ≡ j
+    from (inl h) = omega (arith, h, e)
+    from (inr h) = omega (arith, h, e)
+
+half_of_right : (j n : ℕ) → n ≡ j * 2 + 1 → n / 2 ≡ j
+half_of_right j n e = from (halves n)
+  where
+    from : (n ≡ n / 2 * 2) ⊎ (n ≡ n / 2 * 2 + 1) → n / 2 ≡ j
+    from (inl h) = omega (arith, h, e)
+    from (inr h) = omega (arith, h, e)
+
+-- no place above this one is that place
+unfoldable pub IsNotAbove : ℕ → ℕ → Type 0
+IsNotAbove j place = (k : ℕ) → halved (suc k) place ≢ j
+
+-- ---- who wins
+
+module _ (rank : ℕ → ℕ → Ordering) (t : Earliest) where
+  abbrev cmp : ℕ → ℕ → Ordering
+  cmp a b = timer_cmp rank (timer_at t a) (timer_at t b)
+
+  better : IsTotalOrder rank → (l r w : ℕ) (b : Bool) → is_lt (cmp r l) ≡ b → w ≡ (if b then r else l) → (is_gt (cmp w l) ≡ false) × (is_gt (cmp w r) ≡ false)
+  better order l r w true h e = (subst (λ x. is_gt (cmp x l) ≡ false) (sym e) (won (timer_total order) (timer_at t r) (timer_at t l) h), subst (λ x. is_gt (cmp x r) ≡ false) (sym e) (itself (timer_total order) (timer_at t r)))
+  better order l r w false h e = (subst (λ x. is_gt (cmp x l) ≡ false) (sym e) (itself (timer_total order) (timer_at t l)), subst (λ x. is_gt (cmp x r) ≡ false) (sym e) (kept (timer_total order) (timer_at t r) (timer_at t l) h))
+
+  module _ (order : IsTotalOrder rank) (played : IsTournament rank t) where
+    beats : (q : ℕ) → 1 ≤ q → q < length t.moments → (is_gt (cmp (winner_at t q) (winner_at t (q * 2))) ≡ false) × (is_gt (cmp (winner_at t q) (winner_at t (q * 2 + 1))) ≡ false)
+    beats q one inner = better order (winner_at t (q * 2)) (winner_at t (q * 2 + 1)) (winner_at t q) _ refl (played q one inner)
+
+    -- the winner of the first place is not after that of any other
+    first_of : (fuel p : ℕ) → p ≤ fuel → 1 ≤ p → p < length t.moments + length t.moments → is_gt (cmp (winner_at t 1) (winner_at t p)) ≡ false
+    first_of fuel zero within one inner = absurd (omega (arith, one))
+    first_of fuel (suc zero) within one inner = itself (timer_total order) (timer_at t (winner_at t 1))
+    first_of zero (suc (suc k)) within one inner = absurd (omega (arith, within))
+    first_of (suc fuel) (suc (suc k)) within one inner =
+        below (halves (suc (suc k))) (λ less some small. first_of fuel (suc (suc k) / 2) less some small)
+      where
+        q : ℕ
+        q = suc (suc k) / 2
+
+        step : (n : ℕ) → is_gt (cmp (winner_at t 1) (winner_at t q)) ≡ false → is_gt (cmp (winner_at t q) (winner_at t n)) ≡ false → suc (suc k) ≡ n → is_gt (cmp (winner_at t 1) (winner_at t (suc (suc k)))) ≡ false
+        step n first beaten e =
+            subst (λ x. is_gt (cmp (winner_at t 1) (winner_at t x)) ≡ false) (sym e)
+            (not_after_then (timer_total order) (timer_at t (winner_at t 1)) (timer_at t (winner_at t q)) (timer_at t (winner_at t n)) first beaten)
+
+        below : (suc (suc k) ≡ q * 2) ⊎ (suc (suc k) ≡ q * 2 + 1) → (q ≤ fuel → 1 ≤ q → q < length t.moments + length t.moments → is_gt (cmp (winner_at t 1) (winner_at t q)) ≡ false)
+            → is_gt (cmp (winner_at t 1) (winner_at t (suc (suc k)))) ≡ false
+        below (inl e) first =
+            let some : 1 ≤ q = omega (arith, e) in
+            let less : q ≤ fuel = omega (arith, e, within) in
+            let small : q < length t.moments = omega (arith, e, inner) in
+            step (q * 2) (first less some (omega (arith, small))) (beats q some small).0 e
+        below (inr e) first =
+            let some : 1 ≤ q = omega (arith, e) in
+            let less : q ≤ fuel = omega (arith, e, within) in
+            let small : q < length t.moments = omega (arith, e, inner) in
+            step (q * 2 + 1) (first less some (omega (arith, small))) (beats q some small).1 e
+
+    leaf : (n : ℕ) → winner_at t (length t.moments + n) ≡ n
+    leaf n = grind (arith, nat_tests)
+
+    first_of_all : (n : ℕ) → n < length t.moments → is_gt (cmp (winner_at t 1) n) ≡ false
+    first_of_all n within =
+        subst (λ x. is_gt (cmp (winner_at t 1) x) ≡ false) (leaf n)
+        (first_of (length t.moments + n) (length t.moments + n) (omega arith) (omega (arith, within)) (omega (arith, within)))
+
+    -- a winner that has a moment is the earliest
+    pub earliest : (moment : ℕ) → moment_at t (winner_at t 1) ≡ Some moment → IsEarliest rank t (winner_at t 1)
+    earliest moment is = (moment, is, λ other x at. not_before other x at (split (length t.moments) other))
+      where
+        w : ℕ
+        w = winner_at t 1
+
+        no : is_gt Greater ≡ false → ⊥
+        no e = cc
+
+        from : (m x : ℕ) (o r : Ordering) → nat_cmp m x ≡ o → is_gt (ordering_then o r) ≡ false → (m < x) ⊎ ((m ≡ x) × (r ≢ Greater))
+        from m x Less r e h = inl (grind (arith, nat_tests))
+        from m x Equal r e h = inr (exact_unsigned m x e, λ g. no (subst (λ o. is_gt o ≡ false) g h))
+        from m x Greater r e h = cc
+
+        not_before : (other x : ℕ) → moment_at t other ≡ Some x → (length t.moments ≤ other) ⊎ (other < length t.moments) → (moment < x) ⊎ ((moment ≡ x) × (rank (winner_at t 1) other ≢ Greater))
+        not_before other x at (inl late) = absurd (some_or_none x (sym (past t.moments other late) ∙ at))
+          where
+            some_or_none : (x : ℕ) → None ≡ Some x → ⊥
+            some_or_none x e = cc
+        not_before other x at (inr within) =
+            from moment x (nat_cmp moment x) (rank w other) refl (subst (λ (p : Option ℕ × Option ℕ). is_gt (timer_cmp rank (p.0, w) (p.1, other)) ≡ false) (λ i. (is i, at i)) (first_of_all other within))
+
+    -- a winner without a moment has beaten none that has one
+    pub none_earlier : moment_at t (winner_at t 1) ≡ None → (n : ℕ) → moment_at t n ≡ None
+    none_earlier none n = of_any (split (length t.moments) n)
+      where
+        from : (m : Option ℕ) → is_gt (timer_cmp rank (None, winner_at t 1) (m, n)) ≡ false → m ≡ None
+        from None h = refl
+        from (Some m) h = cc
+
+        of_any : (length t.moments ≤ n) ⊎ (n < length t.moments) → moment_at t n ≡ None
+        of_any (inl late) = past t.moments n late
+        of_any (inr within) = from (moment_at t n) (subst (λ x. is_gt (timer_cmp rank (x, winner_at t 1) (timer_at t n)) ≡ false) none (first_of_all n within))
+
+-- ---- what a new winner changes
+
+winner_apart : (t : Earliest) (place w other : ℕ) → other ≢ place → winner_at (record t { winners = slice_set t.winners place w }) other ≡ winner_at t other
+winner_apart t place w other apart =
+    ap (λ x. if nat_lt other (length t.moments) then x else other - length t.moments) (get_or-set_other t.winners place other w 0 apart)
+
+winner_new : (t : Earliest) (place w : ℕ) → place < length t.moments → length t.winners ≡ length t.moments → winner_at (record t { winners = slice_set t.winners place w }) place ≡ w
+winner_new t place w inner places =
+    ap (λ b. if b then get_or (slice_set t.winners place w) place 0 else place - length t.moments) (inner_is place (length t.moments) inner)
+    ∙ get_or-set_same t.winners place w 0 (omega (arith, inner, places))
+  where
+    inner_is : (a b : ℕ) → a < b → nat_lt a b ≡ true
+    inner_is a b h = grind (arith, nat_tests)
+
+module _ (rank : ℕ → ℕ → Ordering) where
+  later_alike : (t u : Earliest) (place : ℕ) → u.moments ≡ t.moments → winner_at u (place * 2) ≡ winner_at t (place * 2) → winner_at u (place * 2 + 1) ≡ winner_at t (place * 2 + 1) → later_winner rank u place ≡ later_winner rank t place
+  later_alike t u place moments left right =
+      λ i. if is_lt (timer_cmp rank (value_at (moments i) (right i), right i) (value_at (moments i) (left i), left i)) then right i else left i
+
+  -- a place was played: it has its winner, and the others whose winners it isn't below keep theirs
+  pub played_here : (t : Earliest) (place : ℕ) → 1 ≤ place → place < length t.moments → length t.winners ≡ length t.moments
+      → winner_at (record t { winners = slice_set t.winners place (later_winner rank t place) }) place ≡ later_winner rank (record t { winners = slice_set t.winners place (later_winner rank t place) }) place
+  played_here t place one inner places =
+      winner_new t place (later_winner rank t place) inner places
+      ∙ sym (later_alike t _ place refl (winner_apart t place _ (place * 2) (λ e. absurd (omega (arith, e, one)))) (winner_apart t place _ (place * 2 + 1) (λ e. absurd (omega (arith, e, one)))))
+
+  pub played_there : (t : Earliest) (place w j : ℕ) → j ≢ place → j * 2 ≢ place → j * 2 + 1 ≢ place → winner_at t j ≡ later_winner rank t j
+      → winner_at (record t { winners = slice_set t.winners place w }) j ≡ later_winner rank (record t { winners = slice_set t.winners place w }) j
+  played_there t place w j apart left right played =
+      winner_apart t place w j apart ∙ played
+      ∙ sym (later_alike t _ j refl (winner_apart t place w (j * 2) left) (winner_apart t place w (j * 2 + 1) right))
+
+-- ---- what a new moment changes
+
+module _ (rank : ℕ → ℕ → Ordering) (t : Earliest) (played : IsTournament rank t) where
+  either_of : (l r w n : ℕ) (b : Bool) → w ≡ (if b then r else l) → w ≡ n → (l ≡ n) ⊎ (r ≡ n)
+  either_of l r w n true e is = inr (sym e ∙ is)
+  either_of l r w n false e is = inl (sym e ∙ is)
+
+  -- a number wins its own place and places above it alone
+  wins_above : (fuel p n : ℕ) → length t.moments + length t.moments ≤ p + fuel → 1 ≤ p → winner_at t p ≡ n → (p ≡ length t.moments + n) ⊎ ((k : ℕ) × (halved (suc k) (length t.moments + n) ≡ p))
+  unfolding halved
+  wins_above zero p n within one wins = inl (outside p n within wins)
+    where
+      outside : (p n : ℕ) → length t.moments + length t.moments ≤ p + 0 → winner_at t p ≡ n → p ≡ length t.moments + n
+      outside p n within wins = grind (arith, nat_tests)
+  wins_above (suc fuel) p n within one wins =
+      by_place (split (length t.moments) p)
+      (λ is. wins_above fuel (p * 2) n (omega (arith, within, one)) (omega (arith, one)) is)
+      (λ is. wins_above fuel (p * 2 + 1) n (omega (arith, within, one)) (omega (arith, one)) is)
+    where
+      x : ℕ
+      x = length t.moments + n
+
+      raised : (c : ℕ) → c / 2 ≡ p → (c ≡ length t.moments + n) ⊎ ((k : ℕ) × (halved (suc k) (length t.moments + n) ≡ c)) → (p ≡ length t.moments + n) ⊎ ((k : ℕ) × (halved (suc k) (length t.moments + n) ≡ p))
+      raised c half (inl is) = inr (0, ap (λ y. y / 2) (sym is) ∙ half)
+      raised c half (inr (k, is)) = inr (suc k, sym (halved-half (suc k) x) ∙ ap (λ y. y / 2) is ∙ half)
+
+      at_leaf : (p n : ℕ) → length t.moments ≤ p → winner_at t p ≡ n → p ≡ length t.moments + n
+      at_leaf p n past wins = grind (arith, nat_tests)
+
+      by_place : (length t.moments ≤ p) ⊎ (p < length t.moments)
+          → (winner_at t (p * 2) ≡ n → (p * 2 ≡ length t.moments + n) ⊎ ((k : ℕ) × (halved (suc k) (length t.moments + n) ≡ p * 2)))
+          → (winner_at t (p * 2 + 1) ≡ n → (p * 2 + 1 ≡ length t.moments + n) ⊎ ((k : ℕ) × (halved (suc k) (length t.moments + n) ≡ p * 2 + 1)))
+          → (p ≡ length t.moments + n) ⊎ ((k : ℕ) × (halved (suc k) (length t.moments + n) ≡ p))
+      by_place (inl past) left right = inl (at_leaf p n past wins)
+      by_place (inr inner) left right =
+          by_side (either_of (winner_at t (p * 2)) (winner_at t (p * 2 + 1)) (winner_at t p) n _ (played p one inner) wins)
+        where
+          by_side : (winner_at t (p * 2) ≡ n) ⊎ (winner_at t (p * 2 + 1) ≡ n) → (p ≡ length t.moments + n) ⊎ ((k : ℕ) × (halved (suc k) (length t.moments + n) ≡ p))
+          by_side (inl is) = raised (p * 2) (half_of_left p (p * 2) refl) (left is)
+          by_side (inr is) = raised (p * 2 + 1) (half_of_right p (p * 2 + 1) refl) (right is)
+
+  -- a winner of a place below j, of which no place is above the number's, is another number
+  apart_from : (j c n : ℕ) → 1 ≤ c → c / 2 ≡ j → IsNotAbove j (length t.moments + n) → winner_at t c ≢ n
+  unfolding IsNotAbove halved
+  apart_from j c n one half out wins = from (wins_above (length t.moments + length t.moments) c n (omega arith) one wins)
+    where
+      x : ℕ
+      x = length t.moments + n
+
+      from : (c ≡ length t.moments + n) ⊎ ((k : ℕ) × (halved (suc k) (length t.moments + n) ≡ c)) → ⊥
+      from (inl is) = out 0 (ap (λ y. y / 2) (sym is) ∙ half)
+      from (inr (k, is)) = out (suc k) (sym (halved-half (suc k) x) ∙ ap (λ y. y / 2) is ∙ half)
+
+  -- a new moment of a number leaves all matches as they were but those above its place
+  pub moment_changed : (n : ℕ) (moment : Option ℕ) (j : ℕ) → 1 ≤ j → j < length t.moments → length (slice_set t.moments n moment) ≡ length t.moments → IsNotAbove j (length t.moments + n)
+      → winner_at (record t { moments = slice_set t.moments n moment }) j ≡ later_winner rank (record t { moments = slice_set t.moments n moment }) j
+  moment_changed n moment j one inner len out =
+      same j ∙ played j one inner
+      ∙ (λ i. if is_lt (timer_cmp rank (sym (right_same) i) (sym (left_same) i)) then sym (same (j * 2 + 1)) i else sym (same (j * 2)) i)
+    where
+      u : Earliest
+      u = record t { moments = slice_set t.moments n moment }
+
+      same : (p : ℕ) → winner_at u p ≡ winner_at t p
+      same p = ap (λ l. if nat_lt p l then get_or t.winners p 0 else p - l) len
+
+      kept_moment : (a : ℕ) → a ≢ n → value_at (slice_set t.moments n moment) a ≡ value_at t.moments a
+      kept_moment a apart = value_at-other t.moments n a moment apart
+
+      right_same : timer_at u (winner_at u (j * 2 + 1)) ≡ timer_at t (winner_at t (j * 2 + 1))
+      right_same =
+          ap (timer_at u) (same (j * 2 + 1))
+          ∙ (λ i. (kept_moment (winner_at t (j * 2 + 1)) (apart_from j (j * 2 + 1) n (omega arith) (half_of_right j (j * 2 + 1) refl) out) i, winner_at t (j * 2 + 1)))
+
+      left_same : timer_at u (winner_at u (j * 2)) ≡ timer_at t (winner_at t (j * 2))
+      left_same =
+          ap (timer_at u) (same (j * 2))
+          ∙ (λ i. (kept_moment (winner_at t (j * 2)) (apart_from j (j * 2) n (omega (arith, one)) (half_of_left j (j * 2) refl) out) i, winner_at t (j * 2)))
+
+-- a half of a place is above it, and so is each place above that half
+pub not_above_half : (j place : ℕ) → IsNotAbove j place → (place / 2 ≢ j) × IsNotAbove j (place / 2)
+unfolding IsNotAbove halved
+not_above_half j place out = (out 0, λ k. out (suc k))
+
+-- no place is above the first
+pub none_above_first : (j place : ℕ) → 1 ≤ j → place ≤ 1 → IsNotAbove j place
+unfolding IsNotAbove halved
+none_above_first j place one first k is =
+    absurd (omega (arith, one, sym is ∙ ap (halved k) (half_small place first) ∙ zeros k))
+  where
+    half_small : (n : ℕ) → n ≤ 1 → n / 2 ≡ 0
+    half_small n h = from (halves n)
+      where
+        from : (n ≡ n / 2 * 2) ⊎ (n ≡ n / 2 * 2 + 1) → n / 2 ≡ 0
+        from (inl e) = omega (arith, h, e)
+        from (inr e) = omega (arith, h, e)
+
+    zeros : (k : ℕ) → halved k 0 ≡ 0
+    zeros zero = refl
+    zeros (suc k) = zeros k
+
+above_both : (j place : ℕ) → place / 2 ≢ j → IsNotAbove j (place / 2) → IsNotAbove j place
+unfolding IsNotAbove halved
+above_both j place half out zero = half
+above_both j place half out (suc k) = out k
+
+-- the two are equal, or not
+same_or_apart : (a b : ℕ) → (a ≡ b) ⊎ (a ≢ b)
+same_or_apart a b = from (split a b) (split b a)
+  where
+    from : (a ≤ b) ⊎ (b < a) → (b ≤ a) ⊎ (a < b) → (a ≡ b) ⊎ (a ≢ b)
+    from (inl h) (inl k) = inl (omega (arith, h, k))
+    from (inr h) q = inr (λ e. absurd (omega (arith, h, e)))
+    from (inl h) (inr k) = inr (λ e. absurd (omega (arith, k, e)))
+
+module _ (rank : ℕ → ℕ → Ordering) (t u : Earliest) (place : ℕ) (is : u ≡ record t { winners = slice_set t.winners place (later_winner rank t place) })
+    (one : 1 ≤ place) (inner : place < length t.moments) (places : length t.winners ≡ length t.moments) where
+  len_is : length u.moments ≡ length t.moments
+  len_is = ap (λ (x : Earliest). length x.moments) is
+
+  moved : (j : ℕ) → winner_at (record t { winners = slice_set t.winners place (later_winner rank t place) }) j ≡ later_winner rank (record t { winners = slice_set t.winners place (later_winner rank t place) }) j
+      → winner_at u j ≡ later_winner rank u j
+  moved j = subst (λ (x : Earliest). winner_at x j ≡ later_winner rank x j) (sym is)
+
+  -- after the last places a place was played
+  pub played_from : ((j : ℕ) → 1 ≤ j → place < j → j < length t.moments → winner_at t j ≡ later_winner rank t j)
+      → (j : ℕ) → 1 ≤ j → place ≤ j → j < length u.moments → winner_at u j ≡ later_winner rank u j
+  played_from played j some from within = moved j (by (same_or_apart j place))
+    where
+      by : (j ≡ place) ⊎ (j ≢ place) → winner_at (record t { winners = slice_set t.winners place (later_winner rank t place) }) j ≡ later_winner rank (record t { winners = slice_set t.winners place (later_winner rank t place) }) j
+      by (inl e) = subst (λ x. winner_at (record t { winners = slice_set t.winners place (later_winner rank t place) }) x ≡ later_winner rank (record t { winners = slice_set t.winners place (later_winner rank t place) }) x) (sym e) (played_here rank t place one inner places)
+      by (inr apart) =
+          let after : place < j = grind (arith, from, apart) in
+          played_there rank t place (later_winner rank t place) j apart (λ e. absurd (omega (arith, after, e))) (λ e. absurd (omega (arith, after, e))) (played j some after (omega (arith, within, len_is)))
+
+-- the place above was played, and those above it are left
+pub played_above : (rank : ℕ → ℕ → Ordering) (t u : Earliest) (place : ℕ) → u ≡ record t { winners = slice_set t.winners (place / 2) (later_winner rank t (place / 2)) } → 1 ≤ place / 2 → place / 2 < length t.moments → length t.winners ≡ length t.moments
+    → ((j : ℕ) → 1 ≤ j → j < length t.moments → IsNotAbove j place → winner_at t j ≡ later_winner rank t j)
+    → (j : ℕ) → 1 ≤ j → j < length u.moments → IsNotAbove j (place / 2) → winner_at u j ≡ later_winner rank u j
+played_above rank t u place is one inner places played j some within out = moved rank t u (place / 2) is one inner places j (by (same_or_apart j (place / 2)))
+  where
+    h : ℕ
+    h = place / 2
+
+    v : Earliest
+    v = record t { winners = slice_set t.winners (place / 2) (later_winner rank t (place / 2)) }
+
+    by : (j ≡ place / 2) ⊎ (j ≢ place / 2) → winner_at v j ≡ later_winner rank v j
+    by (inl e) = subst (λ x. winner_at v x ≡ later_winner rank v x) (sym e) (played_here rank t h one inner places)
+    by (inr apart) =
+        let above = not_above_half j h out in
+        played_there rank t h (later_winner rank t h) j apart (λ e. above.0 (half_of_left j h (sym e))) (λ e. above.0 (half_of_right j h (sym e)))
+        (played j some (omega (arith, within, len_is rank t u h is one inner places)) (above_both j place (λ e. apart (sym e)) out))
+
+pub length_set : {A : Type 0} (xs : List A) (n : ℕ) (x : A) → length (slice_set xs n x) ≡ length xs
+length_set [] n x = refl
+length_set (y ∷ xs) zero x = refl
+length_set (y ∷ xs) (suc n) x = ap suc (length_set xs n x)
+
+-- the half of a place after the first is a place, and an inner one
+pub half_bounds : (place n : ℕ) → 1 < place → place < n + n → (1 ≤ place / 2) × (place / 2 < n)
+half_bounds place n h within = from (halves place)
+  where
+    from : (place ≡ place / 2 * 2) ⊎ (place ≡ place / 2 * 2 + 1) → (1 ≤ place / 2) × (place / 2 < n)
+    from (inl e) = (omega (arith, h, e), omega (arith, within, e))
+    from (inr e) = (omega (arith, h, e), omega (arith, within, e))
+
+-- ---- another order of the same numbers
+
+module _ (rank other : ℕ → ℕ → Ordering) (t : Earliest) (agree : AgreeOn t rank other) where
+  same_match : (m n : Option ℕ) (a b : ℕ) → moment_at t a ≡ m → moment_at t b ≡ n → timer_cmp other (m, a) (n, b) ≡ timer_cmp rank (m, a) (n, b)
+  same_match (Some m) (Some n) a b p q = ap (ordering_then (nat_cmp m n)) (sym (agree a b m n p q))
+  same_match (Some m) None a b p q = refl
+  same_match None (Some n) a b p q = refl
+  same_match None None a b p q = refl
+
+  -- a tournament stands under another order that agrees on all numbers with moments
+  pub tournament_agrees : IsTournament rank t → IsTournament other t
+  tournament_agrees played place one inner =
+      let l = winner_at t (place * 2) in
+      let r = winner_at t (place * 2 + 1) in
+      played place one inner ∙ ap (λ o. if is_lt o then r else l) (sym (same_match (moment_at t r) (moment_at t l) r l refl refl))

@@ -1,0 +1,10 @@
+use Rattle.std.proofs.Common.{sym, ap, ◌∙◌}
+use Rattle.amr_tables.specs.Numbered.{key_with}
+use Rattle.amr_tables.proofs.Keying.{key_with-numbered}
+use Rattle.amr_tables.proofs.numbers.Numbers.key_at.Goals as goal
+
+pub returns : goal.returns
+returns g c =
+    c.get_index.ensures.key
+    ∙ sym (key_with-numbered g.K.Ord.cmp g.met.K.Ord.total g.K.PartialEq.eq g.met.K.Ord.matches_eq c.args.number c.self.inside.keys.keys c.self.invariant)
+    ∙ ap (λ n. key_with n.list c.args.number) c.self.view_is

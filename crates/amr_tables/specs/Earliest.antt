@@ -1,0 +1,49 @@
+-- Moments by number, and which of them is the earliest.
+use Rattle.std.specs.Prelude.{◌⊎◌, ◌≡◌, ◌≢◌, ℕ, ◌≤◌, ◌<◌, ◌+◌, ◌-◌, ◌*◌, List, Option, None, Some, length, get_or, nat_lt, if◌then◌else◌}
+use Rattle.std.specs.declared.cmp.Ordering.{Ordering}
+use Rattle.std.specs.declared.cmp.Ordering.TheVariants.{Less, Equal, Greater}
+use Rattle.amr_tables.specs.Places.{value_at}
+use Rattle.std.specs.Ordering.{nat_cmp, ordering_then, is_lt}
+
+-- the moment of each number, if it has one, and the winner of each inner place
+pub record Earliest : Type 0 where
+  pub moments : List (Option ℕ)
+  pub winners : List ℕ
+
+-- the moment of a number, if it has one
+abbrev pub moment_at : Earliest → ℕ → Option ℕ
+moment_at e n = value_at e.moments n
+
+-- a number with its moment
+abbrev pub timer_at : Earliest → ℕ → Option ℕ × ℕ
+timer_at t n = (moment_at t n, n)
+
+-- who wins a place: a number at its own place, and else who was noted
+abbrev pub winner_at : Earliest → ℕ → ℕ
+winner_at t place = if nat_lt place (length t.moments) then get_or t.winners place 0 else place - length t.moments
+
+module _ (rank : ℕ → ℕ → Ordering) where
+  -- the earlier moment is first; of equal moments, the number that the order puts first; a number
+  -- without a moment is last
+  abbrev pub timer_cmp : Option ℕ × ℕ → Option ℕ × ℕ → Ordering
+  timer_cmp (Some moment, a) (Some other, b) = ordering_then (nat_cmp moment other) (rank a b)
+  timer_cmp (Some moment, a) (None, b) = Less
+  timer_cmp (None, a) (Some other, b) = Greater
+  timer_cmp (None, a) (None, b) = Equal
+
+  -- who wins of the winners of the two places below
+  abbrev pub later_winner : Earliest → ℕ → ℕ
+  later_winner t place =
+      if is_lt (timer_cmp (timer_at t (winner_at t (place * 2 + 1))) (timer_at t (winner_at t (place * 2)))) then winner_at t (place * 2 + 1) else winner_at t (place * 2)
+
+  -- at each inner place the winner of those below is noted
+  abbrev pub IsTournament : Earliest → Type 0
+  IsTournament t = (place : ℕ) → 1 ≤ place → place < length t.moments → winner_at t place ≡ later_winner t place
+
+  -- no number has an earlier moment, and of those with the same moment the order puts none before
+  abbrev pub IsEarliest : Earliest → ℕ → Type 0
+  IsEarliest e n = (m : ℕ) × (moment_at e n ≡ Some m) × ((j x : ℕ) → moment_at e j ≡ Some x → (m < x) ⊎ ((m ≡ x) × (rank n j ≢ Greater)))
+
+-- the orders agree on all numbers that have moments
+abbrev pub AgreeOn : Earliest → (ℕ → ℕ → Ordering) → (ℕ → ℕ → Ordering) → Type 0
+AgreeOn e rank other = (a b x y : ℕ) → moment_at e a ≡ Some x → moment_at e b ≡ Some y → rank a b ≡ other a b

@@ -1,0 +1,177 @@
+//! Moments by number, and which of them is the earliest. The pending timers are kept like this, by
+//! the numbers of alerts and groups. All memory is taken before a moment is set, so that undoing an
+//! event takes none.
+ghost use Rattle.std.specs.Prelude.{◌≡◌, ◌<◌, ◌≤◌, ◌*◌, ◌+◌, ◌-◌, ℕ, [], None, Some, length, OnOk, IfSome, IfNone, slice_set, if◌then◌else◌};
+ghost use Rattle.std.specs.declared.cmp.Ordering.{Ordering};
+ghost use Rattle.std.specs.Ordering.{is_lt};
+ghost use Rattle.std.specs.Cmp.{IsTotalOrder};
+ghost use Rattle.amr_tables.specs.Earliest.{moment_at, winner_at, timer_at, timer_cmp, later_winner, IsTournament, IsEarliest};
+
+use crate::ranking::Ranking;
+use std::alloc::{AllocError, Global};
+use std::cmp::Ordering;
+use std::marker::Model;
+
+/// Moments by number, in nanoseconds since 1970; a number may have none. The numbers play a
+/// tournament, which the earliest moment wins: of the places from 1 on, those from the number of
+/// numbers on are the numbers themselves, and at each other place k plays the winner of place 2k
+/// against that of place 2k + 1. A new moment of a number changes only the places above it.
+#[derive(Drop)]
+pub struct Earliest {
+    alloc: Global,
+    moments: Vec<Option<u128>>,
+    winners: Vec<usize>,
+}
+
+impl Model for Earliest {
+    ghost use Rattle.std.specs.Coded.{codes};
+    ghost use Rattle.amr_tables.specs.Earliest.{Earliest};
+
+    ghost Value = { Earliest };
+
+    ghost coded = { Prim.hlevel codes };
+
+    ghost view = { λ e. record { moments = e.moments.items; winners = e.winners.items } };
+
+    ghost use Rattle.std.specs.Prelude.{◌≡◌, length};
+
+    ghost invariant = { λ e. length e.winners.items ≡ length e.moments.items };
+}
+
+impl Earliest {
+    /// Builds a table without numbers.
+    pub fn new(alloc: Global) -> Earliest
+        ensures moments { result.moments ≡ [] }
+        ensures kept { (rank : ℕ → ℕ → Ordering) → IsTournament rank result }
+    {
+        Earliest {
+            alloc,
+            moments: Vec::new(alloc),
+            winners: Vec::new(alloc),
+        }
+    }
+
+    /// Returns how many numbers may have a moment.
+    pub fn len(&self) -> usize
+        ensures { result ≡ length self.now.moments }
+    {
+        self.moments.len()
+    }
+
+    /// Returns the moment of a number, if it has one.
+    pub fn at(&self, number: usize) -> Option<u128>
+        ensures { result ≡ moment_at self.now number }
+    {
+        match self.moments.get(number) {
+            None => None,
+            Some(moment) => *moment,
+        }
+    }
+
+    /// Makes room for the numbers below `count`, which have no moment yet. It makes at least twice
+    /// the room that there is, since all matches are played anew.
+    pub fn reserve<O: Ranking>(&mut self, order: &O, count: usize) -> Result<(), AllocError>
+        requires { IsTournament (O.rank order.now) self.old }
+        ensures room { OnOk result (count ≤ length self.new.moments) }
+        ensures more { length self.old.moments ≤ length self.new.moments }
+        ensures same { (n : ℕ) → moment_at self.new n ≡ moment_at self.old n }
+        ensures kept { IsTournament (O.rank order.now) self.new }
+    {
+        let numbers = self.moments.len();
+        if count <= numbers {
+            return Ok(());
+        }
+        let enough = count.max(numbers.saturating_mul(2));
+        let mut winners = Vec::new(self.alloc);
+        winners.resize(enough, 0)?;
+        self.moments.resize(enough, None)?;
+        self.winners = winners;
+        self.play_all(order);
+        Ok(())
+    }
+
+    /// Plays all matches anew, the last places first.
+    fn play_all<O: Ranking>(&mut self, order: &O)
+        ensures moments { self.new.moments ≡ self.old.moments }
+        ensures kept { IsTournament (O.rank order.now) self.new }
+    {
+        let mut place = self.moments.len();
+        while place > 1 {
+            place -= 1;
+            self.play(order, place);
+        }
+    }
+
+    /// Sets or removes the moment of a number. It takes no memory.
+    pub fn set<O: Ranking>(&mut self, order: &O, number: usize, moment: Option<u128>)
+        requires room { number < length self.old.moments }
+        requires kept { IsTournament (O.rank order.now) self.old }
+        ensures moments { self.new.moments ≡ slice_set self.old.moments number moment }
+        ensures kept { IsTournament (O.rank order.now) self.new }
+    {
+        self.moments[number] = moment;
+        let mut place = self.moments.len() + number;
+        while place > 1 {
+            place /= 2;
+            self.play(order, place);
+        }
+    }
+
+    /// Lets the winners below a place play, and notes who wins.
+    fn play<O: Ranking>(&mut self, order: &O, place: usize)
+        requires first { 1 ≤ place }
+        requires inner { place < length self.old.moments }
+        ensures moments { self.new.moments ≡ self.old.moments }
+        ensures winners { self.new.winners ≡ slice_set self.old.winners place
+            (later_winner (O.rank order.now) self.old place) }
+    {
+        let left = self.winner(place * 2);
+        let right = self.winner(place * 2 + 1);
+        let is_right = self.compare(order, right, left) == Ordering::Less;
+        self.winners[place] = if is_right { right } else { left };
+    }
+
+    /// Returns the winner of a place.
+    fn winner(&self, place: usize) -> usize
+        ensures { result ≡ winner_at self.now place }
+    {
+        let numbers = self.moments.len();
+        if place < numbers {
+            self.winners[place]
+        } else {
+            place - numbers
+        }
+    }
+
+    /// Compares the moments of two numbers and, if they are equal, what the numbers stand for. A
+    /// number without a moment is last.
+    fn compare<O: Ranking>(&self, order: &O, a: usize, b: usize) -> Ordering
+        ensures { result
+            ≡ timer_cmp (O.rank order.now) (timer_at self.now a) (timer_at self.now b) }
+    {
+        match (self.at(a), self.at(b)) {
+            (Some(moment), Some(other)) => moment.cmp(&other).then_with(|| order.compare(a, b)),
+            (Some(_), None) => Ordering::Less,
+            (None, Some(_)) => Ordering::Greater,
+            (None, None) => Ordering::Equal,
+        }
+    }
+
+    /// Returns the number with the earliest moment; of equal moments, the one that the order puts
+    /// first.
+    pub fn first(&self) -> Option<usize>
+        ensures some { IfSome result (λ n. (rank : ℕ → ℕ → Ordering) → IsTotalOrder rank
+            → IsTournament rank self.now → IsEarliest rank self.now n) }
+        ensures none { IfNone result ((rank : ℕ → ℕ → Ordering) → IsTotalOrder rank
+            → IsTournament rank self.now → (n : ℕ) → moment_at self.now n ≡ None) }
+    {
+        if self.moments.is_empty() {
+            return None;
+        }
+        let winner = self.winner(1);
+        match self.at(winner) {
+            None => None,
+            Some(_) => Some(winner),
+        }
+    }
+}
