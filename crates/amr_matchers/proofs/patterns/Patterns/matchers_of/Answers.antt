@@ -2,7 +2,7 @@
 use Rattle.std.proofs.Common.{◌≡◌, Some, rules}
 use Rattle.amr_matchers.specs.MatcherReading.{matchers_of}
 use Rattle.amr_matchers.proofs.MatcherRead.{read_is_spelled}
-use Rattle.amr_matchers.proofs.matchers.Matchers.parse_sharing.Goals as goal
+use Rattle.amr_matchers.proofs.patterns.Patterns.matchers_of.Goals as goal
 
 pub returns-clause-spelled : goal.returns-clause-spelled
 returns-clause-spelled c =
