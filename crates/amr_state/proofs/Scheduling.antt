@@ -22,7 +22,7 @@ use Rattle.amr_tables.specs.Places.{value_at}
 use Rattle.amr_tables.specs.Numbered.{Numbered, shown, has_place, number_of, next_number, key_with, key_at, rank_of, entry_of, KeepsPlaces, SameEntered, GetsNumber, IsNumbering}
 use Rattle.amr_tables.specs.Earliest.{Earliest, moment_at, IsTournament, IsEarliest}
 use Rattle.amr_tables.proofs.Playing.{tournament_agrees}
-use Rattle.amr_tables.specs.Queued.{has}
+use Rattle.amr_tables.specs.Members.{has}
 use Rattle.amr_tables.proofs.Naming.{key_at_number}
 use Rattle.amr_state.specs.declared.notification.GroupTimer.{GroupTimer}
 use Rattle.amr_state.specs.declared.route_labels.RouteLabels.{RouteLabels}

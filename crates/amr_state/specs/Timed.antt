@@ -10,7 +10,7 @@ use Rattle.amr_rules.specs.declared.alert.Alert.{Alert}
 use Rattle.amr_rules.specs.Muting.{Alerts}
 use Rattle.amr_tables.specs.Numbered.{Numbered, shown, has_place, number_of, rank_of, IsNumber}
 use Rattle.amr_tables.specs.Earliest.{Earliest, moment_at, IsTournament}
-use Rattle.amr_tables.specs.Queued.{has}
+use Rattle.amr_tables.specs.Members.{has}
 use Rattle.amr_state.specs.declared.notification.GroupTimer.{GroupTimer}
 use Rattle.amr_state.specs.declared.route_labels.RouteLabels.{RouteLabels}
 use Rattle.amr_state.specs.declared.due.Due.{Due}
