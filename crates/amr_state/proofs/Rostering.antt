@@ -1,6 +1,6 @@
 -- The members of groups by number, how a change of one of them goes on, and the members of a group.
-use Rattle.std.proofs.Common.{◌≡◌, ◌≢◌, ◌≤◌, ◌<◌, ℕ, Bool, true, false, IsTrue, cond, ◌||◌, ◌&&◌, T, List, [], ◌∷◌, ◌++◌, Option, Some, None, is_some, map, length, get_or, drop, Bor, refl, sym, ap, subst, ◌∙◌, arith}
-use Rattle.std.specs.Prelude.{◌==◌, option_map, if◌then◌else◌, nat_lt, Result, Ok, Err, OnErr, IsPermutation, IsSorted, slice_set}
+use Rattle.std.proofs.Common.{◌≡◌, ◌≢◌, ◌≤◌, ◌<◌, ◌+◌, ℕ, zero, suc, Bool, true, false, IsTrue, cond, ◌||◌, ◌&&◌, T, List, [], ◌∷◌, ◌++◌, Option, Some, None, is_some, map, length, get_or, drop, Bor, refl, sym, ap, subst, ◌∙◌, arith}
+use Rattle.std.specs.Prelude.{◌==◌, option_map, if◌then◌else◌, nat_lt, Result, Ok, Err, OnErr, IfSome, IsPermutation, IsSorted, slice_set}
 use Rattle.std.specs.Option.{option_and_then}
 use Rattle.std.specs.List.{All, AllByRecursion, IsDistinct, list_any, filter, filter_map, cons_option}
 use Rattle.std.specs.List.Sorted.{IsStrictlySortedBy}
@@ -82,6 +82,11 @@ the_value (Some a) h = (a, refl)
 tied_key : (k other : RouteLabels) → is_eq (route_labels_cmp other k) ≡ true → other ≡ k
 tied_key k other e = route_labels_cmp-IsAntisymmetric other k (equal_of _ e)
 
+-- a number within a bound, if there is one
+pub within_if : (w : Option Alert) (g count : ℕ) → g < count → IfSome (option_map (λ _. g) w) (λ x. x < count)
+within_if None g count h = tt
+within_if (Some x) g count h = h
+
 -- ---- places and numbers
 
 pub keeps_numbered : (a b : Numbered RouteLabels Alert) → b.numbers ≡ a.numbers → (key : RouteLabels) → has_place route_labels_cmp b key ≡ has_place route_labels_cmp a key
@@ -137,9 +142,9 @@ module _ (config : Config) (a : Numbered RouteLabels Alert) (gs : Numbered Route
   }
 
   -- a member has come, has changed, or has left
-  pub grouped_set : (b : Numbered RouteLabels Alert) (k : Grouped) (key : RouteLabels) (n g : ℕ) (w : Option Alert) (some : Bool) → number_of route_labels_cmp a key ≡ Some n → number_of route_labels_cmp gs (group_key config key) ≡ Some g → some ≡ is_some w
-      → b.numbers ≡ a.numbers → shown route_labels_cmp b ≡ set (shown route_labels_cmp a) key w → k.groups ≡ slice_set m.groups n (if some then Some g else None) → k.count ≡ m.count → IsGrouped config b gs k
-  grouped_set b k key n g w some at in_g some_is numbers shows groups count = record {
+  pub grouped_set : (b : Numbered RouteLabels Alert) (k : Grouped) (key : RouteLabels) (n g : ℕ) (w : Option Alert) → number_of route_labels_cmp a key ≡ Some n → number_of route_labels_cmp gs (group_key config key) ≡ Some g
+      → b.numbers ≡ a.numbers → shown route_labels_cmp b ≡ set (shown route_labels_cmp a) key w → k.groups ≡ slice_set m.groups n (option_map (λ _. g) w) → k.count ≡ m.count → IsGrouped config b gs k
+  grouped_set b k key n g w at in_g numbers shows groups count = record {
     numbered = numbered_set route_labels_cmp_total route_labels_cmp-IsAntisymmetric a b key n w at numbers shows is.numbered;
     groups_numbered = is.groups_numbered;
     grouped = λ other x there. by_key other x (ap (find route_labels_cmp other) (sym numbers) ∙ there);
@@ -151,7 +156,7 @@ module _ (config : Config) (a : Numbered RouteLabels Alert) (gs : Numbered Route
       | true ↦ λ same. let e : n ≡ x = grind (arith, nat_tests) in (key, ap (find route_labels_cmp key) numbers ∙ at ∙ ap (λ n. Some n) e)
       | false ↦ λ other. let e : x ≢ n = grind (arith, nat_tests) in let by = is.named x y (sym (apart x e) ∙ there) in (by.0, ap (find route_labels_cmp by.0) numbers ∙ by.1)
     ] refl;
-    room = λ other x there. omega (arith, ap length groups, length-set m.groups n (if some then Some g else None), is.room other x (ap (find route_labels_cmp other) (sym numbers) ∙ there));
+    room = λ other x there. omega (arith, ap length groups, length-set m.groups n (option_map (λ _. g) w), is.room other x (ap (find route_labels_cmp other) (sym numbers) ∙ there));
     group_room = λ group x there. omega (arith, count, is.group_room group x there);
   }
     where
@@ -161,15 +166,15 @@ module _ (config : Config) (a : Numbered RouteLabels Alert) (gs : Numbered Route
       within : IsTrue (nat_lt n (length m.groups))
       within = let room = is.room key n at in grind (arith, nat_tests)
 
-      own : (o : Option Alert) (some : Bool) → some ≡ is_some o → (if some then Some g else None) ≡ group_number config gs key o
-      own None some e = ap (λ (b : Bool). if b then Some g else None) e
-      own (Some x) some e = ap (λ (b : Bool). if b then Some g else None) e ∙ sym in_g
+      own : (o : Option Alert) → option_map (λ _. g) o ≡ group_number config gs key o
+      own None = refl
+      own (Some x) = sym in_g
 
       apart : (x : ℕ) → x ≢ n → group_at k x ≡ group_at m x
-      apart x e = ap (λ gs. value_at gs x) groups ∙ others_law m.groups n (if some then Some g else None) x e
+      apart x e = ap (λ gs. value_at gs x) groups ∙ others_law m.groups n (option_map (λ _. g) w) x e
 
-      there_now : group_at k n ≡ (if some then Some g else None)
-      there_now = ap (λ gs. value_at gs n) groups ∙ at_law m.groups n (if some then Some g else None) within
+      there_now : group_at k n ≡ option_map (λ _. g) w
+      there_now = ap (λ gs. value_at gs n) groups ∙ at_law m.groups n (option_map (λ _. g) w) within
 
       by_key : (other : RouteLabels) (x : ℕ) → number_of route_labels_cmp a other ≡ Some x → group_at k x ≡ group_number config gs other (get (shown route_labels_cmp b) other)
       by_key other x there =
@@ -177,7 +182,7 @@ module _ (config : Config) (a : Numbered RouteLabels Alert) (gs : Numbered Route
             | true ↦ λ same.
                 let e : other ≡ key = tied_key key other same in
                 let number : n ≡ x = some_same n x (sym at ∙ ap (number_of route_labels_cmp a) (sym e) ∙ there) in
-                ap (group_at k) (sym number) ∙ there_now ∙ own w some some_is ∙ ap (λ (r : RouteLabels). group_number config gs r w) (sym e)
+                ap (group_at k) (sym number) ∙ there_now ∙ own w ∙ ap (λ (r : RouteLabels). group_number config gs r w) (sym e)
             | false ↦ λ other_key. apart x (λ e. true≢false (sym (ap is_eq (tied_itself route_labels_cmp_total key)) ∙ ap (λ (r : RouteLabels). eq_by_cmp route_labels_cmp r key) (is.numbered.apart key other n at (there ∙ ap (λ n. Some n) e)) ∙ other_key))
                 ∙ is.grouped other x there
           ] refl
@@ -205,10 +210,10 @@ module _ (config : Config) (a : Numbered RouteLabels Alert) (gs : Numbered Route
 
       nobody : group_at m (next_number a) ≡ None
       nobody = none_of (group_at m (next_number a)) (λ h.
-      let g = the_value (group_at m (next_number a)) h in
-      let by = is.named (next_number a) g.0 g.1 in
-      let less = numbering.within by.0 (next_number a) by.1 in
-      omega (arith, less))
+          let g = the_value (group_at m (next_number a)) h in
+          let by = is.named (next_number a) g.0 g.1 in
+          let less = numbering.within by.0 (next_number a) by.1 in
+          omega (arith, less))
 
   -- a group gets a number
   pub group_placed : (hs : Numbered RouteLabels (Unit {0})) (k : RouteLabels) → IsNumbering route_labels_cmp gs → number_of route_labels_cmp gs k ≡ None → GetsNumber route_labels_cmp gs hs k (next_number gs) → shown route_labels_cmp hs ≡ shown route_labels_cmp gs → next_number gs < m.count → IsGrouped config a hs m
@@ -274,9 +279,9 @@ module _ (config : Config) (a : Numbered RouteLabels Alert) (gs : Numbered Route
   pub named_by : IsNumbering route_labels_cmp a → (n : ℕ) → group_at m n ≡ Some g → (key : RouteLabels) → Some key ≡ key_at a n → IsNumbered a group.route (key.labels, n)
   named_by numbering n there key is_key =
       let by = member_of n there in
-      let same : by.0 ≡ key = some_same by.0 key (sym (key_at_number route_labels_cmp_total route_labels_cmp-IsAntisymmetric a numbering by.0 n by.1.0) ∙ sym is_key) in
-      let route : key.route ≡ group.route = ap (λ (r : RouteLabels). r.route) (sym same) ∙ ap (λ (r : RouteLabels). r.route) by.1.1.1 in
-      ap (number_of route_labels_cmp a) ((λ i. on_route (sym route i) key.labels) ∙ sym same) ∙ by.1.0
+      let same : by.0 ≡ key = some_same by.0 key (sym (key_at_number route_labels_cmp_total route_labels_cmp-IsAntisymmetric a numbering by.0 n by.1) ∙ sym is_key) in
+      let route : key.route ≡ group.route = ap (λ (r : RouteLabels). r.route) (sym same) ∙ ap (λ (r : RouteLabels). r.route) by.2.1 in
+      ap (number_of route_labels_cmp a) ((λ i. on_route (sym route i) key.labels) ∙ sym same) ∙ by.1
 
 -- ---- the members of a group, from the members of all
 
@@ -402,7 +407,7 @@ module _ (config : Config) (a : Numbered RouteLabels Alert) (gs : Numbered Route
       nobody key false y e h = refl
 
   module _ (g : ℕ) (at : number_of route_labels_cmp gs group ≡ Some g) where
-    IsListed : List (Bor LabelSet × ℕ) → Type 0
+    abbrev pub IsListed : List (Bor LabelSet × ℕ) → Type 0
     IsListed members = All (IsNumbered a group.route) (map numbered_labels members)
 
     -- the labels of a number that is listed are its own
@@ -487,18 +492,31 @@ module _ (config : Config) (a : Numbered RouteLabels Alert) (gs : Numbered Route
           let key = on_route group.route l in
           alike (has label_set_cmp (labels_of_numbered members) l) (is_in config group key && is_some (get (shown route_labels_cmp a) key))
           (λ h.
-              let by = listed_number members all_listed l h in
-              let there : group_at m by.0 ≡ Some g = those.members by.0 (list_any-IsPermutation (λ x. by.0 == x) numbers (numbers_of_listed members) same_numbers ∙ by.1.0) in
-              let member = member_of config a gs m is group g at by.0 there in
-              let same : member.0 ≡ key = is.numbered.apart member.0 key by.0 member.1.0 by.1.1 in
-              both _ _ (subst (λ r. is_in config group r ≡ true) same (ap (λ r. eq_by_cmp route_labels_cmp r group) member.1.1.1 ∙ ap is_eq (tied_itself route_labels_cmp_total group)))
-              (subst (λ r. is_some (get (shown route_labels_cmp a) r) ≡ true) same member.1.1.0))
+          let by = listed_number members all_listed l h in
+          let there : group_at m by.0 ≡ Some g = those.members by.0 (list_any-IsPermutation (λ x. by.0 == x) numbers (numbers_of_listed members) same_numbers ∙ by.1.0) in
+          let member = member_of config a gs m is group g at by.0 there in
+          let same : member.0 ≡ key = is.numbered.apart member.0 key by.0 member.1 by.1.1 in
+          both _ _ (subst (λ r. is_in config group r ≡ true) same (ap (λ r. eq_by_cmp route_labels_cmp r group) member.2.1 ∙ ap is_eq (tied_itself route_labels_cmp_total group)))
+          (subst (λ r. is_some (get (shown route_labels_cmp a) r) ≡ true) same member.2.0))
           (λ h.
-              let by = number_in config a gs m is group g at key (other_of _ _ h) (tied_key group (group_key config key) (one_of _ _ h)) in
-              listed_labels members all_listed l by.0 by.1.0 (sym (list_any-IsPermutation (λ x. by.0 == x) numbers (numbers_of_listed members) same_numbers) ∙ those.all by.0 by.1.1))
+          let by = number_in config a gs m is group g at key (other_of _ _ h) (tied_key group (group_key config key) (one_of _ _ h)) in
+          listed_labels members all_listed l by.0 by.1 (sym (list_any-IsPermutation (λ x. by.0 == x) numbers (numbers_of_listed members) same_numbers) ∙ those.all by.0 by.2))
 
       pub labels_found : labels_of_numbered members ≡ labels_of_members (members_among config (shown route_labels_cmp a) group)
       labels_found = listed config group (shown route_labels_cmp a) (labels_of_numbered members) in_order has_listed
+
+-- an item of a list is among it
+pub among_at : (xs : List ℕ) (i d : ℕ) → i < length xs → IsTrue (list_any (λ m. get_or xs i d == m) xs)
+among_at [] i d h = absurd (omega arith)
+among_at (x ∷ xs) zero d h = ap (λ b. b || list_any (λ m. x == m) xs) (itself x)
+  where
+    itself : (n : ℕ) → (n == n) ≡ true
+    itself n = grind (arith, nat_tests)
+among_at (x ∷ xs) (suc i) d h = or_right (get_or xs i d == x) _ (among_at xs i d (omega arith))
+  where
+    or_right : (a b : Bool) → IsTrue b → IsTrue (a || b)
+    or_right true b h = refl
+    or_right false b h = h
 
 -- ---- copies of members
 

@@ -1,11 +1,11 @@
 //! The configuration in force with the members of all groups, and which member is in which group.
 //! `Store` changes it. The group of a member depends on the configuration, so both are kept
 //! together.
-ghost use Rattle.std.specs.Prelude.{◌≡◌, ◌<◌, ◌++◌, [], IsTrue, Some, None, is_some, map, option_map, if◌then◌else◌, OnOk, OnErr, IfOk};
+ghost use Rattle.std.specs.Prelude.{◌≡◌, ◌<◌, ◌+◌, ◌++◌, [], IsTrue, Some, None, is_some, map, option_map, OnOk, OnErr, IfOk};
 ghost use Rattle.amr_labels.specs.Map as map;
 ghost use Rattle.amr_config.specs.Groups.{groups_of};
 ghost use Rattle.amr_stated.specs.RuleMatches.{rule_matches};
-ghost use Rattle.amr_tables.specs.Numbered.{shown, has_place, number_of, KeepsPlaces, SamePlaces, Enters, SameEntered, NoneEntered, IsUnchanged};
+ghost use Rattle.amr_tables.specs.Numbered.{shown, has_place, number_of, next_number, IsNumbering, KeepsPlaces, SamePlaces, Enters, SameEntered, NoneEntered, IsUnchanged};
 ghost use Rattle.std.specs.List.{All, filter_map, cons_option};
 ghost use Rattle.amr_state.specs.State.{member_on_route, route_labels_cmp, group_key, members_among};
 ghost use Rattle.amr_state.specs.Rostered.{in_group, member_entry_of, labels_of_members, labels_of_numbered, numbered_labels, with_alert, IsNumbered};
@@ -195,10 +195,10 @@ impl Roster {
         ensures current { journal.new.current ≡ journal.old.current }
         ensures record_room { journal.new.record_room ≡ journal.old.record_room }
     {
-        let in_group = group.clone()?;
+        let named_group = group.clone()?;
         let group = self.place_group(group)?;
         let member = self.place_member(route_labels)?;
-        let is_member = alert.is_some();
+        let in_group = if_member(&alert, group);
         let entry = change_found(
             &mut self.placements,
             journal,
@@ -206,9 +206,8 @@ impl Roster {
             Some(member),
             alert,
         )?;
-        self.members
-            .set(member, if is_member { Some(group) } else { None });
-        Ok(member_entry(in_group, entry))
+        self.members.set(member, in_group);
+        Ok(member_entry(named_group, entry))
     }
 
     /// Restores a member of its group, or its absence. It takes no memory.
@@ -234,10 +233,9 @@ impl Roster {
         let Some(number) = self.placements.number_of(&route_labels) else {
             unreachable!()
         };
-        let is_member = alert.is_some();
+        let in_group = if_member(&alert, group);
         let _former = self.placements.displace_at(number, alert);
-        self.members
-            .set(number, if is_member { Some(group) } else { None });
+        self.members.set(number, in_group);
     }
 
     /// Replaces the configuration, while no group has members, and returns the one before. The new
@@ -277,9 +275,7 @@ impl Roster {
         ensures config { self.new.config ≡ self.old.config }
     {
         let key = group.clone()?;
-        let Some(count) = self.groups.next_number().checked_add(1) else {
-            return Err(AllocError);
-        };
+        let count = count_with_next(&self.groups)?;
         self.members.reserve_groups(count)?;
         self.groups.make_place(key)?;
         match self.groups.number_of(group) {
@@ -318,9 +314,7 @@ impl Roster {
         ensures config { self.new.config ≡ self.old.config }
     {
         let key = route_labels.clone()?;
-        let Some(count) = self.placements.next_number().checked_add(1) else {
-            return Err(AllocError);
-        };
+        let count = count_with_next(&self.placements)?;
         self.members.reserve_numbers(count)?;
         self.placements.make_place(key)?;
         match self.placements.number_of(route_labels) {
@@ -330,12 +324,33 @@ impl Roster {
     }
 }
 
+/// Returns the number of the group, if there is an alert to be its member.
+fn if_member(alert: &Option<Alert>, group: usize) -> Option<usize>
+    ensures { result ≡ option_map (λ _. group) alert.now }
+{
+    match alert {
+        None => None,
+        Some(_) => Some(group),
+    }
+}
+
+/// Returns how many keys a table has when the next one has come.
+fn count_with_next<V: Drop>(table: &Keyed<RouteLabels, V>) -> Result<usize, AllocError>
+    ensures count { IfOk result (λ count. count ≡ next_number table.now + 1) }
+    ensures numbering { IsNumbering route_labels_cmp table.now }
+{
+    match table.next_number().checked_add(1) {
+        Some(count) => Ok(count),
+        None => Err(AllocError),
+    }
+}
+
 /// Returns copies of the labels of members.
 fn labels_of(alloc: Global, members: &[(&Labels, usize)]) -> Result<Listing<Labels>, AllocError>
     ensures { IfOk result (λ found. found ≡ labels_of_numbered members.now) }
 {
     let mut found = Listing::new(alloc);
-    for (labels, _) in members {
+    for &(labels, _) in members {
         found.push(labels.clone()?)?;
     }
     Ok(found)

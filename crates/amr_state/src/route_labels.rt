@@ -1,5 +1,7 @@
 //! Routes with label sets: the keys of the tables of members and of group timers.
 
+ghost use Rattle.std.specs.Prelude.{◌≡◌};
+
 use amr_labels::{Exact, Labels};
 use amr_tables::Key;
 use std::alloc::AllocError;
