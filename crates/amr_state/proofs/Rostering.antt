@@ -12,7 +12,7 @@ use Rattle.std.specs.FinMap.{find, is_sorted}
 use Rattle.std.specs.FinMap.Entries.{below_all, is_some-find}
 use Rattle.std.proofs.lemmas.Bool.{true≢false}
 use Rattle.std.proofs.lemmas.Bool.Decides.{nat_tests}
-use Rattle.std.proofs.lemmas.List.{append_assoc, at_drop_more, length-set, length-map}
+use Rattle.std.proofs.lemmas.List.{append_assoc, at_drop_more, length-set}
 use Rattle.std.proofs.lemmas.List.Elements.{All-nil, All-cons, All-head, All-tail, All-get_or}
 use Rattle.std.proofs.lemmas.List.Sorted.{All-permutation, IsPermutation-map, list_any-IsPermutation}
 use Rattle.std.proofs.lemmas.Map.Keys.{IsDistinct-IsPermutation}
@@ -23,7 +23,7 @@ use Rattle.amr_rules.specs.declared.alert.Alert.{Alert}
 use Rattle.amr_tables.specs.Places.{value_at}
 use Rattle.amr_tables.specs.Laws.{at_law, others_law}
 use Rattle.amr_tables.specs.Members.{has}
-use Rattle.amr_tables.specs.Numbered.{Numbered, shown, is_entered, entry_of, number_of, has_place, next_number, key_at, GetsNumber, IsNumber, IsNumbering, IsValueOf}
+use Rattle.amr_tables.specs.Numbered.{Numbered, shown, is_entered, entry_of, number_of, has_place, next_number, key_at, GetsNumber, IsNumber, IsNumbering}
 use Rattle.amr_tables.specs.Grouped.{Grouped, group_at, AreNumbersOf}
 use Rattle.amr_tables.proofs.Naming.{key_at_number}
 use Rattle.amr_tables.proofs.Sorting.{same_from_members}
@@ -31,7 +31,6 @@ use Rattle.amr_tables.proofs.Counting.{strictly}
 use Rattle.amr_state.specs.declared.route_labels.RouteLabels.{RouteLabels}
 use Rattle.amr_state.specs.declared.membership.Membership.{Membership}
 use Rattle.amr_state.specs.State.{on_route, route_labels_cmp, route_labels_cmp_total, route_labels_cmp-IsAntisymmetric, group_key, members_among}
-use Rattle.amr_state.specs.Timed.{AreNumbered}
 use Rattle.amr_state.specs.Rostered.{membership_of, in_group, member_entry_of, labels_of_members, labels_of_numbered, numbered_labels, with_alert, group_number, IsNumbered, IsGrouped}
 use Rattle.amr_state.proofs.Scheduling.{not_none, numbered_same, numbered_set, numbered_placed, none_numbered}
 

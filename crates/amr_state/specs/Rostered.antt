@@ -1,7 +1,6 @@
 -- The configuration in force with the members of all groups, and which member is in which group.
 use Rattle.std.specs.Prelude.{◌≡◌, ◌<◌, ℕ, IsTrue, List, length, map, Option, Some, is_some, option_map}
 use Rattle.std.specs.Option.{option_and_then}
-use Rattle.std.specs.List.{All, AllByRecursion}
 use Rattle.std.specs.Borrow.{Bor}
 use Rattle.amr_labels.specs.Map.{Map, get}
 use Rattle.amr_labels.specs.Labels.{LabelSet}

@@ -1,5 +1,4 @@
-use Rattle.std.proofs.Common.{◌≡◌, ◌<◌, Some, None, IsTrue, length, refl, sym, ap, subst, ◌∙◌, arith}
-use Rattle.std.proofs.Math.Nat.{le_refl}
+use Rattle.std.proofs.Common.{◌≡◌, None, IsTrue, length, refl, sym, ap, subst, ◌∙◌, arith}
 use Rattle.amr_tables.specs.Places.{value_at}
 use Rattle.amr_tables.specs.Numbered.{number_of, next_number, has_place, GetsNumber}
 use Rattle.amr_state.specs.State.{route_labels_cmp, route_labels_cmp_total}

@@ -2,9 +2,8 @@ use Rattle.std.proofs.Common.{◌≡◌, ◌<◌, ℕ, Option, Some, IsTrue, len
 use Rattle.std.specs.Prelude.{IfSome, slice_set}
 use Rattle.std.proofs.Math.Nat.{le_refl}
 use Rattle.amr_tables.specs.Numbered.{shown, number_of, has_place, is_entered, entry_of, IsUnchanged}
-use Rattle.amr_labels.specs.Map as map
 use Rattle.amr_state.specs.State.{route_labels_cmp, group_key}
-use Rattle.amr_state.specs.Rostered.{Rostered, member_entry_of}
+use Rattle.amr_state.specs.Rostered.{Rostered}
 use Rattle.amr_state.proofs.Rostering.{grouped_same, grouped_set, within_if, number_place, entry_is, same_entry, on_err}
 use Rattle.amr_state.proofs.Scheduling.{placed_by}
 use Rattle.amr_state.proofs.roster.Roster.change_member.Goals as goal

@@ -1,11 +1,11 @@
-use Rattle.std.proofs.Common.{◌≡◌, ◌++◌, [], ◌∷◌, ℕ, List, Some, None, map, take, length, get_or, Bor, sym, ap, subst, ◌∙◌}
+use Rattle.std.proofs.Common.{◌≡◌, ◌++◌, [], ◌∷◌, ℕ, Some, map, get_or, Bor, sym, ap, subst, ◌∙◌}
 use Rattle.std.specs.Prelude.{◌==◌, IsTrue}
 use Rattle.std.specs.List.{All, list_any}
 use Rattle.std.specs.Option.{option_copied}
 use Rattle.std.proofs.lemmas.List.{map-append, take_more, take_all}
 use Rattle.std.proofs.lemmas.List.Elements.{All-push}
 use Rattle.amr_labels.specs.Labels.{LabelSet}
-use Rattle.amr_tables.specs.Numbered.{shown, number_of, key_at}
+use Rattle.amr_tables.specs.Numbered.{shown, number_of}
 use Rattle.amr_tables.specs.Grouped.{group_at}
 use Rattle.amr_tables.proofs.Naming.{key_at_number}
 use Rattle.amr_state.specs.State.{route_labels_cmp, route_labels_cmp_total, route_labels_cmp-IsAntisymmetric, members_among}

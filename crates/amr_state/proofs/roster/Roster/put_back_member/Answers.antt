@@ -1,4 +1,4 @@
-use Rattle.std.proofs.Common.{◌≡◌, ◌<◌, ℕ, Option, IsTrue, Some, refl, sym, ap, subst, ◌∙◌}
+use Rattle.std.proofs.Common.{◌≡◌, ◌<◌, ℕ, Option, IsTrue, Some, sym, ap, subst, ◌∙◌}
 use Rattle.std.specs.Prelude.{IfSome, slice_set}
 use Rattle.amr_tables.specs.Numbered.{has_place, is_entered, number_of}
 use Rattle.amr_state.specs.State.{member_on_route, route_labels_cmp, group_key}

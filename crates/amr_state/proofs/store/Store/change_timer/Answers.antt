@@ -1,12 +1,10 @@
-use Rattle.std.proofs.Common.{◌≡◌, Option, [], ◌∷◌, ◌++◌, IsTrue, refl, sym, ap, subst, ◌∙◌}
+use Rattle.std.proofs.Common.{◌≡◌, [], ◌∷◌, ◌++◌, IsTrue, refl, sym, ap, subst, ◌∙◌}
 use Rattle.amr_labels.specs.Map as map
 use Rattle.amr_labels.specs.Labels.{label_set_cmp}
 use Rattle.amr_tables.specs.Numbered.{shown, has_place, is_entered}
 use Rattle.amr_tables.proofs.Entering.{entry_of-none, entry_of-some, entered_again}
 use Rattle.amr_state.specs.declared.displaced.Displaced.{Displaced}
 use Rattle.amr_state.specs.declared.displaced.Displaced.TheVariants.{WasTimer}
-use Rattle.amr_state.specs.declared.route_labels.RouteLabels.{RouteLabels}
-use Rattle.amr_state.specs.declared.notification.GroupTimer.{GroupTimer}
 use Rattle.amr_state.specs.State.{route_labels_cmp, route_labels_cmp-IsAntisymmetric}
 use Rattle.amr_state.specs.Kept.{undone}
 use Rattle.amr_state.specs.declared.store.Store.TheInside.{Inside}

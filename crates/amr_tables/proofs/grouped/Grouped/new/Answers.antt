@@ -1,4 +1,4 @@
-use Rattle.std.proofs.Common.{◌≡◌, length, ap, arith}
+use Rattle.std.proofs.Common.{length, ap, arith}
 use Rattle.amr_tables.proofs.Linking.{nothing_linked}
 use Rattle.amr_tables.proofs.grouped.Grouped.new.Goals as goal
 

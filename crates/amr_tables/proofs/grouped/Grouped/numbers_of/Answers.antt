@@ -1,4 +1,4 @@
-use Rattle.std.proofs.Common.{◌≡◌, ◌++◌, ◌∷◌, ◌<◌, ◌≤◌, [], ℕ, List, Option, None, Some, length, refl, sym, ap, subst, ◌∙◌, arith, length-append}
+use Rattle.std.proofs.Common.{◌≡◌, ◌∷◌, ◌<◌, ◌≤◌, [], ℕ, List, Option, None, Some, length, refl, sym, ap, subst, ◌∙◌, arith, length-append}
 use Rattle.amr_tables.specs.Places.{value_at}
 use Rattle.amr_tables.specs.Grouped.{Grouped, AreNumbersOf}
 use Rattle.amr_tables.specs.declared.grouped.Links.{Links}

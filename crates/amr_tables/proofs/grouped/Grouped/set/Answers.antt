@@ -1,6 +1,5 @@
-use Rattle.std.proofs.Common.{◌≡◌, ℕ, List, Option, None, Some, slice_set, sym, ap, ◌∙◌}
+use Rattle.std.proofs.Common.{ℕ, List, Option, None, Some, slice_set, sym, ap, ◌∙◌}
 use Rattle.std.proofs.lemmas.List.{set-set}
-use Rattle.amr_tables.specs.Grouped.{Grouped}
 use Rattle.amr_tables.proofs.grouped.Grouped.set.Goals as goal
 
 pub returns-in-Some-clause-groups : goal.returns-in-Some-clause-groups

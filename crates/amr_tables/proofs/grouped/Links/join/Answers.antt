@@ -1,8 +1,7 @@
-use Rattle.std.proofs.Common.{◌≡◌, ◌<◌, ℕ, Option, None, Some, length, cond, slice_set, refl, sym, ap, ◌∙◌, arith}
+use Rattle.std.proofs.Common.{◌≡◌, ◌<◌, ℕ, Option, None, Some, length, cond, slice_set, ap, ◌∙◌, arith}
 use Rattle.std.specs.Prelude.{◌==◌}
 use Rattle.std.proofs.lemmas.List.{length-set}
 use Rattle.amr_tables.specs.Places.{value_at}
-use Rattle.amr_tables.specs.Grouped.{AreLinked}
 use Rattle.amr_tables.proofs.Linking.{within, set_at, item_is, joined_alone, joined_others}
 use Rattle.amr_tables.proofs.grouped.Links.join.Goals as goal
 

@@ -1,8 +1,7 @@
-use Rattle.std.proofs.Common.{◌≡◌, ◌<◌, ℕ, Option, None, Some, length, refl, sym, ap, ◌∙◌, cond, arith}
+use Rattle.std.proofs.Common.{◌≡◌, ◌<◌, ℕ, Option, None, Some, length, refl, ap, ◌∙◌, cond, arith}
 use Rattle.std.specs.Prelude.{◌==◌}
 use Rattle.std.proofs.lemmas.List.{length-set}
 use Rattle.amr_tables.specs.Places.{value_at}
-use Rattle.amr_tables.specs.Grouped.{AreLinked}
 use Rattle.amr_tables.proofs.Linking.{within, set_at, item_is, left_first_last, left_first_before, left_after_last, left_after_before}
 use Rattle.amr_tables.proofs.grouped.Links.unlink.Goals as goal
 
