@@ -4,7 +4,6 @@ pub mod Found
 pub mod Inherited
 pub mod Lines
 pub mod OwnPaths
-pub mod PathTexts
 pub mod Places
 pub mod Ranges
 pub mod Receivers
@@ -12,3 +11,4 @@ pub mod Remembered
 pub mod RuleNames
 pub mod Settling
 pub mod Sorting
+pub mod Spreads

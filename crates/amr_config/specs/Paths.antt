@@ -1,12 +1,11 @@
--- Paths of routes: their order, their texts, and which of them are paths of one route alone.
-use Rattle.std.specs.Prelude.{◌≡◌, ℕ, ◌<◌, ◌≤◌, ◌+◌, ◌*◌, ◌/◌, ◌%◌, ◌^◌, Bool, false, List, [], ◌∷◌, ◌++◌, replicate, flat_map, fold, length, get_or}
+-- Paths of routes: their order, their numbers, and which of them are paths of one route alone.
+use Rattle.std.specs.Prelude.{◌≡◌, ℕ, ◌<◌, ◌≤◌, ◌+◌, ◌*◌, ◌%◌, ◌^◌, Bool, false, List, fold, length, get_or}
 use Rattle.std.specs.Bool.{Decides}
 use Rattle.std.specs.declared.cmp.Ordering.{Ordering}
 use Rattle.std.specs.Cmp.{IsTotalOrder}
 use Rattle.std.specs.Cmp.Lexicographic.{slice_cmp, lists_total}
-use Rattle.amr_labels.specs.Labels.{Text}
 use Rattle.amr_labels.specs.Spread.{text_spread}
-use Rattle.amr_matchers.specs.Matchers.{Matcher, operator_place, matcher_cmp, matcher_cmp_total}
+use Rattle.amr_matchers.specs.Matchers.{Matcher, matcher_cmp, matcher_cmp_total}
 use Rattle.amr_stated.specs.Config.{Config}
 use Rattle.amr_config.specs.Routing.{path_of}
 
@@ -21,33 +20,19 @@ path_cmp a b = slice_cmp (slice_cmp matcher_cmp) a b
 pub path_cmp_total : IsTotalOrder path_cmp
 path_cmp_total = lists_total (lists_total matcher_cmp_total)
 
--- ---- texts: other paths have other texts
+-- ---- numbers that tables spread paths by: only the speed of look-ups depends on them
 
--- a byte 127 for each 127 in the length, and the rest as a byte
-abbrev pub length_text : ℕ → Text
-length_text length = replicate (length / 127) 127 ++ (length % 127) ∷ []
+-- the number with one more matcher
+abbrev pub spread_with : ℕ → Matcher → ℕ
+spread_with spread matcher = ((spread * 31 % 2 ^ 64 + text_spread matcher.name) % 2 ^ 64 * 31 % 2 ^ 64 + text_spread matcher.value) % 2 ^ 64
 
-abbrev pub text_after_length : Text → Text
-text_after_length text = length_text (length text) ++ text
+-- that of a path below one with this number
+abbrev pub spread_below : ℕ → List Matcher → ℕ
+spread_below above own = fold spread_with ((above * 31 % 2 ^ 64 + 1) % 2 ^ 64) own
 
--- '0', '1', '2' or '3'
-abbrev pub operator_mark : Matcher → Text
-operator_mark matcher = (48 + operator_place matcher.operator) ∷ []
-
-abbrev pub matcher_text : Matcher → Text
-matcher_text matcher = text_after_length matcher.name ++ text_after_length matcher.value ++ operator_mark matcher
-
--- a '1' before each matcher, and a '0' at the end
-abbrev pub matchers_text : List Matcher → Text
-matchers_text matchers = flat_map (λ matcher. 49 ∷ matcher_text matcher) matchers ++ 48 ∷ []
-
--- a '1' before the matchers of each route
-abbrev pub path_text : Path → Text
-path_text path = flat_map (λ matchers. 49 ∷ matchers_text matchers) path
-
--- the number that tables spread a path by, from the root down
+-- from the root down
 unfoldable pub path_spread : Path → ℕ
-path_spread path = fold (λ spread matchers. (spread * 31 % 2 ^ 64 + text_spread (matchers_text matchers)) % 2 ^ 64) 0 path
+path_spread path = fold spread_below 0 path
 
 -- ---- paths of one route alone
 

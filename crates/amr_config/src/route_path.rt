@@ -1,17 +1,14 @@
-//! The paths of routes, which are part of the notification log's keys. A path has one text unless it
-//! is long, so that equal paths are found equal by one comparison. A long path has none, since many
-//! routes may be below one with long matchers, and each would repeat them.
-ghost use Rattle.std.specs.Prelude.{◌≡◌, ◌*◌, ◌+◌, ◌%◌, ◌^◌, [], ◌∷◌, ◌++◌, string_bytes, IfOk, IfSome};
+//! The paths of routes, which are part of the notification log's keys. Few log keys differ only in
+//! the path, so paths are compared by their matchers, and spread out by a number made of these.
+ghost use Rattle.std.specs.Prelude.{◌≡◌, [], ◌∷◌, ◌++◌, IfOk};
 ghost use Rattle.std.proofs.Common.{rules};
 ghost use Rattle.std.specs.Cmp.{partial_order_from_own_ties};
 ghost use Rattle.std.specs.Cmp.Rules.{comparing};
 ghost use Rattle.std.specs.Ordering.{as_partial_cmp, eq_by_cmp};
-ghost use Rattle.amr_labels.specs.Spread.{text_spread};
-ghost use Rattle.amr_config.specs.Paths.{path_cmp, path_cmp_total, path_text, path_spread, matchers_text};
+ghost use Rattle.amr_config.specs.Paths.{path_cmp, path_cmp_total, path_spread, spread_below, spread_with};
 
-use crate::path_text::matchers_text;
 use amr_labels::{Exact, Listing, Shared, spread_of};
-use amr_matchers::Matchers;
+use amr_matchers::{Matcher, Matchers};
 use std::alloc::{AllocError, Global};
 use std::cmp::Ordering;
 use std::marker::Model;
@@ -20,69 +17,50 @@ use std::marker::Model;
 /// them.
 #[derive(Drop)]
 pub struct RoutePath {
-    shared: Shared<TextedPath>,
+    shared: Shared<SpreadPath>,
 }
 
-/// The most bytes that the text of a path has. Longer paths are compared by their matchers.
-const LONGEST_TEXT: usize = 1024;
-
-/// A path with its text. Contracts see the path.
+/// A path with a number. Contracts see the path.
 #[derive(Drop)]
-struct TextedPath {
+struct SpreadPath {
     matchers: Listing<Matchers>,
-    /// Other paths have other texts. A long path has none.
-    text: Option<String>,
     /// A number made of the matchers, by which tables spread paths out.
     spread: usize,
 }
 
-impl Model for TextedPath {
-    ghost use Rattle.std.specs.Prelude.{◌≡◌, List, string_bytes, IfSome};
+impl Model for SpreadPath {
+    ghost use Rattle.std.specs.Prelude.{◌≡◌, List};
     ghost use Rattle.amr_matchers.specs.Matchers.{Matcher};
-    ghost use Rattle.amr_config.specs.Paths.{path_text, path_spread};
+    ghost use Rattle.amr_config.specs.Paths.{path_spread};
 
     ghost Value = { List (List Matcher) };
 
     ghost view = { λ path. path.matchers };
 
-    ghost invariant = { λ path. IfSome path.text (λ text. string_bytes text ≡ path_text path.matchers)
-        × (path.spread ≡ path_spread path.matchers) };
+    ghost invariant = { λ path. path.spread ≡ path_spread path.matchers };
 }
 
-impl TextedPath {
+impl SpreadPath {
     /// Makes the path of a root route with these matchers.
-    fn root(alloc: Global, own: Matchers) -> Result<TextedPath, AllocError>
+    #[tactic(auto, unfolding(crate::specs::Paths::path_spread))]
+    fn root(alloc: Global, own: Matchers) -> Result<SpreadPath, AllocError>
         ensures { IfOk result (λ path. path ≡ own ∷ []) }
     {
-        let own_text = matchers_text(alloc, own.as_slice())?;
-        let spread = spread_below(0, own_text.as_str());
-        let text = text_below(alloc, "", own_text.as_str())?;
+        let spread = spread_below(0, own.as_slice());
         let mut matchers = Listing::new(alloc);
         matchers.push(own)?;
-        Ok(TextedPath {
-            matchers,
-            text,
-            spread,
-        })
+        Ok(SpreadPath { matchers, spread })
     }
 
     /// Makes the path of a route with these matchers, below the route of this path.
-    fn below(&self, alloc: Global, own: Matchers) -> Result<TextedPath, AllocError>
+    #[tactic(auto, using(crate::proofs::Spreads::spread_more))]
+    fn below(&self, own: Matchers) -> Result<SpreadPath, AllocError>
         ensures { IfOk result (λ path. path ≡ self.now ++ own ∷ []) }
     {
-        let own_text = matchers_text(alloc, own.as_slice())?;
-        let spread = spread_below(self.spread, own_text.as_str());
-        let text = match &self.text {
-            Some(above) => text_below(alloc, above.as_str(), own_text.as_str())?,
-            None => None,
-        };
+        let spread = spread_below(self.spread, own.as_slice());
         let mut matchers = self.matchers.clone()?;
         matchers.push(own)?;
-        Ok(TextedPath {
-            matchers,
-            text,
-            spread,
-        })
+        Ok(SpreadPath { matchers, spread })
     }
 
     /// Returns the path.
@@ -98,42 +76,28 @@ impl TextedPath {
     {
         self.spread
     }
-
-    /// Compares two paths, route by route.
-    fn cmp(&self, other: &TextedPath) -> Ordering
-        ensures { result ≡ path_cmp self.now other.now }
-    {
-        if let (Some(text), Some(others)) = (&self.text, &other.text) {
-            if text.as_str() == others.as_str() {
-                return Ordering::Equal;
-            }
-        }
-        self.matchers.as_slice().cmp(other.matchers.as_slice())
-    }
 }
 
-/// Returns the spread of a path, given that of the path above and the text of the route's own
-/// matchers.
-fn spread_below(above: usize, own: &str) -> usize
-    ensures { result ≡ (above * 31 % 2 ^ 64 + text_spread own.now) % 2 ^ 64 }
+/// Returns the number of a path, given that of the path above and the route's own matchers.
+fn spread_below(above: usize, own: &[Matcher]) -> usize
+    ensures { result ≡ spread_below above own.now }
 {
-    above.wrapping_mul(31).wrapping_add(spread_of(own))
+    let mut spread = above.wrapping_mul(31).wrapping_add(1);
+    for matcher in own {
+        spread = spread_with(spread, matcher);
+    }
+    spread
 }
 
-/// Returns the text of a path, given that of the path above and the text of the route's own matchers.
-/// Returns `None` if it is long.
-fn text_below(alloc: Global, above: &str, own: &str) -> Result<Option<String>, AllocError>
-    ensures { IfOk result (λ text. IfSome text (λ text.
-        string_bytes text ≡ above.now ++ 49 ∷ own.now)) }
+/// Returns the number with one more matcher, whose operator doesn't count.
+fn spread_with(spread: usize, matcher: &Matcher) -> usize
+    ensures { result ≡ spread_with spread matcher.now }
 {
-    if above.len() > LONGEST_TEXT || own.len() >= LONGEST_TEXT - above.len() {
-        return Ok(None);
-    }
-    let mut text = String::with_capacity(alloc, above.len() + 1 + own.len())?;
-    text.push_str(above)?;
-    text.push('1')?;
-    text.push_str(own)?;
-    Ok(Some(text))
+    spread
+        .wrapping_mul(31)
+        .wrapping_add(spread_of(matcher.name().as_str()))
+        .wrapping_mul(31)
+        .wrapping_add(spread_of(matcher.value().as_str()))
 }
 
 impl Model for RoutePath {
@@ -150,7 +114,7 @@ impl RoutePath {
     pub fn root(alloc: Global, own: Matchers) -> Result<RoutePath, AllocError>
         ensures { IfOk result (λ path. path ≡ own ∷ []) }
     {
-        let path = TextedPath::root(alloc, own)?;
+        let path = SpreadPath::root(alloc, own)?;
         Ok(RoutePath {
             shared: Shared::new(alloc, path)?,
         })
@@ -160,7 +124,7 @@ impl RoutePath {
     pub fn below(&self, alloc: Global, own: Matchers) -> Result<RoutePath, AllocError>
         ensures { IfOk result (λ path. path ≡ self.now ++ own ∷ []) }
     {
-        let path = self.shared.get().below(alloc, own)?;
+        let path = self.shared.get().below(own)?;
         Ok(RoutePath {
             shared: Shared::new(alloc, path)?,
         })
@@ -219,7 +183,7 @@ impl Ord for RoutePath {
     ghost matches_eq = { Prim.search (comparing, rules) };
 
     fn cmp(&self, other: &RoutePath) -> Ordering {
-        self.shared.get().cmp(other.shared.get())
+        self.get().as_slice().cmp(other.get().as_slice())
     }
 }
 
