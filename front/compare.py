@@ -8,7 +8,7 @@ from dataclasses import dataclass
 from typing import Any, Iterable, Iterator
 
 from . import inputs
-from .arguments import parser_of
+from .arguments import add_config, add_output, add_script, parser_of
 from .moments import MINUTE, SECOND, clock_text, moment_text, nanoseconds
 from .program import Fault, Program
 
@@ -90,12 +90,12 @@ def _options(arguments: list[str]) -> argparse.Namespace:
         "Sets the replay beside the notifications that webhooks really got.",
         'FILE has a line {"receivedAt": MOMENT, "body": BODY} for each body. docs/CAPTURE.md says how to log them.',
     )
-    parser.add_argument("config", metavar="CONFIG", help="the configuration, as YAML or JSON")
-    parser.add_argument("script", metavar="SCRIPT", help="what happened, an event on each line")
+    add_config(parser)
+    add_script(parser)
     parser.add_argument("--webhooks", metavar="FILE", required=True, help="what the webhooks got")
     parser.add_argument("--from", dest="start", metavar="MOMENT", help="compare what is at this moment or later")
     parser.add_argument("--to", dest="end", metavar="MOMENT", help="compare what is received up to this moment")
-    parser.add_argument("--output", choices=("text", "json"), default="text", help="text (the default) or json")
+    add_output(parser, "the comparison is")
     return parser.parse_args(arguments)
 
 

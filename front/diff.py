@@ -7,7 +7,7 @@ import json
 import sys
 from typing import Any
 
-from .arguments import parser_of
+from .arguments import add_output, add_script, parser_of
 from .diff_text import text_of
 from .inputs import Given, opened
 from .moments import SECOND, moment_text
@@ -59,17 +59,14 @@ def _options(arguments: list[str]) -> argparse.Namespace:
     )
     parser.add_argument("a", metavar="A", help="the first configuration, as JSON or YAML")
     parser.add_argument("b", metavar="B", help="the second")
-    parser.add_argument("script", metavar="SCRIPT", help="what happened, an event on each line")
+    add_script(parser)
     parser.add_argument(
         "--ignore-reloads",
         action="store_true",
         help="leave the script's reloads out; otherwise both runs go on under what they load",
     )
     parser.add_argument("--all", action="store_true", help="all entries, however many")
-    parser.add_argument(
-        "--output", choices=("text", "json"), default="text", help="how the differences are printed (text)"
-    )
-    parser.add_argument("--json", dest="output", action="store_const", const="json", help="the same as --output json")
+    add_output(parser, "the differences are")
     return parser.parse_args(arguments)
 
 

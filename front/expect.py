@@ -8,7 +8,7 @@ import os
 import sys
 from pathlib import Path
 
-from .arguments import parser_of
+from .arguments import add_config, add_output, add_script, parser_of
 from .expectations import Failure, expectations_in, failures_of, recorded
 from .inputs import opened, shown
 from .program import Fault
@@ -44,16 +44,15 @@ def _options(arguments: list[str]) -> argparse.Namespace:
         epilog='A line: {"labels":{"alertname":"X"},"receiver":"pager","by":"2024-05-01T10:05:00Z"}, or "never":true in place of "by". '
         'A part of the labels suffices; "integration" and "after" may be there too. docs/EXPECT.md has an example for CI.',
     )
-    parser.add_argument("config", metavar="CONFIG", help="the configuration, as JSON or YAML")
-    parser.add_argument("script", metavar="SCRIPT", help="what happened, an event on each line")
+    add_config(parser)
+    add_script(parser)
     parser.add_argument(
         "expectations", metavar="EXPECTATIONS", help="the expectations, one on each line; - is standard input or output"
     )
     parser.add_argument(
         "--record", action="store_true", help="write what happens now to EXPECTATIONS, which isn't there yet"
     )
-    parser.add_argument("--output", choices=("text", "json"), default="text", help="how failures are printed (text)")
-    parser.add_argument("--json", dest="output", action="store_const", const="json", help="the same as --output json")
+    add_output(parser, "failures are")
     return parser.parse_args(arguments)
 
 

@@ -9,7 +9,7 @@ EVENTS = {
     18: "no silence has this id",
     19: "a silence has this newId already",
     20: "it is before the event before it",
-    21: "more than 10,000 moves are due at or before it",
+    21: "more than 1,000,000 moves are due at or before it",
 }
 
 CONFIGURATIONS = {
@@ -32,7 +32,10 @@ ACTS = {
 }
 
 
+REASONS = {**EVENTS, **CONFIGURATIONS}
+
+
 def refused_event(number: int, act: str) -> str:
     """Returns which event was refused, and why."""
-    reason = EVENTS.get(number) or CONFIGURATIONS.get(number) or "for a reason without a name here"
+    reason = REASONS.get(number, "for a reason without a name here")
     return f"{ACTS.get(act, 'an event')} was refused: {reason} ({number})"

@@ -7,7 +7,7 @@ import json
 import sys
 from typing import Any, Iterator, Optional
 
-from .arguments import parser_of
+from .arguments import add_config, add_output, parser_of
 from .inputs import Config, Inputs, opened
 from .labels import labels_in
 from .moments import DAY, HOUR, moment_text
@@ -53,7 +53,7 @@ def _options(arguments: list[str]) -> argparse.Namespace:
         "routes",
         "Prints the tree of routes with their numbers, matchers, receivers and times; with labels, the routes that take them.",
     )
-    parser.add_argument("config", metavar="CONFIG", help="the configuration, as JSON or YAML")
+    add_config(parser)
     parser.add_argument(
         "labels",
         metavar="LABELS",
@@ -66,8 +66,7 @@ def _options(arguments: list[str]) -> argparse.Namespace:
         metavar="RECEIVERS",
         help="status 1 if these receivers, with commas, aren't the alert's",
     )
-    parser.add_argument("--output", choices=("text", "json"), default="text", help="how routes are printed (text)")
-    parser.add_argument("--json", dest="output", action="store_const", const="json", help="the same as --output json")
+    add_output(parser, "routes are")
     return parser.parse_args(arguments)
 
 

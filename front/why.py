@@ -8,7 +8,7 @@ import json
 import sys
 from typing import Optional
 
-from .arguments import duration, parser_of
+from .arguments import add_config, add_output, add_script, duration, parser_of
 from .inputs import opened
 from .labels import contains, labels_in
 from .meant import did_you_mean
@@ -48,8 +48,8 @@ def _options(arguments: list[str]) -> argparse.Namespace:
         "why",
         "Says of each alert and receiver when the first notification was, how late, and why not before or not at all.",
     )
-    parser.add_argument("config", metavar="CONFIG", help="the configuration, as JSON or YAML; - is standard input")
-    parser.add_argument("script", metavar="SCRIPT", help="what happened, an event on each line")
+    add_config(parser)
+    add_script(parser)
     parser.add_argument(
         "--alert",
         metavar="LABELS",
@@ -64,8 +64,7 @@ def _options(arguments: list[str]) -> argparse.Namespace:
         help="later than this, besides group_wait, is late (2m)",
     )
     parser.add_argument("--all", action="store_true", help="all entries, however many, and all reasons")
-    parser.add_argument("--output", choices=("text", "json"), default="text", help="how the story is printed (text)")
-    parser.add_argument("--json", dest="output", action="store_const", const="json", help="the same as --output json")
+    add_output(parser, "the story is")
     return parser.parse_args(arguments)
 
 

@@ -122,7 +122,8 @@ def _entry(entry: Entry, names: Names, telling: Telling) -> Iterator[str]:
         f", first posted {names.moment(firing.posted)}" if firing.posted - firing.fired > telling.late_after else ""
     )
     if entry.section == EXPECTED and not telling.is_full:
-        yield f"  {names.alert(entry.alert)}: {_in_short(entry, names)}"
+        fired = f" fired {names.moment(firing.fired)}" if firing.number > 1 else ""
+        yield f"  {names.alert(entry.alert)}{fired}: {_in_short(entry, names)}"
         return
     yield f"  {names.alert(entry.alert)}  fired {names.moment(firing.fired)} {end}{posted}"
     for told in _alike(entry.told, names, telling):

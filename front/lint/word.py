@@ -8,7 +8,7 @@ import sys
 from pathlib import Path
 from typing import Iterator
 
-from ..arguments import parser_of
+from ..arguments import add_config, add_output, parser_of
 from ..config.yaml_config import Reading
 from ..inputs import Config, Given, opened
 from ..program import Counts, Fault, Program, converse
@@ -54,7 +54,7 @@ def _options(arguments: list[str]) -> argparse.Namespace:
         "Says what the program refuses in a configuration or a script, in which line, and what to write; and what is odd: keys that nobody knows, "
         "receivers and time intervals that no route uses, routes that no alert reaches, rules that mute everything.",
     )
-    parser.add_argument("config", metavar="CONFIG", help="the configuration, as JSON or YAML")
+    add_config(parser)
     parser.add_argument(
         "script",
         metavar="SCRIPT",
@@ -62,8 +62,7 @@ def _options(arguments: list[str]) -> argparse.Namespace:
         help="a script; the events that are refused under the configuration are found too",
     )
     parser.add_argument("--lint-fatal", action="store_true", help="warnings give the status 1 too")
-    parser.add_argument("--output", choices=("text", "json"), default="text", help="how findings are printed (text)")
-    parser.add_argument("--json", dest="output", action="store_const", const="json", help="the same as --output json")
+    add_output(parser, "findings are")
     return parser.parse_args(arguments)
 
 

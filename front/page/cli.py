@@ -8,7 +8,7 @@ import sys
 import tempfile
 from pathlib import Path
 
-from ..arguments import parser_of
+from ..arguments import add_config, add_script, parser_of
 from ..labels import labels_in
 from ..program import Fault
 from .making import Options, make
@@ -32,9 +32,9 @@ def main(words: list[str]) -> int:
 def read_words(words: list[str]) -> Options:
     """Reads the words. Faulty ones end the program with status 2."""
     parser = parser_of("page", "Writes one self-contained page of an incident.", "docs/PAGE.md describes the page.")
+    add_config(parser)
+    add_script(parser)
     add = parser.add_argument
-    add("config", metavar="CONFIG", help="the configuration, as YAML or JSON; - is standard input")
-    add("script", metavar="SCRIPT", help="what happened, an event on each line")
     add("--output", metavar="FILE", help="write the page to FILE, and not to standard output")
     add("--title", metavar="TEXT", help="the page's title")
     add("--against", metavar="OTHER_CONFIG", help="replay the script under this configuration too, and compare")

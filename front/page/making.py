@@ -13,6 +13,7 @@ from ..inputs import Given, Inputs, opened, shown, times_of
 from ..moments import DAY, moment_text, nanoseconds
 from ..program import Fault, Source, answers_of
 from ..progress import Progress
+from ..refusals import REASONS
 from ..script import Event, Script, event_of, script_of
 from ..story.times import DAYS_AFTER
 from ..telling import count_text
@@ -239,6 +240,7 @@ def _data(collected: Collected, thinning: Thinning, options: Options) -> dict[st
         "named": [tables.labels(dict(labels)) for each in first.named for labels in each],
         "mutes": len(first.told.mutes),
         "notices": collected.notices,
+        "reasons": REASONS,
         "configs": configs.written(),
         **tables.written(),
     }

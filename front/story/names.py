@@ -21,19 +21,15 @@ class Names:
         self._story = story
         self._reasons = reasons
         self._shared = _shared([alert.labels for alert in story.alerts])
+        self._telling = _telling([alert.labels for alert in story.alerts])
         self._with_date = not is_one_day(story)
         self._routes: dict[int, list[Route]] = {}
 
     def alert(self, labels: Pairs) -> str:
         """Returns `NAME{label="value", ..} severity`, with as many labels as fit, at least those that vary among the alerts of a name."""
         by_name = dict(labels)
-        shown = [
-            f'{name}="{value}"'
-            for name, value in labels
-            if name not in (NAME, SEVERITY) and (name, value) not in self._shared
-        ]
-        while len(shown) > 1 and sum(map(len, shown)) > LONG:
-            shown[-2:] = ["…"]
+        own = [each for each in labels if each[0] not in (NAME, SEVERITY) and each not in self._shared]
+        shown = _fitting(own, self._telling.get(by_name.get(NAME, ""), set()))
         text = by_name.get(NAME, "") + (f"{{{', '.join(shown)}}}" if shown or NAME not in by_name else "")
         return f"{text} {by_name[SEVERITY]}" if SEVERITY in by_name else text
 
@@ -124,3 +120,28 @@ def _shared(alerts: list[Pairs]) -> set[tuple[str, str]]:
     for labels in alerts[1:]:
         shared &= set(labels)
     return shared
+
+
+def _telling(alerts: list[Pairs]) -> dict[str, set[str]]:
+    """Returns for each alert name the labels by which its alerts differ."""
+    first: dict[str, dict[str, str]] = {}
+    found: dict[str, set[str]] = {}
+    for labels in alerts:
+        by_name = dict(labels)
+        one = first.setdefault(by_name.get(NAME, ""), by_name)
+        found.setdefault(by_name.get(NAME, ""), set()).update(name for name, _ in one.items() ^ by_name.items())
+    return found
+
+
+def _fitting(labels: list[tuple[str, str]], telling: set[str]) -> list[str]:
+    """Returns labels as texts: all of them if they fit, or else those that tell, others as far as they fit, and `…`."""
+    texts = {name: f'{name}="{value}"' for name, value in labels}
+    if sum(map(len, texts.values())) <= LONG or len(texts) < 2:
+        return list(texts.values())
+    kept = {name for name in texts if name in telling} or {next(iter(texts))}
+    room = LONG - sum(len(texts[name]) for name in kept)
+    for name, text in texts.items():
+        if name not in kept and len(text) <= room:
+            kept.add(name)
+            room -= len(text)
+    return [*(text for name, text in texts.items() if name in kept), *(["…"] if len(kept) < len(texts) else [])]

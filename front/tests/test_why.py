@@ -136,6 +136,33 @@ class SmallIncidents(WithRoom):
         ]
         self.assertIn("10:00:00  event 1: deploy of 4711\n", self.why(OPS, events))
 
+    def test_alerts_that_differ_in_one_label_have_different_names(self) -> None:
+        labels = {
+            name: name * 5 for name in ("container", "endpoint", "instance", "job", "namespace", "node", "service")
+        }
+        pods = [{"alertname": "KubePodCrashLooping", **labels, "pod": f"checkout-{i}", "uid": str(i)} for i in range(5)]
+        other = {"alertname": "Watchdog"}
+        events = [
+            {
+                "at": "2024-05-01T10:00:00Z",
+                "alerts": [{"labels": each, "startsAt": "2024-05-01T10:00:00Z"} for each in [*pods, other]],
+            },
+            tick("10:30:00"),
+        ]
+        printed = self.why({**OPS, "inhibit_rules": []}, events)
+        lines = [line for line in printed.splitlines() if "KubePodCrashLooping" in line]
+        self.assertEqual((len(lines), len(set(lines))), (5, 5))
+        self.assertIn('pod="checkout-3", uid="3", …}: ops', printed)
+
+    def test_firings_of_one_alert_have_their_starts(self) -> None:
+        labels = {"alertname": "X"}
+        events = [
+            post("10:00:00", labels, "10:00:00", "10:10:00"),
+            post("10:12:00", labels, "10:12:00", "11:00:00"),
+            tick("10:30:00"),
+        ]
+        self.assertIn("  X fired 10:12:00: ops (webhook) 10:12:30, 30 s", self.why(OPS, events, "--late", "1h"))
+
     def test_hostile_texts_are_one_line(self) -> None:
         events = [post("10:00:00", {"alertname": "X\n\u202ey\x1b[31m"}, "10:00:00", "11:00:00"), tick("10:30:00")]
         printed = self.why(OPS, events)

@@ -2,14 +2,23 @@
 
 from __future__ import annotations
 
+import re
 import unittest
 
 from front.labels import labels_in
 from front.moments import HOUR, MINUTE, SECOND, clock_text, length_of, length_text, nanoseconds
 from front.program import Fault
+from front.refusals import EVENTS
 from front.words import WORDS
 
-from .support import run_word
+from .support import TOP, run_word
+
+
+class Refusals(unittest.TestCase):
+    def test_their_figures_are_those_of_the_rules(self) -> None:
+        rows = dict(re.findall(r"^\| (\d+) \| `\w+` \| (.*) \|$", (TOP / "docs/RULES.md").read_text("utf-8"), re.M))
+        for number, text in EVENTS.items():
+            self.assertEqual(re.findall(r"\d[\d,]*", text), re.findall(r"\d[\d,]*", rows[str(number)]), number)
 
 
 class Words(unittest.TestCase):

@@ -10,6 +10,7 @@ use Rattle.amr_labels.specs.Labels.{Text}
 use Rattle.amr_stated.specs.declared.route.Route.{Route}
 use Rattle.amr_config.specs.declared.settings.Settings.{Settings}
 use Rattle.amr_stated.specs.Config.{Config}
+use Rattle.amr_config.specs.declared.defaults.TheConstants.{GROUP_WAIT_SECONDS, GROUP_INTERVAL_MINUTES, REPEAT_INTERVAL_HOURS}
 use Rattle.amr_config.specs.Routing.{parent_of, line_of, first_stated, inherited, receiver_name_of, active_intervals_of, mute_intervals_of, path_of, sorted_matchers}
 use Rattle.amr_config.specs.Receivers.{receiver_parent}
 use Rattle.amr_config.specs.Settled.{settings_of, settled, settled_to, settled_under, AreParentsFirst}
@@ -80,9 +81,9 @@ module _ (config : Config) (first : AreParentsFirst config) (n : ℕ) (route : R
   settings_root e =
       let receiver = value_root (λ r. r.receiver) [] e in
       let group_by = sym (inherited_root (λ r. r.group_by) e) in
-      let group_wait = value_root (λ r. r.group_wait) (30 * second) e in
-      let group_interval = value_root (λ r. r.group_interval) (5 * minute) e in
-      let repeat_interval = value_root (λ r. r.repeat_interval) (4 * hour) e in
+      let group_wait = value_root (λ r. r.group_wait) (GROUP_WAIT_SECONDS * second) e in
+      let group_interval = value_root (λ r. r.group_interval) (GROUP_INTERVAL_MINUTES * minute) e in
+      let repeat_interval = value_root (λ r. r.repeat_interval) (REPEAT_INTERVAL_HOURS * hour) e in
       let path = sym (path_root e) in
       λ i. record { parent = own_parent i; matchers = own_matchers i; continues = own_continues i; receiver = receiver i; group_by = group_by i; group_wait = group_wait i; group_interval = group_interval i; repeat_interval = repeat_interval i; active_time_intervals = own_active i; mute_time_intervals = own_mute i; path = path i }
 
@@ -91,9 +92,9 @@ module _ (config : Config) (first : AreParentsFirst config) (n : ℕ) (route : R
   settings_child parent e =
       let receiver = value_child (λ r. r.receiver) [] parent e in
       let group_by = sym (inherited_child (λ r. r.group_by) parent e) in
-      let group_wait = value_child (λ r. r.group_wait) (30 * second) parent e in
-      let group_interval = value_child (λ r. r.group_interval) (5 * minute) parent e in
-      let repeat_interval = value_child (λ r. r.repeat_interval) (4 * hour) parent e in
+      let group_wait = value_child (λ r. r.group_wait) (GROUP_WAIT_SECONDS * second) parent e in
+      let group_interval = value_child (λ r. r.group_interval) (GROUP_INTERVAL_MINUTES * minute) parent e in
+      let repeat_interval = value_child (λ r. r.repeat_interval) (REPEAT_INTERVAL_HOURS * hour) parent e in
       let path = sym (path_child parent e) in
       λ i. record { parent = own_parent i; matchers = own_matchers i; continues = own_continues i; receiver = receiver i; group_by = group_by i; group_wait = group_wait i; group_interval = group_interval i; repeat_interval = repeat_interval i; active_time_intervals = own_active i; mute_time_intervals = own_mute i; path = path i }
 

@@ -10,6 +10,7 @@ use Rattle.amr_config.specs.declared.settings.Settings.{Settings}
 use Rattle.amr_config.specs.declared.config.Parts.{Parts}
 use Rattle.amr_stated.specs.declared.stated.Stated.{Stated}
 use Rattle.amr_stated.specs.Config.{Config}
+use Rattle.amr_config.specs.declared.defaults.TheConstants.{GROUP_WAIT_SECONDS, GROUP_INTERVAL_MINUTES, REPEAT_INTERVAL_HOURS}
 use Rattle.amr_config.specs.Intervals.{AreIntervals}
 use Rattle.amr_config.specs.Paths.{AreOwn}
 use Rattle.amr_config.specs.Receivers.{AreReceivers}
@@ -72,9 +73,9 @@ settled_under route above = record {
   continues = route.continues;
   receiver = receiver_under route above;
   group_by = grouping_under route above;
-  group_wait = unwrap_or route.group_wait (option_map_or (λ settings. settings.group_wait) above (30 * second));
-  group_interval = unwrap_or route.group_interval (option_map_or (λ settings. settings.group_interval) above (5 * minute));
-  repeat_interval = unwrap_or route.repeat_interval (option_map_or (λ settings. settings.repeat_interval) above (4 * hour));
+  group_wait = unwrap_or route.group_wait (option_map_or (λ settings. settings.group_wait) above (GROUP_WAIT_SECONDS * second));
+  group_interval = unwrap_or route.group_interval (option_map_or (λ settings. settings.group_interval) above (GROUP_INTERVAL_MINUTES * minute));
+  repeat_interval = unwrap_or route.repeat_interval (option_map_or (λ settings. settings.repeat_interval) above (REPEAT_INTERVAL_HOURS * hour));
   active_time_intervals = route.active_time_intervals;
   mute_time_intervals = route.mute_time_intervals;
   path = path_under route above;

@@ -13,6 +13,7 @@ ghost use Rattle.amr_config.specs.Routing.{group_wait_of, group_interval_of, rep
 ghost use Rattle.amr_config.specs.RuleNames.{kept_for};
 ghost use Rattle.amr_config.specs.Settled.{settings_of, stated_config, AreParentsFirst};
 
+use crate::defaults::{GROUP_INTERVAL_MINUTES, GROUP_WAIT_SECONDS, REPEAT_INTERVAL_HOURS};
 use crate::inherit::inherit;
 use crate::interval_places::interval_places;
 use crate::own_paths::own_paths;
@@ -172,7 +173,7 @@ impl Config {
     {
         match self.settings_at(route) {
             Some(settings) => settings.group_wait,
-            None => Span::from_seconds(30),
+            None => Span::from_seconds(GROUP_WAIT_SECONDS),
         }
     }
 
@@ -182,7 +183,7 @@ impl Config {
     {
         match self.settings_at(route) {
             Some(settings) => settings.group_interval,
-            None => Span::from_minutes(5),
+            None => Span::from_minutes(GROUP_INTERVAL_MINUTES),
         }
     }
 
@@ -192,7 +193,7 @@ impl Config {
     {
         match self.settings_at(route) {
             Some(settings) => settings.repeat_interval,
-            None => Span::from_hours(4),
+            None => Span::from_hours(REPEAT_INTERVAL_HOURS),
         }
     }
 

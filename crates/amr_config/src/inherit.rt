@@ -5,6 +5,7 @@ ghost use Rattle.std.specs.Prelude.{◌≡◌, IfOk, option_and_then, slice_get}
 ghost use Rattle.std.specs.Option.{option_copied};
 ghost use Rattle.amr_config.specs.Settled.{stated_config, settled, settled_under, receiver_under, grouping_under, path_under, AreParentsFirst};
 
+use crate::defaults::{GROUP_INTERVAL_MINUTES, GROUP_WAIT_SECONDS, REPEAT_INTERVAL_HOURS};
 use crate::route_path::RoutePath;
 use crate::settings::Settings;
 use crate::sorted::sorted;
@@ -48,15 +49,15 @@ fn settings_under(
 {
     let group_wait = match above {
         Some(settings) => settings.group_wait,
-        None => Span::from_seconds(30),
+        None => Span::from_seconds(GROUP_WAIT_SECONDS),
     };
     let group_interval = match above {
         Some(settings) => settings.group_interval,
-        None => Span::from_minutes(5),
+        None => Span::from_minutes(GROUP_INTERVAL_MINUTES),
     };
     let repeat_interval = match above {
         Some(settings) => settings.repeat_interval,
-        None => Span::from_hours(4),
+        None => Span::from_hours(REPEAT_INTERVAL_HOURS),
     };
     Ok(Settings {
         parent: route.parent,

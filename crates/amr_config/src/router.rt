@@ -8,9 +8,10 @@ ghost use Rattle.amr_stated.specs.RuleMatches.{rule_matches};
 
 use crate::config::Config;
 use crate::group_labels::GroupLabels;
+use crate::routing::chosen_routes;
 use amr_labels::{LabelMap, Labels, Listing, Shared};
 use amr_matchers::Answers;
-use amr_stated::{RuleMatch, rule_matches, rule_matches_remembered};
+use amr_stated::{RuleMatch, rule_matches};
 use amr_tables::Keyed;
 use std::alloc::{AllocError, Global};
 use std::marker::Model;
@@ -100,7 +101,10 @@ impl Router {
     {
         match self.known.get(labels) {
             Some(known) => known.rules.clone(),
-            None => self.rule_matches_afresh(labels),
+            None => {
+                let mut answers = Answers::none(self.alloc);
+                sides_of(self.alloc, &self.config, &mut answers, labels)
+            }
         }
     }
 
@@ -117,16 +121,6 @@ impl Router {
             mem::swap(&mut self.known, &mut other.known);
             mem::swap(&mut self.sides, &mut other.sides);
         }
-    }
-
-    /// Works out which sides of the configuration's inhibition rules these labels are on.
-    fn rule_matches_afresh(&self, labels: &Labels) -> Result<Shared<Listing<RuleMatch>>, AllocError>
-        ensures { IfOk result (λ found. found ≡ rule_matches labels.now self.now.rules) }
-    {
-        Shared::new(
-            self.alloc,
-            rule_matches(self.alloc, self.config.rules(), labels)?,
-        )
     }
 
     /// Works out the groups that take an alert with these labels, and remembers them.
@@ -204,10 +198,7 @@ fn sides_of(
 ) -> Result<Shared<Listing<RuleMatch>>, AllocError>
     ensures { IfOk result (λ found. found ≡ rule_matches labels.now config.now.rules) }
 {
-    Shared::new(
-        alloc,
-        rule_matches_remembered(alloc, answers, config.rules(), labels)?,
-    )
+    Shared::new(alloc, rule_matches(alloc, answers, config.rules(), labels)?)
 }
 
 /// Works out the groups that take an alert with these labels, by route.
@@ -222,7 +213,7 @@ fn groups_of(
     ensures { IfOk result (λ groups. groups ≡ groups_of config.now labels.now) }
 {
     let mut groups = Listing::new(alloc);
-    for route in &config.routes_of_remembered(alloc, answers, labels)? {
+    for route in &chosen_routes(alloc, answers, config, labels)? {
         groups.push(group_at(alloc, config, group_labels, *route, labels)?)?;
     }
     Ok(groups)

@@ -41,8 +41,8 @@ impl Mark {
     }
 }
 
-/// Returns the numbers of the chosen routes.
-fn chosen_routes(alloc: Global, marks: &[Mark]) -> Result<Vec<usize>, AllocError>
+/// Returns the numbers of the routes that are chosen by these marks.
+fn chosen_numbers(alloc: Global, marks: &[Mark]) -> Result<Vec<usize>, AllocError>
     ensures { IfOk result (λ places. places.items ≡ chosen_numbers marks.now (length marks.now)) }
 {
     let mut places = Vec::new(alloc);
@@ -86,7 +86,7 @@ fn mark_next(
     let settings = config.route(marks.len());
     match settings.parent {
         None => {
-            let is_open = settings.matchers.matches_all_remembered(answers, labels)?;
+            let is_open = settings.matchers.matches_all(answers, labels)?;
             marks.push(Mark::seen(is_open))?;
             Ok(())
         }
@@ -114,7 +114,7 @@ fn mark_child(
         marks.push(Mark::seen(false))?;
         return Ok(());
     }
-    if !settings.matchers.matches_all_remembered(answers, labels)? {
+    if !settings.matchers.matches_all(answers, labels)? {
         marks.push(Mark::seen(false))?;
         return Ok(());
     }
@@ -136,21 +136,20 @@ impl Config {
     pub fn routes_of(&self, alloc: Global, labels: &Labels) -> Result<Vec<usize>, AllocError>
         ensures { IfOk result (λ routes. routes.items ≡ chosen self.now labels.now) }
     {
-        let mut answers = Answers::none(alloc);
-        self.routes_of_remembered(alloc, &mut answers, labels)
+        chosen_routes(alloc, &mut Answers::none(alloc), self, labels)
     }
+}
 
-    /// Returns the numbers of the routes that take an alert with these labels, in ascending order.
-    /// It asks the patterns of the matchers through the remembered answers.
-    pub(crate) fn routes_of_remembered(
-        &self,
-        alloc: Global,
-        answers: &mut Answers,
-        labels: &Labels,
-    ) -> Result<Vec<usize>, AllocError>
-        ensures { IfOk result (λ routes. routes.items ≡ chosen self.now labels.now) }
-    {
-        let marks = marks(alloc, answers, self, labels)?;
-        chosen_routes(alloc, marks.as_slice())
-    }
+/// Returns the numbers of the routes that take an alert with these labels, in ascending order. It
+/// asks the patterns of the matchers through the remembered answers.
+pub(crate) fn chosen_routes(
+    alloc: Global,
+    answers: &mut Answers,
+    config: &Config,
+    labels: &Labels,
+) -> Result<Vec<usize>, AllocError>
+    ensures { IfOk result (λ routes. routes.items ≡ chosen config.now labels.now) }
+{
+    let marks = marks(alloc, answers, config, labels)?;
+    chosen_numbers(alloc, marks.as_slice())
 }

@@ -8,7 +8,7 @@ use amr_stated::Grouping;
 use amr_time::Span;
 
 /// The settings of a route. The receiver, the grouping and the three times are the route's own, or
-/// those of the nearest route above that has them, or the defaults.
+/// those of the nearest route above that has them, or the defaults (`defaults.rt`).
 #[derive(Drop)]
 pub struct Settings {
     pub parent: Option<usize>,
@@ -19,11 +19,8 @@ pub struct Settings {
     /// How alerts are grouped; `None` if neither the route nor one above has `group_by`, which
     /// gives one group without labels.
     pub group_by: Option<Grouping>,
-    /// 30 seconds by default.
     pub group_wait: Span,
-    /// 5 minutes by default.
     pub group_interval: Span,
-    /// 4 hours by default.
     pub repeat_interval: Span,
     /// The names of the route's own `active_time_intervals`.
     pub active_time_intervals: Listing<Text>,

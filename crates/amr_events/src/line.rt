@@ -22,7 +22,7 @@ use crate::version::Version;
 use amr_actions::{Act, Event};
 use amr_config::Config;
 use amr_labels::Text;
-use amr_loading::{ConfigError, Refusal, load_config_sharing};
+use amr_loading::{ConfigError, Refusal, config_of};
 use amr_posts::Reason;
 use json::Scratch;
 use serde_json::Value;
@@ -147,7 +147,7 @@ fn reload(
     if let Some(known) = seen.reloads.get(text.as_str())? {
         return Ok(Ok(known));
     }
-    match load_config_sharing(alloc, seen.patterns_for_line(), value) {
+    match config_of(alloc, seen.patterns_for_line(), value) {
         Ok(config) => {
             seen.reloads.keep(text, &config)?;
             Ok(Ok(config))

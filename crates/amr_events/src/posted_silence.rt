@@ -87,7 +87,7 @@ impl StatedMatcher {
         ensures made { IfOk result (λ matcher. matcher ≡ self.now) }
         ensures refused { IsErrOf result BadPattern → MayBeRefused self.now }
     {
-        Matcher::new_sharing(
+        Matcher::new(
             patterns,
             self.name.clone()?,
             self.operator,

@@ -22,7 +22,7 @@ use Rattle.amr_stated.specs.declared.rule.InhibitRule.{InhibitRule}
 use Rattle.amr_rules.specs.declared.alert.Alert.{Alert}
 use Rattle.amr_rules.specs.Muting.{Alerts, agree_on, sources_of}
 use Rattle.amr_tables.specs.Numbered.{shown, next_number, entry_at}
-use Rattle.amr_tables.specs.Queued.{has}
+use Rattle.amr_tables.specs.Members.{has}
 use Rattle.amr_indexes.specs.declared.rule_source.SourceSide.{SourceSide}
 use Rattle.amr_indexes.specs.declared.rule_source.KnownSide.{KnownSide}
 use Rattle.amr_indexes.specs.LabelValues.{values_cmp, values_cmp_total, values_cmp-IsAntisymmetric, label_values}

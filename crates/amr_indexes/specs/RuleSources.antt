@@ -13,7 +13,7 @@ use Rattle.amr_stated.specs.declared.rule.InhibitRule.{InhibitRule}
 use Rattle.amr_rules.specs.declared.alert.Alert.{Alert}
 use Rattle.amr_rules.specs.Muting.{Alerts, agree_on}
 use Rattle.amr_tables.specs.Numbered.{Numbered, shown, has_place}
-use Rattle.amr_tables.specs.Queued.{has}
+use Rattle.amr_tables.specs.Members.{has}
 use Rattle.amr_indexes.specs.declared.rule_source.SourceSide.{SourceSide}
 use Rattle.amr_indexes.specs.declared.rule_source.KnownSide.{KnownSide}
 use Rattle.amr_indexes.specs.LabelValues.{values_cmp, label_values}

@@ -176,10 +176,7 @@ impl KnownPeriods {
         }) }
         ensures err { OnErr result (self.new ≡ self.old) }
     {
-        if !silence
-            .matchers
-            .matches_all_remembered(answers, &self.labels)?
-        {
+        if !silence.matchers.matches_all(answers, &self.labels)? {
             return self.leave_out(alloc, id);
         }
         let period = SilencePeriod {

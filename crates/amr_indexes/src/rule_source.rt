@@ -360,7 +360,7 @@ fn see(
     ensures listed { OnOk result (IsPut labels.now known.old known.new) }
     ensures err { OnErr result (ListsSame known.old.sources known.new.sources) }
 {
-    if !known.side.source.matches_all_remembered(answers, labels)? {
+    if !known.side.source.matches_all(answers, labels)? {
         return Ok(());
     }
     let values = LabelValues::of(alloc, known.side.equal.as_slice(), labels)?;

@@ -21,4 +21,4 @@ mod validate;
 mod whole;
 
 pub use error::{ConfigError, Refusal};
-pub use load::{load_config, load_config_sharing};
+pub use load::{config_of, load_config};

@@ -23,18 +23,13 @@ use std::alloc::Global;
 pub fn load_config(alloc: Global, value: &Value) -> Result<Config, ConfigError>
     ensures { Answers (λ config. config) result (ConfigIs (view value.now)) }
 {
-    let mut seen = Patterns::new(alloc);
-    load_config_sharing(alloc, &mut seen, value)
+    config_of(alloc, &mut Patterns::new(alloc), value)
 }
 
-/// Reads a configuration, as `load_config` does. Its matchers share their patterns with matchers
-/// that were made before.
+/// Returns the configuration of a JSON value, as `load_config` does. Its matchers share their
+/// patterns with the matchers that were made before with these.
 #[tactic(auto, unfolding(crate::specs::Reading::reading_of, crate::specs::Readings::next))]
-pub fn load_config_sharing(
-    alloc: Global,
-    seen: &mut Patterns,
-    value: &Value,
-) -> Result<Config, ConfigError>
+pub fn config_of(alloc: Global, seen: &mut Patterns, value: &Value) -> Result<Config, ConfigError>
     ensures { Answers (λ config. config) result (ConfigIs (view value.now)) }
 {
     if is_too_deep(value) {

@@ -131,7 +131,7 @@ fn spelled(
 ) -> Result<Matchers, ConfigError>
     ensures { Reads (λ ms. ms) result (spelled_at (place_path place.now) (matchers_of text.now)) }
 {
-    match Matchers::parse_sharing(alloc, seen, text) {
+    match seen.matchers_of(alloc, text) {
         Ok(matchers) => Ok(matchers),
         Err(ParseError::Memory) => Err(ConfigError::Memory),
         Err(ParseError::BadMatcher { at: _ }) => Err(place.faulty(alloc)),
@@ -256,7 +256,7 @@ fn matcher(
     }
     let name = Text::from_str(alloc, name)?;
     let value = Text::from_str(alloc, value)?;
-    match Matcher::new_sharing(seen, name, operator, value) {
+    match Matcher::new(seen, name, operator, value) {
         Ok(matcher) => Ok(matcher),
         Err(MatcherError::Memory) => Err(ConfigError::Memory),
         Err(MatcherError::BadPattern) => Err(place.faulty(alloc)),

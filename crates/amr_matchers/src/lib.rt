@@ -15,7 +15,7 @@ mod pattern;
 mod patterns;
 
 pub use answers::Answers;
-pub use matcher::{Matcher, all_match};
+pub use matcher::Matcher;
 pub use matchers::Matchers;
 pub use parse::ParseError;
 pub use pattern::{MatcherError, Pattern};

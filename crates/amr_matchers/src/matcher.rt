@@ -6,7 +6,7 @@ ghost use Rattle.std.specs.Cmp.{partial_order_from_own_ties};
 ghost use Rattle.std.specs.Cmp.Rules.{comparing};
 ghost use Rattle.std.specs.Ordering.{as_partial_cmp, eq_by_cmp};
 ghost use Rattle.amr_matchers.specs.Candidates.{kept_by};
-ghost use Rattle.amr_matchers.specs.Matchers.{holds, all_hold, takes_pattern, operator_place, matcher_cmp, matcher_cmp_total};
+ghost use Rattle.amr_matchers.specs.Matchers.{holds, takes_pattern, operator_place, matcher_cmp, matcher_cmp_total};
 ghost use Rattle.amr_matchers.specs.Patterns.{MayRefuse};
 ghost use Rattle.amr_matchers.specs.declared.pattern.MatcherError.TheVariants.{BadPattern};
 
@@ -39,25 +39,10 @@ impl Model for Matcher {
 }
 
 impl Matcher {
-    /// Makes a matcher. Fails with `BadPattern` if `regex` refuses the value of `=~` or `!~` as a
-    /// pattern; no contract says which patterns it refuses.
+    /// Makes a matcher. It shares its pattern with the matchers that were made before with these
+    /// patterns. Fails with `BadPattern` if `regex` refuses the value of `=~` or `!~` as a pattern;
+    /// no contract says which patterns it refuses.
     pub fn new(
-        alloc: Global,
-        name: Text,
-        operator: Operator,
-        value: Text,
-    ) -> Result<Matcher, MatcherError>
-        ensures made { IfOk result (λ matcher. matcher
-            ≡ record { name = name; operator = operator; value = value }) }
-        ensures refused { IsErrOf result BadPattern → (takes_pattern operator ≡ true)
-            × MayRefuse value }
-    {
-        let mut patterns = Patterns::new(alloc);
-        Matcher::new_sharing(&mut patterns, name, operator, value)
-    }
-
-    /// Makes a matcher, as `new` does. It shares its pattern with those that were made before.
-    pub fn new_sharing(
         patterns: &mut Patterns,
         name: Text,
         operator: Operator,
@@ -98,17 +83,12 @@ impl Matcher {
         ensures answer { IfOk result (λ found. found ≡ holds self.now labels.now) }
         ensures plain { takes_pattern self.now.operator ≡ false → IsOk result }
     {
-        let mut answers = Answers::none(alloc);
-        self.matches_remembered(&mut answers, labels)
+        self.holds(&mut Answers::none(alloc), labels)
     }
 
     /// Returns whether the matcher matches the labels. It asks its pattern through the remembered
     /// answers.
-    pub fn matches_remembered(
-        &self,
-        answers: &mut Answers,
-        labels: &Labels,
-    ) -> Result<bool, AllocError>
+    pub(crate) fn holds(&self, answers: &mut Answers, labels: &Labels) -> Result<bool, AllocError>
         ensures answer { IfOk result (λ found. found ≡ holds self.now labels.now) }
         ensures plain { takes_pattern self.now.operator ≡ false → IsOk result }
     {
@@ -130,31 +110,6 @@ impl Matcher {
         let name = self.name.as_str();
         self.comparison.keep(alloc, name, label_sets, marks)
     }
-}
-
-/// Returns whether all matchers match the labels. An empty list always does.
-pub fn all_match(alloc: Global, matchers: &[Matcher], labels: &Labels) -> Result<bool, AllocError>
-    ensures { IfOk result (λ all. all ≡ all_hold matchers.now labels.now) }
-{
-    let mut answers = Answers::none(alloc);
-    all_match_remembered(&mut answers, matchers, labels)
-}
-
-/// Returns whether all matchers match the labels. It asks their patterns through the remembered
-/// answers.
-pub(crate) fn all_match_remembered(
-    answers: &mut Answers,
-    matchers: &[Matcher],
-    labels: &Labels,
-) -> Result<bool, AllocError>
-    ensures { IfOk result (λ all. all ≡ all_hold matchers.now labels.now) }
-{
-    for matcher in matchers {
-        if !matcher.matches_remembered(answers, labels)? {
-            return Ok(false);
-        }
-    }
-    Ok(true)
 }
 
 /// Returns the rank of an operator in the order of matchers.

@@ -10,7 +10,7 @@ ghost use Rattle.amr_matchers.specs.Matchers.{all_hold, matcher_cmp, matcher_cmp
 
 use crate::answers::Answers;
 use crate::candidates::match_each;
-use crate::matcher::{Matcher, all_match, all_match_remembered};
+use crate::matcher::Matcher;
 use amr_labels::{Exact, Labels};
 use std::alloc::{AllocError, Global};
 use std::cmp::Ordering;
@@ -70,11 +70,17 @@ impl Matchers {
         self.shared.is_empty()
     }
 
-    /// Returns whether all matchers match the labels.
-    pub fn matches_all(&self, alloc: Global, labels: &Labels) -> Result<bool, AllocError>
+    /// Returns whether all matchers match the labels. An empty list always does. It asks their
+    /// patterns through the remembered answers.
+    pub fn matches_all(&self, answers: &mut Answers, labels: &Labels) -> Result<bool, AllocError>
         ensures { IfOk result (λ hold. hold ≡ all_hold self.now labels.now) }
     {
-        all_match(alloc, self.as_slice(), labels)
+        for matcher in self.as_slice() {
+            if !matcher.holds(answers, labels)? {
+                return Ok(false);
+            }
+        }
+        Ok(true)
     }
 
     /// Returns for each label set whether all matchers match it.
@@ -82,18 +88,6 @@ impl Matchers {
         ensures { IfOk result (λ found. found.items ≡ matches_each self.now label_sets.now) }
     {
         match_each(alloc, self.as_slice(), label_sets)
-    }
-
-    /// Returns whether all matchers match the labels. It asks their patterns through the remembered
-    /// answers.
-    pub fn matches_all_remembered(
-        &self,
-        answers: &mut Answers,
-        labels: &Labels,
-    ) -> Result<bool, AllocError>
-        ensures { IfOk result (λ hold. hold ≡ all_hold self.now labels.now) }
-    {
-        all_match_remembered(answers, self.as_slice(), labels)
     }
 }
 

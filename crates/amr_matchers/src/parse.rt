@@ -1,5 +1,5 @@
-//! Reading a list of matchers from a text. `amr_loading` calls `Matchers::parse` for `matchers` in
-//! a configuration.
+//! Reading a list of matchers from a text. `amr_loading` calls `Patterns::matchers_of` for
+//! `matchers` in a configuration.
 ghost use Rattle.std.specs.Prelude.{◌≡◌, Some, IfOk, IfErr, IsErrOf, chars};
 ghost use Rattle.amr_matchers.specs.declared.pattern.MatcherError.TheVariants.{BadPattern as RefusedPattern};
 ghost use Rattle.amr_matchers.specs.MatcherText.{Spells};
@@ -105,7 +105,7 @@ fn matcher_of(patterns: &mut Patterns, draft: &Draft) -> Result<Matcher, Matcher
 {
     let name = draft.name.clone()?;
     let value = draft.value.clone()?;
-    Matcher::new_sharing(patterns, name, draft.operator, value)
+    Matcher::new(patterns, name, draft.operator, value)
 }
 
 /// Builds the matchers with their patterns.
@@ -138,23 +138,20 @@ impl Matchers {
         ensures spelled { IfOk result (λ matchers. Spells (chars text.now) matchers) }
         ensures refused { IfErr result (Explains text.now) }
     {
-        let mut patterns = Patterns::new(alloc);
-        Matchers::parse_sharing(alloc, &mut patterns, text)
+        Patterns::new(alloc).matchers_of(alloc, text)
     }
+}
 
-    /// Reads a list of matchers, as `parse` does. They share their patterns with matchers that were
-    /// made before.
-    pub fn parse_sharing(
-        alloc: Global,
-        patterns: &mut Patterns,
-        text: &str,
-    ) -> Result<Matchers, ParseError>
+impl Patterns {
+    /// Reads a list of matchers, as `Matchers::parse` does. They share their patterns with the
+    /// matchers that were made before with these.
+    pub fn matchers_of(&mut self, alloc: Global, text: &str) -> Result<Matchers, ParseError>
         ensures read { IfOk result (λ matchers. matchers_of text.now ≡ Some matchers) }
         ensures spelled { IfOk result (λ matchers. Spells (chars text.now) matchers) }
         ensures refused { IfErr result (Explains text.now) }
     {
         let drafts = drafts_of(alloc, text)?;
-        let built = build(alloc, patterns, drafts.as_slice())?;
+        let built = build(alloc, self, drafts.as_slice())?;
         Ok(Matchers::from_vec(alloc, built)?)
     }
 }

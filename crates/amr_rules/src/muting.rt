@@ -15,6 +15,7 @@ use crate::alert::Alert;
 use crate::alert_store::AlertStore;
 use crate::silence::Silence;
 use amr_labels::{Labels, Text};
+use amr_matchers::Answers;
 use amr_posts::SilenceId;
 use amr_stated::{InhibitRule, RuleMatch};
 use amr_tables::Keyed;
@@ -55,7 +56,9 @@ fn silences_labels(
     if !silence.is_active_at(now) {
         return Ok(false);
     }
-    silence.matchers.matches_all(alloc, labels)
+    silence
+        .matchers
+        .matches_all(&mut Answers::none(alloc), labels)
 }
 
 /// Returns what inhibits labels at a moment: the index of the first rule that does, from 0, and the
@@ -159,7 +162,7 @@ fn mutes_target(
     if !is_source {
         return Ok(true);
     }
-    let is_target = rule.target.matches_all(alloc, source)?;
+    let is_target = rule.target.matches_all(&mut Answers::none(alloc), source)?;
     Ok(!is_target)
 }
 
@@ -176,7 +179,7 @@ pub fn is_agreeing(
     if !agree_on(rule.equal.as_slice(), source, target) {
         return Ok(false);
     }
-    rule.source.matches_all(alloc, source)
+    rule.source.matches_all(&mut Answers::none(alloc), source)
 }
 
 /// Returns whether each of these labels (`equal` of an inhibition rule) has the same value in both

@@ -95,7 +95,7 @@ fn may_silence(
     if silence.is_expired_at(from) {
         return Ok(false);
     }
-    silence.matchers.matches_all_remembered(answers, labels)
+    silence.matchers.matches_all(answers, labels)
 }
 
 /// Returns the id of the first of these periods that a moment is in. That is the silence that mutes

@@ -1,33 +1,38 @@
--- The index of members, and how it follows a change of one of them.
-use Rattle.std.proofs.Common.{◌≡◌, ◌≤◌, ◌<◌, ◌+◌, ℕ, suc, Bool, true, false, IsTrue, cond, not, ◌||◌, ◌&&◌, T, List, [], ◌∷◌, ◌++◌, Option, Some, None, is_some, map, length, get_or, drop, Bor, refl, sym, ap, subst, ◌∙◌, arith}
-use Rattle.std.specs.Prelude.{option_map, Result, Ok, Err, OnErr}
-use Rattle.std.specs.Option.{option_map_or}
-use Rattle.std.specs.List.{All, AllByRecursion, list_any, filter, filter_map, cons_option}
+-- The members of groups by number, how a change of one of them goes on, and the members of a group.
+use Rattle.std.proofs.Common.{◌≡◌, ◌≢◌, ◌≤◌, ◌<◌, ◌+◌, ℕ, zero, suc, Bool, true, false, IsTrue, cond, ◌||◌, ◌&&◌, T, List, [], ◌∷◌, ◌++◌, Option, Some, None, is_some, map, length, get_or, drop, Bor, refl, sym, ap, subst, ◌∙◌, arith}
+use Rattle.std.specs.Prelude.{◌==◌, option_map, if◌then◌else◌, nat_lt, Result, Ok, Err, OnErr, IfSome, IsPermutation, IsSorted, slice_set}
+use Rattle.std.specs.Option.{option_and_then}
+use Rattle.std.specs.List.{All, AllByRecursion, IsDistinct, list_any, filter, filter_map, cons_option}
 use Rattle.std.specs.List.Sorted.{IsStrictlySortedBy}
 use Rattle.std.specs.declared.cmp.Ordering.{Ordering}
 use Rattle.std.specs.declared.cmp.Ordering.TheVariants.{Less, Equal, Greater}
-use Rattle.std.specs.Ordering.{nat_cmp, eq_by_cmp, is_eq, is_lt, ordering_then, ordering_reverse, match_ordering}
+use Rattle.std.specs.Ordering.{nat_cmp, eq_by_cmp, is_eq, is_lt, ordering_then, ordering_reverse}
 use Rattle.std.specs.Cmp.{nat_cmp_total, tied_itself}
 use Rattle.std.specs.FinMap.{find, is_sorted}
 use Rattle.std.specs.FinMap.Entries.{below_all, is_some-find}
-use Rattle.std.specs.BTreeSet.{insert_key}
 use Rattle.std.proofs.lemmas.Bool.{true≢false}
-use Rattle.std.proofs.lemmas.List.{append_assoc, at_drop_more}
-use Rattle.std.proofs.lemmas.List.Elements.{All-nil, All-cons, All-head, All-tail, All-get_or, All-filter}
-use Rattle.std.proofs.lemmas.List.Kept.{IsStrictlySortedBy-filter}
-use Rattle.amr_labels.specs.Labels.{LabelSet, label_set_cmp}
-use Rattle.amr_labels.specs.Map.{Map, get, set, empty, keys, entries, len, get-set, get-empty, get-entries, entries-sorted}
+use Rattle.std.proofs.lemmas.Bool.Decides.{nat_tests}
+use Rattle.std.proofs.lemmas.List.{append_assoc, at_drop_more, length-set}
+use Rattle.std.proofs.lemmas.List.Elements.{All-nil, All-cons, All-head, All-tail, All-get_or}
+use Rattle.std.proofs.lemmas.List.Sorted.{All-permutation, IsPermutation-map, list_any-IsPermutation}
+use Rattle.std.proofs.lemmas.Map.Keys.{IsDistinct-IsPermutation}
+use Rattle.amr_labels.specs.Labels.{LabelSet, label_set_cmp, label_set_cmp_total, label_set_cmp-IsAntisymmetric}
+use Rattle.amr_labels.specs.Map.{Map, get, set, empty, entries, get-set, get-empty, get-entries, entries-sorted}
 use Rattle.amr_stated.specs.Config.{Config}
 use Rattle.amr_rules.specs.declared.alert.Alert.{Alert}
-use Rattle.amr_tables.specs.Numbered.{Numbered, shown, is_entered, entry_of, number_of, has_place, KeepsPlaces, GetsNumber, IsValueOf, HasPlaces}
-use Rattle.amr_tables.specs.Queued.{Queued, values_of, has, in_order}
-use Rattle.amr_tables.proofs.Queueing.{sorted_inserted, sorted_in_order, sorted_without, has_inserted, has_in_order, has_without, same_from_members}
+use Rattle.amr_tables.specs.Places.{value_at}
+use Rattle.amr_tables.specs.Laws.{at_law, others_law}
+use Rattle.amr_tables.specs.Members.{has}
+use Rattle.amr_tables.specs.Numbered.{Numbered, shown, is_entered, entry_of, number_of, has_place, next_number, key_at, GetsNumber, IsNumber, IsNumbering}
+use Rattle.amr_tables.specs.Grouped.{Grouped, group_at, AreNumbersOf}
+use Rattle.amr_tables.proofs.Naming.{key_at_number}
+use Rattle.amr_tables.proofs.Sorting.{same_from_members}
+use Rattle.amr_tables.proofs.Counting.{strictly}
 use Rattle.amr_state.specs.declared.route_labels.RouteLabels.{RouteLabels}
 use Rattle.amr_state.specs.declared.membership.Membership.{Membership}
-use Rattle.amr_state.specs.State.{route_labels_cmp, route_labels_cmp_total, route_labels_cmp-IsAntisymmetric, group_key, members_among}
-use Rattle.amr_state.specs.declared.membership.IndexedMember.{IndexedMember}
-use Rattle.amr_state.specs.Spread.{route_labels_spread}
-use Rattle.amr_state.specs.Rostered.{membership_cmp, membership_of, in_group, member_entry_of, labels_of_members, with_alert, indexed_cmp, indexed_cmp_total, indexed_cmp-IsAntisymmetric, group_part_cmp, place_number, indexed_as, indexed_of, indexed_members, indexed_on_route, IsPlacedAt, KeepsNumbers, ArePlaced, labels_of_indexed, IsIndexed, enrolled, CanEnrol}
+use Rattle.amr_state.specs.State.{on_route, route_labels_cmp, route_labels_cmp_total, route_labels_cmp-IsAntisymmetric, group_key, members_among}
+use Rattle.amr_state.specs.Rostered.{membership_of, in_group, member_entry_of, labels_of_members, labels_of_numbered, numbered_labels, with_alert, group_number, IsNumbered, IsGrouped}
+use Rattle.amr_state.proofs.Scheduling.{not_none, numbered_same, numbered_set, numbered_placed, none_numbered}
 
 -- ---- truth values
 
@@ -35,6 +40,11 @@ equal_of : (w : Ordering) → is_eq w ≡ true → w ≡ Equal
 equal_of Less e = absurd (true≢false (sym e))
 equal_of Equal e = refl
 equal_of Greater e = absurd (true≢false (sym e))
+
+alike : (a b : Bool) → (a ≡ true → b ≡ true) → (b ≡ true → a ≡ true) → a ≡ b
+alike true b f g = sym (f refl)
+alike false true f g = g refl
+alike false false f g = refl
 
 both : (a b : Bool) → a ≡ true → b ≡ true → (a && b) ≡ true
 both true b e f = f
@@ -48,159 +58,6 @@ other_of : (a b : Bool) → (a && b) ≡ true → b ≡ true
 other_of true b e = e
 other_of false b e = absurd (true≢false (sym e))
 
-alike : (a b : Bool) → (a ≡ true → b ≡ true) → (b ≡ true → a ≡ true) → a ≡ b
-alike true b f g = sym (f refl)
-alike false true f g = g refl
-alike false false f g = refl
-
-never : (a : Bool) → false ≡ (a && false)
-never true = refl
-never false = refl
-
--- ---- whether a member is in the index
-
-module _ (config : Config) (placements : Numbered RouteLabels Alert) where
-  -- the member is the one at a place just where it is the one at its own place, and that is the place
-  tied_at : (d : IndexedMember) (k : RouteLabels) → eq_by_cmp indexed_cmp d (indexed_of config placements k)
-      ≡ (eq_by_cmp indexed_cmp d (indexed_of config placements (indexed_on_route d)) && eq_by_cmp route_labels_cmp (indexed_on_route d) k)
-  tied_at d k =
-      alike (eq_by_cmp indexed_cmp d (indexed_of config placements k)) (eq_by_cmp indexed_cmp d (indexed_of config placements (indexed_on_route d)) && eq_by_cmp route_labels_cmp (indexed_on_route d) k)
-      (λ e. let is : d ≡ indexed_of config placements k = indexed_cmp-IsAntisymmetric d (indexed_of config placements k) (equal_of _ e) in
-      subst (λ (x : IndexedMember). (eq_by_cmp indexed_cmp x (indexed_of config placements (indexed_on_route x)) && eq_by_cmp route_labels_cmp (indexed_on_route x) k) ≡ true) (sym is)
-      (both _ _ (ap is_eq (tied_itself indexed_cmp_total (indexed_of config placements k))) (ap is_eq (tied_itself route_labels_cmp_total k))))
-      (λ e. let is : indexed_on_route d ≡ k = route_labels_cmp-IsAntisymmetric (indexed_on_route d) k (equal_of _ (other_of (eq_by_cmp indexed_cmp d (indexed_of config placements (indexed_on_route d))) _ e)) in
-      subst (λ (x : RouteLabels). eq_by_cmp indexed_cmp d (indexed_of config placements x) ≡ true) is (one_of _ (eq_by_cmp route_labels_cmp (indexed_on_route d) k) e))
-
-  or_of : (a b c : Bool) → ((a && b) || (a && c)) ≡ (a && (b || c))
-  or_of true b c = refl
-  or_of false b c = refl
-
-  has_keys : (ks : List RouteLabels) (d : IndexedMember) → has indexed_cmp (map (indexed_of config placements) ks) d
-      ≡ (eq_by_cmp indexed_cmp d (indexed_of config placements (indexed_on_route d)) && list_any (eq_by_cmp route_labels_cmp (indexed_on_route d)) ks)
-  has_keys [] d = never (eq_by_cmp indexed_cmp d (indexed_of config placements (indexed_on_route d)))
-  has_keys (k ∷ ks) d =
-      ap (λ b. b || has indexed_cmp (map (indexed_of config placements) ks) d) (tied_at d k)
-      ∙ ap (λ b. (eq_by_cmp indexed_cmp d (indexed_of config placements (indexed_on_route d)) && eq_by_cmp route_labels_cmp (indexed_on_route d) k) || b) (has_keys ks d)
-      ∙ or_of (eq_by_cmp indexed_cmp d (indexed_of config placements (indexed_on_route d))) (eq_by_cmp route_labels_cmp (indexed_on_route d) k) (list_any (eq_by_cmp route_labels_cmp (indexed_on_route d)) ks)
-
-  has_memberships : (m : Map route_labels_cmp Alert) (d : IndexedMember) → has indexed_cmp (indexed_members config placements m) d
-      ≡ (eq_by_cmp indexed_cmp d (indexed_of config placements (indexed_on_route d)) && is_some (get m (indexed_on_route d)))
-  has_memberships m d =
-      has_keys (keys m) d
-      ∙ ap (λ b. eq_by_cmp indexed_cmp d (indexed_of config placements (indexed_on_route d)) && b) (sym (is_some-find route_labels_cmp (indexed_on_route d) (entries m)) ∙ ap is_some (sym (get-entries m (indexed_on_route d))))
-
-  there : (m : Map route_labels_cmp Alert) (k : RouteLabels) → has indexed_cmp (indexed_members config placements m) (indexed_of config placements k) ≡ is_some (get m k)
-  there m k =
-      has_memberships m (indexed_of config placements k) ∙ ap (λ b. b && is_some (get m k)) (ap is_eq (tied_itself indexed_cmp_total (indexed_of config placements k)))
-
-  -- ---- the index after a change of a member
-
-  in_cond : {A : Type 0} (b : Bool) (x y : Option A) → is_some (cond b x y) ≡ cond b (is_some x) (is_some y)
-  in_cond true x y = refl
-  in_cond false x y = refl
-
-  under : (a b c d : Bool) → (a && cond b c d) ≡ cond (a && b) c (a && d)
-  under true b c d = refl
-  under false b c d = refl
-
-  has_set : (m : Map route_labels_cmp Alert) (k : RouteLabels) (w : Option Alert) (d : IndexedMember) → has indexed_cmp (indexed_members config placements (set m k w)) d
-      ≡ cond (eq_by_cmp indexed_cmp d (indexed_of config placements k)) (is_some w) (has indexed_cmp (indexed_members config placements m) d)
-  has_set m k w d =
-      let own = eq_by_cmp indexed_cmp d (indexed_of config placements (indexed_on_route d)) in
-      let same = eq_by_cmp route_labels_cmp (indexed_on_route d) k in
-      has_memberships (set m k w) d
-      ∙ ap (λ x. own && is_some x) (get-set route_labels_cmp_total m k w (indexed_on_route d))
-      ∙ ap (λ b. own && b) (in_cond same w (get m (indexed_on_route d)))
-      ∙ under own same (is_some w) (is_some (get m (indexed_on_route d)))
-      ∙ ap (λ b. cond b (is_some w) (own && is_some (get m (indexed_on_route d)))) (sym (tied_at d k))
-      ∙ ap (cond (eq_by_cmp indexed_cmp d (indexed_of config placements k)) (is_some w)) (sym (has_memberships m d))
-
-  stays : (l : List IndexedMember) (member : IndexedMember) (b : Bool) → has indexed_cmp l member ≡ b → (d : IndexedMember) → has indexed_cmp l d ≡ cond (eq_by_cmp indexed_cmp d member) b (has indexed_cmp l d)
-  stays l member b e d =
-      elim (eq_by_cmp indexed_cmp d member) as (λ same. eq_by_cmp indexed_cmp d member ≡ same → has indexed_cmp l d ≡ cond same b (has indexed_cmp l d)) [
-        | true ↦ λ t. ap (has indexed_cmp l) (indexed_cmp-IsAntisymmetric d member (equal_of _ t)) ∙ e
-        | false ↦ λ t. refl
-      ] refl
-
-  or_is : (a b : Bool) → (a || b) ≡ cond a true b
-  or_is true b = refl
-  or_is false b = refl
-
-  and_is : (a b : Bool) → (not a && b) ≡ cond a false b
-  and_is true b = refl
-  and_is false b = refl
-
-  -- the list has the member just where it is there
-  has_enrolled : (l : List IndexedMember) (member : IndexedMember) (was is : Bool) → has indexed_cmp l member ≡ was → (d : IndexedMember)
-      → has indexed_cmp (enrolled l member was is) d ≡ cond (eq_by_cmp indexed_cmp d member) is (has indexed_cmp l d)
-  has_enrolled l member false true e d = has_inserted indexed_cmp indexed_cmp_total l member d ∙ or_is (eq_by_cmp indexed_cmp d member) (has indexed_cmp l d)
-  has_enrolled l member true false e d = has_without indexed_cmp indexed_cmp_total l member d ∙ and_is (eq_by_cmp indexed_cmp d member) (has indexed_cmp l d)
-  has_enrolled l member false false e d = stays l member false e d
-  has_enrolled l member true true e d = stays l member true e d
-
-  sorted_enrolled : (l : List IndexedMember) (member : IndexedMember) (was is : Bool) → IsStrictlySortedBy indexed_cmp l → IsStrictlySortedBy indexed_cmp (enrolled l member was is)
-  sorted_enrolled l member false true s = sorted_inserted indexed_cmp indexed_cmp_total l member s
-  sorted_enrolled l member true false s = sorted_without indexed_cmp l member s
-  sorted_enrolled l member false false s = s
-  sorted_enrolled l member true true s = s
-
-  there_in_order : (m : Map route_labels_cmp Alert) (k : RouteLabels) → has indexed_cmp (in_order indexed_cmp (indexed_members config placements m)) (indexed_of config placements k) ≡ is_some (get m k)
-  there_in_order m k = has_in_order indexed_cmp indexed_cmp_total (indexed_members config placements m) (indexed_of config placements k) ∙ there m k
-
-  is_enrolled : (m : Map route_labels_cmp Alert) (k : RouteLabels) (w : Option Alert)
-      → enrolled (in_order indexed_cmp (indexed_members config placements m)) (indexed_of config placements k) (is_some (get m k)) (is_some w) ≡ in_order indexed_cmp (indexed_members config placements (set m k w))
-  is_enrolled m k w =
-      let before = in_order indexed_cmp (indexed_members config placements m) in
-      same_from_members indexed_cmp indexed_cmp_total indexed_cmp-IsAntisymmetric _ _
-      (sorted_enrolled before (indexed_of config placements k) (is_some (get m k)) (is_some w) (sorted_in_order indexed_cmp indexed_cmp_total (indexed_members config placements m)))
-      (sorted_in_order indexed_cmp indexed_cmp_total (indexed_members config placements (set m k w)))
-      (λ d. has_enrolled before (indexed_of config placements k) (is_some (get m k)) (is_some w) (there_in_order m k) d
-      ∙ ap (cond (eq_by_cmp indexed_cmp d (indexed_of config placements k)) (is_some w)) (has_in_order indexed_cmp indexed_cmp_total (indexed_members config placements m) d)
-      ∙ sym (has_set m k w d) ∙ sym (has_in_order indexed_cmp indexed_cmp_total (indexed_members config placements (set m k w)) d))
-
--- ---- room for the index
-
-length_inserted : (l : List IndexedMember) (k : IndexedMember) → has indexed_cmp l k ≡ false → length (insert_key indexed_cmp l k) ≡ suc (length l)
-length_inserted [] k h = refl
-length_inserted (x ∷ l) k h =
-    elim (indexed_cmp k x) as (λ w. (is_eq w || has indexed_cmp l k) ≡ false → length (match_ordering w (k ∷ x ∷ l) (x ∷ l) (x ∷ insert_key indexed_cmp l k)) ≡ suc (suc (length l))) [
-      | Less ↦ λ _. refl
-      | Equal ↦ λ h. absurd (true≢false h)
-      | Greater ↦ λ h. ap suc (length_inserted l k h)
-    ] h
-
-one_more : (l : List IndexedMember) (k : IndexedMember) → length (insert_key indexed_cmp l k) ≤ suc (length l)
-one_more [] k = omega arith
-one_more (x ∷ l) k =
-    let rest = one_more l k in
-    elim (indexed_cmp k x) as (λ w. length (match_ordering w (k ∷ x ∷ l) (x ∷ l) (x ∷ insert_key indexed_cmp l k)) ≤ suc (suc (length l))) [ Less ↦ omega arith | Equal ↦ omega arith | Greater ↦ omega (arith, rest) ]
-
-length_in_order : (l : List IndexedMember) → length (in_order indexed_cmp l) ≤ length l
-length_in_order [] = omega arith
-length_in_order (x ∷ l) = omega (arith, length_in_order l, one_more (in_order indexed_cmp l) x)
-
-length_map : {A B : Type 0} (h : A → B) (xs : List A) → length (map h xs) ≡ length xs
-length_map h [] = refl
-length_map h (x ∷ xs) = ap suc (length_map h xs)
-
-length_indexed_members : (config : Config) (placements : Numbered RouteLabels Alert) (m : Map route_labels_cmp Alert) → length (indexed_members config placements m) ≡ len m
-length_indexed_members config placements m = length_map (indexed_of config placements) (keys m) ∙ length_map (λ (e : RouteLabels × Alert). e.0) (entries m)
-
-module _ (config : Config) (placements : Numbered RouteLabels Alert) (m : Map route_labels_cmp Alert) (k : RouteLabels) (w : Option Alert) (spare : ℕ) where
-  has_room : (was is : Bool) → is_some (get m k) ≡ was → is_some w ≡ is → len (set m k w) ≤ spare + length (in_order indexed_cmp (indexed_members config placements m)) → was ≡ false → is ≡ true → 0 < spare
-  has_room was is e f enough out come =
-      let before = in_order indexed_cmp (indexed_members config placements m) in
-      let absent : has indexed_cmp before (indexed_of config placements k) ≡ false = there_in_order config placements m k ∙ e ∙ out in
-      let longer : length (insert_key indexed_cmp before (indexed_of config placements k)) ≡ suc (length before) = length_inserted before (indexed_of config placements k) absent in
-      let after : insert_key indexed_cmp before (indexed_of config placements k) ≡ in_order indexed_cmp (indexed_members config placements (set m k w)) =
-      (λ i. enrolled before (indexed_of config placements k) (sym (e ∙ out) i) (sym (f ∙ come) i)) ∙ is_enrolled config placements m k w in
-      omega (arith, longer, ap length after, length_in_order (indexed_members config placements (set m k w)), length_indexed_members config placements (set m k w), enough)
-
-  can_enrol : len (set m k w) ≤ spare + length (in_order indexed_cmp (indexed_members config placements m)) → CanEnrol (in_order indexed_cmp (indexed_members config placements m)) spare (indexed_of config placements k) (is_some (get m k)) (is_some w)
-  can_enrol enough = record { there = there_in_order config placements m k; room = has_room (is_some (get m k)) (is_some w) refl refl enough }
-
--- ---- what the members are
-
 less_is : (o : Ordering) → T (is_lt o) → o ≡ Less
 less_is Less p = refl
 less_is Equal p = absurd p
@@ -213,6 +70,231 @@ first false b p = p
 second : (a b : Bool) → T (a && b) → T b
 second true b p = p
 second false b p = absurd p
+
+some_same : {A : Type 0} (a b : A) → Some a ≡ Some b → a ≡ b
+some_same a b e = cc
+
+the_value : {A : Type 0} (x : Option A) → IsTrue (is_some x) → (a : A) × (x ≡ Some a)
+the_value None h = absurd (true≢false (sym h))
+the_value (Some a) h = (a, refl)
+
+tied_key : (k other : RouteLabels) → is_eq (route_labels_cmp other k) ≡ true → other ≡ k
+tied_key k other e = route_labels_cmp-IsAntisymmetric other k (equal_of _ e)
+
+-- a number within a bound, if there is one
+pub within_if : (w : Option Alert) (g count : ℕ) → g < count → IfSome (option_map (λ _. g) w) (λ x. x < count)
+within_if None g count h = tt
+within_if (Some x) g count h = h
+
+-- ---- places and numbers
+
+pub keeps_numbered : (a b : Numbered RouteLabels Alert) → b.numbers ≡ a.numbers → (key : RouteLabels) → has_place route_labels_cmp b key ≡ has_place route_labels_cmp a key
+unfolding has_place
+keeps_numbered a b same key = ap (λ ns. is_some (find route_labels_cmp key ns)) same
+
+module _ {V : Type 0} (t : Numbered RouteLabels V) where
+  pub place_number : (k : RouteLabels) → IsTrue (has_place route_labels_cmp t k) → (n : ℕ) × (number_of route_labels_cmp t k ≡ Some n)
+  unfolding has_place
+  place_number k h = the_value (number_of route_labels_cmp t k) h
+
+  pub number_place : (k : RouteLabels) (n : ℕ) → number_of route_labels_cmp t k ≡ Some n → IsTrue (has_place route_labels_cmp t k)
+  unfolding has_place
+  number_place k n at = ap is_some at
+
+  no_place : (k : RouteLabels) → number_of route_labels_cmp t k ≡ None → IsTrue (has_place route_labels_cmp t k) → ⊥
+  unfolding has_place
+  no_place k none h = true≢false (sym h ∙ ap is_some none)
+
+-- a key that had a number keeps it when another gets one
+kept_number : {V : Type 0} (t u : Numbered RouteLabels V) (k : RouteLabels) (n : ℕ) → number_of route_labels_cmp t k ≡ None → GetsNumber route_labels_cmp t u k n → (key : RouteLabels) (m : ℕ) → number_of route_labels_cmp t key ≡ Some m → number_of route_labels_cmp u key ≡ Some m
+kept_number t u k n new gets key m at =
+    gets key ∙ elim (eq_by_cmp route_labels_cmp key k) as (λ b. eq_by_cmp route_labels_cmp key k ≡ b → (if b then Some n else number_of route_labels_cmp t key) ≡ Some m) [
+      | true ↦ λ same. not_none m _ (sym at ∙ ap (number_of route_labels_cmp t) (tied_key k key same) ∙ new)
+      | false ↦ λ _. at
+    ] refl
+
+-- a key with a number had it, or is the one that got it
+module _ {V : Type 0} (t u : Numbered RouteLabels V) (k : RouteLabels) (n : ℕ) (gets : GetsNumber route_labels_cmp t u k n) (P : RouteLabels → ℕ → Type 0) (own : P k n) (others : (key : RouteLabels) (m : ℕ) → number_of route_labels_cmp t key ≡ Some m → P key m) where
+  by_number : (key : RouteLabels) (m : ℕ) → number_of route_labels_cmp u key ≡ Some m → P key m
+  by_number key m at =
+      elim (eq_by_cmp route_labels_cmp key k) as (λ b. eq_by_cmp route_labels_cmp key k ≡ b → (if b then Some n else number_of route_labels_cmp t key) ≡ Some m → P key m) [
+        | true ↦ λ same number. subst (λ (x : RouteLabels × ℕ). P x.0 x.1) (λ i. (sym (tied_key k key same) i, some_same n m number i)) own
+        | false ↦ λ _ number. others key m number
+      ] refl (sym (gets key) ∙ at)
+
+-- ---- the invariant
+
+module _ (config : Config) (a : Numbered RouteLabels Alert) (gs : Numbered RouteLabels (Unit {0})) (m : Grouped) (is : IsGrouped config a gs m) where
+  -- the same members, with room for more
+  pub grouped_same : (b : Numbered RouteLabels Alert) (hs : Numbered RouteLabels (Unit {0})) (k : Grouped) → b.numbers ≡ a.numbers → shown route_labels_cmp b ≡ shown route_labels_cmp a → hs.numbers ≡ gs.numbers → shown route_labels_cmp hs ≡ shown route_labels_cmp gs
+      → ((n : ℕ) → group_at k n ≡ group_at m n) → length m.groups ≤ length k.groups → m.count ≤ k.count → IsGrouped config b hs k
+  unfolding has_place
+  grouped_same b hs k numbers shows groups same_groups same longer more = record {
+    numbered = numbered_same route_labels_cmp_total route_labels_cmp-IsAntisymmetric a b numbers shows is.numbered;
+    groups_numbered = numbered_same route_labels_cmp_total route_labels_cmp-IsAntisymmetric gs hs groups same_groups is.groups_numbered;
+    grouped = λ key n at. same n ∙ is.grouped key n (ap (find route_labels_cmp key) (sym numbers) ∙ at)
+        ∙ (λ i. option_and_then (λ _. find route_labels_cmp (group_key config key) (sym groups i)) (get (sym shows i) key));
+    known = λ key h. subst (λ ns. IsTrue (is_some (find route_labels_cmp (group_key config key) ns))) (sym groups) (is.known key (subst (λ (s : Map route_labels_cmp Alert). IsTrue (is_some (get s key))) shows h));
+    named = λ n g at. let by = is.named n g (sym (same n) ∙ at) in (by.0, ap (find route_labels_cmp by.0) numbers ∙ by.1);
+    room = λ key n at. omega (arith, longer, is.room key n (ap (find route_labels_cmp key) (sym numbers) ∙ at));
+    group_room = λ group g at. omega (arith, more, is.group_room group g (ap (find route_labels_cmp group) (sym groups) ∙ at));
+  }
+
+  -- a member has come, has changed, or has left
+  pub grouped_set : (b : Numbered RouteLabels Alert) (k : Grouped) (key : RouteLabels) (n g : ℕ) (w : Option Alert) → number_of route_labels_cmp a key ≡ Some n → number_of route_labels_cmp gs (group_key config key) ≡ Some g
+      → b.numbers ≡ a.numbers → shown route_labels_cmp b ≡ set (shown route_labels_cmp a) key w → k.groups ≡ slice_set m.groups n (option_map (λ _. g) w) → k.count ≡ m.count → IsGrouped config b gs k
+  grouped_set b k key n g w at in_g numbers shows groups count = record {
+    numbered = numbered_set route_labels_cmp_total route_labels_cmp-IsAntisymmetric a b key n w at numbers shows is.numbered;
+    groups_numbered = is.groups_numbered;
+    grouped = λ other x there. by_key other x (ap (find route_labels_cmp other) (sym numbers) ∙ there);
+    known = λ other h. elim (eq_by_cmp route_labels_cmp other key) as (λ y. eq_by_cmp route_labels_cmp other key ≡ y → IsTrue (is_some (cond y w (get (shown route_labels_cmp a) other))) → IsTrue (has_place route_labels_cmp gs (group_key config other))) [
+      | true ↦ λ same _. subst (λ (x : RouteLabels). IsTrue (has_place route_labels_cmp gs (group_key config x))) (sym (tied_key key other same)) (number_place gs (group_key config key) g in_g)
+      | false ↦ λ _ there. is.known other there
+    ] refl (subst (λ x. IsTrue (is_some x)) (value other) h);
+    named = λ x y there. elim (x == n) as (λ z. (x == n) ≡ z → IsNumber route_labels_cmp b x) [
+      | true ↦ λ same. let e : n ≡ x = grind (arith, nat_tests) in (key, ap (find route_labels_cmp key) numbers ∙ at ∙ ap (λ n. Some n) e)
+      | false ↦ λ other. let e : x ≢ n = grind (arith, nat_tests) in let by = is.named x y (sym (apart x e) ∙ there) in (by.0, ap (find route_labels_cmp by.0) numbers ∙ by.1)
+    ] refl;
+    room = λ other x there. omega (arith, ap length groups, length-set m.groups n (option_map (λ _. g) w), is.room other x (ap (find route_labels_cmp other) (sym numbers) ∙ there));
+    group_room = λ group x there. omega (arith, count, is.group_room group x there);
+  }
+    where
+      value : (other : RouteLabels) → get (shown route_labels_cmp b) other ≡ cond (eq_by_cmp route_labels_cmp other key) w (get (shown route_labels_cmp a) other)
+      value other = ap (λ (s : Map route_labels_cmp Alert). get s other) shows ∙ get-set route_labels_cmp_total (shown route_labels_cmp a) key w other
+
+      within : IsTrue (nat_lt n (length m.groups))
+      within = let room = is.room key n at in grind (arith, nat_tests)
+
+      own : (o : Option Alert) → option_map (λ _. g) o ≡ group_number config gs key o
+      own None = refl
+      own (Some x) = sym in_g
+
+      apart : (x : ℕ) → x ≢ n → group_at k x ≡ group_at m x
+      apart x e = ap (λ gs. value_at gs x) groups ∙ others_law m.groups n (option_map (λ _. g) w) x e
+
+      there_now : group_at k n ≡ option_map (λ _. g) w
+      there_now = ap (λ gs. value_at gs n) groups ∙ at_law m.groups n (option_map (λ _. g) w) within
+
+      by_key : (other : RouteLabels) (x : ℕ) → number_of route_labels_cmp a other ≡ Some x → group_at k x ≡ group_number config gs other (get (shown route_labels_cmp b) other)
+      by_key other x there =
+          elim (eq_by_cmp route_labels_cmp other key) as (λ y. eq_by_cmp route_labels_cmp other key ≡ y → group_at k x ≡ group_number config gs other (cond y w (get (shown route_labels_cmp a) other))) [
+            | true ↦ λ same.
+                let e : other ≡ key = tied_key key other same in
+                let number : n ≡ x = some_same n x (sym at ∙ ap (number_of route_labels_cmp a) (sym e) ∙ there) in
+                ap (group_at k) (sym number) ∙ there_now ∙ own w ∙ ap (λ (r : RouteLabels). group_number config gs r w) (sym e)
+            | false ↦ λ other_key. apart x (λ e. true≢false (sym (ap is_eq (tied_itself route_labels_cmp_total key)) ∙ ap (λ (r : RouteLabels). eq_by_cmp route_labels_cmp r key) (is.numbered.apart key other n at (there ∙ ap (λ n. Some n) e)) ∙ other_key))
+                ∙ is.grouped other x there
+          ] refl
+          ∙ ap (group_number config gs other) (sym (value other))
+
+  -- a place for a member is made
+  pub grouped_placed : (b : Numbered RouteLabels Alert) (k : RouteLabels) → IsNumbering route_labels_cmp a → number_of route_labels_cmp a k ≡ None → GetsNumber route_labels_cmp a b k (next_number a) → shown route_labels_cmp b ≡ shown route_labels_cmp a → next_number a < length m.groups → IsGrouped config b gs m
+  grouped_placed b k numbering new gets shows room = record {
+    numbered = numbered_placed route_labels_cmp_total route_labels_cmp-IsAntisymmetric a b k (next_number a) gets numbering.within shows is.numbered;
+    groups_numbered = is.groups_numbered;
+    grouped = λ key n at. by_number a b k (next_number a) gets (λ key n. group_at m n ≡ group_number config gs key (get (shown route_labels_cmp a) key))
+        (nobody ∙ ap (group_number config gs k) (sym no_value)) is.grouped key n at ∙ ap (λ (s : Map route_labels_cmp Alert). group_number config gs key (get s key)) (sym shows);
+    known = λ key h. is.known key (subst (λ (s : Map route_labels_cmp Alert). IsTrue (is_some (get s key))) shows h);
+    named = λ n g at. let by = is.named n g at in (by.0, kept_number a b k (next_number a) new gets by.0 n by.1);
+    room = by_number a b k (next_number a) gets (λ key n. n < length m.groups) room is.room;
+    group_room = is.group_room;
+  }
+    where
+      none_of : {A : Type 0} (x : Option A) → (IsTrue (is_some x) → ⊥) → x ≡ None
+      none_of None h = refl
+      none_of (Some x) h = absurd (h refl)
+
+      no_value : get (shown route_labels_cmp a) k ≡ None
+      no_value = none_of (get (shown route_labels_cmp a) k) (λ h. no_place a k new (is.numbered.placed k h))
+
+      nobody : group_at m (next_number a) ≡ None
+      nobody = none_of (group_at m (next_number a)) (λ h.
+          let g = the_value (group_at m (next_number a)) h in
+          let by = is.named (next_number a) g.0 g.1 in
+          let less = numbering.within by.0 (next_number a) by.1 in
+          omega (arith, less))
+
+  -- a group gets a number
+  pub group_placed : (hs : Numbered RouteLabels (Unit {0})) (k : RouteLabels) → IsNumbering route_labels_cmp gs → number_of route_labels_cmp gs k ≡ None → GetsNumber route_labels_cmp gs hs k (next_number gs) → shown route_labels_cmp hs ≡ shown route_labels_cmp gs → next_number gs < m.count → IsGrouped config a hs m
+  group_placed hs k numbering new gets shows room = record {
+    numbered = is.numbered;
+    groups_numbered = numbered_placed route_labels_cmp_total route_labels_cmp-IsAntisymmetric gs hs k (next_number gs) gets numbering.within shows is.groups_numbered;
+    grouped = λ key n at. is.grouped key n at ∙ same_group key (get (shown route_labels_cmp a) key) (is.known key);
+    known = λ key h. let by = place_number gs (group_key config key) (is.known key h) in number_place hs (group_key config key) by.0 (kept_number gs hs k (next_number gs) new gets (group_key config key) by.0 by.1);
+    named = is.named;
+    room = is.room;
+    group_room = by_number gs hs k (next_number gs) gets (λ group g. g < m.count) room is.group_room;
+  }
+    where
+      same_group : (key : RouteLabels) (o : Option Alert) → (IsTrue (is_some o) → IsTrue (has_place route_labels_cmp gs (group_key config key))) → group_number config gs key o ≡ group_number config hs key o
+      same_group key None h = refl
+      same_group key (Some x) h = let by = place_number gs (group_key config key) (h refl) in by.1 ∙ sym (kept_number gs hs k (next_number gs) new gets (group_key config key) by.0 by.1)
+
+  -- without members, any configuration may be in force
+  pub grouped_again : (after : Config) → shown route_labels_cmp a ≡ empty → IsGrouped after a gs m
+  grouped_again after none = record {
+    numbered = is.numbered;
+    groups_numbered = is.groups_numbered;
+    grouped = λ key n at. is.grouped key n at ∙ ap (group_number config gs key) (nobody key) ∙ sym (ap (group_number after gs key) (nobody key));
+    known = λ key h. absurd (true≢false (sym h ∙ ap is_some (nobody key)));
+    named = is.named;
+    room = is.room;
+    group_room = is.group_room;
+  }
+    where
+      nobody : (key : RouteLabels) → get (shown route_labels_cmp a) key ≡ None
+      nobody key = ap (λ (s : Map route_labels_cmp Alert). get s key) none ∙ get-empty route_labels_cmp key
+
+pub grouped_first : (config : Config) (a : Numbered RouteLabels Alert) (gs : Numbered RouteLabels (Unit {0})) (m : Grouped) → a.numbers ≡ [] → shown route_labels_cmp a ≡ empty → gs.numbers ≡ [] → shown route_labels_cmp gs ≡ empty → m.groups ≡ [] → IsGrouped config a gs m
+grouped_first config a gs m none no_members no_groups no_values nothing = record {
+  numbered = none_numbered route_labels_cmp_total route_labels_cmp-IsAntisymmetric a none no_members;
+  groups_numbered = none_numbered route_labels_cmp_total route_labels_cmp-IsAntisymmetric gs no_groups no_values;
+  grouped = λ key n at. not_none n _ (sym at ∙ ap (find route_labels_cmp key) none);
+  known = λ key h. absurd (true≢false (sym h ∙ ap (λ (s : Map route_labels_cmp Alert). is_some (get s key)) no_members ∙ ap is_some (get-empty route_labels_cmp key)));
+  named = λ n g at. not_none g _ (sym at ∙ ap (λ gs. value_at gs n) nothing);
+  room = λ key n at. not_none n _ (sym at ∙ ap (find route_labels_cmp key) none);
+  group_room = λ group g at. not_none g _ (sym at ∙ ap (find route_labels_cmp group) no_groups);
+}
+
+-- ---- the number of a member of the group
+
+module _ (config : Config) (a : Numbered RouteLabels Alert) (gs : Numbered RouteLabels (Unit {0})) (m : Grouped) (is : IsGrouped config a gs m) (group : RouteLabels) (g : ℕ) (at : number_of route_labels_cmp gs group ≡ Some g) where
+  grouped_at : (key : RouteLabels) (o : Option Alert) → group_number config gs key o ≡ Some g → IsTrue (is_some o) × (group_key config key ≡ group)
+  grouped_at key None e = cc
+  grouped_at key (Some x) e = (refl, is.groups_numbered.apart (group_key config key) group g e at)
+
+  -- who has a number in the group is a member of it
+  pub member_of : (n : ℕ) → group_at m n ≡ Some g → (key : RouteLabels) × (number_of route_labels_cmp a key ≡ Some n) × (IsTrue (is_some (get (shown route_labels_cmp a) key)) × (group_key config key ≡ group))
+  member_of n there = let by = is.named n g there in (by.0, by.1, grouped_at by.0 (get (shown route_labels_cmp a) by.0) (sym (is.grouped by.0 n by.1) ∙ there))
+
+  -- a member of the group has a number in it
+  pub number_in : (key : RouteLabels) → IsTrue (is_some (get (shown route_labels_cmp a) key)) → group_key config key ≡ group → (n : ℕ) × (number_of route_labels_cmp a key ≡ Some n) × (group_at m n ≡ Some g)
+  number_in key h e =
+      let by = place_number a key (is.numbered.placed key h) in
+      let value = the_value (get (shown route_labels_cmp a) key) h in
+      (by.0, by.1, is.grouped key by.0 by.1 ∙ ap (group_number config gs key) value.1 ∙ ap (number_of route_labels_cmp gs) e ∙ at)
+
+  -- the key that a number in the group names
+  pub named_by : IsNumbering route_labels_cmp a → (n : ℕ) → group_at m n ≡ Some g → (key : RouteLabels) → Some key ≡ key_at a n → IsNumbered a group.route (key.labels, n)
+  named_by numbering n there key is_key =
+      let by = member_of n there in
+      let same : by.0 ≡ key = some_same by.0 key (sym (key_at_number route_labels_cmp_total route_labels_cmp-IsAntisymmetric a numbering by.0 n by.1) ∙ sym is_key) in
+      let route : key.route ≡ group.route = ap (λ (r : RouteLabels). r.route) (sym same) ∙ ap (λ (r : RouteLabels). r.route) by.2.1 in
+      ap (number_of route_labels_cmp a) ((λ i. on_route (sym route i) key.labels) ∙ sym same) ∙ by.1
+
+-- ---- the members of a group, from the members of all
+
+skips : (a b c : Bool) → (a ≡ true → b ≡ false) → (b && c) ≡ (b && (a || c))
+skips true b c f = ap (λ x. x && c) (f refl) ∙ sym (ap (λ x. x && true) (f refl))
+skips false b c f = refl
+
+keeps : (a b c : Bool) → (a ≡ true → b ≡ true) → (a || (b && c)) ≡ (b && (a || c))
+keeps true b c f = sym (ap (λ x. x && true) (f refl))
+keeps false b c f = refl
+
+never : (a : Bool) → false ≡ (a && false)
+never true = refl
+never false = refl
 
 -- each placement is found by its key, also where others are in front
 later : (e : RouteLabels × Alert) (es fs : List (RouteLabels × Alert)) → T (below_all route_labels_cmp e.0 fs) → AllByRecursion (λ f. find route_labels_cmp f.0 es ≡ Some f.1) fs → AllByRecursion (λ f. find route_labels_cmp f.0 (e ∷ es) ≡ Some f.1) fs
@@ -233,320 +315,234 @@ got : (m : Map route_labels_cmp Alert) (es : List (RouteLabels × Alert)) → Al
 got m [] h = tt
 got m (e ∷ es) h = (get-entries m e.0 ∙ h.0, got m es h.1)
 
--- ---- the numbers of places
+module _ (config : Config) (group : RouteLabels) where
+  abbrev is_in : RouteLabels → Bool
+  is_in key = eq_by_cmp route_labels_cmp (group_key config key) group
 
-tied_key : (k other : RouteLabels) → is_eq (route_labels_cmp other k) ≡ true → other ≡ k
-tied_key k other e = route_labels_cmp-IsAntisymmetric other k (equal_of _ e)
+  abbrev among : List (RouteLabels × Alert) → List (LabelSet × Alert)
+  among es = map (λ placement. (placement.0.labels, placement.1)) (filter (λ placement. is_in placement.0) es)
 
--- members keep their entries where places keep their numbers
-module _ (config : Config) (a b : Numbered RouteLabels Alert) (keeps : KeepsNumbers a b) where
-  same_entries : (es : List (RouteLabels × Alert)) → AllByRecursion (λ e. IsTrue (has_place route_labels_cmp a e.0)) es
-      → map (indexed_of config b) (map (λ e. e.0) es) ≡ map (indexed_of config a) (map (λ e. e.0) es)
-  same_entries [] h = refl
-  same_entries (e ∷ es) h =
-      λ i. indexed_as (membership_of config e.0) (option_map_or (λ place. place) (keeps e.0 h.0 i) 0) ∷ same_entries es h.1 i
+  -- a member of the group is on its route
+  on_its_route : (key : RouteLabels) → is_in key ≡ true → on_route group.route key.labels ≡ key
+  on_its_route key e = λ i. on_route (sym (ap (λ (r : RouteLabels). r.route) (tied_key group (group_key config key) e)) i) key.labels
 
--- all members have places
-all_placed : (a : Numbered RouteLabels Alert) (m : Map route_labels_cmp Alert) → ((key : RouteLabels) → IsTrue (is_some (get m key)) → IsTrue (has_place route_labels_cmp a key))
-    → (es : List (RouteLabels × Alert)) → AllByRecursion (λ e. get m e.0 ≡ Some e.1) es → AllByRecursion (λ e. IsTrue (has_place route_labels_cmp a e.0)) es
-all_placed a m placed [] h = tt
-all_placed a m placed (e ∷ es) h = (placed e.0 (ap is_some h.0), all_placed a m placed es h.1)
+  same_labels : (l : LabelSet) (key : RouteLabels) → is_in key ≡ true → eq_by_cmp route_labels_cmp (on_route group.route l) key ≡ eq_by_cmp label_set_cmp l key.labels
+  same_labels l key e =
+      ap (λ (n : ℕ). is_eq (ordering_then (nat_cmp group.route n) (label_set_cmp l key.labels))) (ap (λ (r : RouteLabels). r.route) (tied_key group (group_key config key) e))
+      ∙ ap (λ o. is_eq (ordering_then o (label_set_cmp l key.labels))) (tied_itself nat_cmp_total group.route)
 
-members_placed : (a : Numbered RouteLabels Alert) → ArePlaced a → AllByRecursion (λ e. IsTrue (has_place route_labels_cmp a e.0)) (entries (shown route_labels_cmp a))
-members_placed a placed =
-    let m = shown route_labels_cmp a in
-    all_placed a m placed (entries m) (got m (entries m) (own_alerts (entries m) (entries-sorted m)))
+  has_among : (l : LabelSet) (es : List (RouteLabels × Alert)) → has label_set_cmp (labels_of_members (among es)) l ≡ (is_in (on_route group.route l) && list_any (eq_by_cmp route_labels_cmp (on_route group.route l)) (map (λ e. e.0) es))
+  has_among l [] = never (is_in (on_route group.route l))
+  has_among l (e ∷ es) =
+      let own = on_route group.route l in
+      let rest = list_any (eq_by_cmp route_labels_cmp own) (map (λ e. e.0) es) in
+      elim (is_in e.0) as (λ b. is_in e.0 ≡ b → has label_set_cmp (labels_of_members (map (λ placement. (placement.0.labels, placement.1)) (cond b (e ∷ filter (λ placement. is_in placement.0) es) (filter (λ placement. is_in placement.0) es)))) l
+      ≡ (is_in own && (eq_by_cmp route_labels_cmp own e.0 || rest))) [
+        | true ↦ λ in_e. ap (λ b. eq_by_cmp label_set_cmp l e.0.labels || b) (has_among l es) ∙ ap (λ b. b || (is_in own && rest)) (sym (same_labels l e.0 in_e))
+            ∙ keeps (eq_by_cmp route_labels_cmp own e.0) (is_in own) rest (λ t. ap is_in (tied_key e.0 own t) ∙ in_e)
+        | false ↦ λ in_e. has_among l es ∙ skips (eq_by_cmp route_labels_cmp own e.0) (is_in own) rest (λ t. ap is_in (tied_key e.0 own t) ∙ in_e)
+      ] refl
 
-pub keeps_same : (a b : Numbered RouteLabels Alert) → b.numbers ≡ a.numbers → KeepsNumbers a b
-keeps_same a b same key h = ap (find route_labels_cmp key) same
+  -- a label set is among the members of the group just where it is a member on the route
+  has_member : (m : Map route_labels_cmp Alert) (l : LabelSet) → has label_set_cmp (labels_of_members (members_among config m group)) l ≡ (is_in (on_route group.route l) && is_some (get m (on_route group.route l)))
+  has_member m l =
+      has_among l (entries m) ∙ ap (λ b. is_in (on_route group.route l) && b) (sym (is_some-find route_labels_cmp (on_route group.route l) (entries m)) ∙ ap is_some (sym (get-entries m (on_route group.route l))))
 
--- no place is lost
-pub keeps_places : (a b : Numbered RouteLabels Alert) → KeepsNumbers a b → KeepsPlaces route_labels_cmp a b
-unfolding has_place
-keeps_places a b keeps key h = ap is_some (keeps key h) ∙ h
-
-pub keeps_more : (a b c : Numbered RouteLabels Alert) → KeepsNumbers a b → c.numbers ≡ b.numbers → KeepsNumbers a c
-keeps_more a b c keeps same key h = ap (find route_labels_cmp key) same ∙ keeps key h
-
--- a new place leaves the other numbers
-pub keeps_new : (a b : Numbered RouteLabels Alert) (k : RouteLabels) (n : ℕ) → number_of route_labels_cmp a k ≡ None → GetsNumber route_labels_cmp a b k n → KeepsNumbers a b
-unfolding has_place
-keeps_new a b k n none gets key h =
-    gets key
-    ∙ elim (eq_by_cmp route_labels_cmp key k) as (λ same. eq_by_cmp route_labels_cmp key k ≡ same → cond same (Some n) (number_of route_labels_cmp a key) ≡ number_of route_labels_cmp a key) [
-      | true ↦ λ t. absurd (true≢false (sym h ∙ ap is_some (ap (number_of route_labels_cmp a) (tied_key k key t) ∙ none)))
-      | false ↦ λ _. refl
-    ] refl
-
-pub new_number : (a b : Numbered RouteLabels Alert) (k : RouteLabels) (n : ℕ) → GetsNumber route_labels_cmp a b k n → number_of route_labels_cmp b k ≡ Some n
-new_number a b k n gets = gets k ∙ ap (λ o. cond (is_eq o) (Some n) (number_of route_labels_cmp a k)) (tied_itself route_labels_cmp_total k)
-
--- a key without a number has no place
-pub absent : (a : Numbered RouteLabels Alert) (k : RouteLabels) → number_of route_labels_cmp a k ≡ None → has_place route_labels_cmp a k ≡ false
-unfolding has_place
-absent a k none = ap is_some none
-
--- a key with a number has a place, and one with a place has a number
-pub has_number : (a : Numbered RouteLabels Alert) (k : RouteLabels) (number : Option ℕ) → number ≡ number_of route_labels_cmp a k → is_some number ≡ has_place route_labels_cmp a k
-unfolding has_place
-has_number a k number is = ap is_some is
-
-pub has_place_at : (a : Numbered RouteLabels Alert) (k : RouteLabels) (n : ℕ) → number_of route_labels_cmp a k ≡ Some n → IsTrue (has_place route_labels_cmp a k)
-unfolding has_place
-has_place_at a k n is = ap is_some is
-
-pub numbered : (a : Numbered RouteLabels Alert) (k : RouteLabels) → IsTrue (has_place route_labels_cmp a k) → number_of route_labels_cmp a k ≡ None → ⊥
-unfolding has_place
-numbered a k h none = true≢false (sym h ∙ ap is_some none)
-
--- a place that exists has its number
-number_is : (a : Numbered RouteLabels Alert) (k : RouteLabels) → IsTrue (has_place route_labels_cmp a k) → number_of route_labels_cmp a k ≡ Some (place_number a k)
-unfolding has_place
-number_is a k h = of_some (number_of route_labels_cmp a k) h
-  where
-    of_some : (o : Option ℕ) → IsTrue (is_some o) → o ≡ Some (option_map_or (λ place. place) o 0)
-    of_some None h = absurd (true≢false (sym h))
-    of_some (Some n) h = refl
-
--- ---- the table and the index after a change
-
-module _ (config : Config) (a b : Numbered RouteLabels Alert) (q r : Queued IndexedMember) (indexed : IsIndexed config a q) (keeps : KeepsNumbers a b) (n : ℕ)
-    (fewer : length a.numbers ≤ length b.numbers) (places : length b.numbers ≤ length a.numbers + n) (same : r.dues ≡ q.dues) (room : q.room + n ≤ r.room) where
-  -- the index of the members before the change, with the numbers that the places have after it
-  dues_before : r.dues ≡ in_order indexed_cmp (indexed_members config b (shown route_labels_cmp a))
-  dues_before =
-      same ∙ indexed.dues
-      ∙ ap (in_order indexed_cmp) (sym (same_entries config a b keeps (entries (shown route_labels_cmp a)) (members_placed a indexed.placed)))
-
-  -- no member came or left
-  pub indexed_still : shown route_labels_cmp b ≡ shown route_labels_cmp a → IsIndexed config b r
-  indexed_still shows = record {
-    dues = dues_before ∙ ap (λ (m : Map route_labels_cmp Alert). in_order indexed_cmp (indexed_members config b m)) (sym shows);
-    room = omega (arith, places, indexed.room, room, ap length same);
-    places = omega (arith, ap (λ (m : Map route_labels_cmp Alert). len m) shows, fewer, indexed.places);
-    placed = λ k h. keeps_places a b keeps k (indexed.placed k (subst (λ (m : Map route_labels_cmp Alert). IsTrue (is_some (get m k))) shows h));
-  }
-
-  module _ (membership : Membership) (place : ℕ) (k : RouteLabels) (w : Option Alert) (was is : Bool)
-      (membership_is : membership ≡ membership_of config k) (number : number_of route_labels_cmp b k ≡ Some place) (was_is : was ≡ is_some (get (shown route_labels_cmp a) k)) (is_is : is ≡ is_some w)
-      (shows : shown route_labels_cmp b ≡ set (shown route_labels_cmp a) k w) where
-    member_is : indexed_as membership place ≡ indexed_of config b k
-    member_is = λ i. indexed_as (membership_is i) (option_map_or (λ place. place) (sym number i) 0)
-
-    enough : HasPlaces route_labels_cmp b → len (set (shown route_labels_cmp a) k w) ≤ r.room + length (in_order indexed_cmp (indexed_members config b (shown route_labels_cmp a)))
-    enough places_b = omega (arith, ap (λ (m : Map route_labels_cmp Alert). len m) shows, places, places_b, indexed.room, room, ap length same, ap length dues_before)
-
-    pub may_enrol : HasPlaces route_labels_cmp b → CanEnrol r.dues r.room (indexed_as membership place) was is
-    may_enrol places_b =
-        subst (λ (x : List IndexedMember × (IndexedMember × (Bool × Bool))). CanEnrol x.0 r.room x.1.0 x.1.1.0 x.1.1.1) (λ i. (sym dues_before i, (sym member_is i, (sym was_is i, sym is_is i))))
-        (can_enrol config b (shown route_labels_cmp a) k w r.room (enough places_b))
-
-    placed_after : ArePlaced b
-    unfolding has_place
-    placed_after key h =
-        elim (eq_by_cmp route_labels_cmp key k) as (λ b1. eq_by_cmp route_labels_cmp key k ≡ b1 → IsTrue (is_some (cond b1 w (get (shown route_labels_cmp a) key))) → IsTrue (has_place route_labels_cmp b key)) [
-          | true ↦ λ t _. ap is_some (ap (number_of route_labels_cmp b) (tied_key k key t) ∙ number)
-          | false ↦ λ _ got_key. keeps_places a b keeps key (indexed.placed key got_key)
-        ] refl (subst (λ o. IsTrue (is_some o)) (ap (λ (m : Map route_labels_cmp Alert). get m key) shows ∙ get-set route_labels_cmp_total (shown route_labels_cmp a) k w key) h)
-
-    pub indexed_after : HasPlaces route_labels_cmp b → (s : Queued IndexedMember) → s.dues ≡ enrolled r.dues (indexed_as membership place) was is → s.room + length s.dues ≡ r.room + length r.dues → IsIndexed config b s
-    indexed_after places_b s gives all = record {
-      dues = gives ∙ (λ i. enrolled (dues_before i) (member_is i) (was_is i) (is_is i)) ∙ is_enrolled config b (shown route_labels_cmp a) k w
-          ∙ ap (λ (m : Map route_labels_cmp Alert). in_order indexed_cmp (indexed_members config b m)) (sym shows);
-      room = omega (arith, places, indexed.room, room, all, ap length same);
-      places = places_b;
-      placed = placed_after;
-    }
-
--- ---- the members of a group are those of its part of the index
-
-skips : (a b c : Bool) → (a ≡ true → b ≡ false) → (b && c) ≡ (b && (a || c))
-skips true b c f = ap (λ x. x && c) (f refl) ∙ sym (ap (λ x. x && true) (f refl))
-skips false b c f = refl
-
-keeps : (a b c : Bool) → (a ≡ true → b ≡ true) → (a || (b && c)) ≡ (b && (a || c))
-keeps true b c f = sym (ap (λ x. x && true) (f refl))
-keeps false b c f = refl
-
-module _ (config : Config) (placements : Numbered RouteLabels Alert) (group : RouteLabels) where
-  abbrev is_in : IndexedMember → Bool
-  is_in member = is_eq (group_part_cmp member group)
-
-  -- an entry is of the group just where the member is
-  in_group_is : (k : RouteLabels) → is_in (indexed_of config placements k) ≡ eq_by_cmp route_labels_cmp (group_key config k) group
-  in_group_is k =
-      alike (is_in (indexed_of config placements k)) (eq_by_cmp route_labels_cmp (group_key config k) group)
-      (λ e. last_equal (nat_cmp (route_labels_spread (group_key config k)) (route_labels_spread group)) (route_labels_cmp (group_key config k) group) e)
-      (λ e. subst (λ (x : RouteLabels). is_eq (ordering_then (nat_cmp (route_labels_spread x) (route_labels_spread group)) (route_labels_cmp x group)) ≡ true)
-      (sym (tied_key group (group_key config k) e))
-      (ap (λ o. is_eq (ordering_then o (route_labels_cmp group group))) (tied_itself nat_cmp_total (route_labels_spread group)) ∙ ap is_eq (tied_itself route_labels_cmp_total group)))
+  below_among : (k : RouteLabels) (es : List (RouteLabels × Alert)) → is_in k ≡ true → T (below_all route_labels_cmp k es) → AllByRecursion (λ y. label_set_cmp k.labels y ≡ Less) (labels_of_members (among es))
+  below_among k [] in_k h = tt
+  below_among k (f ∷ fs) in_k h =
+      elim (is_in f.0) as (λ b. is_in f.0 ≡ b → AllByRecursion (λ y. label_set_cmp k.labels y ≡ Less) (labels_of_members (map (λ placement. (placement.0.labels, placement.1)) (cond b (f ∷ filter (λ placement. is_in placement.0) fs) (filter (λ placement. is_in placement.0) fs))))) [
+        | true ↦ λ in_f. (by_labels in_f (less_is _ (first _ _ h)), below_among k fs in_k (second _ _ h))
+        | false ↦ λ _. below_among k fs in_k (second _ _ h)
+      ] refl
     where
-      last_equal : (o p : Ordering) → is_eq (ordering_then o p) ≡ true → is_eq p ≡ true
-      last_equal Less p e = absurd (true≢false (sym e))
-      last_equal Equal p e = e
-      last_equal Greater p e = absurd (true≢false (sym e))
+      by_labels : is_in f.0 ≡ true → route_labels_cmp k f.0 ≡ Less → label_set_cmp k.labels f.0.labels ≡ Less
+      by_labels in_f less =
+          sym (ap (λ o. ordering_then o (label_set_cmp k.labels f.0.labels)) (ap (λ (n : ℕ). nat_cmp n f.0.route) (ap (λ (r : RouteLabels). r.route) (tied_key group (group_key config k) in_k ∙ sym (tied_key group (group_key config f.0) in_f))) ∙ tied_itself nat_cmp_total f.0.route))
+          ∙ less
 
-  same_part : (d x : IndexedMember) → eq_by_cmp indexed_cmp d x ≡ true → is_in d ≡ is_in x
-  same_part d x e = ap is_in (indexed_cmp-IsAntisymmetric d x (equal_of _ e))
-
-  has_part : (l : List IndexedMember) (d : IndexedMember) → has indexed_cmp (filter is_in l) d ≡ (is_in d && has indexed_cmp l d)
-  has_part [] d = never (is_in d)
-  has_part (x ∷ l) d =
-      elim (is_in x) as (λ b. is_in x ≡ b → has indexed_cmp (cond b (x ∷ filter is_in l) (filter is_in l)) d ≡ (is_in d && (eq_by_cmp indexed_cmp d x || has indexed_cmp l d))) [
-        | true ↦ λ e. ap (λ b. eq_by_cmp indexed_cmp d x || b) (has_part l d) ∙ keeps (eq_by_cmp indexed_cmp d x) (is_in d) (has indexed_cmp l d) (λ t. same_part d x t ∙ e)
-        | false ↦ λ e. has_part l d ∙ skips (eq_by_cmp indexed_cmp d x) (is_in d) (has indexed_cmp l d) (λ t. same_part d x t ∙ e)
-      ] refl
-
-  -- two members of the group go by their labels
-  by_labels : (k f : RouteLabels) → is_in (indexed_of config placements k) ≡ true → is_in (indexed_of config placements f) ≡ true → route_labels_cmp k f ≡ Less → indexed_cmp (indexed_of config placements k) (indexed_of config placements f) ≡ Less
-  by_labels k f in_k in_f less =
-      let same : group_key config k ≡ group_key config f =
-      route_labels_cmp-IsAntisymmetric (group_key config k) group (equal_of _ (sym (in_group_is k) ∙ in_k)) ∙ sym (route_labels_cmp-IsAntisymmetric (group_key config f) group (equal_of _ (sym (in_group_is f) ∙ in_f))) in
-      let groups : route_labels_cmp (group_key config k) (group_key config f) ≡ Equal = ap (λ (x : RouteLabels). route_labels_cmp x (group_key config f)) same ∙ tied_itself route_labels_cmp_total (group_key config f) in
-      let routes : nat_cmp k.route f.route ≡ Equal = ap (λ (x : RouteLabels). nat_cmp x.route f.route) same ∙ tied_itself nat_cmp_total f.route in
-      let spreads : nat_cmp (route_labels_spread (group_key config k)) (route_labels_spread (group_key config f)) ≡ Equal = ap (λ (x : RouteLabels). nat_cmp (route_labels_spread x) (route_labels_spread (group_key config f))) same ∙ tied_itself nat_cmp_total (route_labels_spread (group_key config f)) in
-      let memberships : membership_cmp (membership_of config k) (membership_of config f) ≡ Less =
-      ap (λ o. ordering_then o (label_set_cmp k.labels f.labels)) groups ∙ sym (ap (λ o. ordering_then o (label_set_cmp k.labels f.labels)) routes) ∙ less in
-      let places = nat_cmp (place_number placements k) (place_number placements f) in
-      ap (λ o. ordering_then o (ordering_then (membership_cmp (membership_of config k) (membership_of config f)) places)) spreads ∙ ap (λ o. ordering_then o places) memberships
-
-  below_part : (k : RouteLabels) (es : List (RouteLabels × Alert)) → is_in (indexed_of config placements k) ≡ true → T (below_all route_labels_cmp k es)
-      → AllByRecursion (λ y. indexed_cmp (indexed_of config placements k) y ≡ Less) (filter is_in (map (indexed_of config placements) (map (λ e. e.0) es)))
-  below_part k [] in_k h = tt
-  below_part k (f ∷ fs) in_k h =
-      elim (is_in (indexed_of config placements f.0)) as (λ b. is_in (indexed_of config placements f.0) ≡ b → AllByRecursion (λ y. indexed_cmp (indexed_of config placements k) y ≡ Less)
-      (cond b (indexed_of config placements f.0 ∷ filter is_in (map (indexed_of config placements) (map (λ e. e.0) fs))) (filter is_in (map (indexed_of config placements) (map (λ e. e.0) fs))))) [
-        | true ↦ λ in_f. (by_labels k f.0 in_k in_f (less_is _ (first _ _ h)), below_part k fs in_k (second _ _ h))
-        | false ↦ λ _. below_part k fs in_k (second _ _ h)
-      ] refl
-
-  sorted_part : (es : List (RouteLabels × Alert)) → T (is_sorted route_labels_cmp es) → IsStrictlySortedBy indexed_cmp (filter is_in (map (indexed_of config placements) (map (λ e. e.0) es)))
+  sorted_among : (es : List (RouteLabels × Alert)) → T (is_sorted route_labels_cmp es) → IsStrictlySortedBy label_set_cmp (labels_of_members (among es))
   unfolding IsStrictlySortedBy
-  sorted_part [] h = tt
-  sorted_part (e ∷ es) h =
-      elim (is_in (indexed_of config placements e.0)) as (λ b. is_in (indexed_of config placements e.0) ≡ b → IsStrictlySortedBy indexed_cmp
-      (cond b (indexed_of config placements e.0 ∷ filter is_in (map (indexed_of config placements) (map (λ e. e.0) es))) (filter is_in (map (indexed_of config placements) (map (λ e. e.0) es))))) [
-        | true ↦ λ in_e. (below_part e.0 es in_e (first _ _ h), sorted_part es (second _ _ h))
-        | false ↦ λ _. sorted_part es (second _ _ h)
+  sorted_among [] h = tt
+  sorted_among (e ∷ es) h =
+      elim (is_in e.0) as (λ b. is_in e.0 ≡ b → IsStrictlySortedBy label_set_cmp (labels_of_members (map (λ placement. (placement.0.labels, placement.1)) (cond b (e ∷ filter (λ placement. is_in placement.0) es) (filter (λ placement. is_in placement.0) es))))) [
+        | true ↦ λ in_e. (below_among e.0 es in_e (first _ _ h), sorted_among es (second _ _ h))
+        | false ↦ λ _. sorted_among es (second _ _ h)
       ] refl
 
-  sorted_filter : (l : List IndexedMember) → IsStrictlySortedBy indexed_cmp l → IsStrictlySortedBy indexed_cmp (filter is_in l)
-  sorted_filter l s = IsStrictlySortedBy-filter indexed_cmp is_in l s
-
-  -- of the group, the index and the placements list the same
-  part_is : (m : Map route_labels_cmp Alert) → filter is_in (in_order indexed_cmp (indexed_members config placements m)) ≡ filter is_in (indexed_members config placements m)
-  part_is m =
-      same_from_members indexed_cmp indexed_cmp_total indexed_cmp-IsAntisymmetric _ _
-      (sorted_filter _ (sorted_in_order indexed_cmp indexed_cmp_total (indexed_members config placements m))) (sorted_part (entries m) (entries-sorted m))
-      (λ d. has_part (in_order indexed_cmp (indexed_members config placements m)) d ∙ ap (λ b. is_in d && b) (has_in_order indexed_cmp indexed_cmp_total (indexed_members config placements m) d)
-      ∙ sym (has_part (indexed_members config placements m) d))
-
-  looked_up : (m : Map route_labels_cmp Alert) (es : List (RouteLabels × Alert)) → AllByRecursion (λ e. get m e.0 ≡ Some e.1) es
-      → filter_map (with_alert m) (filter is_in (map (indexed_of config placements) (map (λ e. e.0) es)))
-      ≡ map (λ placement. (placement.0.labels, placement.1)) (filter (λ placement. is_in (indexed_of config placements placement.0)) es)
+  -- each label set of the group has its alert
+  looked_up : (m : Map route_labels_cmp Alert) (es : List (RouteLabels × Alert)) → AllByRecursion (λ e. get m e.0 ≡ Some e.1) es → filter_map (with_alert m group.route) (labels_of_members (among es)) ≡ among es
   looked_up m [] h = refl
   looked_up m (e ∷ es) h =
-      elim (is_in (indexed_of config placements e.0)) as (λ b. filter_map (with_alert m) (cond b (indexed_of config placements e.0 ∷ filter is_in (map (indexed_of config placements) (map (λ e. e.0) es))) (filter is_in (map (indexed_of config placements) (map (λ e. e.0) es))))
-      ≡ map (λ placement. (placement.0.labels, placement.1)) (cond b (e ∷ filter (λ placement. is_in (indexed_of config placements placement.0)) es) (filter (λ placement. is_in (indexed_of config placements placement.0)) es))) [
-        | true ↦ ap (λ x. cons_option (option_map (λ alert. (e.0.labels, alert)) x) (filter_map (with_alert m) (filter is_in (map (indexed_of config placements) (map (λ e. e.0) es))))) h.0
+      elim (is_in e.0) as (λ b. is_in e.0 ≡ b → filter_map (with_alert m group.route) (labels_of_members (map (λ placement. (placement.0.labels, placement.1)) (cond b (e ∷ filter (λ placement. is_in placement.0) es) (filter (λ placement. is_in placement.0) es))))
+      ≡ map (λ placement. (placement.0.labels, placement.1)) (cond b (e ∷ filter (λ placement. is_in placement.0) es) (filter (λ placement. is_in placement.0) es))) [
+        | true ↦ λ in_e. ap (λ x. cons_option (option_map (λ alert. (e.0.labels, alert)) x) (filter_map (with_alert m group.route) (labels_of_members (among es)))) (ap (get m) (on_its_route e.0 in_e) ∙ h.0)
             ∙ ap (λ l. (e.0.labels, e.1) ∷ l) (looked_up m es h.1)
-        | false ↦ looked_up m es h.1
-      ]
+        | false ↦ λ _. looked_up m es h.1
+      ] refl
 
-  pub members_are : (m : Map route_labels_cmp Alert) → filter_map (with_alert m) (filter is_in (in_order indexed_cmp (indexed_members config placements m))) ≡ members_among config m group
-  members_are m = ap (filter_map (with_alert m)) (part_is m) ∙ looked_up m (entries m) (got m (entries m) (own_alerts (entries m) (entries-sorted m)))
-      ∙ (λ i. map (λ placement. (placement.0.labels, placement.1)) (filter (λ placement. in_group_is placement.0 i) (entries m)))
+  pub members_are : (m : Map route_labels_cmp Alert) → filter_map (with_alert m group.route) (labels_of_members (members_among config m group)) ≡ members_among config m group
+  members_are m = looked_up m (entries m) (got m (entries m) (own_alerts (entries m) (entries-sorted m)))
 
-  -- the label sets of the members are those of the group's part of the index
-  labels_listed : (es : List (RouteLabels × Alert))
-      → labels_of_indexed (filter is_in (map (indexed_of config placements) (map (λ e. e.0) es)))
-      ≡ labels_of_members (map (λ placement. (placement.0.labels, placement.1)) (filter (λ placement. is_in (indexed_of config placements placement.0)) es))
-  labels_listed [] = refl
-  labels_listed (e ∷ es) =
-      elim (is_in (indexed_of config placements e.0)) as (λ b. labels_of_indexed (cond b (indexed_of config placements e.0 ∷ filter is_in (map (indexed_of config placements) (map (λ e. e.0) es))) (filter is_in (map (indexed_of config placements) (map (λ e. e.0) es))))
-      ≡ labels_of_members (map (λ placement. (placement.0.labels, placement.1)) (cond b (e ∷ filter (λ placement. is_in (indexed_of config placements placement.0)) es) (filter (λ placement. is_in (indexed_of config placements placement.0)) es)))) [
-        | true ↦ ap (λ l. e.0.labels ∷ l) (labels_listed es)
-        | false ↦ labels_listed es
-      ]
+  -- a list in order of the same label sets lists the members
+  listed : (m : Map route_labels_cmp Alert) (ls : List LabelSet) → IsStrictlySortedBy label_set_cmp ls → ((l : LabelSet) → has label_set_cmp ls l ≡ (is_in (on_route group.route l) && is_some (get m (on_route group.route l)))) → ls ≡ labels_of_members (members_among config m group)
+  listed m ls sorted same = same_from_members label_set_cmp label_set_cmp_total label_set_cmp-IsAntisymmetric ls _ sorted (sorted_among (entries m) (entries-sorted m)) (λ l. same l ∙ sym (has_member m l))
 
-  pub labels_are : (m : Map route_labels_cmp Alert) → labels_of_indexed (filter is_in (in_order indexed_cmp (indexed_members config placements m))) ≡ labels_of_members (members_among config m group)
-  labels_are m = ap labels_of_indexed (part_is m) ∙ labels_listed (entries m)
-      ∙ (λ i. labels_of_members (map (λ placement. (placement.0.labels, placement.1)) (filter (λ placement. in_group_is placement.0 i) (entries m))))
+-- ---- the members that are listed by their numbers
 
-  -- each entry has the number of its place
-  at_places : (es : List (RouteLabels × Alert)) → AllByRecursion (λ e. IsTrue (has_place route_labels_cmp placements e.0)) es → All (IsPlacedAt placements) (map (indexed_of config placements) (map (λ e. e.0) es))
-  at_places [] h = All-nil (IsPlacedAt placements)
-  at_places (e ∷ es) h = All-cons (IsPlacedAt placements) (indexed_of config placements e.0) (map (indexed_of config placements) (map (λ e. e.0) es)) (number_is placements e.0 h.0) (at_places es h.1)
+-- the numbers that are listed
+abbrev pub numbers_of_listed : List (Bor LabelSet × ℕ) → List ℕ
+numbers_of_listed members = map (λ member. member.1) members
 
--- what the group's part of the index gives
-module _ (config : Config) (a : Numbered RouteLabels Alert) (q : Queued IndexedMember) (group : RouteLabels) (members : List IndexedMember) (indexed : IsIndexed config a q)
-    (is : members ≡ filter (λ member. is_eq (group_part_cmp member group)) q.dues) where
-  listed : members ≡ filter (λ member. is_eq (group_part_cmp member group)) (in_order indexed_cmp (indexed_members config a (shown route_labels_cmp a)))
-  listed = is ∙ ap (filter (λ (member : IndexedMember). is_eq (group_part_cmp member group))) indexed.dues
+module _ (config : Config) (a : Numbered RouteLabels Alert) (gs : Numbered RouteLabels (Unit {0})) (m : Grouped) (is : IsGrouped config a gs m) (group : RouteLabels) where
+  -- no member is in a group without a number
+  pub none_listed : number_of route_labels_cmp gs group ≡ None → [] ≡ labels_of_members (members_among config (shown route_labels_cmp a) group)
+  unfolding IsStrictlySortedBy
+  none_listed none = listed config group (shown route_labels_cmp a) [] tt (λ l. nobody (on_route group.route l) _ _ refl refl)
+    where
+      nobody : (key : RouteLabels) (x y : Bool) → is_in config group key ≡ x → is_some (get (shown route_labels_cmp a) key) ≡ y → false ≡ (x && y)
+      nobody key true true e h = absurd (no_place gs group none (subst (λ r. IsTrue (has_place route_labels_cmp gs r)) (tied_key group (group_key config key) e) (is.known key h)))
+      nobody key true false e h = refl
+      nobody key false y e h = refl
 
-  pub members_found : filter_map (with_alert (shown route_labels_cmp a)) members ≡ members_among config (shown route_labels_cmp a) group
-  members_found = ap (filter_map (with_alert (shown route_labels_cmp a))) listed ∙ members_are config a group (shown route_labels_cmp a)
+  module _ (g : ℕ) (at : number_of route_labels_cmp gs group ≡ Some g) where
+    abbrev pub IsListed : List (Bor LabelSet × ℕ) → Type 0
+    IsListed members = All (IsNumbered a group.route) (map numbered_labels members)
 
-  pub labels_found : labels_of_indexed members ≡ labels_of_members (members_among config (shown route_labels_cmp a) group)
-  labels_found = ap labels_of_indexed listed ∙ labels_are config a group (shown route_labels_cmp a)
+    -- the labels of a number that is listed are its own
+    listed_labels : (members : List (Bor LabelSet × ℕ)) → IsListed members → (l : LabelSet) (n : ℕ) → number_of route_labels_cmp a (on_route group.route l) ≡ Some n → IsTrue (list_any (λ x. n == x) (numbers_of_listed members)) → IsTrue (has label_set_cmp (labels_of_numbered members) l)
+    listed_labels [] all l n there h = absurd (true≢false (sym h))
+    listed_labels (x ∷ xs) all l n there h =
+        elim (n == x.1) as (λ b. (n == x.1) ≡ b → IsTrue (b || list_any (λ x. n == x) (numbers_of_listed xs)) → IsTrue (has label_set_cmp (labels_of_numbered (x ∷ xs)) l)) [
+          | true ↦ λ e _.
+              let same : n ≡ x.1 = grind (arith, nat_tests) in
+              let own : number_of route_labels_cmp a (on_route group.route x.0.now) ≡ Some x.1 = All-head (IsNumbered a group.route) (numbered_labels x) (map numbered_labels xs) all in
+              let keys : on_route group.route l ≡ on_route group.route x.0.now = is.numbered.apart (on_route group.route l) (on_route group.route x.0.now) n there (own ∙ ap (λ n. Some n) (sym same)) in
+              ap (λ (r : RouteLabels). eq_by_cmp label_set_cmp r.labels x.0.now || has label_set_cmp (labels_of_numbered xs) l) keys ∙ ap (λ o. is_eq o || has label_set_cmp (labels_of_numbered xs) l) (tied_itself label_set_cmp_total x.0.now)
+          | false ↦ λ _ rest. or_right (eq_by_cmp label_set_cmp l x.0.now) _ (listed_labels xs (All-tail (IsNumbered a group.route) (numbered_labels x) (map numbered_labels xs) all) l n there rest)
+        ] refl h
+      where
+        or_right : (a b : Bool) → IsTrue b → IsTrue (a || b)
+        or_right true b h = refl
+        or_right false b h = h
 
-  pub placed_found : All (IsPlacedAt a) members
-  placed_found =
-      subst (All (IsPlacedAt a)) (sym (listed ∙ part_is config a group (shown route_labels_cmp a)))
-      (All-filter (λ (member : IndexedMember). is_eq (group_part_cmp member group)) (IsPlacedAt a) _ (at_places config a group (entries (shown route_labels_cmp a)) (members_placed a indexed.placed)))
+    -- a label set that is listed has a number that is
+    listed_number : (members : List (Bor LabelSet × ℕ)) → IsListed members → (l : LabelSet) → IsTrue (has label_set_cmp (labels_of_numbered members) l) → (n : ℕ) × (IsTrue (list_any (λ x. n == x) (numbers_of_listed members)) × (number_of route_labels_cmp a (on_route group.route l) ≡ Some n))
+    listed_number [] all l h = absurd (true≢false (sym h))
+    listed_number (x ∷ xs) all l h =
+        elim (eq_by_cmp label_set_cmp l x.0.now) as (λ b. eq_by_cmp label_set_cmp l x.0.now ≡ b → IsTrue (b || has label_set_cmp (labels_of_numbered xs) l) → (n : ℕ) × (IsTrue (list_any (λ y. n == y) (numbers_of_listed (x ∷ xs))) × (number_of route_labels_cmp a (on_route group.route l) ≡ Some n))) [
+          | true ↦ λ e _.
+              let same : l ≡ x.0.now = label_set_cmp-IsAntisymmetric l x.0.now (equal_of _ e) in
+              let itself : (x.1 == x.1) ≡ true = grind (arith, nat_tests) in
+              (x.1, (ap (λ b. b || list_any (λ y. x.1 == y) (numbers_of_listed xs)) itself, ap (λ l. number_of route_labels_cmp a (on_route group.route l)) same ∙ All-head (IsNumbered a group.route) (numbered_labels x) (map numbered_labels xs) all))
+          | false ↦ λ _ rest.
+              let by = listed_number xs (All-tail (IsNumbered a group.route) (numbered_labels x) (map numbered_labels xs) all) l rest in
+              (by.0, (or_right (by.0 == x.1) _ by.1.0, by.1.1))
+        ] refl h
+      where
+        or_right : (a b : Bool) → IsTrue b → IsTrue (a || b)
+        or_right true b h = refl
+        or_right false b h = h
+
+    apart_from : (x : Bor LabelSet × ℕ) (xs : List (Bor LabelSet × ℕ)) → number_of route_labels_cmp a (on_route group.route x.0.now) ≡ Some x.1 → IsListed xs → AllByRecursion (λ y. (x.1 == y) ≡ false) (numbers_of_listed xs)
+        → AllByRecursion (λ y. eq_by_cmp label_set_cmp x.0.now y ≡ false) (labels_of_numbered xs)
+    apart_from x [] own all differ = tt
+    apart_from x (y ∷ ys) own all differ = (
+      elim (eq_by_cmp label_set_cmp x.0.now y.0.now) as (λ b. eq_by_cmp label_set_cmp x.0.now y.0.now ≡ b → b ≡ false) [
+        | true ↦ λ e.
+            let same : x.0.now ≡ y.0.now = label_set_cmp-IsAntisymmetric x.0.now y.0.now (equal_of _ e) in
+            let number : x.1 ≡ y.1 = some_same x.1 y.1 (sym own ∙ ap (λ l. number_of route_labels_cmp a (on_route group.route l)) same ∙ All-head (IsNumbered a group.route) (numbered_labels y) (map numbered_labels ys) all) in
+            let other = differ.0 in
+            absurd (grind (arith, nat_tests))
+        | false ↦ λ _. refl
+      ] refl,
+      apart_from x ys own (All-tail (IsNumbered a group.route) (numbered_labels y) (map numbered_labels ys) all) differ.1,
+    )
+
+    -- different numbers have different label sets
+    labels_apart : (xs : List (Bor LabelSet × ℕ)) → IsListed xs → IsDistinct (λ (a b : ℕ). a == b) (numbers_of_listed xs) → IsDistinct (eq_by_cmp label_set_cmp) (labels_of_numbered xs)
+    unfolding IsDistinct
+    labels_apart [] all d = tt
+    labels_apart (x ∷ xs) all d = (
+      apart_from x xs (All-head (IsNumbered a group.route) (numbered_labels x) (map numbered_labels xs) all) (All-tail (IsNumbered a group.route) (numbered_labels x) (map numbered_labels xs) all) d.0,
+      labels_apart xs (All-tail (IsNumbered a group.route) (numbered_labels x) (map numbered_labels xs) all) d.1,
+    )
+
+    -- the members of the group are those of its numbers, in order of their labels
+    module _ (numbers : List ℕ) (those : AreNumbersOf m g numbers) (found members : List (Bor LabelSet × ℕ)) (found_are : numbers_of_listed found ≡ numbers) (all : IsListed found) (moved : IsPermutation found members)
+        (up : IsSorted (λ (x y : Bor LabelSet × ℕ). ordering_then (label_set_cmp x.0.now y.0.now) (nat_cmp x.1 y.1)) members) where
+      pub all_listed : IsListed members
+      all_listed = All-permutation (IsNumbered a group.route) (map numbered_labels found) (map numbered_labels members) (IsPermutation-map numbered_labels found members moved) all
+
+      same_numbers : IsPermutation numbers (numbers_of_listed members)
+      same_numbers = subst (λ ns. IsPermutation ns (numbers_of_listed members)) found_are (IsPermutation-map (λ (x : Bor LabelSet × ℕ). x.1) found members moved)
+
+      distinct_numbers : IsDistinct (λ (a b : ℕ). a == b) (numbers_of_listed members)
+      distinct_numbers = IsDistinct-IsPermutation (λ (a b : ℕ). a == b) flips numbers (numbers_of_listed members) same_numbers those.distinct
+        where
+          flips : (x y : ℕ) → (x == y) ≡ (y == x)
+          flips x y = alike (x == y) (y == x) (λ e. grind (arith, nat_tests)) (λ e. grind (arith, nat_tests))
+
+      in_order : IsStrictlySortedBy label_set_cmp (labels_of_numbered members)
+      in_order = strictly label_set_cmp_total (eq_by_cmp label_set_cmp) (λ x y. refl) numbered_labels members up (labels_apart members all_listed distinct_numbers)
+
+      has_listed : (l : LabelSet) → has label_set_cmp (labels_of_numbered members) l ≡ (is_in config group (on_route group.route l) && is_some (get (shown route_labels_cmp a) (on_route group.route l)))
+      has_listed l =
+          let key = on_route group.route l in
+          alike (has label_set_cmp (labels_of_numbered members) l) (is_in config group key && is_some (get (shown route_labels_cmp a) key))
+          (λ h.
+          let by = listed_number members all_listed l h in
+          let there : group_at m by.0 ≡ Some g = those.members by.0 (list_any-IsPermutation (λ x. by.0 == x) numbers (numbers_of_listed members) same_numbers ∙ by.1.0) in
+          let member = member_of config a gs m is group g at by.0 there in
+          let same : member.0 ≡ key = is.numbered.apart member.0 key by.0 member.1 by.1.1 in
+          both _ _ (subst (λ r. is_in config group r ≡ true) same (ap (λ r. eq_by_cmp route_labels_cmp r group) member.2.1 ∙ ap is_eq (tied_itself route_labels_cmp_total group)))
+          (subst (λ r. is_some (get (shown route_labels_cmp a) r) ≡ true) same member.2.0))
+          (λ h.
+          let by = number_in config a gs m is group g at key (other_of _ _ h) (tied_key group (group_key config key) (one_of _ _ h)) in
+          listed_labels members all_listed l by.0 by.1 (sym (list_any-IsPermutation (λ x. by.0 == x) numbers (numbers_of_listed members) same_numbers) ∙ those.all by.0 by.2))
+
+      pub labels_found : labels_of_numbered members ≡ labels_of_members (members_among config (shown route_labels_cmp a) group)
+      labels_found = listed config group (shown route_labels_cmp a) (labels_of_numbered members) in_order has_listed
+
+-- an item of a list is among it
+pub among_at : (xs : List ℕ) (i d : ℕ) → i < length xs → IsTrue (list_any (λ m. get_or xs i d == m) xs)
+among_at [] i d h = absurd (omega arith)
+among_at (x ∷ xs) zero d h = ap (λ b. b || list_any (λ m. x == m) xs) (itself x)
+  where
+    itself : (n : ℕ) → (n == n) ≡ true
+    itself n = grind (arith, nat_tests)
+among_at (x ∷ xs) (suc i) d h = or_right (get_or xs i d == x) _ (among_at xs i d (omega arith))
+  where
+    or_right : (a b : Bool) → IsTrue b → IsTrue (a || b)
+    or_right true b h = refl
+    or_right false b h = h
+
+-- ---- copies of members
 
 -- one more member with its alert
-pub member_more : (m : Map route_labels_cmp Alert) (members : List (Bor IndexedMember)) (i : ℕ) (member : Bor IndexedMember) (found more total : List (LabelSet × Alert)) → i < length members → member ≡ get_or members i member
-    → more ≡ found ++ cons_option (with_alert m member.now) [] → found ++ filter_map (with_alert m) (values_of (drop i members)) ≡ total → more ++ filter_map (with_alert m) (values_of (drop (i + 1) members)) ≡ total
-member_more m members i member found more total less is gives so_far =
-    let rest = filter_map (with_alert m) (values_of (drop (i + 1) members)) in
-    ap (λ l. l ++ rest) gives ∙ append_assoc found (cons_option (with_alert m member.now) []) rest
-    ∙ ap (λ l. found ++ l) (at_front (with_alert m member.now) rest
-    ∙ ap (λ (x : Bor IndexedMember). cons_option (with_alert m x.now) rest) is
-    ∙ sym (at_drop_more (λ l. filter_map (with_alert m) (values_of l)) members i member less))
+pub member_more : (m : Map route_labels_cmp Alert) (route : ℕ) (members : List (Bor LabelSet × ℕ)) (i : ℕ) (member : Bor LabelSet × ℕ) (found more total : List (LabelSet × Alert)) → i < length members → member ≡ get_or members i member
+    → more ≡ found ++ cons_option (with_alert m route member.0.now) [] → found ++ filter_map (with_alert m route) (labels_of_numbered (drop i members)) ≡ total → more ++ filter_map (with_alert m route) (labels_of_numbered (drop (i + 1) members)) ≡ total
+member_more m route members i member found more total less is gives so_far =
+    let rest = filter_map (with_alert m route) (labels_of_numbered (drop (i + 1) members)) in
+    ap (λ l. l ++ rest) gives ∙ append_assoc found (cons_option (with_alert m route member.0.now) []) rest
+    ∙ ap (λ l. found ++ l) (at_front (with_alert m route member.0.now) rest
+    ∙ ap (λ (x : Bor LabelSet × ℕ). cons_option (with_alert m route x.0.now) rest) is
+    ∙ sym (at_drop_more (λ l. filter_map (with_alert m route) (labels_of_numbered l)) members i member less))
     ∙ so_far
   where
     at_front : {X : Type 0} (o : Option X) (rest : List X) → cons_option o [] ++ rest ≡ cons_option o rest
     at_front None rest = refl
     at_front (Some x) rest = refl
 
-pub placed_among : (placements : Numbered RouteLabels Alert) (members : List (Bor IndexedMember)) (i : ℕ) (member : Bor IndexedMember) → i < length members → member ≡ get_or members i member
-    → All (IsPlacedAt placements) (values_of members) → IsPlacedAt placements member.now
-placed_among placements members i member less is placed =
-    subst (IsPlacedAt placements) (ap (λ (x : Bor IndexedMember). x.now) (sym is))
-    (All-get_or (λ (x : Bor IndexedMember). IsPlacedAt placements x.now) members i member less (from_values members placed))
+pub numbered_among : (a : Numbered RouteLabels Alert) (route : ℕ) (members : List (Bor LabelSet × ℕ)) (i : ℕ) (member : Bor LabelSet × ℕ) → i < length members → member ≡ get_or members i member → All (IsNumbered a route) (map numbered_labels members) → IsNumbered a route (numbered_labels member)
+numbered_among a route members i member less is all =
+    subst (λ (x : Bor LabelSet × ℕ). IsNumbered a route (numbered_labels x)) (sym is) (All-get_or (λ (x : Bor LabelSet × ℕ). IsNumbered a route (numbered_labels x)) members i member less (of_each members all))
   where
-    from_values : (xs : List (Bor IndexedMember)) → All (IsPlacedAt placements) (values_of xs) → All (λ (x : Bor IndexedMember). IsPlacedAt placements x.now) xs
-    from_values [] h = All-nil (λ (x : Bor IndexedMember). IsPlacedAt placements x.now)
-    from_values (x ∷ xs) h =
-        All-cons (λ (y : Bor IndexedMember). IsPlacedAt placements y.now) x xs (All-head (IsPlacedAt placements) x.now (values_of xs) h) (from_values xs (All-tail (IsPlacedAt placements) x.now (values_of xs) h))
-
--- the alert that is at the number of a member's place is the member's
-pub alert_at : (placements : Numbered RouteLabels Alert) (member : IndexedMember) (alert : Option Alert) → IsPlacedAt placements member → IsValueOf route_labels_cmp placements member.place alert
-    → option_map (λ alert. (member.membership.labels, alert)) alert ≡ with_alert (shown route_labels_cmp placements) member
-alert_at placements member alert placed value = ap (option_map (λ alert. (member.membership.labels, alert))) (value (indexed_on_route member) placed)
-
--- ---- no members
-
-none_indexed : (config : Config) (placements : Numbered RouteLabels Alert) (m : Map route_labels_cmp Alert) → m ≡ empty → indexed_members config placements m ≡ []
-unfolding entries empty
-none_indexed config placements m e = ap (indexed_members config placements) e
-
-pub indexed_first : (config : Config) (a : Numbered RouteLabels Alert) (q : Queued IndexedMember) → shown route_labels_cmp a ≡ empty → a.numbers ≡ [] → HasPlaces route_labels_cmp a → q.dues ≡ [] → IsIndexed config a q
-indexed_first config a q none no_numbers places no_dues = record {
-  dues = no_dues ∙ ap (in_order indexed_cmp) (sym (none_indexed config a (shown route_labels_cmp a) none));
-  room = omega (arith, ap length no_numbers);
-  places = places;
-  placed = λ key h. absurd (true≢false (sym h ∙ ap (λ (m : Map route_labels_cmp Alert). is_some (get m key)) none ∙ ap is_some (get-empty route_labels_cmp key)));
-}
-
-pub indexed_again : (before after : Config) (a : Numbered RouteLabels Alert) (q : Queued IndexedMember) → shown route_labels_cmp a ≡ empty → IsIndexed before a q → IsIndexed after a q
-indexed_again before after a q e indexed = record {
-  dues = indexed.dues ∙ ap (in_order indexed_cmp) (none_indexed before a (shown route_labels_cmp a) e ∙ sym (none_indexed after a (shown route_labels_cmp a) e));
-  room = indexed.room;
-  places = indexed.places;
-  placed = indexed.placed;
-}
+    of_each : (xs : List (Bor LabelSet × ℕ)) → All (IsNumbered a route) (map numbered_labels xs) → All (λ (x : Bor LabelSet × ℕ). IsNumbered a route (numbered_labels x)) xs
+    of_each [] h = All-nil (λ (x : Bor LabelSet × ℕ). IsNumbered a route (numbered_labels x))
+    of_each (x ∷ xs) h =
+        All-cons (λ (y : Bor LabelSet × ℕ). IsNumbered a route (numbered_labels y)) x xs (All-head (IsNumbered a route) (numbered_labels x) (map numbered_labels xs) h)
+        (of_each xs (All-tail (IsNumbered a route) (numbered_labels x) (map numbered_labels xs) h))
 
 -- ---- entries
 

@@ -1,5 +1,5 @@
 -- The moments of alerts and groups by number, as the tables change, and the first of them.
-use Rattle.std.proofs.Common.{◌≡◌, ◌≢◌, ◌≤◌, ◌<◌, ◌⊎◌, inl, inr, ℕ, Bool, true, false, cond, IsTrue, is_some, List, [], Option, Some, None, length, refl, sym, ap, subst, ◌∙◌, arith}
+use Rattle.std.proofs.Common.{◌≡◌, ◌≢◌, ◌≤◌, ◌<◌, ◌⊎◌, inl, inr, ℕ, Bool, true, false, cond, IsTrue, is_some, [], Option, Some, None, length, refl, sym, ap, subst, ◌∙◌, arith}
 use Rattle.std.specs.Prelude.{◌==◌, if◌then◌else◌, nat_lt, slice_set}
 use Rattle.std.specs.Option.{option_cmp}
 use Rattle.std.specs.declared.cmp.Ordering.{Ordering}
@@ -22,7 +22,7 @@ use Rattle.amr_tables.specs.Places.{value_at}
 use Rattle.amr_tables.specs.Numbered.{Numbered, shown, has_place, number_of, next_number, key_with, key_at, rank_of, entry_of, KeepsPlaces, SameEntered, GetsNumber, IsNumbering}
 use Rattle.amr_tables.specs.Earliest.{Earliest, moment_at, IsTournament, IsEarliest}
 use Rattle.amr_tables.proofs.Playing.{tournament_agrees}
-use Rattle.amr_tables.specs.Queued.{has}
+use Rattle.amr_tables.specs.Members.{has}
 use Rattle.amr_tables.proofs.Naming.{key_at_number}
 use Rattle.amr_state.specs.declared.notification.GroupTimer.{GroupTimer}
 use Rattle.amr_state.specs.declared.route_labels.RouteLabels.{RouteLabels}

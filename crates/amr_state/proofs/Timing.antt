@@ -16,7 +16,7 @@ use Rattle.amr_labels.specs.Map.{Map, get, entries, get-entries, entries-sorted}
 use Rattle.amr_rules.specs.declared.alert.Alert.{Alert}
 use Rattle.amr_rules.specs.Muting.{Alerts}
 use Rattle.amr_time.specs.Time.{Moment, second, next_multiple_of}
-use Rattle.amr_tables.specs.Queued.{has}
+use Rattle.amr_tables.specs.Members.{has}
 use Rattle.amr_state.specs.declared.notification.GroupTimer.{GroupTimer}
 use Rattle.amr_state.specs.declared.route_labels.RouteLabels.{RouteLabels}
 use Rattle.amr_state.specs.declared.due.Due.{Due}

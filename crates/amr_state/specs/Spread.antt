@@ -5,7 +5,6 @@ use Rattle.amr_labels.specs.Labels.{Text}
 use Rattle.amr_labels.specs.Spread.{label_set_spread}
 use Rattle.amr_config.specs.Paths.{path_spread}
 use Rattle.amr_state.specs.declared.notification.LogKey.{LogKey}
-use Rattle.amr_state.specs.declared.route_labels.RouteLabels.{RouteLabels}
 
 -- the byte at a place, or 0 where there is none
 unfoldable pub byte_at : Text → ℕ → ℕ
@@ -25,6 +24,3 @@ log_key_spread key =
     let integration = ((key.place + length key.kind * 256 % 2 ^ 64) % 2 ^ 64 + text_sample key.receiver) % 2 ^ 64 in
     let route = (path_spread key.path + integration) % 2 ^ 64 in
     (route * 0x9e3779b97f4a7c15 % 2 ^ 64 + label_set_spread key.group) % 2 ^ 64
-
-unfoldable pub route_labels_spread : RouteLabels → ℕ
-route_labels_spread key = (label_set_spread key.labels + key.route) % 2 ^ 64

@@ -38,13 +38,13 @@ kept_of store = record {
   room = store.journal.record_room;
 }
 
--- an entry can be put back: its place exists
+-- an entry can be put back: its place exists, and so does that of a member's group
 abbrev pub IsSound : Tables → Displaced → Type 0
 IsSound tables (WasMoment moment) = moment ≤ latest_read
 IsSound tables (WasConfig config) = Unit {0}
 IsSound tables (WasAlert labels alert) = IsTrue (has_place label_set_cmp tables.timetable.alerts labels)
 IsSound tables (WasSilence id silence) = IsTrue (has_place nat_cmp tables.silences id)
-IsSound tables (WasPlacement member alert) = IsTrue (has_place route_labels_cmp tables.roster.placements (member_on_route member))
+IsSound tables (WasPlacement member alert) = IsTrue (has_place route_labels_cmp tables.roster.placements (member_on_route member)) × IsTrue (has_place route_labels_cmp tables.roster.groups member.group)
 IsSound tables (WasTimer group timer) = IsTrue (has_place route_labels_cmp tables.timetable.timers group)
 IsSound tables (WasLogged key entry) = IsTrue (has_place log_key_cmp tables.log key)
 IsSound tables (WasNotes count) = Unit {0}
@@ -73,6 +73,7 @@ pub record MorePlaces (a b : Tables) : Type 0 where
   pub alerts : (k : LabelSet) → IsTrue (has_place label_set_cmp a.timetable.alerts k) → IsTrue (has_place label_set_cmp b.timetable.alerts k)
   pub silences : (k : ℕ) → IsTrue (has_place nat_cmp a.silences k) → IsTrue (has_place nat_cmp b.silences k)
   pub placements : (k : RouteLabels) → IsTrue (has_place route_labels_cmp a.roster.placements k) → IsTrue (has_place route_labels_cmp b.roster.placements k)
+  pub groups : (k : RouteLabels) → IsTrue (has_place route_labels_cmp a.roster.groups k) → IsTrue (has_place route_labels_cmp b.roster.groups k)
   pub timers : (k : RouteLabels) → IsTrue (has_place route_labels_cmp a.timetable.timers k) → IsTrue (has_place route_labels_cmp b.timetable.timers k)
   pub log : (k : LogKey) → IsTrue (has_place log_key_cmp a.log k) → IsTrue (has_place log_key_cmp b.log k)
 

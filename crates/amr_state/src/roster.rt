@@ -1,51 +1,52 @@
-//! The configuration in force with the members of all groups, and an index of the members by group.
+//! The configuration in force with the members of all groups, and which member is in which group.
 //! `Store` changes it. The group of a member depends on the configuration, so both are kept
 //! together.
-ghost use Rattle.std.specs.Prelude.{Some, ◌≡◌, ◌≤◌, ◌<◌, ◌+◌, ◌++◌, [], IsTrue, is_some, option_map, if◌then◌else◌, length, OnOk, OnErr, IfOk};
-ghost use Rattle.std.specs.Option.{option_copied};
+ghost use Rattle.std.specs.Prelude.{◌≡◌, ◌<◌, ◌+◌, ◌++◌, [], IsTrue, Some, None, is_some, map, option_map, OnOk, OnErr, IfOk};
 ghost use Rattle.amr_labels.specs.Map as map;
 ghost use Rattle.amr_config.specs.Groups.{groups_of};
 ghost use Rattle.amr_stated.specs.RuleMatches.{rule_matches};
-ghost use Rattle.amr_tables.specs.Numbered.{shown, has_place, number_of, places_for, Enters, GrowsBy, KeepsPlaces, SamePlaces, SameEntered, NoneEntered, IsUnchanged};
+ghost use Rattle.amr_tables.specs.Numbered.{shown, has_place, number_of, next_number, IsNumbering, KeepsPlaces, SamePlaces, Enters, SameEntered, NoneEntered, IsUnchanged};
 ghost use Rattle.std.specs.List.{All, filter_map, cons_option};
-ghost use Rattle.amr_tables.specs.Queued.{values_of};
 ghost use Rattle.amr_state.specs.State.{member_on_route, route_labels_cmp, group_key, members_among};
-ghost use Rattle.amr_state.specs.Rostered.{in_group, member_entry_of, labels_of_members, labels_of_indexed, with_alert, indexed_as, IsPlacedAt, KeepsNumbers, enrolled, CanEnrol};
+ghost use Rattle.amr_state.specs.Rostered.{in_group, member_entry_of, labels_of_members, labels_of_numbered, numbered_labels, with_alert, IsNumbered};
 
 use crate::displaced::BoxedRouter;
 use crate::members::Member;
-use crate::membership::{IndexedMember, Membership};
+use crate::membership::Membership;
 use crate::route_labels::RouteLabels;
 use amr_config::{Config, RouteGroup, Router};
 use amr_labels::{Labels, Listing, Shared};
 use amr_rules::Alert;
 use amr_stated::RuleMatch;
-use amr_tables::{Journal, Key, Keyed, Queue, change_found};
+use amr_tables::{Grouped, Journal, Keyed, change_found};
 use std::alloc::{AllocError, Global};
 use std::marker::Model;
 
-/// The configuration in force and the members of all groups. Every change of a member updates the
-/// index.
+/// The configuration in force and the members of all groups. Every change of a member puts its
+/// number into the number of its group, or takes it out.
 #[derive(Drop)]
 pub(crate) struct Roster {
     alloc: Global,
     config: Router,
     placements: Keyed<RouteLabels, Alert>,
-    index: Queue<IndexedMember>,
+    /// The numbers of the groups that ever had a member. No value is kept of them.
+    groups: Keyed<RouteLabels, ()>,
+    /// The group of each member, by their numbers.
+    members: Grouped,
 }
 
 impl Model for Roster {
     ghost use Rattle.std.specs.Coded.{codes};
     ghost use Rattle.amr_labels.specs.Map as map;
-    ghost use Rattle.amr_state.specs.Rostered.{Rostered, IsIndexed};
+    ghost use Rattle.amr_state.specs.Rostered.{Rostered, IsGrouped};
 
     ghost Value = { Rostered };
 
     ghost coded = { Prim.hlevel (codes, map.code) };
 
-    ghost view = { λ r. record { config = r.config; placements = r.placements } };
+    ghost view = { λ r. record { config = r.config; placements = r.placements; groups = r.groups } };
 
-    ghost invariant = { λ r. IsIndexed r.config r.placements r.index };
+    ghost invariant = { λ r. IsGrouped r.config r.placements r.groups r.members };
 }
 
 impl Roster {
@@ -59,7 +60,8 @@ impl Roster {
             alloc,
             config: Router::new(alloc, config),
             placements: Keyed::new(alloc),
-            index: Queue::new(alloc),
+            groups: Keyed::new(alloc),
+            members: Grouped::new(alloc),
         }
     }
 
@@ -99,14 +101,19 @@ impl Roster {
     }
 
     /// Returns the members of a group, by labels. Its time doesn't grow with the number of members
-    /// of other groups, apart from a logarithm.
+    /// of other groups.
     pub(crate) fn members_of(&self, group: &RouteLabels) -> Result<Vec<Member>, AllocError>
         ensures { IfOk result (λ found. found.items
             ≡ members_among self.now.config (shown route_labels_cmp self.now.placements)
             group.now) }
     {
-        let members = self.index.part(group)?;
-        with_alerts(self.alloc, &self.placements, members.as_slice())
+        let members = self.numbered_members(group)?;
+        with_alerts(
+            self.alloc,
+            &self.placements,
+            group.route,
+            members.as_slice(),
+        )
     }
 
     /// Returns the label sets of the members of a group, in order. It looks up no alert.
@@ -118,8 +125,32 @@ impl Roster {
             (members_among self.now.config (shown route_labels_cmp self.now.placements)
             group.now)) }
     {
-        let members = self.index.part(group)?;
+        let members = self.numbered_members(group)?;
         labels_of(self.alloc, members.as_slice())
+    }
+
+    /// Returns the label sets of the members of a group, in order, with the numbers of their places.
+    fn numbered_members(&self, group: &RouteLabels) -> Result<Vec<(&Labels, usize)>, AllocError>
+        ensures labels { IfOk result (λ found. labels_of_numbered found.items
+            ≡ labels_of_members (members_among self.now.config
+            (shown route_labels_cmp self.now.placements) group.now)) }
+        ensures numbers { IfOk result (λ found.
+            All (IsNumbered self.now.placements group.now.route)
+            (map numbered_labels found.items)) }
+    {
+        let mut found = Vec::new(self.alloc);
+        let Some(number) = self.groups.number_of(group) else {
+            return Ok(found);
+        };
+        let members = self.members.numbers_of(number)?;
+        for &member in members.as_slice() {
+            let Some(route_labels) = self.placements.key_at(member) else {
+                unreachable!()
+            };
+            found.push((&route_labels.labels, member))?;
+        }
+        found.sort()?;
+        Ok(found)
     }
 
     /// Clears the marks of all places, so that the open record takes their next change again. It
@@ -129,6 +160,7 @@ impl Roster {
             ≡ shown route_labels_cmp self.old.placements }
         ensures places { SamePlaces route_labels_cmp self.old.placements self.new.placements }
         ensures entered { NoneEntered route_labels_cmp self.new.placements }
+        ensures groups { self.new.groups ≡ self.old.groups }
         ensures config { self.new.config ≡ self.old.config }
     {
         self.placements.clear_entered();
@@ -152,61 +184,58 @@ impl Roster {
             (Enters route_labels_cmp self.old.placements self.new.placements route_labels.now) }
         ensures made { OnOk result
             (IsTrue (has_place route_labels_cmp self.new.placements route_labels.now)) }
+        ensures known { OnOk result (IsTrue (has_place route_labels_cmp self.new.groups group.now)) }
         ensures err { OnErr result
             (IsUnchanged route_labels_cmp self.old.placements self.new.placements) }
         ensures places { KeepsPlaces route_labels_cmp self.old.placements self.new.placements }
+        ensures groups { KeepsPlaces route_labels_cmp self.old.groups self.new.groups }
         ensures config { self.new.config ≡ self.old.config }
         ensures room { IfOk result (λ entry. IsTrue (is_some entry) → 0 < journal.new.entry_room) }
         ensures closed { journal.new.closed ≡ journal.old.closed }
         ensures current { journal.new.current ≡ journal.old.current }
         ensures record_room { journal.new.record_room ≡ journal.old.record_room }
     {
-        let member = Membership {
-            group: group.clone()?,
-            labels: route_labels.labels.clone()?,
-        };
-        let group = group.clone()?;
-        let (number, former) = self.placements.look_up_number(route_labels);
-        let was = is_member(former);
-        make_room(&mut self.index, number.is_some())?;
-        let place = ensure_place(&mut self.placements, route_labels, number)?;
-        let is = alert.is_some();
+        let named_group = group.clone()?;
+        let group = self.place_group(group)?;
+        let member = self.place_member(route_labels)?;
+        let in_group = if_member(&alert, group);
         let entry = change_found(
             &mut self.placements,
             journal,
             route_labels,
-            Some(place),
+            Some(member),
             alert,
         )?;
-        enrol(&mut self.index, indexed(member, place), was, is);
-        Ok(member_entry(group, entry))
+        self.members.set(member, in_group);
+        Ok(member_entry(named_group, entry))
     }
 
-    /// Restores a member of its group, or its absence. It looks for the place once and takes no
-    /// memory.
+    /// Restores a member of its group, or its absence. It takes no memory.
     pub(crate) fn put_back_member(&mut self, member: Membership, alert: Option<Alert>)
         requires place { IsTrue
             (has_place route_labels_cmp self.old.placements (member_on_route member)) }
+        requires known { IsTrue (has_place route_labels_cmp self.old.groups member.group) }
         requires group { member.group ≡ group_key self.old.config (member_on_route member) }
         ensures shown { shown route_labels_cmp self.new.placements ≡
             map.set (shown route_labels_cmp self.old.placements) (member_on_route member) alert }
         ensures places { SamePlaces route_labels_cmp self.old.placements self.new.placements }
         ensures entered { SameEntered route_labels_cmp self.old.placements self.new.placements }
+        ensures groups { self.new.groups ≡ self.old.groups }
         ensures config { self.new.config ≡ self.old.config }
     {
+        let Some(group) = self.groups.number_of(&member.group) else {
+            unreachable!()
+        };
         let route_labels = RouteLabels {
             route: member.group.route,
             labels: member.labels,
         };
-        let (number, _former) = self.placements.look_up_number(&route_labels);
-        let Some(place) = number else { unreachable!() };
-        let is = alert.is_some();
-        let was = self.placements.displace_at(place, alert).is_some();
-        let member = Membership {
-            group: member.group,
-            labels: route_labels.labels,
+        let Some(number) = self.placements.number_of(&route_labels) else {
+            unreachable!()
         };
-        enrol(&mut self.index, indexed(member, place), was, is);
+        let in_group = if_member(&alert, group);
+        let _former = self.placements.displace_at(number, alert);
+        self.members.set(number, in_group);
     }
 
     /// Replaces the configuration, while no group has members, and returns the one before. The new
@@ -216,36 +245,133 @@ impl Roster {
         ensures before { result ≡ self.old.config }
         ensures config { self.new.config ≡ config }
         ensures placements { self.new.placements ≡ self.old.placements }
+        ensures groups { self.new.groups ≡ self.old.groups }
     {
         config.swap(&mut self.config);
         config
     }
+
+    /// Returns the number of a group. Gives it one if it has none.
+    fn place_group(&mut self, group: &RouteLabels) -> Result<usize, AllocError>
+        ensures number { IfOk result (λ number.
+            number_of route_labels_cmp self.new.groups group.now ≡ Some number) }
+        ensures groups { KeepsPlaces route_labels_cmp self.old.groups self.new.groups }
+        ensures placements { self.new.placements ≡ self.old.placements }
+        ensures config { self.new.config ≡ self.old.config }
+    {
+        match self.groups.number_of(group) {
+            Some(number) => Ok(number),
+            None => self.add_group(group),
+        }
+    }
+
+    /// Gives a number to a group that has none, with room for its members.
+    fn add_group(&mut self, group: &RouteLabels) -> Result<usize, AllocError>
+        requires { number_of route_labels_cmp self.old.groups group.now ≡ None }
+        ensures number { IfOk result (λ number.
+            number_of route_labels_cmp self.new.groups group.now ≡ Some number) }
+        ensures groups { KeepsPlaces route_labels_cmp self.old.groups self.new.groups }
+        ensures placements { self.new.placements ≡ self.old.placements }
+        ensures config { self.new.config ≡ self.old.config }
+    {
+        let key = group.clone()?;
+        let count = count_with_next(&self.groups)?;
+        self.members.reserve_groups(count)?;
+        self.groups.make_place(key)?;
+        match self.groups.number_of(group) {
+            Some(number) => Ok(number),
+            None => unreachable!(),
+        }
+    }
+
+    /// Returns the number of a member's place. Makes the place if there is none.
+    fn place_member(&mut self, route_labels: &RouteLabels) -> Result<usize, AllocError>
+        ensures number { IfOk result (λ number.
+            number_of route_labels_cmp self.new.placements route_labels.now ≡ Some number) }
+        ensures shown { shown route_labels_cmp self.new.placements
+            ≡ shown route_labels_cmp self.old.placements }
+        ensures entered { SameEntered route_labels_cmp self.old.placements self.new.placements }
+        ensures places { KeepsPlaces route_labels_cmp self.old.placements self.new.placements }
+        ensures groups { self.new.groups ≡ self.old.groups }
+        ensures config { self.new.config ≡ self.old.config }
+    {
+        match self.placements.number_of(route_labels) {
+            Some(number) => Ok(number),
+            None => self.add_member(route_labels),
+        }
+    }
+
+    /// Makes a place for a member that has none, with room for its group. Returns its number.
+    fn add_member(&mut self, route_labels: &RouteLabels) -> Result<usize, AllocError>
+        requires { number_of route_labels_cmp self.old.placements route_labels.now ≡ None }
+        ensures number { IfOk result (λ number.
+            number_of route_labels_cmp self.new.placements route_labels.now ≡ Some number) }
+        ensures shown { shown route_labels_cmp self.new.placements
+            ≡ shown route_labels_cmp self.old.placements }
+        ensures entered { SameEntered route_labels_cmp self.old.placements self.new.placements }
+        ensures places { KeepsPlaces route_labels_cmp self.old.placements self.new.placements }
+        ensures groups { self.new.groups ≡ self.old.groups }
+        ensures config { self.new.config ≡ self.old.config }
+    {
+        let key = route_labels.clone()?;
+        let count = count_with_next(&self.placements)?;
+        self.members.reserve_numbers(count)?;
+        self.placements.make_place(key)?;
+        match self.placements.number_of(route_labels) {
+            Some(number) => Ok(number),
+            None => unreachable!(),
+        }
+    }
+}
+
+/// Returns the number of the group, if there is an alert to be its member.
+fn if_member(alert: &Option<Alert>, group: usize) -> Option<usize>
+    ensures { result ≡ option_map (λ _. group) alert.now }
+{
+    match alert {
+        None => None,
+        Some(_) => Some(group),
+    }
+}
+
+/// Returns how many keys a table has when the next one has come.
+fn count_with_next<V: Drop>(table: &Keyed<RouteLabels, V>) -> Result<usize, AllocError>
+    ensures count { IfOk result (λ count. count ≡ next_number table.now + 1) }
+    ensures numbering { IsNumbering route_labels_cmp table.now }
+{
+    match table.next_number().checked_add(1) {
+        Some(count) => Ok(count),
+        None => Err(AllocError),
+    }
 }
 
 /// Returns copies of the labels of members.
-fn labels_of(alloc: Global, members: &[&IndexedMember]) -> Result<Listing<Labels>, AllocError>
-    ensures { IfOk result (λ found. found ≡ labels_of_indexed (values_of members.now)) }
+fn labels_of(alloc: Global, members: &[(&Labels, usize)]) -> Result<Listing<Labels>, AllocError>
+    ensures { IfOk result (λ found. found ≡ labels_of_numbered members.now) }
 {
     let mut found = Listing::new(alloc);
-    for member in members {
-        found.push(member.membership.labels.clone()?)?;
+    for &(labels, _) in members {
+        found.push(labels.clone()?)?;
     }
     Ok(found)
 }
 
-/// Returns copies of the labels and alerts of members. Each member has the number of its place.
+/// Returns copies of the labels and alerts of members on a route, given with the numbers of their
+/// places.
 fn with_alerts(
     alloc: Global,
     placements: &Keyed<RouteLabels, Alert>,
-    members: &[&IndexedMember],
+    route: usize,
+    members: &[(&Labels, usize)],
 ) -> Result<Vec<Member>, AllocError>
-    requires { All (IsPlacedAt placements.now) (values_of members.now) }
+    requires { All (IsNumbered placements.now route) (map numbered_labels members.now) }
     ensures { IfOk result (λ found. found.items
-        ≡ filter_map (with_alert (shown route_labels_cmp placements.now)) (values_of members.now)) }
+        ≡ filter_map (with_alert (shown route_labels_cmp placements.now) route)
+        (labels_of_numbered members.now)) }
 {
     let mut found = Vec::new(alloc);
-    for member in members {
-        push_member(&mut found, placements, member)?;
+    for &(labels, number) in members {
+        push_member(&mut found, placements, route, labels, number)?;
     }
     Ok(found)
 }
@@ -255,14 +381,16 @@ fn with_alerts(
 fn push_member(
     found: &mut Vec<Member>,
     placements: &Keyed<RouteLabels, Alert>,
-    member: &IndexedMember,
+    route: usize,
+    labels: &Labels,
+    number: usize,
 ) -> Result<(), AllocError>
-    requires { IsPlacedAt placements.now member.now }
+    requires { IsNumbered placements.now route (labels.now, number) }
     ensures { OnOk result (found.new.items ≡ found.old.items ++
-        cons_option (with_alert (shown route_labels_cmp placements.now) member.now) []) }
+        cons_option (with_alert (shown route_labels_cmp placements.now) route labels.now) []) }
 {
-    if let Some(alert) = placements.at(member.place) {
-        found.push((member.membership.labels.clone()?, alert.clone()?))?;
+    if let Some(alert) = placements.at(number) {
+        found.push((labels.clone()?, alert.clone()?))?;
     }
     Ok(())
 }
@@ -280,84 +408,4 @@ fn member_entry(
         labels: route_labels.labels,
     };
     Some((member, alert))
-}
-
-/// Returns the number of the place of a label set on a route, given the number that it has, if there
-/// is one. It makes the place if need be.
-fn ensure_place(
-    placements: &mut Keyed<RouteLabels, Alert>,
-    route_labels: &RouteLabels,
-    number: Option<usize>,
-) -> Result<usize, AllocError>
-    requires { number ≡ number_of route_labels_cmp placements.old route_labels.now }
-    ensures place { IfOk result (λ place.
-        number_of route_labels_cmp placements.new route_labels.now ≡ Some place) }
-    ensures numbers { KeepsNumbers placements.old placements.new }
-    ensures shown { shown route_labels_cmp placements.new ≡ shown route_labels_cmp placements.old }
-    ensures entered { SameEntered route_labels_cmp placements.old placements.new }
-    ensures keys { GrowsBy route_labels_cmp
-        (places_for route_labels_cmp placements.old route_labels.now)
-        placements.old placements.new }
-{
-    match number {
-        Some(number) => Ok(number),
-        None => {
-            let number = placements.next_number();
-            placements.make_place(route_labels.clone()?)?;
-            Ok(number)
-        }
-    }
-}
-
-/// Makes room in the index for the member of a new place. Does nothing if the place exists, since
-/// its room is there.
-fn make_room(index: &mut Queue<IndexedMember>, is_there: bool) -> Result<(), AllocError>
-    ensures room { OnOk result (index.old.room + (if is_there then 0 else 1) ≤ index.new.room) }
-    ensures more { index.old.room ≤ index.new.room }
-    ensures dues { index.new.dues ≡ index.old.dues }
-{
-    if is_there {
-        return Ok(());
-    }
-    let Some(room) = index.room().checked_add(1) else {
-        return Err(AllocError);
-    };
-    index.reserve(room)
-}
-
-/// Returns the entry of the index for a member whose place has this number.
-fn indexed(membership: Membership, place: usize) -> IndexedMember
-    ensures { result ≡ indexed_as membership place }
-{
-    IndexedMember {
-        spread: membership.group.spread(),
-        membership,
-        place,
-    }
-}
-
-/// Returns whether there is an alert.
-fn is_member(alert: Option<&Alert>) -> bool
-    ensures { result ≡ is_some (option_copied alert.entry) }
-{
-    match alert {
-        None => false,
-        Some(_) => true,
-    }
-}
-
-/// Adds the member to the index if it is new, or removes it if it is gone. `was` and `is` say
-/// whether it was and is a member. It takes no memory.
-fn enrol(index: &mut Queue<IndexedMember>, member: IndexedMember, was: bool, is: bool)
-    requires { CanEnrol index.old.dues index.old.room member was is }
-    ensures dues { index.new.dues ≡ enrolled index.old.dues member was is }
-    ensures all { index.new.room + length index.new.dues ≡ index.old.room + length index.old.dues }
-{
-    match (was, is) {
-        (false, true) => index.put(member),
-        (true, false) => {
-            let _found = index.take(&member);
-        }
-        _ => {}
-    }
 }

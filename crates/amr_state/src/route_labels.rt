@@ -1,7 +1,6 @@
 //! Routes with label sets: the keys of the tables of members and of group timers.
 
 ghost use Rattle.std.specs.Prelude.{◌≡◌};
-ghost use Rattle.amr_state.specs.Spread.{route_labels_spread};
 
 use amr_labels::{Exact, Labels};
 use amr_tables::Key;
@@ -24,17 +23,6 @@ impl Clone for RouteLabels {
             route: self.route,
             labels: self.labels.clone()?,
         })
-    }
-}
-
-impl RouteLabels {
-    /// Returns a number made of the route and the labels, by which the index of members is ordered
-    /// first.
-    #[tactic(auto, unfolding(crate::specs::Spread::route_labels_spread))]
-    pub(crate) fn spread(&self) -> usize
-        ensures { result ≡ route_labels_spread self.now }
-    {
-        self.labels.spread().wrapping_add(self.route)
     }
 }
 

@@ -14,5 +14,5 @@ pub use interval::NamedInterval;
 pub use receiver::{Integration, Receiver};
 pub use route::{Grouping, Route};
 pub use rule::InhibitRule;
-pub use rule_sides::{RuleMatch, rule_matches, rule_matches_remembered};
+pub use rule_sides::{RuleMatch, rule_matches};
 pub use stated::Stated;

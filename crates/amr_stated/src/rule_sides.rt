@@ -17,20 +17,9 @@ pub struct RuleMatch {
 }
 
 /// Works out which sides of each of these inhibition rules a label set is on, in the rules' order.
-pub fn rule_matches(
-    alloc: Global,
-    rules: &[InhibitRule],
-    labels: &Labels,
-) -> Result<Listing<RuleMatch>, AllocError>
-    ensures { IfOk result (λ found. found ≡ rule_matches labels.now rules.now) }
-{
-    let mut answers = Answers::none(alloc);
-    rule_matches_remembered(alloc, &mut answers, rules, labels)
-}
-
-/// Works out the same. It asks the patterns of the matchers through the remembered answers.
+/// It asks the patterns of the matchers through the remembered answers.
 #[tactic(auto, unfolding(crate::specs::RuleMatches::rule_matches))]
-pub fn rule_matches_remembered(
+pub fn rule_matches(
     alloc: Global,
     answers: &mut Answers,
     rules: &[InhibitRule],
@@ -54,7 +43,7 @@ fn rule_match(
     ensures { IfOk result (λ found. found ≡ rule_match labels.now rule.now) }
 {
     Ok(RuleMatch {
-        is_source: rule.source.matches_all_remembered(answers, labels)?,
-        is_target: rule.target.matches_all_remembered(answers, labels)?,
+        is_source: rule.source.matches_all(answers, labels)?,
+        is_target: rule.target.matches_all(answers, labels)?,
     })
 }

@@ -192,7 +192,7 @@ module _ {K : Type 0} {R : K → K → Ordering} (o : IsTotalOrder R) where
       keys_of [] = refl
       keys_of (x ∷ items) = ap (λ rest. (of x).0 ∷ rest) (keys_of items)
 
-      strictly : (items : List X) → IsSorted number_cmp items → IsDistinct E (map (λ x. (of x).0) items) → IsStrictlySortedBy R (map (λ x. (of x).0) items)
+      pub strictly : (items : List X) → IsSorted number_cmp items → IsDistinct E (map (λ x. (of x).0) items) → IsStrictlySortedBy R (map (λ x. (of x).0) items)
       unfolding IsStrictlySortedBy
       strictly [] up d = tt
       strictly (x ∷ items) up d =

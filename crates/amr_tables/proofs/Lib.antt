@@ -1,13 +1,11 @@
 pub mod Listed
 pub mod Counting
-pub mod Leaning
 pub mod Entering
 pub mod Marking
 pub mod Numbering
-pub mod Lowness
-pub mod Ascending
-pub mod Queueing
-pub mod Opening
+pub mod Sorting
+pub mod Linking
+pub mod Walking
 pub mod Closing
 pub mod Playing
 pub mod Keying

@@ -3,9 +3,6 @@ pub mod Records
 pub mod Laws
 pub mod Marked
 pub mod Numbered
-pub mod Balanced
-pub mod BalancedFalls
-pub mod Parted
-pub mod InParts
-pub mod Queued
+pub mod Members
+pub mod Grouped
 pub mod Earliest

@@ -6,6 +6,7 @@ ghost use Rattle.amr_time.specs.MomentText.{digit as digit_of, four_digits, nine
 use crate::calendar::date_with_number;
 use crate::moments::Moment;
 use std::alloc::{AllocError, Global};
+use std::marker::Model;
 
 const SECOND: u128 = 1_000_000_000;
 
@@ -14,8 +15,53 @@ const DAY: u64 = 86_400;
 /// The length of the longest text, in bytes.
 const LONGEST: usize = 30;
 
-/// Returns a moment in RFC 3339, in UTC, with nine digits of a fraction unless the fraction is
-/// zero.
+/// The text of a moment in RFC 3339, in UTC, with nine digits of a fraction unless the fraction is
+/// zero. It takes no memory.
+#[derive(Drop)]
+pub struct MomentText {
+    bytes: [u8; LONGEST],
+    end: usize,
+}
+
+impl Model for MomentText {
+    ghost use Rattle.std.specs.Prelude.{ℕ, ◌≤◌, List, take};
+
+    ghost Value = { List ℕ };
+
+    ghost view = { λ text. take text.end text.bytes };
+
+    ghost invariant = { λ text. text.end ≤ 30 };
+}
+
+impl MomentText {
+    /// Returns the text of a moment.
+    pub fn of(moment: Moment) -> MomentText
+        ensures { result ≡ moment_text moment }
+    {
+        let nanoseconds = moment.nanoseconds();
+        let seconds = (nanoseconds / SECOND) as u64;
+        let mut bytes = [b'Z'; LONGEST];
+        bytes[..19].copy_from_slice(&date_and_time(seconds));
+        let fraction = (nanoseconds % SECOND) as u32;
+        if fraction == 0 {
+            return MomentText { bytes, end: 20 };
+        }
+        bytes[19..29].copy_from_slice(&fraction_of(fraction));
+        MomentText {
+            bytes,
+            end: LONGEST,
+        }
+    }
+
+    /// Returns the bytes of the text, which are ASCII.
+    pub fn as_bytes(&self) -> &[u8]
+        ensures { result.now ≡ self.now }
+    {
+        &self.bytes[..self.end]
+    }
+}
+
+/// Returns a moment as `MomentText` has it.
 pub fn write_moment(alloc: Global, moment: Moment) -> Result<String, AllocError>
     ensures { IfOk result (λ text. string_bytes text ≡ moment_text moment) }
 {
@@ -24,15 +70,12 @@ pub fn write_moment(alloc: Global, moment: Moment) -> Result<String, AllocError>
     Ok(out)
 }
 
-/// Appends a moment as `write_moment` writes it.
+/// Appends a moment as `MomentText` has it.
 pub fn push_moment(out: &mut String, moment: Moment) -> Result<(), AllocError>
     ensures { OnOk result (string_bytes out.new ≡ string_bytes out.old ++ moment_text moment) }
 {
-    let nanoseconds = moment.nanoseconds();
-    let seconds = (nanoseconds / SECOND) as u64;
-    push_ascii(out, &date_and_time(seconds))?;
-    push_fraction(out, (nanoseconds % SECOND) as u32)?;
-    out.push_str("Z")
+    let text = MomentText::of(moment);
+    push_ascii(out, text.as_bytes())
 }
 
 /// Returns the date and the time of day of a second, counted from 1970, with a `T` between them.
@@ -68,20 +111,8 @@ fn date_and_time(seconds: u64) -> [u8; 19]
     ]
 }
 
-/// Appends the fraction of a second, unless it is zero.
-fn push_fraction(out: &mut String, nanoseconds: u32) -> Result<(), AllocError>
-    ensures { OnOk result
-        (string_bytes out.new ≡ string_bytes out.old
-        ++ fraction_text (fraction_digits nanoseconds)) }
-{
-    if nanoseconds == 0 {
-        return Ok(());
-    }
-    push_ascii(out, &fraction(nanoseconds))
-}
-
 /// Returns a dot and the last nine digits of a number.
-fn fraction(number: u32) -> [u8; 10]
+fn fraction_of(number: u32) -> [u8; 10]
     ensures { result ≡ 46 ∷ nine_digits number }
 {
     [

@@ -10,13 +10,30 @@ class ConfigView {
 
   draw() {
     const at = this.app.run.configAt(this.app.time());
-    if (at === this.shown) return;
+    if (at !== this.shown) this.show(at);
+    this.count();
+  }
+
+  show(at) {
     this.shown = at;
     const { config } = at;
     const since = at.time === -Infinity ? "" : `, as it was reloaded at ${when(at.at)}`;
     this.parts = new Map();
+    this.counts = new Map();
     replace(this.root, el("h2", { id: "config-title" }, "Configuration", el("span", { class: "quiet" }, since)),
       config ? this.content(config) : el("p", { class: "quiet" }, "This page doesn't have it: it is too large."));
+  }
+
+  // How many alerts each route has at the cursor.
+  count() {
+    const time = this.app.time();
+    const spans = this.app.run.rows.map((row) => [row, row.spanAt(time)]).filter(([, span]) => span);
+    const alerts = groupedBy(spans, ([, span]) => span.verdict.route);
+    for (const [route, element] of this.counts) {
+      const count = new Set((alerts.get(route) || []).map(([row]) => row.set)).size;
+      element.hidden = !count;
+      element.textContent = `${many(count, "alert")} at the cursor`;
+    }
   }
 
   content(config) {
@@ -39,10 +56,12 @@ class ConfigView {
   route(route) {
     const waits = [["group_by", route.groupBy], ["group_wait", route.waits[0]], ["group_interval", route.waits[1]], ["repeat_interval", route.waits[2]]].filter(([, value]) => value !== null);
     const intervals = (names, word) => names.length > 0 && el("span", { class: "tag" }, word, " ", names.map((name, i) => [i > 0 && ", ",
-      el("button", { type: "button", class: "link", onclick: () => this.reveal("interval", name) }, seen(name))]));
+      linkEl(() => this.reveal("interval", name), seen(name))]));
+    const here = el("span", { class: "tag here" });
+    this.counts.set(route.number, here);
     const item = el("li", { class: "route" }, el("span", { class: "number" }, route.number), el("div", {}, el("b", {}, el("bdi", {}, seen(route.receiver))), " ",
       el("bdi", { class: "mono" }, route.matchers.length ? cut(route.matchers.map(seen).join(", "), LONGEST) : "all alerts"), route.continues && el("span", { class: "tag" }, "continue"),
-      intervals(route.mute, "muted by"), intervals(route.active, "active in"),
+      intervals(route.mute, "muted by"), intervals(route.active, "active in"), here,
       waits.length > 0 && el("div", { class: "quiet" }, el("bdi", {}, waits.map(([key, value]) => `${key} ${Array.isArray(value) ? `[${value.map(seen).join(", ")}]` : seen(value)}`).join(", ")))));
     item.style.marginLeft = `${Math.min(route.level, 12) * 18}px`;
     return this.keep(`route ${route.number}`, item);
@@ -88,4 +107,4 @@ function routeText(run, number, time) {
   return `route ${number}${texts.length ? `: ${cut(texts.join(" > "), 160)}` : ", the root"}`;
 }
 
-const routeEl = (app, number, time) => el("button", { type: "button", class: "link", onclick: () => app.config.reveal("route", number, time) }, el("bdi", {}, routeText(app.run, number, time)));
+const routeEl = (app, number, time) => linkEl(() => app.config.reveal("route", number, time), el("bdi", {}, routeText(app.run, number, time)));

@@ -39,6 +39,13 @@ const matchersEl = (matchers) => el("span", { class: "labels" },
     OPERATORS[`${matcher.isEqual}${matcher.isRegex}`], quoted(matcher.value)), " "]),
   !matchers.length && el("span", { class: "quiet" }, "no matcher"));
 
+// A text that does something, within a line: unlike a button it breaks as the text around it does, and can be copied with it.
+const linkEl = (act, ...content) => el("a", { class: "link", role: "button", tabindex: "0", onclick: act, onkeydown: (event) => {
+  if (event.key !== "Enter" && event.key !== " ") return;
+  event.preventDefault();
+  act();
+} }, content);
+
 const momentEl = (moment) => el("time", { datetime: moment, title: moment }, when(moment));
 
 function replace(element, ...children) {

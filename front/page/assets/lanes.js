@@ -25,7 +25,7 @@ function eventMark(run, event, i) {
   const cursor = run.first + i;
   const tried = run.tried === cursor ? "tried: " : "";
   return mark(run.timeAt(cursor), event.reason ? "refused" : EVENT_SHAPES[event.act],
-    () => `Event ${cursor}, ${when(instant(event.at))}: ${tried}${eventText(event)}${event.reason ? `; refused, ${reasonWords(event.reason)}` : ""}`,
+    () => `Event ${cursor}, ${when(instant(event.at))}: ${tried}${eventText(event)}${event.reason ? `; refused: ${reasonWords(event.reason)}` : ""}`,
     cursor, { label: event.act === "label" && !event.reason ? seen(event.label) : null });
 }
 
@@ -159,7 +159,7 @@ function silenceLane(run, entry) {
     });
     return { spans };
   };
-  return lane("silence", name, make, { entry, full: `silence ${entry.id} ${name}` });
+  return lane("silence", `silence ${name}`, make, { entry, full: `silence ${entry.id} ${name}` });
 }
 
 // The run that a run is compared with.

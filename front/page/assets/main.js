@@ -208,7 +208,7 @@ function zoneName() {
 
 function drawHeader(app) {
   const { run } = app;
-  const span = run.events.length ? `${weekdayOf(run.events[0].now)} ${whole(run.events[0].now)} to ${whole(run.clock(run.last))} UTC` : "no events";
+  const span = run.events.length ? `${weekdayOf(run.events[0].now)} ${whole(run.events[0].now)} to ${when(run.clock(run.last))} UTC` : "no events";
   const name = (text) => el("bdi", { class: "mono" }, seen(text));
   replace(app.header, el("h1", {}, DATA.heading ? seen(DATA.heading) : "Incident"),
     el("p", { class: "sub" }, name(DATA.script), run.kind === "tried" ? " with the tried event, under " : " under ", name(run.name),

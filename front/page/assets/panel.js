@@ -26,7 +26,7 @@ class Panel {
     const notes = run.notesAt.get(cursor) || [];
     replace(this.event, title, el("p", { class: "what" }, momentEl(instant(event.at)), " ", eventEl(event)),
       run.tried === cursor && el("p", { class: "flag" }, "This event never happened: it is the one that is tried."),
-      event.reason > 0 && el("p", { class: "flag" }, el("b", {}, "Refused"), `, ${reasonWords(event.reason)}. It changed nothing, and the clock stays at ${when(event.now)}.`),
+      event.reason > 0 && el("p", { class: "flag" }, el("b", {}, "Refused"), `: ${reasonWords(event.reason)}. It changed nothing, and the clock stays at ${when(event.now)}.`),
       event.skipped.length > 0 && el("p", { class: "flag" }, `Skipped as invalid: ${event.skipped.map((place) => `alert ${place}`).join(", ")} of the post.`),
       event.act === "alerts" && postedEl(this.app, event),
       el("h3", {}, notes.length ? `${many(notes.length, "notification")} up to it` : "No notification up to it"),

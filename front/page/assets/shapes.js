@@ -55,7 +55,8 @@ function legend(run) {
   const spanKey = ([kind, name]) => key(svg("svg", { width: 22, height: 12, "aria-hidden": "true" }, svg("rect", { class: `span ${kind}`, x: 0.5, y: 0.5, width: 21, height: 11, rx: 2 })), name);
   const markKey = ([shape, name]) => key(svg("svg", { width: 18, height: 18, viewBox: "0 0 18 18", "aria-hidden": "true" }, svg("g", { class: `mark ${shape}` }, shapeOf(shape, 9, 9))), name);
   const kinds = new Set(run.rows.flatMap((row) => row.spans.map((span) => span.kind)));
-  const marks = [["firing", "sent: firing"], ["resolved", "sent: resolved"], ["both", "sent: both"], ...(otherOf(run) ? [["ghost", `first sent ${nameOf(otherOf(run))}`]] : []),
+  const sent = new Set(run.notes.flatMap((note) => [noteShape(note), note.firing.length && "firing", note.resolved.length && "resolved"]));
+  const marks = [...[["firing", "sent: firing"], ["resolved", "sent: resolved"], ["both", "sent: both"]].filter(([shape]) => sent.has(shape)), ...(otherOf(run) ? [["ghost", `first sent ${nameOf(otherOf(run))}`]] : []),
     ...Object.entries(EVENT_WORDS).filter(([shape]) => shapes.has(shape)), ["several", "several, with their number"]];
   const times = [["muting", "time that mutes"], ["active", "active time"]].filter(([kind]) => run.times.some((each) => (kind === "muting") === each.mutes));
   return el("ul", { class: "keys", "aria-label": "What is drawn" }, [...Object.entries(KINDS).filter(([kind]) => kinds.has(kind)), ...times].map(spanKey), marks.map(markKey));

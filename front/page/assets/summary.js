@@ -124,7 +124,7 @@ function partsEl(app, row, verdict, span) {
     if (typeof part === "string") return part;
     const act = part.rule !== undefined ? () => app.config.reveal("rule", part.rule, span.from) : part.interval !== undefined ? () => app.config.reveal("interval", part.interval, span.from)
       : part.set !== undefined ? () => app.choose(part.set) : part.silence ? () => app.showSilence(part.silence) : null;
-    return act ? el("button", { type: "button", class: "link", onclick: act }, part.text) : part.text;
+    return act ? linkEl(act, part.text) : part.text;
   }));
 }
 

@@ -39,7 +39,7 @@ class Timeline {
     const room = Math.max(1000, (to - from) * 0.03);
     this.full = { from: from - room, to: to + room };
     if (!this.view) this.view = { ...this.full };
-    replace(this.legend, legend(run), el("p", { class: "quiet" }, "Ctrl and wheel zoom, dragging moves."));
+    replace(this.legend, legend(run), el("p", { class: "quiet by-mouse" }, "Ctrl and wheel zoom, dragging moves."));
     this.draw();
   }
 

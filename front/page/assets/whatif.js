@@ -18,10 +18,10 @@ class Differences {
   }
 
   row({ kind, set, receiver, first, second, gain, reason }, other) {
-    const cell = (at, run) => (at ? el("button", { type: "button", class: "link", onclick: () => {
+    const cell = (at, run) => (at ? linkEl(() => {
       this.app.show(run, cursorAt(run, millisecondsOf(at)));
       this.app.choose(set);
-    } }, when(at)) : "never");
+    }, when(at)) : "never");
     return el("tr", { class: kind }, el("td", {}, alertButton(this.app, set, shortEl(set))), el("td", {}, el("bdi", {}, receiver)), el("td", {}, cell(first, RUNS[0])),
       el("td", {}, cell(second, other)), el("td", {}, el("span", { class: "tag" }, kind === "earlier" || kind === "later" ? `${lengthText(Math.abs(gain))} ${kind}` : kind),
         reason && el("div", { class: "quiet" }, el("bdi", {}, reason))));
@@ -54,7 +54,7 @@ function trialEl(app) {
   const made = notes.map((note, i) => noteOf([cursor, ...note], i));
   return el("div", { class: "trial", id: "trial" }, el("h3", {}, "An event that never happened"),
     el("p", {}, el("bdi", {}, `${when(instant(event.at))}: ${eventText(event)}.`), ` Tried after event ${cursor}.`),
-    el("p", {}, reason ? `It would be refused, ${reasonWords(reason)}.`
+    el("p", {}, reason ? `It would be refused: ${reasonWords(reason)}.`
       : `It would make ${many(moves, "move")} and ${many(made.length, "notification")} at once${skipped.length ? `, and skip ${many(skipped.length, "alert")}` : ""}.`),
     made.length > 0 && el("ul", { class: "notes" }, made.slice(0, ROWS).map((note) => el("li", { class: "note" }, el("bdi", {}, noteText(note)),
       notifiedEl(app, "firing", note.firing), notifiedEl(app, "resolved", note.resolved)))),

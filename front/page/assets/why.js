@@ -93,8 +93,7 @@ const signOf = (verdict) => SIGNS[verdict.verdict] || "⊘";
 function sentEl(app, row) {
   if (!row.sent.length) return null;
   const sent = row.sent.slice(0, 40);
-  return el("p", { class: "sent" }, "Sent: ", sent.map(({ note, isFiring }, i) => [i > 0 && ", ", el("button", { type: "button", class: "link", onclick: () => app.go(note.cursor) },
-    `${isFiring ? "▲" : "○"} ${when(note.at)}`)]), row.sent.length > 40 && ` and ${row.sent.length - 40} more`);
+  return el("p", { class: "sent" }, "Sent: ", sent.map(({ note, isFiring }, i) => [i > 0 && ", ", linkEl(() => app.go(note.cursor), `${isFiring ? "▲" : "○"} ${when(note.at)}`)]), row.sent.length > 40 && ` and ${row.sent.length - 40} more`);
 }
 
 // The trials of what muted an alert. They are of the first run alone.

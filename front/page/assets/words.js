@@ -1,22 +1,5 @@
 // The words in which the page says what the session answered.
-const REASONS = {
-  0: ["Memory", "the command found no memory"],
-  5: ["BadConfig", "the configuration has a fault"],
-  6: ["UnknownReceiver", "a route names a receiver that isn't there"],
-  7: ["DuplicateReceiver", "two receivers have one name"],
-  8: ["RootRoute", "the root route has a matcher, continue or time intervals, or no receiver"],
-  9: ["ZeroInterval", "a group_interval or repeat_interval of zero"],
-  10: ["BadGroupBy", "group_by is faulty"],
-  11: ["TooDeep", "a route is at level 33 or deeper"],
-  16: ["BadAlert", "no alert of the post is valid"],
-  17: ["BadSilence", "the silence may not be posted as it is"],
-  18: ["UnknownSilence", "no silence has the id"],
-  19: ["SilenceIdTaken", "another silence has the new id"],
-  20: ["Backwards", "the event is before the clock"],
-  21: ["TooManyMoves", "too much is due at or before the event"],
-};
-
-const reasonWords = (reason) => (REASONS[reason] ? `${reason} ${REASONS[reason][0]}: ${REASONS[reason][1]}` : `reason ${reason}`);
+const reasonWords = (reason) => `${DATA.reasons[reason] || "for a reason without a name here"} (${reason})`;
 
 // A text as it can be seen: what is invisible, or turns the direction of what follows, is written by its number.
 const HIDDEN = /[\u0000-\u001f\u007f-\u009f\u00ad\u061c\u180e\u200b-\u200f\u2028-\u202e\u2060-\u206f\ufeff\ufff9-\ufffb]/g;

@@ -116,9 +116,11 @@ class Timeline(Browsing):
                     "10:00",
                     alert("A" * 90, "10:00", "11:00", cluster="x" * 90),
                     alert("A" * 90, "10:00", "11:00", cluster="y"),
-                )
+                ),
+                tick("10:30"),
             ],
         )
+        self.assertEqual(self.count(".lane-name.row .name"), 2)
         over = "[...document.querySelectorAll('.lane-name .name')].filter((each) => each.getBoundingClientRect().right > plot).length"
         plot = "Number(document.querySelector('#plot rect').getAttribute('x')) + document.querySelector('.lanes').getBoundingClientRect().x + 8"
         self.assertEqual(self.browser.value(f"(() => {{ const plot = {plot}; return {over}; }})()"), 0)
@@ -143,10 +145,11 @@ class Timeline(Browsing):
         alerts = [alert(f"A{i}", "10:00", "11:00") for i in range(80)]
         self.made(config(), [post("10:00", *alerts), tick("12:00")])
         self.assertLess(self.count(".lane.row"), 80)
-        self.browser.call("Emulation.setEmulatedMedia", media="print")
-        self.addCleanup(self.browser.call, "Emulation.setEmulatedMedia", media="")
+        # It is said while the page still is as on the screen.
         self.browser.value("window.dispatchEvent(new Event('beforeprint'))")
         self.assertEqual(self.count(".lane.row"), 80)
+        self.browser.call("Emulation.setEmulatedMedia", media="print")
+        self.addCleanup(self.browser.call, "Emulation.setEmulatedMedia", media="")
         self.assertTrue(
             self.browser.value(
                 "(() => { const s = document.querySelector('.lane-scroll'); return s.clientHeight + 2 >= s.scrollHeight; })()"
@@ -344,6 +347,24 @@ class Places(Browsing):
         top = "document.querySelector('{}').getBoundingClientRect().top"
         self.assertLess(self.browser.value(top.format("#summary")), self.browser.value(top.format("#timeline")))
         self.assertIn("event 2 of 3", self.place())
+
+    def test_a_route_has_its_alerts_at_the_cursor(self) -> None:
+        self.made(config({"matchers": ['alertname="A"'], "receiver": "team"}), FAR)
+        for key, here in (("Home", []), ("ArrowRight", ["", "1 alert at the cursor"]), ("End", [])):
+            self.browser.key(key)
+            shown = (
+                "[...document.querySelectorAll('.route .here')].map((each) => (each.hidden ? '' : each.textContent))"
+            )
+            self.assertEqual(self.browser.value(shown), here or ["", ""], key)
+
+    def test_a_link_breaks_within_lines_and_takes_keys(self) -> None:
+        """A button would be a block of its own where its text has several lines, and can't be copied with the text around it."""
+        self.made(config({"matchers": ['alertname="A"'], "receiver": "team"}), FAR)
+        link = "[...document.querySelectorAll('#why .link')].find((each) => each.textContent.startsWith('route 1'))"
+        self.assertEqual(self.browser.value(f"getComputedStyle({link}).display"), "inline")
+        self.browser.value(f"{link}.focus()")
+        self.browser.key("Enter")
+        self.assertEqual(self.count(".route.found-part"), 1)
 
     def test_a_route_is_linked_to_the_tree(self) -> None:
         self.made(config({"matchers": ['alertname="A"'], "receiver": "team"}), FAR)

@@ -1,13 +1,9 @@
-use Rattle.std.proofs.Common.{◌++◌, ◌∷◌, [], ap}
-use Rattle.std.proofs.lemmas.List.{append-nil}
-use Rattle.amr_config.proofs.Chosen.{chosen_more}
+use Rattle.std.proofs.Common.{◌∙◌}
+use Rattle.std.proofs.lemmas.Result.{IfOk-weaker}
+use Rattle.amr_config.proofs.Chosen.{chosen_from_marks}
 use Rattle.amr_config.proofs.routing.chosen_routes.Goals as goal
-use Rattle.amr_config.proofs.routing.chosen_routes.Goals.{then-is_chosen+in_ok-push, else-is_chosen}
 
-pub loop-place-preserved : goal.loop-place-preserved
-loop-place-preserved c =
-    let e = chosen_more c.args.marks.now c.loop-place.place _ c.is_chosen.result c.loop-place-test.true c.is_chosen.ensures in
-    elim c.if-is_chosen.branch [
-      | then-is_chosen+in_ok-push w ↦ rw (w.places-is, w.in_ok-push.ensures.items, e, w.if-is_chosen.true) (ap (λ ns. ns ++ c.loop-place.place ∷ []) c.loop-place.invariant)
-      | else-is_chosen w ↦ rw (w.places-is, e, w.if-is_chosen.false, append-nil) c.loop-place.invariant
-    ]
+pub returns : goal.returns
+returns c =
+    let all = chosen_from_marks c.args.config.now c.args.labels.now c.as_slice.result.now (c.as_slice.ensures.value ∙ c.in_ok-marks.ensures) in
+    IfOk-weaker c.chosen_numbers.result _ _ (λ v h. h ∙ all) c.chosen_numbers.ensures

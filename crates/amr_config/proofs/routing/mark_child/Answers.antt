@@ -29,7 +29,7 @@ returns-then-not-branch c =
     let n = c.len.result in
     let so_far : c.args.marks.now.items ≡ marks_at config labels n = c.requires.so_far ∙ ap (marks_at config labels) (sym c.len.ensures) in
     let child = rw (← c.len.ensures) at c.requires.child in
-    let matches = matches_is config labels n c.in_ok-matches_all_remembered.field-0 c.route-settings.result.now (rw c.len.ensures c.requires.next) c.route-settings.ensures.value c.in_ok-matches_all_remembered.ensures in
+    let matches = matches_is config labels n c.in_ok-matches_all.field-0 c.route-settings.result.now (rw c.len.ensures c.requires.next) c.route-settings.ensures.value c.in_ok-matches_all.ensures in
     let step = unmatched_step config labels c.route-settings.ensures.parents n c.args.parent child (sym matches ∙ c.if-not-branch.true) in
     rw (← c.len.ensures) (c.in_ok-push-2.ensures.items ∙ ap (λ ms. ms ++ c.seen-then-not-branch.result ∷ []) so_far
     ∙ ap (λ m. marks_at config labels n ++ m ∷ []) c.seen-then-not-branch.ensures ∙ step)
@@ -43,7 +43,7 @@ returns c =
     let child = rw (← c.len.ensures) at c.requires.child in
     let parents = c.route-settings.ensures.parents in
     let above = mark_found config labels n c.args.parent c.args.marks.now.items c.index-above.result.now (parents n c.args.parent child) so_far c.index-above.ensures in
-    let matches = matches_is config labels n c.in_ok-matches_all_remembered.field-0 c.route-settings.result.now (rw c.len.ensures c.requires.next) c.route-settings.ensures.value c.in_ok-matches_all_remembered.ensures in
+    let matches = matches_is config labels n c.in_ok-matches_all.field-0 c.route-settings.result.now (rw c.len.ensures c.requires.next) c.route-settings.ensures.value c.in_ok-matches_all.ensures in
     let step = taken_step config labels parents n c.args.parent (omega (arith, c.len.ensures, c.requires.next)) child c.index-above.result.now above c.if-not-above.false c.if-above.false
     (sym matches ∙ c.if-not-branch.false) c.route-settings.result.now.continues (continues_is config n c.route-settings.result.now c.route-settings.ensures.value) in
     let taken : Mark = record { is_open = true; is_taken = true; is_closed = not c.route-settings.result.now.continues } in

@@ -5,25 +5,25 @@ use Rattle.std.specs.List.{cons_option}
 use Rattle.std.proofs.lemmas.List.{append-nil}
 use Rattle.amr_labels.specs.Labels.{LabelSet}
 use Rattle.amr_rules.specs.declared.alert.Alert.{Alert}
+use Rattle.amr_state.specs.State.{on_route}
 use Rattle.amr_state.proofs.Soundness.{taken}
-use Rattle.amr_state.proofs.Rostering.{alert_at}
 use Rattle.amr_state.proofs.roster.push_member.Goals as goal
 
 pub returns-in_ok-push : goal.returns-in_ok-push
 returns-in_ok-push c =
-    let member = c.args.member.now in
+    let labels = c.args.labels.now in
     let found = c.args.found.now.items in
     c.in_ok-push.ensures.items
     ∙ (λ i. found ++ (c.in_ok-clone.ensures.cases i, c.in_ok-clone-2.ensures.cases i) ∷ [])
     ∙ ap (λ (o : Option (LabelSet × Alert)). found ++ cons_option o [])
-    (sym (ap (λ (r : Option (Bor Alert)). option_map (λ (alert : Alert). (member.membership.labels, alert)) (option_copied r)) c.in-Some.is)
-    ∙ alert_at c.args.placements.now member (option_copied c.at.result) c.requires c.at.ensures.key)
+    (sym (ap (λ (r : Option (Bor Alert)). option_map (λ (alert : Alert). (labels, alert)) (option_copied r)) c.in-Some.is)
+    ∙ ap (option_map (λ (alert : Alert). (labels, alert))) (c.at.ensures.key (on_route c.args.route labels) c.requires))
 
 pub returns-in_default : goal.returns-in_default
 returns-in_default c =
-    let member = c.args.member.now in
+    let labels = c.args.labels.now in
     let found = c.args.found.now.items in
     sym (append-nil found)
     ∙ ap (λ (o : Option (LabelSet × Alert)). found ++ cons_option o [])
-    (ap (λ (r : Option (Bor Alert)). option_map (λ (alert : Alert). (member.membership.labels, alert)) (option_copied r)) (taken c.at.result c.in_default.not-Some)
-    ∙ alert_at c.args.placements.now member (option_copied c.at.result) c.requires c.at.ensures.key)
+    (ap (λ (r : Option (Bor Alert)). option_map (λ (alert : Alert). (labels, alert)) (option_copied r)) (taken c.at.result c.in_default.not-Some)
+    ∙ ap (option_map (λ (alert : Alert). (labels, alert))) (c.at.ensures.key (on_route c.args.route labels) c.requires))

@@ -1,5 +1,5 @@
 -- What is read is spelled: the law, at the text of the call.
-use Rattle.std.proofs.Common.{◌≡◌, List, ℕ, Option, Some, None, IfOk, Ok, Err, Result, sym}
+use Rattle.std.proofs.Common.{◌≡◌, List, ℕ, IfOk, Ok, Err, Result, sym}
 use Rattle.std.specs.Result.{result_ok}
 use Rattle.amr_time.specs.declared.reading.BadTime.{BadTime}
 use Rattle.amr_time.specs.MomentText.{IsMomentText}

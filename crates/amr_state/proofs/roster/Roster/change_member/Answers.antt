@@ -1,115 +1,74 @@
-use Rattle.std.proofs.Common.{◌≡◌, ◌+◌, ◌≤◌, ◌||◌, is_some, length, IsTrue, OnErr, cond, sym, ap, subst, ◌∙◌, arith}
-use Rattle.std.specs.FinMap.{find}
-use Rattle.std.specs.Ordering.{eq_by_cmp}
-use Rattle.amr_labels.specs.Map as map
-use Rattle.amr_tables.specs.Numbered.{shown, has_place, is_entered, places_for, IsUnchanged}
-use Rattle.amr_state.specs.declared.membership.Membership.{Membership}
+use Rattle.std.proofs.Common.{◌≡◌, ◌<◌, ℕ, Option, Some, IsTrue, length, refl, sym, ap, subst, ◌∙◌}
+use Rattle.std.specs.Prelude.{IfSome, slice_set}
+use Rattle.std.proofs.Math.Nat.{le_refl}
+use Rattle.amr_tables.specs.Numbered.{shown, number_of, has_place, is_entered, entry_of, IsUnchanged}
 use Rattle.amr_state.specs.State.{route_labels_cmp, group_key}
-use Rattle.amr_state.specs.Rostered.{Rostered, membership_of, member_entry_of, KeepsNumbers, enrolled, CanEnrol}
-use Rattle.amr_state.proofs.Rostering.{may_enrol, indexed_after, indexed_still, keeps_more, keeps_places, has_number, has_place_at, entry_is, same_entry, on_err}
+use Rattle.amr_state.specs.Rostered.{Rostered}
+use Rattle.amr_state.proofs.Rostering.{grouped_same, grouped_set, within_if, number_place, entry_is, same_entry, on_err}
+use Rattle.amr_state.proofs.Scheduling.{placed_by}
 use Rattle.amr_state.proofs.roster.Roster.change_member.Goals as goal
 
-pub invariant_of-self-in_err-place : goal.invariant_of-self-in_err-place
-invariant_of-self-in_err-place g c =
+pub invariant_of-self : goal.invariant_of-self
+invariant_of-self g c =
     let r = c.self.inside in
-    let a = r.placements in
-    let placed = c.ensure_place.new.placements in
     let route_labels = c.args.route_labels.now in
-    let n = places_for route_labels_cmp a route_labels in
-    let room : r.index.room + n ≤ c.make_room.new.index.room =
-    subst (λ b. r.index.room + cond b 0 1 ≤ c.make_room.new.index.room) (c.is_some.ensures ∙ has_number a route_labels c.look_up_number-number.result.0 c.look_up_number-number.ensures.number) c.in_ok-make_room.ensures.room in
-    indexed_still r.config a placed r.index c.make_room.new.index c.self.invariant c.ensure_place.ensures.numbers n c.ensure_place.ensures.keys.0 c.ensure_place.ensures.keys.1 c.make_room.ensures.dues room c.ensure_place.ensures.shown
-
-pub returns-in_err-place-clause-places : goal.returns-in_err-place-clause-places
-returns-in_err-place-clause-places g c =
-    λ other h. keeps_places c.self.inside.placements c.ensure_place.new.placements c.ensure_place.ensures.numbers other (subst (λ (r : Rostered). IsTrue (has_place route_labels_cmp r.placements other)) (sym c.self.view_is) h)
-
-pub invariant_of-self-in_err-entry : goal.invariant_of-self-in_err-entry
-invariant_of-self-in_err-entry g c =
-    let r = c.self.inside in
-    let a = r.placements in
-    let placed = c.ensure_place.new.placements in
-    let route_labels = c.args.route_labels.now in
-    let n = places_for route_labels_cmp a route_labels in
-    let room : r.index.room + n ≤ c.make_room.new.index.room =
-    subst (λ b. r.index.room + cond b 0 1 ≤ c.make_room.new.index.room) (c.is_some.ensures ∙ has_number a route_labels c.look_up_number-number.result.0 c.look_up_number-number.ensures.number) c.in_ok-make_room.ensures.room in
-    let b = c.change_found.new.table in
-    let numbers : b.numbers ≡ placed.numbers = c.change_found.ensures.numbers (has_place_at placed route_labels c.in_ok-place.place c.in_ok-place.ensures.place) in
-    let keeps : KeepsNumbers a b = keeps_more a placed b c.ensure_place.ensures.numbers numbers in
-    indexed_still r.config a b r.index c.make_room.new.index c.self.invariant keeps n (omega (arith, c.ensure_place.ensures.keys.0, ap length numbers)) (omega (arith, c.ensure_place.ensures.keys.1, ap length numbers)) c.make_room.ensures.dues room
-    (c.in_err-entry.ensures.err.0 ∙ c.ensure_place.ensures.shown)
+    let number : number_of route_labels_cmp r.placements route_labels ≡ Some c.in_ok-member.member = ap (λ (v : Rostered). number_of route_labels_cmp v.placements route_labels) c.self.view_is ∙ c.in_ok-member.ensures.number in
+    let keys = c.change_found.ensures.numbers (placed_by route_labels_cmp r.placements r.placements refl route_labels c.in_ok-member.member number) in
+    grouped_same r.config r.placements r.groups r.members c.self.invariant c.change_found.new.table r.groups r.members keys c.in_err-entry.ensures.err.0 refl refl (λ n. refl) (le_refl (length r.members.groups)) (le_refl r.members.count)
 
 pub returns-in_err-entry-clause-err : goal.returns-in_err-entry-clause-err
 returns-in_err-entry-clause-err g c =
-    subst (λ (r : Rostered). OnErr c.from_residual-in_err-entry.result (IsUnchanged route_labels_cmp r.placements c.change_found.new.table)) c.self.view_is
-    (on_err c.from_residual-in_err-entry.result _ (c.in_err-entry.ensures.err.0 ∙ c.ensure_place.ensures.shown, λ key. c.in_err-entry.ensures.err.1 key ∙ c.ensure_place.ensures.entered key))
+    let same : IsUnchanged route_labels_cmp c.args.self.now.placements c.change_found.new.table = (
+      c.in_err-entry.ensures.err.0 ∙ ap (λ (v : Rostered). shown route_labels_cmp v.placements) c.self.view_is ∙ c.place_member.ensures.shown ∙ ap (shown route_labels_cmp) c.place_group.ensures.placements,
+      λ other. c.in_err-entry.ensures.err.1 other ∙ ap (λ (v : Rostered). is_entered route_labels_cmp v.placements other) c.self.view_is ∙ c.place_member.ensures.entered other
+          ∙ ap (λ t. is_entered route_labels_cmp t other) c.place_group.ensures.placements,
+    ) in
+    on_err _ _ same
 
 pub returns-in_err-entry-clause-places : goal.returns-in_err-entry-clause-places
-returns-in_err-entry-clause-places g c =
-    λ other h. c.change_found.ensures.places other (keeps_places c.self.inside.placements c.ensure_place.new.placements c.ensure_place.ensures.numbers other
-    (subst (λ (r : Rostered). IsTrue (has_place route_labels_cmp r.placements other)) (sym c.self.view_is) h))
+returns-in_err-entry-clause-places g c = λ other h.
+    c.change_found.ensures.places other (subst (λ (v : Rostered). IsTrue (has_place route_labels_cmp v.placements other)) (sym c.self.view_is)
+    (c.place_member.ensures.places other (subst (λ t. IsTrue (has_place route_labels_cmp t other)) (sym c.place_group.ensures.placements) h)))
 
-pub enrol-requires : goal.enrol-requires
-enrol-requires g c =
+pub set-requires-clause-group : goal.set-requires-clause-group
+set-requires-clause-group g c =
     let r = c.self.inside in
-    let a = r.placements in
-    let placed = c.ensure_place.new.placements in
-    let route_labels = c.args.route_labels.now in
-    let n = places_for route_labels_cmp a route_labels in
-    let room : r.index.room + n ≤ c.make_room.new.index.room =
-    subst (λ b. r.index.room + cond b 0 1 ≤ c.make_room.new.index.room) (c.is_some.ensures ∙ has_number a route_labels c.look_up_number-number.result.0 c.look_up_number-number.ensures.number) c.in_ok-make_room.ensures.room in
-    let b = c.change_found.new.table in
-    let numbers : b.numbers ≡ placed.numbers = c.change_found.ensures.numbers (has_place_at placed route_labels c.in_ok-place.place c.in_ok-place.ensures.place) in
-    let keeps : KeepsNumbers a b = keeps_more a placed b c.ensure_place.ensures.numbers numbers in
-    let membership : ◌≡◌ {A = Membership} (record { group = c.in_ok-clone.field-0; labels = c.in_ok-clone-2.field-0 }) (membership_of r.config route_labels) =
-    λ i. record { group = (c.in_ok-clone.ensures.cases ∙ c.requires ∙ ap (λ (r : Rostered). group_key r.config route_labels) (sym c.self.view_is)) i; labels = c.in_ok-clone-2.ensures.cases i } in
-    subst (λ x. CanEnrol c.make_room.new.index.dues c.make_room.new.index.room x c.is_member-was.result c.is_some-is.result) (sym c.indexed.ensures)
-    (may_enrol r.config a b r.index c.make_room.new.index c.self.invariant keeps n (omega (arith, c.ensure_place.ensures.keys.0, ap length numbers)) (omega (arith, c.ensure_place.ensures.keys.1, ap length numbers)) c.make_room.ensures.dues room
-    _ c.in_ok-place.place route_labels c.args.alert c.is_member-was.result c.is_some-is.result
-    membership (ap (find route_labels_cmp route_labels) numbers ∙ c.in_ok-place.ensures.place) (c.is_member-was.ensures ∙ ap is_some c.look_up_number-number.ensures.value) c.is_some-is.ensures
-    (c.in_ok-entry.ensures.shown ∙ ap (λ m. map.set m route_labels c.args.alert) c.ensure_place.ensures.shown) c.in_ok-entry.ensures.enough)
+    let group : number_of route_labels_cmp r.groups c.args.group.now ≡ Some c.in_ok-group.group =
+    ap (λ (v : Rostered). number_of route_labels_cmp v.groups c.args.group.now) c.self.view_is ∙ ap (λ t. number_of route_labels_cmp t c.args.group.now) c.place_member.ensures.groups ∙ c.in_ok-group.ensures.number in
+    subst (λ (o : Option ℕ). IfSome o (λ g. g < r.members.count)) (sym c.if_member-in_group.ensures) (within_if c.args.alert c.in_ok-group.group r.members.count (c.self.invariant.group_room c.args.group.now c.in_ok-group.group group))
 
 pub invariant_of-self-2 : goal.invariant_of-self-2
 invariant_of-self-2 g c =
     let r = c.self.inside in
-    let a = r.placements in
-    let placed = c.ensure_place.new.placements in
+    let n = c.in_ok-member.member in
     let route_labels = c.args.route_labels.now in
-    let n = places_for route_labels_cmp a route_labels in
-    let room : r.index.room + n ≤ c.make_room.new.index.room =
-    subst (λ b. r.index.room + cond b 0 1 ≤ c.make_room.new.index.room) (c.is_some.ensures ∙ has_number a route_labels c.look_up_number-number.result.0 c.look_up_number-number.ensures.number) c.in_ok-make_room.ensures.room in
-    let b = c.change_found.new.table in
-    let numbers : b.numbers ≡ placed.numbers = c.change_found.ensures.numbers (has_place_at placed route_labels c.in_ok-place.place c.in_ok-place.ensures.place) in
-    let keeps : KeepsNumbers a b = keeps_more a placed b c.ensure_place.ensures.numbers numbers in
-    let membership : ◌≡◌ {A = Membership} (record { group = c.in_ok-clone.field-0; labels = c.in_ok-clone-2.field-0 }) (membership_of r.config route_labels) =
-    λ i. record { group = (c.in_ok-clone.ensures.cases ∙ c.requires ∙ ap (λ (r : Rostered). group_key r.config route_labels) (sym c.self.view_is)) i; labels = c.in_ok-clone-2.ensures.cases i } in
-    indexed_after r.config a b r.index c.make_room.new.index c.self.invariant keeps n (omega (arith, c.ensure_place.ensures.keys.0, ap length numbers)) (omega (arith, c.ensure_place.ensures.keys.1, ap length numbers)) c.make_room.ensures.dues room
-    _ c.in_ok-place.place route_labels c.args.alert c.is_member-was.result c.is_some-is.result
-    membership (ap (find route_labels_cmp route_labels) numbers ∙ c.in_ok-place.ensures.place) (c.is_member-was.ensures ∙ ap is_some c.look_up_number-number.ensures.value) c.is_some-is.ensures
-    (c.in_ok-entry.ensures.shown ∙ ap (λ m. map.set m route_labels c.args.alert) c.ensure_place.ensures.shown) c.in_ok-entry.ensures.enough
-    c.enrol.new.index (c.enrol.ensures.dues ∙ ap (λ x. enrolled c.make_room.new.index.dues x c.is_member-was.result c.is_some-is.result) c.indexed.ensures) c.enrol.ensures.all
+    let number : number_of route_labels_cmp r.placements route_labels ≡ Some n = ap (λ (v : Rostered). number_of route_labels_cmp v.placements route_labels) c.self.view_is ∙ c.in_ok-member.ensures.number in
+    let keys = c.change_found.ensures.numbers (placed_by route_labels_cmp r.placements r.placements refl route_labels n number) in
+    let group : number_of route_labels_cmp r.groups c.args.group.now ≡ Some c.in_ok-group.group =
+    ap (λ (v : Rostered). number_of route_labels_cmp v.groups c.args.group.now) c.self.view_is ∙ ap (λ t. number_of route_labels_cmp t c.args.group.now) c.place_member.ensures.groups ∙ c.in_ok-group.ensures.number in
+    let config : r.config ≡ c.args.self.now.config = ap (λ (v : Rostered). v.config) c.self.view_is ∙ c.place_member.ensures.config ∙ c.place_group.ensures.config in
+    let own : group_key r.config route_labels ≡ c.args.group.now = ap (λ config. group_key config route_labels) config ∙ sym c.requires in
+    grouped_set r.config r.placements r.groups r.members c.self.invariant c.change_found.new.table c.set.new.self route_labels n c.in_ok-group.group c.args.alert number (ap (number_of route_labels_cmp r.groups) own ∙ group) keys c.in_ok-entry.ensures.shown
+    (c.set.ensures.groups ∙ ap (slice_set r.members.groups n) c.if_member-in_group.ensures) c.set.ensures.count
 
 pub returns-clause-entry : goal.returns-clause-entry
 returns-clause-entry g c =
     let r = c.self.inside in
-    let placed = c.ensure_place.new.placements in
     let key = c.args.route_labels.now in
+    let old : Rostered = c.args.self.now in
     c.member_entry.ensures
-    ∙ entry_is r.config r.placements c.in_ok-group.group key c.in_ok-entry.entry (c.in_ok-group.ensures.cases ∙ c.requires ∙ ap (λ (r : Rostered). group_key r.config key) (sym c.self.view_is))
-    (c.in_ok-entry.ensures.entry ∙ same_entry r.placements placed key c.ensure_place.ensures.shown (c.ensure_place.ensures.entered key))
-    ∙ ap (λ (r : Rostered). member_entry_of r.config r.placements key) c.self.view_is
+    ∙ entry_is old.config old.placements c.in_ok-named_group.named_group key c.in_ok-entry.entry (c.in_ok-named_group.ensures.cases ∙ c.requires)
+    (c.in_ok-entry.ensures.entry ∙ ap (λ (v : Rostered). entry_of route_labels_cmp v.placements key) c.self.view_is
+    ∙ same_entry c.place_group.new.self.placements c.place_member.new.self.placements key c.place_member.ensures.shown (c.place_member.ensures.entered key)
+    ∙ ap (λ t. entry_of route_labels_cmp t key) c.place_group.ensures.placements)
 
-pub returns-clause-entered : goal.returns-clause-entered
-returns-clause-entered g c =
-    λ other. c.in_ok-entry.ensures.entered other
-    ∙ ap (λ b. eq_by_cmp route_labels_cmp other c.args.route_labels.now || b) (c.ensure_place.ensures.entered other ∙ ap (λ (r : Rostered). is_entered route_labels_cmp r.placements other) c.self.view_is)
+pub returns-clause-known : goal.returns-clause-known
+returns-clause-known g c =
+    let r = c.self.inside in
+    number_place r.groups c.args.group.now c.in_ok-group.group
+    (ap (λ (v : Rostered). number_of route_labels_cmp v.groups c.args.group.now) c.self.view_is ∙ ap (λ t. number_of route_labels_cmp t c.args.group.now) c.place_member.ensures.groups ∙ c.in_ok-group.ensures.number)
 
 pub returns-clause-places : goal.returns-clause-places
-returns-clause-places g c =
-    λ other h. c.change_found.ensures.places other (keeps_places c.self.inside.placements c.ensure_place.new.placements c.ensure_place.ensures.numbers other
-    (subst (λ (r : Rostered). IsTrue (has_place route_labels_cmp r.placements other)) (sym c.self.view_is) h))
-
-pub returns-clause-shown : goal.returns-clause-shown
-returns-clause-shown g c =
-    c.in_ok-entry.ensures.shown
-    ∙ ap (λ m. map.set m c.args.route_labels.now c.args.alert) (c.ensure_place.ensures.shown ∙ ap (λ (r : Rostered). shown route_labels_cmp r.placements) c.self.view_is)
+returns-clause-places g c = λ other h.
+    c.change_found.ensures.places other (subst (λ (v : Rostered). IsTrue (has_place route_labels_cmp v.placements other)) (sym c.self.view_is)
+    (c.place_member.ensures.places other (subst (λ t. IsTrue (has_place route_labels_cmp t other)) (sym c.place_group.ensures.placements) h)))

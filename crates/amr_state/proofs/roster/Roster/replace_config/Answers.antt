@@ -2,10 +2,10 @@ use Rattle.std.proofs.Common.{ap, ◌∙◌}
 use Rattle.amr_tables.specs.Numbered.{shown}
 use Rattle.amr_state.specs.State.{route_labels_cmp}
 use Rattle.amr_state.specs.Rostered.{Rostered}
-use Rattle.amr_state.proofs.Rostering.{indexed_again}
+use Rattle.amr_state.proofs.Rostering.{grouped_again}
 use Rattle.amr_state.proofs.roster.Roster.replace_config.Goals as goal
 
 pub invariant_of-self : goal.invariant_of-self
 invariant_of-self c =
     let r = c.self.inside in
-    indexed_again r.config c.swap.new.used r.placements r.index (ap (λ (r : Rostered). shown route_labels_cmp r.placements) c.self.view_is ∙ c.requires) c.self.invariant
+    grouped_again r.config r.placements r.groups r.members c.self.invariant c.swap.new.used (ap (λ (r : Rostered). shown route_labels_cmp r.placements) c.self.view_is ∙ c.requires)

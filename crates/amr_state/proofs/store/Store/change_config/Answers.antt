@@ -20,7 +20,7 @@ invariant_of-self-2 c =
     let places = c.clear_entered.ensures.places in
     let placements = c.clear_entered.ensures.values.placements ∙ ap (λ x. shown route_labels_cmp x) c.replace_config-was.ensures.placements in
     kept_reconfigured a b c.replace_config-was.result c.self.invariant
-    (record { alerts = places.alerts; silences = places.silences; placements = λ k h. places.placements k (subst (λ x. IsTrue (has_place route_labels_cmp x k)) (sym c.replace_config-was.ensures.placements) h); timers = places.timers; log = places.log })
+    (record { alerts = places.alerts; silences = places.silences; placements = λ k h. places.placements k (subst (λ x. IsTrue (has_place route_labels_cmp x k)) (sym c.replace_config-was.ensures.placements) h); groups = λ k h. places.groups k (subst (λ x. IsTrue (has_place route_labels_cmp x k)) (sym c.replace_config-was.ensures.groups) h); timers = places.timers; log = places.log })
     c.clear_entered.ensures.marks refl (c.push.ensures.closed ∙ c.reserve_entry.ensures.closed)
     (c.push.ensures.current ∙ ap (λ es. es ++ e ∷ []) c.reserve_entry.ensures.current) (sym c.replace_config-was.ensures.before, sym placements)
     (placements ∙ ap (λ (k : Kept). k.state.placements) c.self.view_is ∙ c.requires)

@@ -22,7 +22,7 @@ invariant_of-self-in-Some-entry c =
     let e : Displaced = WasTimer c.in-Some-entry.group c.in-Some-entry.was in
     let is : ◌≡◌ (c.in-Some-entry.group, c.in-Some-entry.was) (c.args.group.now, map.get (shown route_labels_cmp a.tables.timetable.timers) c.args.group.now) = entry_of-some route_labels_cmp a.tables.timetable.timers c.args.group.now (c.in-Some-entry.group, c.in-Some-entry.was) (sym c.in-Some-entry.is ∙ c.in_ok-entry.ensures.entry) in
     let pushed : c.push.new.self.current ≡ c.change_timer.new.journal.current ++ e ∷ [] = c.push.ensures.current in
-    kept_entered a b e c.self.invariant (record { alerts = λ k h. subst (λ v. IsTrue (has_place label_set_cmp v k)) (sym c.change_timer.ensures.alerts) h; silences = λ k h. h; placements = λ k h. h; timers = c.change_timer.ensures.places; log = λ k h. h })
+    kept_entered a b e c.self.invariant (record { alerts = λ k h. subst (λ v. IsTrue (has_place label_set_cmp v k)) (sym c.change_timer.ensures.alerts) h; silences = λ k h. h; placements = λ k h. h; groups = λ k h. h; timers = c.change_timer.ensures.places; log = λ k h. h })
     c.self.invariant.moment (c.push.ensures.closed ∙ c.change_timer.ensures.closed) (pushed ∙ ap (λ es. es ++ e ∷ []) c.change_timer.ensures.current)
     (subst (λ k. IsTrue (has_place route_labels_cmp t.timers k)) (sym (ap (λ p. p.0) is)) c.in_ok-entry.ensures.made)
     (subst (λ k. (place : Displaced) → NewMarkAt (WasTimer k c.in-Some-entry.was) a.tables b.tables place) (sym (ap (λ p. p.0) is)) (by_place (NewMarkAt (WasTimer c.args.group.now c.in-Some-entry.was) a.tables b.tables) (λ x h. h) (λ x h. h) (λ k v h. subst (λ x. IsTrue (is_entered label_set_cmp x k)) c.change_timer.ensures.alerts h) (λ k v h. h) (λ k v h. h) (λ q w h. subst IsTrue (c.in_ok-entry.ensures.entered q) h) (λ k v h. h) (λ x h. h))) refl refl refl (refl, refl) tt
@@ -32,7 +32,7 @@ invariant_of-self c =
     let a = c.self.inside in
     let t = c.change_timer.new.self in
     let b : Inside = record a { tables = record a.tables { timetable = t }; journal = c.change_timer.new.journal } in
-    kept_grown a b c.self.invariant (record { alerts = λ k h. subst (λ v. IsTrue (has_place label_set_cmp v k)) (sym c.change_timer.ensures.alerts) h; silences = λ k h. h; placements = λ k h. h; timers = c.change_timer.ensures.places; log = λ k h. h }) refl c.change_timer.ensures.closed c.change_timer.ensures.current
+    kept_grown a b c.self.invariant (record { alerts = λ k h. subst (λ v. IsTrue (has_place label_set_cmp v k)) (sym c.change_timer.ensures.alerts) h; silences = λ k h. h; placements = λ k h. h; groups = λ k h. h; timers = c.change_timer.ensures.places; log = λ k h. h }) refl c.change_timer.ensures.closed c.change_timer.ensures.current
     (by_place (NoNewMark a.tables b.tables) (λ x h. h) (λ x h. h) (λ k v h. subst (λ x. IsTrue (is_entered label_set_cmp x k)) c.change_timer.ensures.alerts h) (λ k v h. h) (λ k v h. h) (λ q w h. subst IsTrue (c.in_err-entry.ensures.err.1 q) h) (λ k v h. h) (λ x h. h)) refl (fits_alike a b c.change_timer.ensures.closed c.change_timer.ensures.current (refl, refl) c.self.invariant.fits)
 
 pub invariant_of-self-in_default-entry : goal.invariant_of-self-in_default-entry
@@ -41,7 +41,7 @@ invariant_of-self-in_default-entry c =
     let t = c.change_timer.new.self in
     let b : Inside = record a { tables = record a.tables { timetable = t }; journal = c.change_timer.new.journal } in
     let marked = entry_of-none route_labels_cmp a.tables.timetable.timers c.args.group.now (taken _ c.in_default-entry.not-Some ∙ c.in_ok-entry.ensures.entry) in
-    kept_grown a b c.self.invariant (record { alerts = λ k h. subst (λ v. IsTrue (has_place label_set_cmp v k)) (sym c.change_timer.ensures.alerts) h; silences = λ k h. h; placements = λ k h. h; timers = c.change_timer.ensures.places; log = λ k h. h }) refl c.change_timer.ensures.closed c.change_timer.ensures.current
+    kept_grown a b c.self.invariant (record { alerts = λ k h. subst (λ v. IsTrue (has_place label_set_cmp v k)) (sym c.change_timer.ensures.alerts) h; silences = λ k h. h; placements = λ k h. h; groups = λ k h. h; timers = c.change_timer.ensures.places; log = λ k h. h }) refl c.change_timer.ensures.closed c.change_timer.ensures.current
     (by_place (NoNewMark a.tables b.tables) (λ x h. h) (λ x h. h) (λ k v h. subst (λ x. IsTrue (is_entered label_set_cmp x k)) c.change_timer.ensures.alerts h) (λ k v h. h) (λ k v h. h) (λ q w h. entered_again route_labels_cmp route_labels_cmp-IsAntisymmetric a.tables.timetable.timers t.timers c.args.group.now q marked c.in_ok-entry.ensures.entered h) (λ k v h. h) (λ x h. h)) refl (fits_alike a b c.change_timer.ensures.closed c.change_timer.ensures.current (refl, refl) c.self.invariant.fits)
 
 pub returns-in-Some-entry-clause-kept : goal.returns-in-Some-entry-clause-kept

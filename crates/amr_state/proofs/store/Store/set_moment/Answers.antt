@@ -18,13 +18,13 @@ invariant_of-self-2 c =
           let e : Displaced = WasMoment a.moment in
           let pushed : w.push.new.self.current ≡ w.reserve_entry.new.self.current ++ e ∷ [] = w.push.ensures.current in
           subst (λ x. IsKept (record x { moment = c.args.at })) (sym w.self-inside-is) (
-          kept_entered a b e c.self.invariant (record { alerts = λ k h. h; silences = λ k h. h; placements = λ k h. h; timers = λ k h. h; log = λ k h. h }) c.requires (w.push.ensures.closed ∙ w.reserve_entry.ensures.closed)
+          kept_entered a b e c.self.invariant (record { alerts = λ k h. h; silences = λ k h. h; placements = λ k h. h; groups = λ k h. h; timers = λ k h. h; log = λ k h. h }) c.requires (w.push.ensures.closed ∙ w.reserve_entry.ensures.closed)
           (pushed ∙ ap (λ es. es ++ e ∷ []) w.reserve_entry.ensures.current) c.self.invariant.moment
           (by_place (NewMarkAt (WasMoment a.moment) a.tables b.tables) (λ x h. refl) (λ x h. h) (λ k v h. h) (λ k v h. h) (λ k v h. h) (λ k v h. h) (λ k v h. h) (λ x h. h)) refl refl refl (refl, refl) tt)
       | else-not-self w ↦
           let b : Inside = record a { moment = c.args.at } in
           subst (λ x. IsKept (record x { moment = c.args.at })) (sym w.self-inside-is) (
-          kept_same a b c.self.invariant (record { alerts = λ k h. h; silences = λ k h. h; placements = λ k h. h; timers = λ k h. h; log = λ k h. h }) c.requires refl refl (λ place h. h) (le_refl (length a.notes.items)) (refl, refl))
+          kept_same a b c.self.invariant (record { alerts = λ k h. h; silences = λ k h. h; placements = λ k h. h; groups = λ k h. h; timers = λ k h. h; log = λ k h. h }) c.requires refl refl (λ place h. h) (le_refl (length a.notes.items)) (refl, refl))
     ]
 
 pub returns-clause-kept : goal.returns-clause-kept

@@ -17,7 +17,7 @@ invariant_of-self-in-Some c =
     let b : Inside = record a { tables = record a.tables { silences = t }; journal = c.push.new.self } in
     let e : Displaced = WasSilence c.args.id c.in-Some.was in
     let pushed : c.push.new.self.current ≡ c.change.new.journal.current ++ e ∷ [] = c.push.ensures.current in
-    kept_entered a b e c.self.invariant (record { alerts = λ k h. h; silences = c.change.ensures.places; placements = λ k h. h; timers = λ k h. h; log = λ k h. h })
+    kept_entered a b e c.self.invariant (record { alerts = λ k h. h; silences = c.change.ensures.places; placements = λ k h. h; groups = λ k h. h; timers = λ k h. h; log = λ k h. h })
     c.self.invariant.moment (c.push.ensures.closed ∙ c.change.ensures.closed) (pushed ∙ ap (λ es. es ++ e ∷ []) c.change.ensures.current)
     c.in_ok-entry.ensures.made
     (by_place (NewMarkAt (WasSilence c.args.id c.in-Some.was) a.tables b.tables) (λ x h. h) (λ x h. h) (λ k v h. h) (λ q w h. subst IsTrue (c.in_ok-entry.ensures.entered q) h) (λ k v h. h) (λ k v h. h) (λ k v h. h) (λ x h. h)) refl refl refl (refl, refl) tt
@@ -27,7 +27,7 @@ invariant_of-self c =
     let a = c.self.inside in
     let t = c.change.new.self in
     let b : Inside = record a { tables = record a.tables { silences = t }; journal = c.change.new.journal } in
-    kept_grown a b c.self.invariant (record { alerts = λ k h. h; silences = c.change.ensures.places; placements = λ k h. h; timers = λ k h. h; log = λ k h. h }) refl c.change.ensures.closed c.change.ensures.current
+    kept_grown a b c.self.invariant (record { alerts = λ k h. h; silences = c.change.ensures.places; placements = λ k h. h; groups = λ k h. h; timers = λ k h. h; log = λ k h. h }) refl c.change.ensures.closed c.change.ensures.current
     (by_place (NoNewMark a.tables b.tables) (λ x h. h) (λ x h. h) (λ k v h. h) (λ q w h. subst IsTrue (c.in_err-entry.ensures.err.1 q) h) (λ k v h. h) (λ k v h. h) (λ k v h. h) (λ x h. h)) refl (fits_alike a b c.change.ensures.closed c.change.ensures.current (refl, refl) c.self.invariant.fits)
 
 pub invariant_of-self-in_default : goal.invariant_of-self-in_default
@@ -36,7 +36,7 @@ invariant_of-self-in_default c =
     let t = c.change.new.self in
     let b : Inside = record a { tables = record a.tables { silences = t }; journal = c.change.new.journal } in
     let marked = entry_of-none nat_cmp a.tables.silences c.args.id (taken _ c.in_default.not-Some ∙ c.in_ok-entry.ensures.entry) in
-    kept_grown a b c.self.invariant (record { alerts = λ k h. h; silences = c.change.ensures.places; placements = λ k h. h; timers = λ k h. h; log = λ k h. h }) refl c.change.ensures.closed c.change.ensures.current
+    kept_grown a b c.self.invariant (record { alerts = λ k h. h; silences = c.change.ensures.places; placements = λ k h. h; groups = λ k h. h; timers = λ k h. h; log = λ k h. h }) refl c.change.ensures.closed c.change.ensures.current
     (by_place (NoNewMark a.tables b.tables) (λ x h. h) (λ x h. h) (λ k v h. h) (λ q w h. entered_again nat_cmp nat_cmp-IsAntisymmetric a.tables.silences t c.args.id q marked c.in_ok-entry.ensures.entered h) (λ k v h. h) (λ k v h. h) (λ k v h. h) (λ x h. h)) refl (fits_alike a b c.change.ensures.closed c.change.ensures.current (refl, refl) c.self.invariant.fits)
 
 pub returns-in-Some-clause-kept : goal.returns-in-Some-clause-kept

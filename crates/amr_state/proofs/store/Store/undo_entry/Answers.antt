@@ -38,7 +38,7 @@ invariant_of-self-in-WasConfig c =
     let m = c.clear_entered.new.self in
     let b : Inside = record a { tables = record m { roster = c.replace_config.new.self }; journal = c.pop.new.self } in
     let e : Displaced = WasConfig c.in-WasConfig.was in
-    kept_popped a b e c.self.invariant (record { alerts = c.clear_entered.ensures.places.alerts; silences = c.clear_entered.ensures.places.silences; placements = λ k h. subst (λ x. IsTrue (has_place route_labels_cmp x k)) (sym c.replace_config.ensures.placements) (c.clear_entered.ensures.places.placements k h); timers = c.clear_entered.ensures.places.timers; log = c.clear_entered.ensures.places.log })
+    kept_popped a b e c.self.invariant (record { alerts = c.clear_entered.ensures.places.alerts; silences = c.clear_entered.ensures.places.silences; placements = λ k h. subst (λ x. IsTrue (has_place route_labels_cmp x k)) (sym c.replace_config.ensures.placements) (c.clear_entered.ensures.places.placements k h); groups = λ k h. subst (λ x. IsTrue (has_place route_labels_cmp x k)) (sym c.replace_config.ensures.groups) (c.clear_entered.ensures.places.groups k h); timers = c.clear_entered.ensures.places.timers; log = c.clear_entered.ensures.places.log })
     (by_place _ (λ x. c.clear_entered.ensures.marks (WasMoment x)) (λ x. c.clear_entered.ensures.marks (WasConfig x)) (λ k v. c.clear_entered.ensures.marks (WasAlert k v)) (λ k v. c.clear_entered.ensures.marks (WasSilence k v)) (λ k v. ap (λ x. is_entered route_labels_cmp x (member_on_route k)) c.replace_config.ensures.placements ∙ c.clear_entered.ensures.marks (WasPlacement k v)) (λ k v. c.clear_entered.ensures.marks (WasTimer k v)) (λ k v. c.clear_entered.ensures.marks (WasLogged k v)) (λ x. c.clear_entered.ensures.marks (WasNotes x)))
     c.self.invariant.moment c.in-WasConfig.ensures.closed c.in-WasConfig.ensures.current (sym c.replace_config.ensures.config, sym (ap (λ x. shown route_labels_cmp x) c.replace_config.ensures.placements ∙ c.clear_entered.ensures.values.placements))
 
@@ -79,7 +79,7 @@ invariant_of-self-in-WasAlert c =
     let m = c.clear_entered.new.self in
     let b : Inside = record a { tables = record m { timetable = c.put_back_alert.new.self }; journal = c.pop.new.self } in
     let e : Displaced = WasAlert c.in-WasAlert.labels c.in-WasAlert.was in
-    kept_popped a b e c.self.invariant (record { alerts = λ k h. subst IsTrue (sym (c.put_back_alert.ensures.places k)) (c.clear_entered.ensures.places.alerts k h); silences = c.clear_entered.ensures.places.silences; placements = c.clear_entered.ensures.places.placements; timers = λ k h. subst (λ x. IsTrue (has_place route_labels_cmp x k)) (sym c.put_back_alert.ensures.timers) (c.clear_entered.ensures.places.timers k h); log = c.clear_entered.ensures.places.log })
+    kept_popped a b e c.self.invariant (record { alerts = λ k h. subst IsTrue (sym (c.put_back_alert.ensures.places k)) (c.clear_entered.ensures.places.alerts k h); silences = c.clear_entered.ensures.places.silences; placements = c.clear_entered.ensures.places.placements; groups = c.clear_entered.ensures.places.groups; timers = λ k h. subst (λ x. IsTrue (has_place route_labels_cmp x k)) (sym c.put_back_alert.ensures.timers) (c.clear_entered.ensures.places.timers k h); log = c.clear_entered.ensures.places.log })
     (by_place _ (λ x. c.clear_entered.ensures.marks (WasMoment x)) (λ x. c.clear_entered.ensures.marks (WasConfig x)) (λ k v. c.put_back_alert.ensures.entered k ∙ c.clear_entered.ensures.marks (WasAlert k v)) (λ k v. c.clear_entered.ensures.marks (WasSilence k v)) (λ k v. c.clear_entered.ensures.marks (WasPlacement k v)) (λ k v. ap (λ x. is_entered route_labels_cmp x k) c.put_back_alert.ensures.timers ∙ c.clear_entered.ensures.marks (WasTimer k v)) (λ k v. c.clear_entered.ensures.marks (WasLogged k v)) (λ x. c.clear_entered.ensures.marks (WasNotes x)))
     c.self.invariant.moment c.in-WasAlert.ensures.closed c.in-WasAlert.ensures.current (sym c.clear_entered.ensures.values.config, sym c.clear_entered.ensures.values.placements)
 
@@ -102,7 +102,7 @@ invariant_of-self-in-WasSilence c =
     let m = c.clear_entered.new.self in
     let b : Inside = record a { tables = record m { silences = c.put_back.new.self }; journal = c.pop.new.self } in
     let e : Displaced = WasSilence c.in-WasSilence.id c.in-WasSilence.was in
-    kept_popped a b e c.self.invariant (record { alerts = c.clear_entered.ensures.places.alerts; silences = λ k h. subst IsTrue (sym (c.put_back.ensures.places k)) (c.clear_entered.ensures.places.silences k h); placements = c.clear_entered.ensures.places.placements; timers = c.clear_entered.ensures.places.timers; log = c.clear_entered.ensures.places.log })
+    kept_popped a b e c.self.invariant (record { alerts = c.clear_entered.ensures.places.alerts; silences = λ k h. subst IsTrue (sym (c.put_back.ensures.places k)) (c.clear_entered.ensures.places.silences k h); placements = c.clear_entered.ensures.places.placements; groups = c.clear_entered.ensures.places.groups; timers = c.clear_entered.ensures.places.timers; log = c.clear_entered.ensures.places.log })
     (by_place _ (λ x. c.clear_entered.ensures.marks (WasMoment x)) (λ x. c.clear_entered.ensures.marks (WasConfig x)) (λ k v. c.clear_entered.ensures.marks (WasAlert k v)) (λ k v. c.put_back.ensures.entered k ∙ c.clear_entered.ensures.marks (WasSilence k v)) (λ k v. c.clear_entered.ensures.marks (WasPlacement k v)) (λ k v. c.clear_entered.ensures.marks (WasTimer k v)) (λ k v. c.clear_entered.ensures.marks (WasLogged k v)) (λ x. c.clear_entered.ensures.marks (WasNotes x)))
     c.self.invariant.moment c.in-WasSilence.ensures.closed c.in-WasSilence.ensures.current (sym c.clear_entered.ensures.values.config, sym c.clear_entered.ensures.values.placements)
 
@@ -119,8 +119,10 @@ returns-in-WasSilence-clause-kept c =
 pub put_back_member-requires : goal.put_back_member-requires
 put_back_member-requires c =
     let e : Displaced = WasPlacement c.in-WasPlacement.member c.in-WasPlacement.was in
+    let sound = last_is_sound c.self.inside c.pop.new.self.current e c.self.invariant c.in-WasPlacement.ensures.current in
     record {
-      place = c.clear_entered.ensures.places.placements (member_on_route c.in-WasPlacement.member) (last_is_sound c.self.inside c.pop.new.self.current e c.self.invariant c.in-WasPlacement.ensures.current);
+      place = c.clear_entered.ensures.places.placements (member_on_route c.in-WasPlacement.member) sound.0;
+      known = c.clear_entered.ensures.places.groups c.in-WasPlacement.member.group sound.1;
       group = last_fits c.self.inside c.pop.new.self.current e c.self.invariant c.in-WasPlacement.ensures.current ∙ ap (λ config. group_key config (member_on_route c.in-WasPlacement.member)) (sym c.clear_entered.ensures.values.config);
     }
 
@@ -130,7 +132,7 @@ invariant_of-self-in-WasPlacement c =
     let m = c.clear_entered.new.self in
     let b : Inside = record a { tables = record m { roster = c.put_back_member.new.self }; journal = c.pop.new.self } in
     let e : Displaced = WasPlacement c.in-WasPlacement.member c.in-WasPlacement.was in
-    kept_popped a b e c.self.invariant (record { alerts = c.clear_entered.ensures.places.alerts; silences = c.clear_entered.ensures.places.silences; placements = λ k h. subst IsTrue (sym (c.put_back_member.ensures.places k)) (c.clear_entered.ensures.places.placements k h); timers = c.clear_entered.ensures.places.timers; log = c.clear_entered.ensures.places.log })
+    kept_popped a b e c.self.invariant (record { alerts = c.clear_entered.ensures.places.alerts; silences = c.clear_entered.ensures.places.silences; placements = λ k h. subst IsTrue (sym (c.put_back_member.ensures.places k)) (c.clear_entered.ensures.places.placements k h); groups = λ k h. subst (λ x. IsTrue (has_place route_labels_cmp x k)) (sym c.put_back_member.ensures.groups) (c.clear_entered.ensures.places.groups k h); timers = c.clear_entered.ensures.places.timers; log = c.clear_entered.ensures.places.log })
     (by_place _ (λ x. c.clear_entered.ensures.marks (WasMoment x)) (λ x. c.clear_entered.ensures.marks (WasConfig x)) (λ k v. c.clear_entered.ensures.marks (WasAlert k v)) (λ k v. c.clear_entered.ensures.marks (WasSilence k v)) (λ k v. c.put_back_member.ensures.entered (member_on_route k) ∙ c.clear_entered.ensures.marks (WasPlacement k v)) (λ k v. c.clear_entered.ensures.marks (WasTimer k v)) (λ k v. c.clear_entered.ensures.marks (WasLogged k v)) (λ x. c.clear_entered.ensures.marks (WasNotes x)))
     c.self.invariant.moment c.in-WasPlacement.ensures.closed c.in-WasPlacement.ensures.current
     (sym (c.put_back_member.ensures.config ∙ c.clear_entered.ensures.values.config), sym (c.put_back_member.ensures.shown ∙ ap (λ x. map.set x (member_on_route c.in-WasPlacement.member) c.in-WasPlacement.was) c.clear_entered.ensures.values.placements))
@@ -154,7 +156,7 @@ invariant_of-self-in-WasTimer c =
     let m = c.clear_entered.new.self in
     let b : Inside = record a { tables = record m { timetable = c.put_back_timer.new.self }; journal = c.pop.new.self } in
     let e : Displaced = WasTimer c.in-WasTimer.group c.in-WasTimer.was in
-    kept_popped a b e c.self.invariant (record { alerts = λ k h. subst (λ x. IsTrue (has_place label_set_cmp x k)) (sym c.put_back_timer.ensures.alerts) (c.clear_entered.ensures.places.alerts k h); silences = c.clear_entered.ensures.places.silences; placements = c.clear_entered.ensures.places.placements; timers = λ k h. subst IsTrue (sym (c.put_back_timer.ensures.places k)) (c.clear_entered.ensures.places.timers k h); log = c.clear_entered.ensures.places.log })
+    kept_popped a b e c.self.invariant (record { alerts = λ k h. subst (λ x. IsTrue (has_place label_set_cmp x k)) (sym c.put_back_timer.ensures.alerts) (c.clear_entered.ensures.places.alerts k h); silences = c.clear_entered.ensures.places.silences; placements = c.clear_entered.ensures.places.placements; groups = c.clear_entered.ensures.places.groups; timers = λ k h. subst IsTrue (sym (c.put_back_timer.ensures.places k)) (c.clear_entered.ensures.places.timers k h); log = c.clear_entered.ensures.places.log })
     (by_place _ (λ x. c.clear_entered.ensures.marks (WasMoment x)) (λ x. c.clear_entered.ensures.marks (WasConfig x)) (λ k v. ap (λ x. is_entered label_set_cmp x k) c.put_back_timer.ensures.alerts ∙ c.clear_entered.ensures.marks (WasAlert k v)) (λ k v. c.clear_entered.ensures.marks (WasSilence k v)) (λ k v. c.clear_entered.ensures.marks (WasPlacement k v)) (λ k v. c.put_back_timer.ensures.entered k ∙ c.clear_entered.ensures.marks (WasTimer k v)) (λ k v. c.clear_entered.ensures.marks (WasLogged k v)) (λ x. c.clear_entered.ensures.marks (WasNotes x)))
     c.self.invariant.moment c.in-WasTimer.ensures.closed c.in-WasTimer.ensures.current (sym c.clear_entered.ensures.values.config, sym c.clear_entered.ensures.values.placements)
 
@@ -177,7 +179,7 @@ invariant_of-self-in-WasLogged c =
     let m = c.clear_entered.new.self in
     let b : Inside = record a { tables = record m { log = c.displace.new.self }; journal = c.pop.new.self } in
     let e : Displaced = WasLogged c.in-WasLogged.key c.in-WasLogged.was in
-    kept_popped a b e c.self.invariant (record { alerts = c.clear_entered.ensures.places.alerts; silences = c.clear_entered.ensures.places.silences; placements = c.clear_entered.ensures.places.placements; timers = c.clear_entered.ensures.places.timers; log = λ k h. subst IsTrue (sym (c.displace.ensures.places k)) (c.clear_entered.ensures.places.log k h) })
+    kept_popped a b e c.self.invariant (record { alerts = c.clear_entered.ensures.places.alerts; silences = c.clear_entered.ensures.places.silences; placements = c.clear_entered.ensures.places.placements; groups = c.clear_entered.ensures.places.groups; timers = c.clear_entered.ensures.places.timers; log = λ k h. subst IsTrue (sym (c.displace.ensures.places k)) (c.clear_entered.ensures.places.log k h) })
     (by_place _ (λ x. c.clear_entered.ensures.marks (WasMoment x)) (λ x. c.clear_entered.ensures.marks (WasConfig x)) (λ k v. c.clear_entered.ensures.marks (WasAlert k v)) (λ k v. c.clear_entered.ensures.marks (WasSilence k v)) (λ k v. c.clear_entered.ensures.marks (WasPlacement k v)) (λ k v. c.clear_entered.ensures.marks (WasTimer k v)) (λ k v. c.displace.ensures.entered k ∙ c.clear_entered.ensures.marks (WasLogged k v)) (λ x. c.clear_entered.ensures.marks (WasNotes x)))
     c.self.invariant.moment c.in-WasLogged.ensures.closed c.in-WasLogged.ensures.current (sym c.clear_entered.ensures.values.config, sym c.clear_entered.ensures.values.placements)
 

@@ -1,5 +1,6 @@
 use Rattle.std.proofs.Common.{IsTrue, refl, sym, subst}
-use Rattle.amr_state.specs.State.{member_on_route}
+use Rattle.amr_tables.specs.Numbered.{has_place}
+use Rattle.amr_state.specs.State.{member_on_route, route_labels_cmp}
 use Rattle.amr_state.proofs.Soundness.{by_place}
 use Rattle.amr_state.proofs.tables.Tables.clear_entered.Goals as goal
 
@@ -8,6 +9,7 @@ returns-clause-places c = record {
   alerts = λ k h. subst IsTrue (sym (c.clear_entered.ensures.alert_places k)) h;
   silences = λ k h. subst IsTrue (sym (c.clear_entered-2.ensures.places k)) h;
   placements = λ k h. subst IsTrue (sym (c.clear_entered-3.ensures.places k)) h;
+  groups = λ k h. subst (λ x. IsTrue (has_place route_labels_cmp x k)) (sym c.clear_entered-3.ensures.groups) h;
   timers = λ k h. subst IsTrue (sym (c.clear_entered.ensures.timer_places k)) h;
   log = λ k h. subst IsTrue (sym (c.clear_entered-4.ensures.places k)) h;
 }

@@ -1,8 +1,7 @@
-use Rattle.std.proofs.Common.{◌≡◌, ◌<◌, Some, None, IsTrue, length, refl, sym, ap, subst, ◌∙◌}
+use Rattle.std.proofs.Common.{◌≡◌, None, IsTrue, length, refl, sym, ap, subst, ◌∙◌}
 use Rattle.std.proofs.Math.Nat.{le_refl}
-use Rattle.amr_tables.specs.Numbered.{Numbered, number_of, next_number, has_place, is_entered, GetsNumber}
+use Rattle.amr_tables.specs.Numbered.{number_of, next_number, has_place, is_entered, GetsNumber}
 use Rattle.amr_state.specs.State.{route_labels_cmp, route_labels_cmp_total}
-use Rattle.amr_state.specs.declared.route_labels.RouteLabels.{RouteLabels}
 use Rattle.amr_state.specs.Timed.{Timed, IsTimed}
 use Rattle.amr_state.proofs.Scheduling.{timers_same, timer_placed, got, not_none, unplaced}
 use Rattle.amr_state.proofs.timetable.Timetable.add_timer.Goals as goal

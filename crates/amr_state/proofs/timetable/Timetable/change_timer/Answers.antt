@@ -4,7 +4,7 @@ use Rattle.std.proofs.Math.Nat.{le_refl}
 use Rattle.amr_tables.specs.Numbered.{shown, number_of, has_place, is_entered, entry_of, IsUnchanged}
 use Rattle.amr_state.specs.State.{route_labels_cmp}
 use Rattle.amr_state.specs.Timed.{Timed}
-use Rattle.amr_state.proofs.Scheduling.{timers_same, timer_set, keeps_places, placed_by, entry_same, ranked}
+use Rattle.amr_state.proofs.Scheduling.{timers_same, timer_set, placed_by, entry_same, ranked}
 use Rattle.amr_state.proofs.timetable.Timetable.change_timer.Goals as goal
 
 pub invariant_of-self : goal.invariant_of-self

@@ -1,9 +1,0 @@
-use Rattle.std.proofs.Common.{◌∙◌}
-use Rattle.std.proofs.lemmas.Result.{IfOk-weaker}
-use Rattle.amr_config.proofs.Chosen.{chosen_from_marks}
-use Rattle.amr_config.proofs.config.Config.routes_of_remembered.Goals as goal
-
-pub returns : goal.returns
-returns c =
-    let all = chosen_from_marks c.args.self.now c.args.labels.now c.as_slice.result.now (c.as_slice.ensures.value ∙ c.in_ok-marks.ensures) in
-    IfOk-weaker c.chosen_routes.result _ _ (λ v h. h ∙ all) c.chosen_routes.ensures
