@@ -105,7 +105,7 @@ class WholeSession:
             self.fault(f"growth {at} of a run refused: the run ended with {status} and {complaint!r}, and printed {printed!r}")
 
     def far_away(self):
-        """Returns another path of the folder, so long that the program needs memory to open a file in it."""
+        """Returns another path of the folder, so long that holding the words of the program takes more memory."""
         above = "/".join([self.room, "a" * 250, "b" * 250, "c" * 250])
         os.makedirs(above)
         os.symlink(self.folder, f"{above}/files")
