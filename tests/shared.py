@@ -11,11 +11,11 @@ FIRST_PAGE = f"{TOP}/examples/first-page"
 INCIDENTS = f"{TOP}/incidents"
 
 
-def program_of(words, check):
+def program_of(words, folder, name="check"):
     """Returns the path of the program that the words name, or of ./amreplay. Ends with a usage line if the words are others."""
     program = words[0] if words else f"{TOP}/amreplay"
     if len(words) > 1 or not os.path.isfile(program) or not os.access(program, os.X_OK):
-        print(f"usage: tests/{check}/check [PROGRAM]", file=sys.stderr)
+        print(f"usage: tests/{folder}/{name} [PROGRAM]", file=sys.stderr)
         sys.exit(2)
     return os.path.realpath(program)
 

@@ -1,16 +1,19 @@
-/* Makes the reads or the writes of one file fail in the program that it is loaded into (LD_PRELOAD).
+/* Makes the opening, the reads or the writes of one file fail in the program that it is loaded into (LD_PRELOAD).
  *
  * FAIL_ON      the file: the number of a descriptor, or a path
  * FAIL_AT      the number of the first call that fails, from 1; absent: none does
  * FAIL_WITH    the number of the error; absent or 0: the call moves no byte
  * FAIL_ONCE    if it is set, later calls are done again
+ * FAIL_OPEN    the number of the error with which opening the path fails; absent: it is opened
  * COUNT_TO     if it is set, a file that gets the number of calls at the end
  *
  * A call that doesn't fail moves one byte. Other files are read and written as always.
  */
 #define _GNU_SOURCE
 #include <errno.h>
+#include <fcntl.h>
 #include <limits.h>
+#include <stdarg.h>
 #include <stdio.h>
 #include <stdlib.h>
 #include <string.h>
@@ -21,6 +24,7 @@ static long calls;
 static long first;
 static int error;
 static int once;
+static int unopened;
 static int descriptor = -1;
 static char path[PATH_MAX];
 
@@ -30,7 +34,9 @@ __attribute__((constructor)) static void read_wishes(void) {
     const char *with = getenv("FAIL_WITH");
     first = at ? atol(at) : 0;
     error = with ? atoi(with) : 0;
+    const char *opening = getenv("FAIL_OPEN");
     once = getenv("FAIL_ONCE") != NULL;
+    unopened = opening ? atoi(opening) : 0;
     if (on && strspn(on, "0123456789") == strlen(on)) {
         descriptor = atoi(on);
     } else if (on && !realpath(on, path)) {
@@ -75,6 +81,19 @@ static ssize_t moved(int fd, size_t count) {
         return error ? -1 : 0;
     }
     return count > 1 ? 1 : (ssize_t)count;
+}
+
+int open(const char *name, int flags, ...) {
+    char found[PATH_MAX];
+    va_list rest;
+    va_start(rest, flags);
+    mode_t mode = flags & O_CREAT ? va_arg(rest, mode_t) : 0;
+    va_end(rest);
+    if (unopened && path[0] && realpath(name, found) && strcmp(found, path) == 0) {
+        errno = unopened;
+        return -1;
+    }
+    return (int)syscall(SYS_openat, AT_FDCWD, name, flags, mode);
 }
 
 ssize_t read(int fd, void *bytes, size_t count) {

@@ -114,7 +114,7 @@ class EachCall:
             wanted = [(f"seek {n}".encode(), None) for n in range(cursor + 1)]
             wanted += [(f"seek {count + 1}".encode(), 24)]
             wanted += [(b"step", 22)] if cursor == count else []
-            wanted += [(b"back", None if cursor else 23)]
+            wanted += [(b"back", None if cursor else 23), (b"cursor", None)]
             for call, number in wanted:
                 self.unrefused(session, cursor, call, number)
             for at in moments:

@@ -88,7 +88,7 @@ class WholeSession:
         for line, answer in zip(self.lines, answers(printed)):
             told = last(answer)
             goes_back = line == b"back\n" or line.startswith(b"seek ") and int(line.split()[1]) <= cursor
-            if goes_back and told.get("refused") == 0 and told["command"] != "?":
+            if (goes_back or line == b"cursor\n") and told.get("refused") == 0 and told["command"] != "?":
                 self.fault(f"growths from {at} on refused: {line!r} was refused too")
             done += goes_back and "refused" not in told
             if told["cursor"] != cursor and "refused" in told:
@@ -105,7 +105,7 @@ class WholeSession:
             self.fault(f"growth {at} of a run refused: the run ended with {status} and {complaint!r}, and printed {printed!r}")
 
     def far_away(self):
-        """Returns another path of the folder, so long that the program needs memory to open a file in it."""
+        """Returns another path of the folder, so long that holding the words of the program takes more memory."""
         above = "/".join([self.room, "a" * 250, "b" * 250, "c" * 250])
         os.makedirs(above)
         os.symlink(self.folder, f"{above}/files")

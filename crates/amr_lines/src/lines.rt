@@ -16,7 +16,7 @@ mod word;
 
 pub use inlet::{Inlet, ReadFailed};
 pub use last_lines::{
-    cursor_text, moves_text, place_text, write_back, write_backward_seek, write_refused,
+    cursor_text, moves_text, write_back, write_backward_seek, write_place, write_refused,
 };
 pub use lines::{event_text, notes_text};
 pub use listings::{alert_lines, group_lines, log_lines, silence_lines};

@@ -1,10 +1,15 @@
 -- The lines that are written part by part are those of their values.
-use Rattle.std.proofs.Common.{◌≡◌, ◌++◌, ℕ, codes, decimal, refl, append_assoc}
+use Rattle.std.proofs.Common.{◌≡◌, ◌++◌, ℕ, codes, decimal, refl, sym, ap, ◌∙◌, append_assoc}
 use Rattle.std.specs.Fmt.{digits}
 use Rattle.json.specs.Print.{escape}
+use Rattle.serde_json.specs.Written.{compact_text}
 use Rattle.serde_json.proofs.OnLiterals.{serde_json_on_literals}
-use Rattle.amr_lines.specs.Lines.Printed.{refused_event_line}
-use Rattle.amr_lines.specs.Lines.LastLines.{word_text, moves_line, cursor_line, refused_line}
+use Rattle.amr_lines.specs.Lines.Printed.{moment_data, refused_event_line}
+use Rattle.amr_time.specs.Time.{Moment}
+use Rattle.amr_time.specs.MomentText.{moment_text}
+use Rattle.amr_lines.specs.Lines.LastLines.{word_text, moves_line, cursor_line, place_line, refused_line}
+use Rattle.amr_lines.proofs.LinesLemmas.MomentTexts.{moment_json}
+use Rattle.amr_lines.proofs.LinesLemmas.ObjectTexts.{object_texts}
 use Rattle.amr_lines.specs.declared.lines.word.Word.{Word}
 use Rattle.amr_lines.specs.declared.lines.word.Word.TheVariants.{Step, Back, Seek, SeekTime, Trial, Explain, Alerts, Silences, Groups, Log, Transcript, Cursor, Unknown}
 
@@ -39,6 +44,14 @@ pub moves_line-none : (word : Word) (cursor : ℕ)
     → codes "{\"command\":\"" ++ (word_text word ++ (codes "\",\"cursor\":" ++ (decimal cursor ++ codes ",\"moves\":0}\n"))) ≡ moves_line word cursor 0
 unfolding digits
 moves_line-none word cursor = moves_line-parts word cursor 0
+
+pub place_line-parts : (cursor events : ℕ) (now : Moment)
+    → codes "{\"command\":\"cursor\",\"cursor\":" ++ (decimal cursor ++ (codes ",\"events\":" ++ (decimal events ++ (codes ",\"now\":\"" ++ (moment_text now ++ codes "\"}\n"))))) ≡ place_line cursor events now
+unfolding object_texts
+place_line-parts cursor events now =
+    let clock : codes ",\"now\":\"" ++ (moment_text now ++ codes "\"}\n") ≡ codes ",\"now\":" ++ (compact_text (moment_data now) ++ codes "}\n") =
+    rw (moment_json now) (sym (ap (λ l. codes ",\"now\":\"" ++ l) (append_assoc (moment_text now) (codes "\"") (codes "}\n")))) in
+    ap (λ l. codes "{\"command\":\"cursor\",\"cursor\":" ++ (decimal cursor ++ (codes ",\"events\":" ++ (decimal events ++ l)))) clock ∙ simp append_assoc
 
 pub refused_line-parts : (word : Word) (cursor reason : ℕ)
     → codes "{\"command\":\"" ++ (word_text word ++ (codes "\",\"cursor\":" ++ (decimal cursor ++ (codes ",\"refused\":" ++ (decimal reason ++ codes "}\n"))))) ≡ refused_line word cursor reason

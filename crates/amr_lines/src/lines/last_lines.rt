@@ -1,14 +1,13 @@
-//! The status lines that end the commands of a session. Those of refusals and of steps back are
-//! written part by part, because they must not take memory.
+//! The status lines that end the commands of a session. Those of refusals, of steps back and of
+//! `cursor` are written part by part, because they must not take memory.
 ghost use Rattle.std.specs.Prelude.{◌≡◌, IfOk, string_bytes};
 ghost use Rattle.amr_lines.specs.Lines.LastLines.{moves_line, cursor_line, place_line, refused_line};
 ghost use Rattle.amr_lines.specs.Lines.Outlet.{WritesText, FailsAt};
 ghost use Rattle.amr_lines.specs.declared.lines.word.Word.TheVariants.{Back};
 
-use crate::lines::json_text::push;
 use crate::lines::outlet::{Outlet, WriteFailed, write_parts};
 use crate::lines::word::{Word, word_text};
-use amr_time::Moment;
+use amr_time::{Moment, MomentText};
 use itoa::Buffer;
 use std::alloc::{AllocError, Global};
 use std::io::Write;
@@ -34,21 +33,33 @@ pub fn cursor_text(alloc: Global, word: Word, cursor: usize) -> Result<String, A
     format!(in alloc; "{{\"command\":\"{word}\",\"cursor\":{cursor}}}\n")
 }
 
-/// Returns the line of the command `cursor`: the cursor, the number of events, and the clock.
-pub fn place_text(
-    alloc: Global,
+/// Writes the line of the command `cursor`: the cursor, the number of events, and the clock. It takes
+/// no memory.
+pub fn write_place<W: Write>(
+    out: &mut Outlet<W>,
     cursor: usize,
     events: usize,
     now: Moment,
-) -> Result<String, AllocError>
-    ensures { IfOk result (λ text. string_bytes text ≡ place_line cursor events now) }
+) -> Result<(), WriteFailed>
+    ensures written { WritesText (W.contents out.old.writer) (W.contents out.new.writer)
+        result (place_line cursor events now) }
+    ensures failed { FailsAt result out.old.failed out.new.failed }
 {
-    let mut line = format!(in alloc;
-        "{{\"command\":\"cursor\",\"cursor\":{cursor},\"events\":{events}"
-    )?;
-    push(&mut line, ",\"now\":", &now)?;
-    line.push_str("}\n")?;
-    Ok(line)
+    let mut cursor_digits = Buffer::new();
+    let mut events_digits = Buffer::new();
+    let now = MomentText::of(now);
+    write_parts(
+        out,
+        &[
+            b"{\"command\":\"cursor\",\"cursor\":",
+            cursor_digits.format(cursor).as_bytes(),
+            b",\"events\":",
+            events_digits.format(events).as_bytes(),
+            b",\"now\":\"",
+            now.as_bytes(),
+            b"\"}\n",
+        ],
+    )
 }
 
 /// Writes the line of a refused command, with the number of the reason. It takes no memory.

@@ -106,7 +106,7 @@ TakesMemory incident n (command.Move (Seek to)) = (n < to) × (to ≤ length inc
 TakesMemory incident n (command.Move (SeekTime at)) = n < events_until at incident.events
 TakesMemory incident n (command.Trial event) = ⊤
 TakesMemory incident n (command.Query query) = ⊤
-TakesMemory incident n command.Cursor = ⊤
+TakesMemory incident n command.Cursor = ⊥
 
 -- what a line leaves that was parsed as this
 abbrev pub reply_of : Incident → ℕ → ParsedLine → Reply

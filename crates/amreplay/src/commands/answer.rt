@@ -1,13 +1,15 @@
-//! What is written for a command line. Each answer is decided first and written after; a refusal
-//! and a step back are written without memory.
+//! What is written for a command line. Each answer is decided first and written after; a refusal, a
+//! step back and the answer to `cursor` are written without memory.
 ghost use Rattle.std.specs.Prelude.{◌≡◌};
 ghost use Rattle.amr_lines.specs.Lines.Outlet.{WritesText, FailsAt};
 ghost use Rattle.amreplay.specs.Commands.Answer.{answer_text};
 ghost use Rattle.amreplay.specs.Commands.Refusals.{refusal_number};
 
 use amr_lines::lines::{
-    Outlet, Word, WriteFailed, write_back, write_backward_seek, write_refused, write_whole,
+    Outlet, Word, WriteFailed, write_back, write_backward_seek, write_place, write_refused,
+    write_whole,
 };
+use amr_time::Moment;
 use std::io::Write;
 
 /// Why a command is refused. The numbers are listed in `docs/FORMATS.md`.
@@ -59,6 +61,8 @@ pub(crate) enum Answer {
     WentBack,
     /// The line of a seek that passed no event.
     SoughtBack(Word),
+    /// The line of `cursor`: the cursor, the number of events, and the clock.
+    Place(usize, usize, Moment),
     Refused(Word, Refusal),
 }
 
@@ -78,6 +82,7 @@ pub(crate) fn write_answer<W: Write>(
         Answer::Listed(lines) => write_whole(out, lines.as_slice()),
         Answer::WentBack => write_back(out, cursor),
         Answer::SoughtBack(word) => write_backward_seek(out, *word, cursor),
+        Answer::Place(at, events, now) => write_place(out, *at, *events, *now),
         Answer::Refused(word, refusal) => write_refused(out, *word, cursor, refusal.number()),
     }
 }

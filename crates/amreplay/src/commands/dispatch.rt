@@ -101,6 +101,6 @@ fn answer_command(alloc: Global, session: &mut Session, command: Command) -> Ans
         Command::Move(movement) => move_cursor(alloc, session, movement),
         Command::Trial(event) => trial(alloc, session, &event),
         Command::Query(query) => list(alloc, session, &query),
-        Command::Cursor => place(alloc, session),
+        Command::Cursor => place(session),
     }
 }

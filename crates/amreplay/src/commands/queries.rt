@@ -9,8 +9,7 @@ ghost use Rattle.amreplay.specs.Commands.Answer.{AnsweredBy};
 use crate::commands::answer::{Answer, Refusal};
 use amr_lines::command_lines::Query;
 use amr_lines::lines::{
-    Word, alert_lines, cursor_text, group_lines, log_lines, notes_text, place_text, silence_lines,
-    verdicts_text,
+    alert_lines, cursor_text, group_lines, log_lines, notes_text, silence_lines, verdicts_text,
 };
 use amr_replay::Session;
 use std::alloc::{AllocError, Global};
@@ -83,17 +82,10 @@ pub(crate) fn list(alloc: Global, session: &mut Session, query: &Query) -> Answe
     }
 }
 
-/// Executes `cursor`, which prints the cursor, the number of events, and the clock.
-pub(crate) fn place(alloc: Global, session: &Session) -> Answer
+/// Executes `cursor`, which prints the cursor, the number of events, and the clock. It takes no
+/// memory.
+pub(crate) fn place(session: &Session) -> Answer
     ensures { AnsweredBy session.now session.now (Asks command.Cursor) result }
 {
-    match place_text(
-        alloc,
-        session.cursor(),
-        session.events(),
-        session.state().moment(),
-    ) {
-        Ok(text) => Answer::Built(text),
-        Err(_) => Answer::Refused(Word::Cursor, Refusal::Memory),
-    }
+    Answer::Place(session.cursor(), session.events(), session.state().moment())
 }

@@ -2,6 +2,6 @@ use Rattle.std.proofs.Common.{inl}
 use Rattle.amreplay.proofs.CommandsLemmas.Commands.{place_reply}
 use Rattle.amreplay.proofs.commands.queries.place.Goals as goal
 
-pub returns-in-Ok : goal.returns-in-Ok
-returns-in-Ok c =
-    inl (place_reply c.args.session.now c.cursor.ensures.view c.in-Ok.text (rw (c.cursor.ensures.cursor, c.events.ensures, c.moment.ensures.value, c.state.ensures) at c.in-Ok.ensures))
+pub returns : goal.returns
+returns c =
+    rw (c.cursor.ensures.cursor, c.events.ensures, c.moment.ensures.value, c.state.ensures) (inl (place_reply c.args.session.now c.cursor.ensures.view))
