@@ -11,7 +11,7 @@ use Rattle.std.specs.FinMap.Entries.{find, below_all, is_sorted}
 use Rattle.std.proofs.Common.{T, refl, sym, ap, ◌∙◌, subst, inl, inr, arith}
 use Rattle.std.proofs.lemmas.Bool.{leb-true}
 use Rattle.std.proofs.lemmas.Cmp.{tied_itself}
-use Rattle.amr_labels.specs.Map.{Map, get, insert, remove, entries, get-entries, entries-sorted, get-insert, get-remove}
+use Rattle.amr_labels.specs.Map.{Map, get, insert, entries, get-entries, entries-sorted, get-insert, get-remove}
 use Rattle.amr_labels.specs.Labels.{LabelSet}
 use Rattle.amr_time.specs.Time.{Moment, second, next_multiple_of}
 use Rattle.amr_stated.specs.declared.receiver.Integration.{Integration}
@@ -21,8 +21,8 @@ use Rattle.amr_rules.specs.declared.alert.Alert.{Alert}
 use Rattle.amr_state.specs.declared.notification.GroupTimer.{GroupTimer}
 use Rattle.amr_state.specs.declared.route_labels.RouteLabels.{RouteLabels}
 use Rattle.amr_state.specs.declared.due.Due.{Due}
-use Rattle.amr_state.specs.declared.due.Kind.TheVariants.{AlertRemoval, GroupRemoval, GroupFlush}
-use Rattle.amr_state.specs.State.{State, on_route, route_labels_cmp, route_labels_cmp_total, route_labels_cmp-IsAntisymmetric, members, members_among}
+use Rattle.amr_state.specs.declared.due.Kind.TheVariants.{GroupRemoval}
+use Rattle.amr_state.specs.State.{State, route_labels_cmp, route_labels_cmp_total, route_labels_cmp-IsAntisymmetric, members, members_among}
 use Rattle.amr_state.specs.Dues.{alert_removal_of, group_removal_of, flush_of, least_due, due_by, dues, next_due}
 use Rattle.amr_engine.specs.Flush.{Members, firing_of, resolved_of, let_through, log_key_of, record_notification, notify, notify_all, set_timer, drop_member, mark_if_empty, drop_resolved, run_pipeline, flush}
 use Rattle.amr_engine.specs.Quiet.{all_fire_until, with_timer_reset}

@@ -1,16 +1,14 @@
 -- What leaves a group notified: all but flushes of the group, posts of its alerts, and a reload.
-use Rattle.std.specs.Prelude.{◌≡◌, ◌<◌, ◌≤◌, ℕ, Bool, true, false, not, ◌&&◌, List, [], ◌∷◌, Option, Some, None, cond, map, nat_le, nat_lt, length}
+use Rattle.std.specs.Prelude.{◌≡◌, ◌<◌, ℕ, Bool, true, false, not, ◌&&◌, List, [], ◌∷◌, Some, None, cond, map, length, ◌⊎◌}
 use Rattle.std.specs.List.{list_all, filter, fold}
-use Rattle.std.specs.Option.{option_map_or}
 use Rattle.std.specs.Ordering.{eq_by_cmp, is_eq}
 use Rattle.std.specs.FinMap.Entries.{put, by_order}
 use Rattle.std.specs.declared.cmp.Ordering.{Ordering}
 use Rattle.std.specs.declared.cmp.Ordering.TheVariants.{Less, Equal, Greater}
 use Rattle.std.specs.FinMap.{IsAntisymmetric}
-use Rattle.std.proofs.Common.{refl, sym, ap, ◌∙◌, subst, arith}
-use Rattle.std.proofs.lemmas.Bool.Decides.{nat_tests}
+use Rattle.std.proofs.Common.{refl, sym, ap, ◌∙◌, subst, inl, inr}
 use Rattle.std.proofs.lemmas.Cmp.{tied_itself}
-use Rattle.amr_labels.specs.Map.{Map, get, insert, remove, empty, entries, get-empty, get-insert, get-remove, entries-insert}
+use Rattle.amr_labels.specs.Map.{Map, get, insert, remove, entries, get-insert, get-remove, entries-insert}
 use Rattle.amr_labels.specs.Labels.{LabelSet}
 use Rattle.amr_time.specs.Time.{Moment}
 use Rattle.amr_stated.specs.declared.receiver.Integration.{Integration}
@@ -27,16 +25,14 @@ use Rattle.amr_state.specs.declared.notification.GroupTimer.{GroupTimer}
 use Rattle.amr_state.specs.declared.notification.Notification.{Notification}
 use Rattle.amr_state.specs.declared.route_labels.RouteLabels.{RouteLabels}
 use Rattle.amr_state.specs.State.{State, on_route, route_labels_cmp, route_labels_cmp_total, route_labels_cmp-IsAntisymmetric, group_key, members, place_on, place}
-use Rattle.amr_engine.specs.declared.stretch.Stretch.{Stretch}
+use Rattle.amr_engine.specs.declared.quiet.Period.{Period}
+use Rattle.amr_engine.specs.declared.quiet.QuietTime.{QuietTime}
 use Rattle.amr_engine.specs.Events as events
-use Rattle.amr_engine.specs.Flush.{Members, labels_of, log_key_of, flush}
-use Rattle.amr_engine.specs.Quiet.{no_repeat_before, is_notified, are_notified, with_timer_reset, IsAllNotified, LeavesOthers}
-use Rattle.amr_engine.specs.Stretches.{covers}
-use Rattle.amr_engine.specs.Notified.{Stretches, is_notified_at, IsNotifiedIn, IsNotifiedIf, AreNotified, without_group, without_joined, without_all_joined}
-use Rattle.amr_engine.proofs.FewerNotified.{both}
+use Rattle.amr_engine.specs.Flush.{Members, labels_of, log_key_of}
+use Rattle.amr_engine.specs.Quiet.{no_repeat_before, is_notified, are_notified, IsAllNotified, LeavesOthers}
+use Rattle.amr_engine.specs.Remembered.{Times, IsNotifiedIn, without_group, without_joined, without_all_joined}
 use Rattle.amr_engine.proofs.Copied.{put-config}
-use Rattle.amr_engine.proofs.QuietLaws.{notified_flush}
-use Rattle.amr_engine.proofs.QuietStays.{equal, apart, flush_leaves}
+use Rattle.amr_engine.proofs.QuietStays.{equal, apart}
 
 -- ---- one group
 
@@ -58,38 +54,14 @@ module _ (s t : State) (group : RouteLabels) (config : t.config ≡ s.config)
   alike_is : alike ≡ t
   alike_is = sym (λ i. record t { config = config i })
 
-  pub stays_notified : members t group ≡ members s group → (stretch : Stretch) → IsNotifiedIn s group stretch → IsNotifiedIn t group stretch
-  stays_notified same stretch notified = record {
+  pub stays_notified : members t group ≡ members s group → (period : Period) → IsNotifiedIn s group period → IsNotifiedIn t group period
+  stays_notified same period notified = record {
     own = subst (λ (c : Config). HasOwnPath c group.route) (sym config) notified.own;
-    notified = subst (λ (x : State × Members). IsAllNotified x.0 group stretch.from stretch.until x.1) (λ i. (alike_is i, sym same i))
-        (record { fire = notified.notified.fire; notified = all_alike stretch.from stretch.until (members s group) ∙ notified.notified.notified });
+    notified = subst (λ (x : State × Members). IsAllNotified x.0 group period.from period.until x.1) (λ i. (alike_is i, sym same i))
+        (record { fire = notified.notified.fire; notified = all_alike period.from period.until (members s group) ∙ notified.notified.notified });
   }
 
-  pub stays_notified_if : members t group ≡ members s group → (stretch : Option Stretch) → IsNotifiedIf s group stretch → IsNotifiedIf t group stretch
-  stays_notified_if same None notified = tt
-  stays_notified_if same (Some stretch) notified = stays_notified same stretch notified
-
--- ---- what is known
-
-none_notified : (s : State) (group : RouteLabels) → IsNotifiedIf s group (get (empty {X = Stretch} {R = route_labels_cmp}) group)
-none_notified s group = subst (IsNotifiedIf s group) (sym (get-empty route_labels_cmp group)) tt
-
-pub nothing_notified : (s : State) (stretches : Stretches) → stretches ≡ empty → AreNotified s stretches
-nothing_notified s stretches none = subst (AreNotified s) (sym none) (none_notified s)
-
-known_now : (s : State) (group : RouteLabels) (at : Moment) (stretch : Option Stretch) → IsNotifiedIf s group stretch → option_map_or (covers at) stretch false ≡ true
-    → flush at group s ≡ with_timer_reset at group s
-known_now s group at None notified known = absurd (cc)
-known_now s group at (Some stretch) notified known =
-    let parts = both (nat_le stretch.from at) (nat_lt at stretch.until) known in
-    let not_before : stretch.from ≤ at = grind (arith, nat_tests) in
-    let before : at < stretch.until = grind (arith, nat_tests) in
-    notified_flush s group stretch.from stretch.until at not_before before notified.notified
-
--- a flush of a group that is known to be notified sets the group timer and changes nothing else
-pub known_notified : (s : State) (group : RouteLabels) (at : Moment) (stretches : Stretches) → AreNotified s stretches → is_notified_at at group stretches ≡ true
-    → flush at group s ≡ with_timer_reset at group s
-known_notified s group at stretches all known = known_now s group at (get stretches group) (all group) known
+-- ---- a group that is removed from what is remembered
 
 same_group : (a b : RouteLabels) → eq_by_cmp route_labels_cmp a b ≡ true → a ≡ b
 same_group a b e = route_labels_cmp-IsAntisymmetric a b (equal (route_labels_cmp a b) e)
@@ -97,48 +69,39 @@ same_group a b e = route_labels_cmp-IsAntisymmetric a b (equal (route_labels_cmp
 other_group : (a b : RouteLabels) → eq_by_cmp route_labels_cmp a b ≡ false → a ≡ b → ⊥
 other_group a b other e = absurd (cc (other, ap is_eq (tied_itself route_labels_cmp_total b), ap (λ (g : RouteLabels). eq_by_cmp route_labels_cmp g b) e))
 
--- a group that is notified may be remembered
-pub learn_notified : (s : State) (stretches : Stretches) (group : RouteLabels) (stretch : Stretch) → AreNotified s stretches → IsNotifiedIn s group stretch → AreNotified s (insert stretches group stretch)
-learn_notified s stretches group stretch all notified = λ asked.
-    subst (IsNotifiedIf s asked) (sym (get-insert route_labels_cmp_total stretches group stretch asked))
-    (elim (eq_by_cmp route_labels_cmp asked group) as (λ b. eq_by_cmp route_labels_cmp asked group ≡ b → IsNotifiedIf s asked (cond b (Some stretch) (get stretches asked))) [
-      | true ↦ λ e. subst (λ (g : RouteLabels). IsNotifiedIn s g stretch) (sym (same_group asked group e)) notified
-      | false ↦ λ e. all asked
-    ] refl)
+-- what is still known is of another group, and was known before
+pub still_known : (times : Times) (removed group : RouteLabels) (time : QuietTime) → get (remove times removed) group ≡ Some time → (group ≡ removed → ⊥) × (get times group ≡ Some time)
+still_known times removed group time known =
+    elim (eq_by_cmp route_labels_cmp group removed) as (λ b. eq_by_cmp route_labels_cmp group removed ≡ b → cond b None (get times group) ≡ Some time → (group ≡ removed → ⊥) × (get times group ≡ Some time)) [
+      | true ↦ λ is left. absurd (cc left)
+      | false ↦ λ is left. (other_group group removed is, left)
+    ] refl (sym (get-remove route_labels_cmp_total times removed group) ∙ known)
 
--- without a group, what is known holds where all other groups are as they were
-forget_notified : (s t : State) (stretches : Stretches) (group : RouteLabels) → AreNotified s stretches
-    → ((asked : RouteLabels) → (asked ≡ group → ⊥) → IsNotifiedIf s asked (get stretches asked) → IsNotifiedIf t asked (get stretches asked)) → AreNotified t (remove stretches group)
-forget_notified s t stretches group all others = λ asked.
-    subst (IsNotifiedIf t asked) (sym (get-remove route_labels_cmp_total stretches group asked))
-    (elim (eq_by_cmp route_labels_cmp asked group) as (λ b. eq_by_cmp route_labels_cmp asked group ≡ b → IsNotifiedIf t asked (cond b None (get stretches asked))) [
-      | true ↦ λ e. tt
-      | false ↦ λ e. others asked (other_group asked group e) (all asked)
-    ] refl)
+-- what is known after one more was put is that, or was known before
+pub now_known : (times : Times) (added : RouteLabels) (one : QuietTime) (group : RouteLabels) (time : QuietTime) → get (insert times added one) group ≡ Some time
+    → ((group ≡ added) × (one ≡ time)) ⊎ (get times group ≡ Some time)
+now_known times added one group time known =
+    elim (eq_by_cmp route_labels_cmp group added) as (λ b. eq_by_cmp route_labels_cmp group added ≡ b → cond b (Some one) (get times group) ≡ Some time
+    → ((group ≡ added) × (one ≡ time)) ⊎ (get times group ≡ Some time)) [
+      | true ↦ λ is found. inl (same_group group added is, cc found)
+      | false ↦ λ is found. inr found
+    ] refl (sym (get-insert route_labels_cmp_total times added one group) ∙ known)
 
 -- ---- a flush
 
--- a group whose route has a path of its own shares no log entry with another
-other_key : (config : Config) (group flushed : RouteLabels) → flushed.route < length config.routes → HasOwnPath config group.route → (group ≡ flushed → ⊥)
-    → (integration its : Integration) → log_key_of config group integration ≡ log_key_of config flushed its → ⊥
-other_key config group flushed there own other integration its e =
-    let labels : group.labels ≡ flushed.labels = ap (λ (k : LogKey). k.group) e in
-    let route : flushed.route ≡ group.route = own.own flushed.route there (sym (ap (λ (k : LogKey). k.path) e)) in
-    other (λ i. on_route (sym route i) (labels i))
+-- a group on a route that is there shares no log entry with another group, whose route has a path of
+-- its own
+pub other_key : (config : Config) (group owner : RouteLabels) → group.route < length config.routes → HasOwnPath config owner.route → (group ≡ owner → ⊥)
+    → (integration its : Integration) → log_key_of config group integration ≡ log_key_of config owner its → ⊥
+other_key config group owner there own other integration its e =
+    let labels : group.labels ≡ owner.labels = ap (λ (k : LogKey). k.group) e in
+    let route : group.route ≡ owner.route = own.own group.route there (ap (λ (k : LogKey). k.path) e) in
+    other (λ i. on_route (route i) (labels i))
 
-left_notified : (s t : State) (flushed : RouteLabels) → LeavesOthers flushed s t → flushed.route < length s.config.routes → (asked : RouteLabels) → (asked ≡ flushed → ⊥)
-    → (stretch : Option Stretch) → IsNotifiedIf s asked stretch → IsNotifiedIf t asked stretch
-left_notified s t flushed same there asked other None notified = tt
-left_notified s t flushed same there asked other (Some stretch) notified =
-    stays_notified s t asked same.config
-    (λ integration. same.log (log_key_of s.config asked integration) (other_key s.config asked flushed there notified.own other integration)) (same.members asked other) stretch notified
-
--- the flush of a group leaves the others notified
-pub flush_notified : (s : State) (at : Moment) (stretches : Stretches) (flushed : RouteLabels) → flushed.route < length s.config.routes
-    → AreNotified s stretches → AreNotified (flush at flushed s) (remove stretches flushed)
-flush_notified s at stretches flushed there all =
-    forget_notified s (flush at flushed s) stretches flushed all (λ asked other notified.
-    left_notified s (flush at flushed s) flushed (flush_leaves flushed at s) there asked other (get stretches asked) notified)
+pub left_notified : (s t : State) (flushed : RouteLabels) → LeavesOthers flushed s t → (group : RouteLabels) → (group ≡ flushed → ⊥)
+    → ((integration its : Integration) → log_key_of s.config group integration ≡ log_key_of s.config flushed its → ⊥) → (period : Period) → IsNotifiedIn s group period → IsNotifiedIn t group period
+left_notified s t flushed same group other keys period notified =
+    stays_notified s t group same.config (λ integration. same.log (log_key_of s.config group integration) (keys integration)) (same.members group other) period notified
 
 -- ---- the clock, timers, notifications, stored alerts and silences
 
@@ -151,8 +114,8 @@ module _ (s : State) (moment : Moment) (alerts : Alerts) (silences : Silences) (
   beside_members group = refl
 
   -- none of them matters
-  pub beside_notified : (stretches : Stretches) → AreNotified s stretches → AreNotified beside stretches
-  beside_notified stretches all = λ asked. stays_notified_if s beside asked refl (λ integration. refl) (beside_members asked) (get stretches asked) (all asked)
+  pub beside_notified : (group : RouteLabels) (period : Period) → IsNotifiedIn s group period → IsNotifiedIn beside group period
+  beside_notified group period notified = stays_notified s beside group refl (λ integration. refl) (beside_members group) period notified
 
 -- ---- a post of alerts
 
@@ -179,29 +142,33 @@ module _ (labels : LabelSet) (alert : Alert) where
       ∙ put_elsewhere route_labels_cmp route_labels_cmp-IsAntisymmetric (λ route_labels. eq_by_cmp route_labels_cmp (group_key s.config route_labels) asked) (on_route route labels) alert
       (apart route_labels_cmp-IsAntisymmetric (group_key s.config (on_route route labels)) asked (λ e. other (sym e))) (entries s.placements))
 
-  -- an alert that is inserted into a group leaves the others notified
-  place_on_notified : (s : State) (stretches : Stretches) (route : ℕ) → AreNotified s stretches → AreNotified (place_on labels alert s route) (without_group stretches (group_at s.config labels route))
-  place_on_notified s stretches route all =
-      forget_notified s (place_on labels alert s route) stretches (group_key s.config (on_route route labels)) all (λ asked other notified.
-      stays_notified_if s (place_on labels alert s route) asked refl (λ integration. refl) (place_on_members s route asked other) (get stretches asked) notified)
+  -- an alert that is inserted into groups leaves those notified that are still known
+  left_by_places : (routes : List ℕ) (s : State) (times : Times) (group : RouteLabels) (time : QuietTime) → get (fold without_group times (map (group_at s.config labels) routes)) group ≡ Some time
+      → (IsNotifiedIn s group time.period → IsNotifiedIn (fold (place_on labels alert) s routes) group time.period) × (get times group ≡ Some time)
+  left_by_places [] s times group time known = (λ notified. notified, known)
+  left_by_places (route ∷ routes) s times group time known =
+      let rest = left_by_places routes (place_on labels alert s route) (without_group times (group_at s.config labels route)) group time known in
+      let here = still_known times (group_key s.config (on_route route labels)) group time rest.1 in
+      (λ notified. rest.0 (stays_notified s (place_on labels alert s route) group refl (λ integration. refl) (place_on_members s route group here.0) time.period notified), here.1)
 
-  placed_notified : (routes : List ℕ) (s : State) (stretches : Stretches) → AreNotified s stretches
-      → AreNotified (fold (place_on labels alert) s routes) (fold without_group stretches (map (group_at s.config labels) routes))
-  placed_notified [] s stretches all = all
-  placed_notified (route ∷ routes) s stretches all =
-      placed_notified routes (place_on labels alert s route) (without_group stretches (group_at s.config labels route)) (place_on_notified s stretches route all)
-
-put_notified : (s : State) (stretches : Stretches) (alert : LabelSet × Alert) → AreNotified s stretches → AreNotified (events.put s alert) (without_joined s.config stretches alert.0)
+left_by_post : (s : State) (times : Times) (alert : LabelSet × Alert) (group : RouteLabels) (time : QuietTime) → get (without_joined s.config times alert.0) group ≡ Some time
+    → (IsNotifiedIn s group time.period → IsNotifiedIn (events.put s alert) group time.period) × (get times group ≡ Some time)
 unfolding events.put place groups_of
-put_notified s stretches alert all =
+left_by_post s times alert group time known =
     let stored : Alert = joined s.moment (get s.alerts alert.0) alert.1 in
-    placed_notified alert.0 stored (chosen s.config alert.0) (record s { alerts = insert s.alerts alert.0 stored }) stretches
-    (beside_notified s s.moment (insert s.alerts alert.0 stored) s.silences s.timers s.notes stretches all)
+    let after = left_by_places alert.0 stored (chosen s.config alert.0) (record s { alerts = insert s.alerts alert.0 stored }) times group time known in
+    (λ notified. after.0 (beside_notified s s.moment (insert s.alerts alert.0 stored) s.silences s.timers s.notes group time.period notified), after.1)
 
 -- a post of alerts leaves the groups notified that none of them joins
-pub puts_notified : (config : Config) (alerts : List (LabelSet × Alert)) (s : State) (stretches : Stretches) → s.config ≡ config → AreNotified s stretches
-    → AreNotified (fold events.put s alerts) (without_all_joined config stretches alerts)
-puts_notified config [] s stretches same all = all
-puts_notified config (alert ∷ alerts) s stretches same all =
-    puts_notified config alerts (events.put s alert) (without_joined config stretches alert.0) (put-config s alert ∙ same)
-    (subst (λ (c : Config). AreNotified (events.put s alert) (without_joined c stretches alert.0)) same (put_notified s stretches alert all))
+pub left_by_posts : (config : Config) (alerts : List (LabelSet × Alert)) (s : State) (times : Times) → s.config ≡ config → (group : RouteLabels) (time : QuietTime)
+    → get (without_all_joined config times alerts) group ≡ Some time
+    → (IsNotifiedIn s group time.period → IsNotifiedIn (fold events.put s alerts) group time.period) × (get times group ≡ Some time)
+left_by_posts config [] s times same group time known = (λ notified. notified, known)
+left_by_posts config (alert ∷ alerts) s times same group time known =
+    let rest = left_by_posts config alerts (events.put s alert) (without_joined config times alert.0) (put-config s alert ∙ same) group time known in
+    let here = left_by_post s times alert group time (subst (λ (c : Config). get (without_joined c times alert.0) group ≡ Some time) (sym same) rest.1) in
+    (λ notified. rest.0 (here.0 notified), here.1)
+
+pub puts_config : (alerts : List (LabelSet × Alert)) (s : State) → (fold events.put s alerts).config ≡ s.config
+puts_config [] s = refl
+puts_config (alert ∷ alerts) s = puts_config alerts (events.put s alert) ∙ put-config s alert

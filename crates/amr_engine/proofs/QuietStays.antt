@@ -73,16 +73,16 @@ module _ (s t : State) (group : RouteLabels) (from until : Moment) (log : (integ
   })
   quiet_with_same (m ∷ ms) (inr notified) = inr (record { fire = notified.fire; notified = all_notified_same (m ∷ ms) ∙ notified.notified })
 
--- a group with other labels that is quiet in the one state is quiet in the other
-pub quiet_left : (flushed : RouteLabels) (s t : State) → LeavesOthers flushed s t → (group : RouteLabels) → (group.labels ≡ flushed.labels → ⊥) → (from until : Moment)
-    → IsQuiet s group from until → IsQuiet t group from until
+-- another group that shares no log entry and is quiet in the one state is quiet in the other
+pub quiet_left : (flushed : RouteLabels) (s t : State) → LeavesOthers flushed s t → (group : RouteLabels) → (group ≡ flushed → ⊥)
+    → ((integration its : Integration) → log_key_of s.config group integration ≡ log_key_of s.config flushed its → ⊥) → (from until : Moment) → IsQuiet s group from until → IsQuiet t group from until
 unfolding IsQuiet
-quiet_left flushed s t same group other from until quiet =
+quiet_left flushed s t same group other keys from until quiet =
     let log : (integration : Integration) → get t.log (log_key_of s.config group integration) ≡ get s.log (log_key_of s.config group integration) =
-    (λ integration. same.log (log_key_of s.config group integration) (λ its e. other (ap (λ (k : LogKey). k.group) e))) in
+    (λ integration. same.log (log_key_of s.config group integration) (keys integration)) in
     let mix : IsQuietWith (mixed s t) group from until (members s group) = quiet_with_same s t group from until log (members s group) quiet in
     subst (λ (x : State × Members). IsQuietWith x.0 group from until x.1)
-    (λ i. (mixed_is flushed s t same i, sym (same.members group (λ e. other (ap (λ (g : RouteLabels). g.labels) e))) i)) mix
+    (λ i. (mixed_is flushed s t same i, sym (same.members group other) i)) mix
 
 pub still_left : (flushed : RouteLabels) (s t : State) → LeavesOthers flushed s t → (from until : Moment) → IsStill s from until → IsStill t from until
 still_left flushed s t same from until still = record {

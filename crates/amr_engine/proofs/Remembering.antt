@@ -1,19 +1,17 @@
 -- The memory of quiet groups, and what keeps it true of the state.
-use Rattle.std.specs.Prelude.{◌≡◌, ℕ, Bool, true, false, not, ◌&&◌, ◌||◌, List, [], ◌∷◌, ◌++◌, Option, Some, None, Result, Ok, Err, unwrap_or, option_map, cond, ◌≤◌, ◌<◌, ◌+◌, nat_le, nat_lt, ◌==◌, length}
+use Rattle.std.specs.Prelude.{◌≡◌, ℕ, Bool, true, not, ◌&&◌, List, [], ◌∷◌, Option, Some, None, Result, Ok, Err, option_map, ◌≤◌, ◌<◌, ◌+◌, nat_le, ◌==◌, length, ◌⊎◌}
 use Rattle.std.specs.Option.{option_or, is_none}
-use Rattle.std.specs.Result.{OnOk, IfOk}
-use Rattle.std.specs.List.{list_any, list_all, filter}
-use Rattle.std.specs.Ordering.{eq_by_cmp, is_eq}
+use Rattle.std.specs.Result.{OnOk, OnErr, IfOk}
+use Rattle.std.specs.List.{list_all, filter, fold}
 use Rattle.std.proofs.Common.{refl, sym, ap, ◌∙◌, subst, arith, get_or, drop, inl, inr}
 use Rattle.std.proofs.lemmas.List.{at_drop_more}
 use Rattle.std.proofs.lemmas.Bool.Decides.{nat_tests}
-use Rattle.std.proofs.lemmas.Cmp.{tied_itself}
-use Rattle.amr_labels.specs.Map.{Map, entries, get, remove, empty, get-empty, get-insert, get-remove}
-use Rattle.amr_labels.specs.Labels.{LabelSet, label_set_cmp, label_set_cmp_total, label_set_cmp-IsAntisymmetric}
+use Rattle.amr_labels.specs.Map.{Map, entries, get, insert, remove, empty, get-empty}
+use Rattle.amr_labels.specs.Labels.{LabelSet}
 use Rattle.amr_time.specs.Time.{Moment, Span}
 use Rattle.amr_stated.specs.declared.receiver.Integration.{Integration}
 use Rattle.amr_stated.specs.Config.{Config}
-use Rattle.amr_config.specs.Routing.{repeat_interval_of}
+use Rattle.amr_config.specs.Routing.{HasOwnPath, repeat_interval_of}
 use Rattle.amr_config.specs.Settled.{settings_of}
 use Rattle.amr_config.specs.declared.settings.Settings.{Settings}
 use Rattle.amr_rules.specs.declared.dedup.LogEntry.{LogEntry}
@@ -26,156 +24,171 @@ use Rattle.amr_rules.specs.Silences.{Silences}
 use Rattle.amr_state.specs.declared.route_labels.RouteLabels.{RouteLabels}
 use Rattle.amr_state.specs.declared.notification.GroupTimer.{GroupTimer}
 use Rattle.amr_state.specs.declared.notification.Notification.{Notification}
-use Rattle.amr_state.specs.State.{State, on_route, route_labels_cmp, members}
+use Rattle.amr_state.specs.State.{State, route_labels_cmp, members}
+use Rattle.amr_tables.specs.Numbered.{Numbered}
 use Rattle.amr_engine.specs.declared.explain.Finding.TheVariants.{Inhibited}
 use Rattle.amr_engine.specs.Stages.{by_active_time, by_mute_time, by_silence, taken_away}
-use Rattle.amr_engine.specs.declared.stretch.Stretch.{Stretch}
+use Rattle.amr_engine.specs.declared.quiet.Period.{Period}
 use Rattle.amr_engine.specs.declared.quiet.QuietTime.{QuietTime}
 use Rattle.amr_engine.specs.declared.quiet.QuietGroups.{QuietGroups}
-use Rattle.amr_engine.specs.declared.notified.NotifiedGroups.{NotifiedGroups}
 use Rattle.amr_engine.specs.declared.prepare.Prepared.{Prepared}
 use Rattle.amr_engine.specs.Prepared.{performed}
-use Rattle.amr_engine.specs.Stretches.{covers}
-use Rattle.amr_engine.specs.Notified.{known, AreNotified}
+use Rattle.amr_engine.specs.Events.{put}
 use Rattle.amr_engine.specs.Flush.{Members, let_through, labels_of, log_key_of, flush}
 use Rattle.amr_engine.specs.Quiet.{is_outside, no_alert_ends, no_source_ends, no_silence_turns, all_fire_until, is_untimed, no_repeat_before, is_notified, are_notified, with_timer_reset, IsStill, IsQuiet, IsQuietWith, IsAllNotified, LeavesOthers}
-use Rattle.amr_engine.specs.Remembered.{Times, remembered, times_at, is_known, of_others, with_time, AreQuiet, IsStillIn, IsTrueOf}
+use Rattle.amr_engine.specs.Remembered.{Times, times_in, remembered, IsNotifiedIn, IsQuietSince, IsTrueTime, IsTrueOf, Outlasts, without_all_joined}
 use Rattle.amr_engine.proofs.FewerNotified.{both}
-use Rattle.amr_engine.proofs.QuietLaws.{quiet_flush, stays_quiet}
-use Rattle.amr_engine.proofs.NotifiedStays.{nothing_notified, beside_notified}
-use Rattle.amr_engine.proofs.QuietStays.{equal, flush_leaves, quiet_left, still_left}
+use Rattle.amr_engine.proofs.QuietLaws.{quiet_flush, notified_flush, stays_quiet}
+use Rattle.amr_engine.proofs.NotifiedStays.{beside_notified, left_notified, other_key, still_known, now_known, left_by_posts}
+use Rattle.amr_engine.proofs.QuietStays.{flush_leaves, quiet_left, still_left}
 
 -- ---- what is remembered
 
--- a memory of no group but notified ones
-pub only_notified : (memory : QuietGroups) → remembered memory ≡ empty → memory.still ≡ None → (s : State) → AreNotified s (known memory.notified) → IsTrueOf memory s
-only_notified memory times still s notified = record {
-  quiet = λ labels. subst (AreQuiet s labels) (sym (ap (λ (m : Times). unwrap_or (get m labels) []) times ∙ ap (λ (o : Option (List QuietTime)). unwrap_or o []) (get-empty label_set_cmp labels))) tt;
-  still = subst (IsStillIn s) (sym still) tt;
-  notified = notified;
+-- a memory of no group is true of each state
+pub nothing_known : (memory : QuietGroups) → remembered memory ≡ empty → memory.still ≡ None → (s : State) → IsTrueOf memory s
+nothing_known memory times still s = record {
+  quiet = λ group time known.
+      let none : get (remembered memory) group ≡ None = ap (λ (m : Times). get m group) times ∙ get-empty route_labels_cmp group in
+      absurd (cc (known, none));
+  still = λ period known. absurd (cc (known, still));
 }
 
--- a memory of no group is true of each state
-pub nothing_known : (memory : QuietGroups) → remembered memory ≡ empty → memory.still ≡ None → known memory.notified ≡ empty → (s : State) → IsTrueOf memory s
-nothing_known memory times still none s = only_notified memory times still s (nothing_notified s (known memory.notified) none)
+-- one more group that is quiet
+pub one_more : (memory : QuietGroups) (table : Numbered RouteLabels QuietTime) (group : RouteLabels) (time : QuietTime) (s : State) → times_in table ≡ insert (remembered memory) group time
+    → IsTrueTime memory.generation s group time.period time.generation → IsTrueOf memory s → IsTrueOf (record memory { times = table }) s
+one_more memory table group time s are is holds = record {
+  quiet = λ other its known. by other its (now_known (remembered memory) group time other its (ap (λ (m : Times). get m other) (sym are) ∙ known));
+  still = holds.still;
+}
+  where
+    by : (other : RouteLabels) (its : QuietTime) → ((other ≡ group) × (time ≡ its)) ⊎ (get (remembered memory) other ≡ Some its) → IsTrueTime memory.generation s other its.period its.generation
+    by other its (inl same) = subst (λ (x : RouteLabels × QuietTime). IsTrueTime memory.generation s x.0 x.1.period x.1.generation) (λ i. (sym same.0 i, same.1 i)) is
+    by other its (inr known) = holds.quiet other its known
 
-module _ (s : State) (group : RouteLabels) (at : Moment) where
-  one_known : (time : QuietTime) → IsQuiet s (on_route time.route group.labels) time.stretch.from time.stretch.until
-      → ((time.route == group.route) && covers at time.stretch) ≡ true → flush at group s ≡ with_timer_reset at group s
-  one_known time quiet known =
-      let parts = both (time.route == group.route) (covers at time.stretch) known in
-      let inside = both (nat_le time.stretch.from at) (nat_lt at time.stretch.until) parts.1 in
-      let route : time.route ≡ group.route = grind (arith, nat_tests) in
-      let not_before : time.stretch.from ≤ at = grind (arith, nat_tests) in
-      let before : at < time.stretch.until = grind (arith, nat_tests) in
-      quiet_flush s group time.stretch.from time.stretch.until at not_before before
-      (subst (λ (r : ℕ). IsQuiet s (on_route r group.labels) time.stretch.from time.stretch.until) route quiet)
+-- or of none, if there was no room
+pub same_times : (memory : QuietGroups) (table : Numbered RouteLabels QuietTime) (s : State) → times_in table ≡ remembered memory → IsTrueOf memory s → IsTrueOf (record memory { times = table }) s
+same_times memory table s are holds = record {
+  quiet = λ group time known. holds.quiet group time (ap (λ (m : Times). get m group) (sym are) ∙ known);
+  still = holds.still;
+}
 
-  among_known : (times : List QuietTime) → AreQuiet s group.labels times → list_any (λ time. (time.route == group.route) && covers at time.stretch) times ≡ true
-      → flush at group s ≡ with_timer_reset at group s
-  among_known [] quiet known = absurd (cc)
-  among_known (time ∷ times) quiet known =
-      elim ((time.route == group.route) && covers at time.stretch) as (λ b. ((time.route == group.route) && covers at time.stretch) ≡ b
-      → (b || list_any (λ time. (time.route == group.route) && covers at time.stretch) times) ≡ true → flush at group s ≡ with_timer_reset at group s) [
-        | true ↦ λ is e. one_known time quiet.0 is
-        | false ↦ λ is e. among_known times quiet.1 e
-      ] refl known
+pub kept_if : {T E : Type 0} (r : Result T E) (memory : QuietGroups) (table : Numbered RouteLabels QuietTime) (group : RouteLabels) (time : QuietTime) (s : State)
+    → OnOk r (times_in table ≡ insert (remembered memory) group time) → OnErr r (times_in table ≡ remembered memory)
+    → IsTrueTime memory.generation s group time.period time.generation → IsTrueOf memory s → IsTrueOf (record memory { times = table }) s
+kept_if (Ok x) memory table group time s ok err is holds = one_more memory table group time s ok is holds
+kept_if (Err e) memory table group time s ok err is holds = same_times memory table s err holds
 
-  -- a flush of a group that is remembered as quiet sets the group timer and changes nothing else
-  pub known_quiet : (memory : QuietGroups) → IsTrueOf memory s → is_known at group memory ≡ true → flush at group s ≡ with_timer_reset at group s
-  known_quiet memory holds known = among_known (times_at memory group.labels) (holds.quiet group.labels) known
-
--- ---- a group that is learned, and groups that are forgotten
-
-same_labels : (a b : LabelSet) → eq_by_cmp label_set_cmp a b ≡ true → a ≡ b
-same_labels a b e = label_set_cmp-IsAntisymmetric a b (equal (label_set_cmp a b) e)
-
-others_quiet : (s : State) (labels : LabelSet) (route : ℕ) (times : List QuietTime) → AreQuiet s labels times → AreQuiet s labels (of_others route times)
-others_quiet s labels route [] quiet = tt
-others_quiet s labels route (time ∷ times) quiet =
-    elim (not (time.route == route)) as (λ b. AreQuiet s labels (cond b (time ∷ of_others route times) (of_others route times))) [
-      | true ↦ (quiet.0, others_quiet s labels route times quiet.1)
-      | false ↦ others_quiet s labels route times quiet.1
-    ]
-
-one_more_quiet : (s : State) (labels : LabelSet) (times : List QuietTime) (time : QuietTime) → AreQuiet s labels times
-    → IsQuiet s (on_route time.route labels) time.stretch.from time.stretch.until → AreQuiet s labels (times ++ time ∷ [])
-one_more_quiet s labels [] time quiet new_one = (new_one, tt)
-one_more_quiet s labels (t ∷ times) time quiet new_one = (quiet.0, one_more_quiet s labels times time quiet.1 new_one)
-
--- a quiet group may be remembered
-pub learned : (s : State) (before after : QuietGroups) (group : RouteLabels) (stretch : Stretch) → remembered after ≡ with_time group stretch (remembered before) → after.still ≡ before.still
-    → after.notified ≡ before.notified → IsTrueOf before s → IsQuiet s group stretch.from stretch.until → IsTrueOf after s
-learned s before after group stretch are still notified holds quiet =
-    let times : List QuietTime = of_others group.route (times_at before group.labels) ++ record { route = group.route; stretch = stretch } ∷ [] in
+-- what is remembered of a group, in a later state and perhaps a later generation
+carried : (before now : ℕ) (s t : State) (group : RouteLabels) (period : Period) → t.config ≡ s.config → before ≤ now → (IsNotifiedIn s group period → IsNotifiedIn t group period)
+    → (group.route < length s.config.routes → now ≡ before → IsQuiet s group period.from period.until → IsQuiet t group period.from period.until)
+    → (generation : Option ℕ) → IsTrueTime before s group period generation → IsTrueTime now t group period generation
+carried before now s t group period config later notified quiet None time = notified time
+carried before now s t group period config later notified quiet (Some n) time =
+    let not_later : n ≤ before = time.not_later in
     record {
-      quiet = λ labels.
-          subst (λ (o : Option (List QuietTime)). AreQuiet s labels (unwrap_or o []))
-          (sym (ap (λ (m : Times). get m labels) are ∙ get-insert label_set_cmp_total (remembered before) group.labels times labels))
-          (elim (eq_by_cmp label_set_cmp labels group.labels) as (λ b. eq_by_cmp label_set_cmp labels group.labels ≡ b
-          → AreQuiet s labels (unwrap_or (cond b (Some times) (get (remembered before) labels)) [])) [
-            | true ↦ λ e. subst (λ (l : LabelSet). AreQuiet s l times) (sym (same_labels labels group.labels e))
-                (one_more_quiet s group.labels (of_others group.route (times_at before group.labels)) (record { route = group.route; stretch = stretch })
-                (others_quiet s group.labels group.route (times_at before group.labels) (holds.quiet group.labels)) quiet)
-            | false ↦ λ e. holds.quiet labels
-          ] refl);
-      still = subst (IsStillIn s) (sym still) holds.still;
-      notified = subst (λ (groups : NotifiedGroups). AreNotified s (known groups)) (sym notified) holds.notified;
+      there = subst (λ (c : Config). group.route < length c.routes) (sym config) time.there;
+      not_later = omega (arith, later, not_later);
+      quiet = λ present.
+          let same : now ≡ before = omega (arith, present, later, not_later) in
+          let then : n ≡ before = present ∙ same in
+          quiet time.there same (time.quiet then);
     }
 
--- the same of a step that may run out of memory
-pub learned_if : {T E : Type 0} (r : Result T E) (before after : QuietGroups) (group : RouteLabels) (stretch : Stretch) → OnOk r (remembered after ≡ with_time group stretch (remembered before))
-    → after.still ≡ before.still → after.notified ≡ before.notified → OnOk r ((s : State) → IsTrueOf before s → IsQuiet s group stretch.from stretch.until → IsTrueOf after s)
-learned_if (Ok x) before after group stretch are still notified = λ s holds quiet. learned s before after group stretch are still notified holds quiet
-learned_if (Err e) before after group stretch are still notified = tt
-
-still_in_left : (flushed : RouteLabels) (s t : State) → LeavesOthers flushed s t → (stretch : Option Stretch) → IsStillIn s stretch → IsStillIn t stretch
-still_in_left flushed s t same None still = tt
-still_in_left flushed s t same (Some stretch) still = still_left flushed s t same stretch.from stretch.until still
-
-all_left : (labels : LabelSet) (flushed : RouteLabels) (s t : State) → LeavesOthers flushed s t → (labels ≡ flushed.labels → ⊥) → (times : List QuietTime) → AreQuiet s labels times → AreQuiet t labels times
-all_left labels flushed s t same other [] quiet = tt
-all_left labels flushed s t same other (time ∷ times) quiet =
-    (quiet_left flushed s t same (on_route time.route labels) other time.stretch.from time.stretch.until quiet.0, all_left labels flushed s t same other times quiet.1)
-
-differ : (a b : LabelSet) → eq_by_cmp label_set_cmp a b ≡ false → a ≡ b → ⊥
-differ a b other e = absurd (cc (other, ap is_eq (tied_itself label_set_cmp_total b), ap (λ (l : LabelSet). eq_by_cmp label_set_cmp l b) e))
-
--- after the flush of a group, what is remembered of groups with other labels still holds
-pub forgotten : (s : State) (memory left : QuietGroups) (group : RouteLabels) (at : Moment) → remembered left ≡ remove (remembered memory) group.labels → left.still ≡ memory.still
-    → AreNotified (flush at group s) (known left.notified) → IsTrueOf memory s → IsTrueOf left (flush at group s)
-forgotten s memory left group at are still notified holds = record {
-  quiet = λ labels.
-      subst (λ (o : Option (List QuietTime)). AreQuiet (flush at group s) labels (unwrap_or o []))
-      (sym (ap (λ (m : Times). get m labels) are ∙ get-remove label_set_cmp_total (remembered memory) group.labels labels))
-      (elim (eq_by_cmp label_set_cmp labels group.labels) as (λ b. eq_by_cmp label_set_cmp labels group.labels ≡ b
-      → AreQuiet (flush at group s) labels (unwrap_or (cond b None (get (remembered memory) labels)) [])) [
-        | true ↦ λ e. tt
-        | false ↦ λ e. all_left labels group s (flush at group s) (flush_leaves group at s) (differ labels group.labels e) (times_at memory labels) (holds.quiet labels)
-      ] refl);
-  still = subst (IsStillIn (flush at group s)) (sym still) (still_in_left group s (flush at group s) (flush_leaves group at s) memory.still holds.still);
-  notified = notified;
+-- a memory stays true where all stays true that it may know
+pub held : (memory : QuietGroups) (s t : State) → t.config ≡ s.config → ((group : RouteLabels) (period : Period) → IsNotifiedIn s group period → IsNotifiedIn t group period)
+    → ((group : RouteLabels) (from until : Moment) → IsQuiet s group from until → IsQuiet t group from until) → ((from until : Moment) → IsStill s from until → IsStill t from until)
+    → IsTrueOf memory s → IsTrueOf memory t
+held memory s t config notified quiet still holds = record {
+  quiet = λ group time known.
+      let same : memory.generation ≤ memory.generation = omega arith in
+      carried memory.generation memory.generation s t group time.period config same (notified group time.period) (λ _ _. quiet group time.period.from time.period.until) time.generation (holds.quiet group time known);
+  still = λ period known. still period.from period.until (holds.still period known);
 }
 
--- ---- the clock, group timers and notifications
+-- in a new generation it is, where what it knows for all generations stays true
+pub outlasted : (memory : QuietGroups) (next : ℕ) → memory.generation < next → (s t : State) → t.config ≡ s.config → Outlasts memory s t → IsTrueOf memory s
+    → IsTrueOf (record memory { generation = next; still = None }) t
+outlasted memory next later s t config outlasts holds = record {
+  quiet = λ group time known.
+      let not_before : memory.generation ≤ next = omega (arith, later) in
+      carried memory.generation next s t group time.period config not_before (outlasts group time known) (λ _ same. absurd (omega (arith, same, later))) time.generation (holds.quiet group time known);
+  still = λ period known. absurd (cc known);
+}
 
-module _ (s : State) (moment : Moment) (timers : Map route_labels_cmp GroupTimer) (notes : List Notification) where
-  all_stay : (labels : LabelSet) (times : List QuietTime) → AreQuiet s labels times → AreQuiet (record s { moment = moment; timers = timers; notes = notes }) labels times
-  all_stay labels [] quiet = tt
-  all_stay labels (time ∷ times) quiet =
-      (stays_quiet s moment timers notes (on_route time.route labels) time.stretch.from time.stretch.until quiet.0, all_stay labels times quiet.1)
+-- a period that was noted is still, as was found
+pub noted_still : (s : State) (from until : Moment) (noted period : Period) → noted.from ≡ from → noted.until ≡ until → Some noted ≡ Some period → IsStill s from until → IsStill s period.from period.until
+noted_still s from until noted period first last known still =
+    let same : noted ≡ period = cc known in
+    subst (λ (p : Period). IsStill s p.from p.until) same (subst (λ (p : Moment × Moment). IsStill s p.0 p.1) (λ i. (sym first i, sym last i)) still)
 
-  still_stays : (stretch : Option Stretch) → IsStillIn s stretch → IsStillIn (record s { moment = moment; timers = timers; notes = notes }) stretch
-  still_stays None still = tt
-  still_stays (Some stretch) still = record { sources = still.sources; silences = still.silences }
+-- ---- a flush
 
-  -- what is remembered depends on neither the clock nor group timers nor notifications
-  pub stays_true : (memory : QuietGroups) → IsTrueOf memory s → IsTrueOf memory (record s { moment = moment; timers = timers; notes = notes })
-  stays_true memory holds = record {
-    quiet = λ labels. all_stay labels (times_at memory labels) (holds.quiet labels);
-    still = still_stays memory.still holds.still;
-    notified = beside_notified s moment s.alerts s.silences timers notes (known memory.notified) holds.notified;
-  }
+-- the flush of a group whose route has a path of its own leaves what is known of other groups
+pub flushed_alone : (memory : QuietGroups) (table : Numbered RouteLabels QuietTime) (s : State) (group : RouteLabels) (at : Moment) → HasOwnPath s.config group.route
+    → times_in table ≡ remove (remembered memory) group → IsTrueOf memory s → IsTrueOf (record memory { times = table }) (flush at group s)
+flushed_alone memory table s flushed at own are holds =
+    let t : State = flush at flushed s in
+    let left : LeavesOthers flushed s t = flush_leaves flushed at s in
+    let same : memory.generation ≤ memory.generation = omega arith in
+    record {
+      quiet = λ group time known.
+          let still = still_known (remembered memory) flushed group time (ap (λ (m : Times). get m group) (sym are) ∙ known) in
+          carried memory.generation memory.generation s t group time.period left.config same
+          (λ notified. left_notified s t flushed left group still.0 (other_key s.config group flushed notified.own.is_there own still.0) time.period notified)
+          (λ there _. quiet_left flushed s t left group still.0 (other_key s.config group flushed there own still.0) time.period.from time.period.until)
+          time.generation (holds.quiet group time still.1);
+      still = λ period known. still_left flushed s t left period.from period.until (holds.still period known);
+    }
+
+-- the flush of a group on another route that is there leaves the groups notified
+pub outlasts_flush : (memory : QuietGroups) (s : State) (group : RouteLabels) (at : Moment) → (HasOwnPath s.config group.route → ⊥) → group.route < length s.config.routes
+    → Outlasts memory s (flush at group s)
+outlasts_flush memory s flushed at shared there = λ group time known notified.
+    let other : group ≡ flushed → ⊥ = λ same. shared (subst (λ (g : RouteLabels). HasOwnPath s.config g.route) same notified.own) in
+    left_notified s (flush at flushed s) flushed (flush_leaves flushed at s) group other
+    (λ integration its e. other_key s.config flushed group there notified.own (λ same. other (sym same)) its integration (sym e)) time.period notified
+
+-- a flush of a group that is remembered as quiet sets the group timer and changes nothing else
+pub known_quiet : (memory : QuietGroups) (s : State) (group : RouteLabels) (at : Moment) (time : QuietTime) → get (remembered memory) group ≡ Some time → time.period.from ≤ at → at < time.period.until
+    → (time.generation ≡ None) ⊎ (time.generation ≡ Some memory.generation) → IsTrueOf memory s → flush at group s ≡ with_timer_reset at group s
+known_quiet memory s group at time known not_before before (inl always) holds =
+    let notified : IsNotifiedIn s group time.period = subst (IsTrueTime memory.generation s group time.period) always (holds.quiet group time known) in
+    notified_flush s group time.period.from time.period.until at not_before before notified.notified
+known_quiet memory s group at time known not_before before (inr present) holds =
+    let since : IsQuietSince memory.generation s group time.period memory.generation = subst (IsTrueTime memory.generation s group time.period) present (holds.quiet group time known) in
+    quiet_flush s group time.period.from time.period.until at not_before before (since.quiet refl)
+
+-- ---- a post of alerts
+
+pub joined_true : (memory : QuietGroups) (table : Numbered RouteLabels QuietTime) (s : State) (alerts : List (LabelSet × Alert)) → times_in table ≡ without_all_joined s.config (remembered memory) alerts
+    → IsTrueOf memory s → IsTrueOf (record memory { times = table }) s
+joined_true memory table s alerts are holds = record {
+  quiet = λ group time known.
+      holds.quiet group time (left_by_posts s.config alerts s (remembered memory) refl group time (ap (λ (m : Times). get m group) (sym are) ∙ known)).1;
+  still = holds.still;
+}
+
+pub joined_outlasts : (memory : QuietGroups) (table : Numbered RouteLabels QuietTime) (s : State) (alerts : List (LabelSet × Alert)) → times_in table ≡ without_all_joined s.config (remembered memory) alerts
+    → Outlasts (record memory { times = table }) s (fold put s alerts)
+joined_outlasts memory table s alerts are = λ group time known.
+    (left_by_posts s.config alerts s (remembered memory) refl group time (ap (λ (m : Times). get m group) (sym are) ∙ known)).0
+
+-- ---- the clock, group timers, notifications, stored alerts and silences
+
+still_stays : (s : State) (moment : Moment) (timers : Map route_labels_cmp GroupTimer) (notes : List Notification) (from until : Moment) → IsStill s from until
+    → IsStill (record s { moment = moment; timers = timers; notes = notes }) from until
+still_stays s moment timers notes from until still = record { sources = still.sources; silences = still.silences }
+
+-- what is remembered depends on neither the clock nor group timers nor notifications
+pub stays_true : (s : State) (moment : Moment) (timers : Map route_labels_cmp GroupTimer) (notes : List Notification) (memory : QuietGroups) → IsTrueOf memory s
+    → IsTrueOf memory (record s { moment = moment; timers = timers; notes = notes })
+stays_true s moment timers notes memory holds =
+    held memory s (record s { moment = moment; timers = timers; notes = notes }) refl (beside_notified s moment s.alerts s.silences timers notes) (stays_quiet s moment timers notes)
+    (still_stays s moment timers notes) holds
+
+-- notified groups stay so, whatever may mute their members
+pub unmuted : (memory : QuietGroups) (s : State) (alerts : Alerts) (silences : Silences) → Outlasts memory s (record s { alerts = alerts; silences = silences })
+unmuted memory s alerts silences = λ group time known. beside_notified s s.moment alerts silences s.timers s.notes group time.period
 
 -- ---- the removal of a stored alert
 
@@ -219,51 +232,17 @@ module _ (s : State) (alerts : Alerts) (none : s.config.rules ≡ []) where
   unfolding IsQuiet members
   quiet_alike group from until quiet = with_alike group from until (members s group) quiet
 
-  all_alike : (labels : LabelSet) (times : List QuietTime) → AreQuiet s labels times → AreQuiet (record s { alerts = alerts }) labels times
-  all_alike labels [] quiet = tt
-  all_alike labels (time ∷ times) quiet = (quiet_alike (on_route time.route labels) time.stretch.from time.stretch.until quiet.0, all_alike labels times quiet.1)
-
-  still_in_alike : (stretch : Option Stretch) → IsStillIn s stretch → IsStillIn (record s { alerts = alerts }) stretch
-  still_in_alike None still = tt
-  still_in_alike (Some stretch) still = still_alike stretch.from stretch.until still
-
   -- without inhibition rules, nothing that is remembered depends on the stored alerts
   pub true_alike : (memory : QuietGroups) → IsTrueOf memory s → IsTrueOf memory (record s { alerts = alerts })
-  true_alike memory holds = record {
-    quiet = λ labels. all_alike labels (times_at memory labels) (holds.quiet labels);
-    still = still_in_alike memory.still holds.still;
-    notified = beside_notified s s.moment alerts s.silences s.timers s.notes (known memory.notified) holds.notified;
-  }
+  true_alike memory holds = held memory s (record s { alerts = alerts }) refl (beside_notified s s.moment alerts s.silences s.timers s.notes) quiet_alike still_alike holds
 
 -- ---- steps of the code
-
--- what follows from what holds if memory didn't run out
-pub then_holds : {T E : Type 0} {P Q : Type 0} (r : Result T E) → (P → Q) → OnOk r P → OnOk r Q
-then_holds (Ok x) f p = f p
-then_holds (Err e) f p = tt
 
 -- a memory that forgot what a prepared action may change, after the action
 pub performed_true : {T E : Type 0} (r : Result T E) (memory : QuietGroups) (prepared : Prepared) (s same after : State) → same ≡ s → IsTrueOf memory (performed prepared s)
     → IfOk r (λ x. after ≡ performed prepared same) → OnOk r (IsTrueOf memory after)
 performed_true (Ok x) memory prepared s same after is holds done = subst (IsTrueOf memory) (sym (done ∙ ap (performed prepared) is)) holds
 performed_true (Err e) memory prepared s same after is holds done = tt
-
--- notified groups stay so, whatever may mute their members
-pub unmuted : (s : State) (alerts : Alerts) (silences : Silences) (before after : QuietGroups) → remembered after ≡ empty → after.still ≡ None → after.notified ≡ before.notified
-    → IsTrueOf before s → IsTrueOf after (record s { alerts = alerts; silences = silences })
-unmuted s alerts silences before after times still same holds =
-    only_notified after times still (record s { alerts = alerts; silences = silences })
-    (subst (λ (groups : NotifiedGroups). AreNotified (record s { alerts = alerts; silences = silences }) (known groups)) (sym same)
-    (beside_notified s s.moment alerts silences s.timers s.notes (known before.notified) holds.notified))
-
--- a memory that knows another stretch in which nothing changes that may mute an alert
-pub looked : (before after : QuietGroups) (stretch : Stretch) (s : State) → remembered after ≡ remembered before → after.still ≡ Some stretch
-    → after.notified ≡ before.notified → IsTrueOf before s → IsStill s stretch.from stretch.until → IsTrueOf after s
-looked before after stretch s times still notified holds is = record {
-  quiet = λ labels. subst (λ (m : Times). AreQuiet s labels (unwrap_or (get m labels) [])) (sym times) (holds.quiet labels);
-  still = subst (IsStillIn s) (sym still) is;
-  notified = subst (λ (groups : NotifiedGroups). AreNotified s (known groups)) (sym notified) holds.notified;
-}
 
 -- a group timer that is set leaves the memory true
 pub reset_true : (s : State) (at : Moment) (group : RouteLabels) (memory : QuietGroups) → IsTrueOf memory s → IsTrueOf memory (with_timer_reset at group s)
@@ -353,15 +332,11 @@ pub untimed_by : (config : Config) (route : ℕ) (settings : Settings) (active m
 unfolding settings_of
 untimed_by config route settings active mute is e f = (λ i. e i && f i) ∙ ap (λ (x : Settings). (length x.active_time_intervals == 0) && (length x.mute_time_intervals == 0)) is
 
--- what is known to be still at a moment
-pub known_still_is : (memory : QuietGroups) (at : Moment) (stretch : Stretch) → memory.still ≡ Some stretch → covers at stretch ≡ true
-    → (s : State) → IsTrueOf memory s → IsStill s at stretch.until
-known_still_is memory at stretch is inside s holds =
-    let still : IsStill s stretch.from stretch.until = subst (IsStillIn s) is holds.still in
-    let parts = both (nat_le stretch.from at) (nat_lt at stretch.until) inside in
-    let later : stretch.from ≤ at = grind (arith, nat_tests) in
-    let all : stretch.until ≤ stretch.until = omega arith in
-    still_later stretch.from at stretch.until stretch.until later all s still
+-- what is still in a period is still in its rest
+pub still_rest : (s : State) (from at until : Moment) → from ≤ at → IsStill s from until → IsStill s at until
+still_rest s from at until later still =
+    let all : until ≤ until = omega arith in
+    still_later from at until until later all s still
 
 none_left : (rules : List InhibitRule) → (length rules == 0) ≡ true → rules ≡ []
 none_left [] none = refl

@@ -1,57 +1,66 @@
 -- What the memory of quiet groups knows of a state.
-use Rattle.std.specs.Prelude.{ℕ, Bool, not, ◌&&◌, List, [], ◌∷◌, ◌++◌, Option, Some, None, unwrap_or, ◌==◌}
-use Rattle.std.specs.List.{list_any, filter}
-use Rattle.amr_labels.specs.Map.{Map, get, insert}
-use Rattle.amr_labels.specs.Labels.{LabelSet, label_set_cmp}
-use Rattle.amr_tables.specs.Numbered.{shown}
-use Rattle.amr_time.specs.Time.{Moment}
+use Rattle.std.specs.Prelude.{◌≡◌, ℕ, List, Option, Some, None, ◌<◌, ◌≤◌, length}
+use Rattle.std.specs.List.{fold}
+use Rattle.amr_labels.specs.Map.{Map, get, remove}
+use Rattle.amr_labels.specs.Labels.{LabelSet}
+use Rattle.amr_stated.specs.Config.{Config}
+use Rattle.amr_config.specs.Routing.{HasOwnPath}
+use Rattle.amr_config.specs.Groups.{groups_of}
+use Rattle.amr_config.specs.declared.router.RouteGroup.{RouteGroup}
+use Rattle.amr_rules.specs.declared.alert.Alert.{Alert}
 use Rattle.amr_state.specs.declared.route_labels.RouteLabels.{RouteLabels}
-use Rattle.amr_state.specs.State.{State, on_route}
-use Rattle.amr_engine.specs.declared.stretch.Stretch.{Stretch}
+use Rattle.amr_state.specs.State.{State, on_route, route_labels_cmp, members}
+use Rattle.amr_tables.specs.Numbered.{Numbered, shown}
+use Rattle.amr_engine.specs.declared.quiet.Period.{Period}
 use Rattle.amr_engine.specs.declared.quiet.QuietTime.{QuietTime}
 use Rattle.amr_engine.specs.declared.quiet.QuietGroups.{QuietGroups}
-use Rattle.amr_engine.specs.Quiet.{IsQuiet, IsStill}
-use Rattle.amr_engine.specs.Stretches.{covers}
-use Rattle.amr_engine.specs.Notified.{AreNotified, known}
+use Rattle.amr_engine.specs.Quiet.{IsQuiet, IsStill, IsAllNotified}
 
--- when groups are quiet, by their labels
+-- when groups are quiet, by route and labels
 abbrev pub Times : Type 0
-Times = Map label_set_cmp (List QuietTime)
+Times = Map route_labels_cmp QuietTime
+
+abbrev pub times_in : Numbered RouteLabels QuietTime → Times
+times_in table = shown route_labels_cmp table
 
 abbrev pub remembered : QuietGroups → Times
-remembered memory = shown label_set_cmp memory.times
+remembered memory = times_in memory.times
 
--- what is remembered of the groups with these labels
-abbrev pub times_of : Times → LabelSet → List QuietTime
-times_of times labels = unwrap_or (get times labels) []
+-- In the period all integrations were notified of all members of the group, so it doesn't matter
+-- what mutes those. No group of another route shares its log entries.
+pub record IsNotifiedIn (s : State) (group : RouteLabels) (period : Period) : Type 0 where
+  pub own : HasOwnPath s.config group.route
+  pub notified : IsAllNotified s group period.from period.until (members s group)
 
-abbrev pub times_at : QuietGroups → LabelSet → List QuietTime
-times_at memory = times_of (remembered memory)
+-- in the period the group is quiet, if the generation is still the present one
+pub record IsQuietSince (present : ℕ) (s : State) (group : RouteLabels) (period : Period) (generation : ℕ) : Type 0 where
+  pub there : group.route < length s.config.routes
+  pub not_later : generation ≤ present
+  pub quiet : generation ≡ present → IsQuiet s group period.from period.until
 
--- the group is remembered as quiet at the moment
-abbrev pub is_known : Moment → RouteLabels → QuietGroups → Bool
-is_known at group memory = list_any (λ time. (time.route == group.route) && covers at time.stretch) (times_at memory group.labels)
-
--- what is remembered of other routes
-abbrev pub of_others : ℕ → List QuietTime → List QuietTime
-of_others route = filter (λ time. not (time.route == route))
-
--- the group is quiet in this stretch, and no other of it is remembered
-abbrev pub with_time : RouteLabels → Stretch → Times → Times
-with_time group stretch times =
-    insert times group.labels (of_others group.route (times_of times group.labels) ++ record { route = group.route; stretch = stretch } ∷ [])
-
--- the groups with these labels are quiet in the stretches
-abbrev pub AreQuiet : State → LabelSet → List QuietTime → Type 0
-AreQuiet s labels [] = Unit {0}
-AreQuiet s labels (time ∷ times) = IsQuiet s (on_route time.route labels) time.stretch.from time.stretch.until × AreQuiet s labels times
-
-abbrev pub IsStillIn : State → Option Stretch → Type 0
-IsStillIn s None = Unit {0}
-IsStillIn s (Some stretch) = IsStill s stretch.from stretch.until
+-- what is remembered of a group, for all generations or for one
+abbrev pub IsTrueTime : ℕ → State → RouteLabels → Period → Option ℕ → Type 0
+IsTrueTime present s group period None = IsNotifiedIn s group period
+IsTrueTime present s group period (Some generation) = IsQuietSince present s group period generation
 
 -- all that is remembered holds in the state
 pub record IsTrueOf (memory : QuietGroups) (s : State) : Type 0 where
-  pub quiet : (labels : LabelSet) → AreQuiet s labels (times_at memory labels)
-  pub still : IsStillIn s memory.still
-  pub notified : AreNotified s (known memory.notified)
+  pub quiet : (group : RouteLabels) (time : QuietTime) → get (remembered memory) group ≡ Some time → IsTrueTime memory.generation s group time.period time.generation
+  pub still : (period : Period) → memory.still ≡ Some period → IsStill s period.from period.until
+
+-- what is remembered of groups for all generations still holds in the second state, if it held in
+-- the first
+abbrev pub Outlasts : QuietGroups → State → State → Type 0
+Outlasts memory s t = (group : RouteLabels) (time : QuietTime) → get (remembered memory) group ≡ Some time → IsNotifiedIn s group time.period → IsNotifiedIn t group time.period
+
+-- without the group
+abbrev pub without_group : Times → RouteGroup → Times
+without_group times group = remove times (on_route group.route group.labels)
+
+-- without the groups that an alert with these labels joins
+abbrev pub without_joined : Config → Times → LabelSet → Times
+without_joined config times labels = fold without_group times (groups_of config labels)
+
+-- without the groups that these alerts join
+abbrev pub without_all_joined : Config → Times → List (LabelSet × Alert) → Times
+without_all_joined config = fold (λ times alert. without_joined config times alert.0)

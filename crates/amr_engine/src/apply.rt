@@ -121,7 +121,6 @@ fn advance_to(
     ensures memory { OnOk result (IsTrueOf quiet_groups.new store.new.state) }
     ensures quiet { AreQuietMoves quiet_moves.new store.old.state }
 {
-    quiet_groups.expect_moves_until(at);
     let made = advance(store, quiet_groups, quiet_moves, at)?;
     store.set_moment(at)?;
     Ok(made)
@@ -142,7 +141,7 @@ fn perform(
         store.old store.new) }
     ensures memory { OnOk result (IsTrueOf quiet_groups.new store.new.state) }
 {
-    quiet_groups.forget_changed(store, &prepared)?;
+    quiet_groups.forget_changed(store, &prepared);
     change(store, prepared)
 }
 

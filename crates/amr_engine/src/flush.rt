@@ -1,7 +1,7 @@
 //! The flush of a group, as in Alertmanager's dispatcher and its notification pipeline: set the
 //! group timer, mute members, run the dedup check for each integration, notify, and drop resolved
-//! members. `moves.rt` calls `QuietGroups::flush` (`quiet.rt`) when a group timer fires, and that
-//! calls `flush` unless the group is quiet.
+//! members. `moves.rt` calls `flush` when a group timer fires. Most flushes change nothing but the
+//! timer, and are recognized: by the memory of quiet groups (`quiet.rt`) or by what is asked here.
 ghost use Rattle.std.specs.Prelude.{◌≡◌, ◌≤◌, ◌+◌, ◌*◌, ◌++◌, true, map, length, OnOk, IfOk};
 ghost use Rattle.std.specs.List.{fold, list_all};
 ghost use Rattle.std.specs.Option.{option_to_list};
@@ -12,14 +12,19 @@ ghost use Rattle.amr_rules.specs.Alerts.{is_resolved_at};
 ghost use Rattle.amr_state.specs.State as state;
 ghost use Rattle.amr_state.specs.Kept.{GrownBy, undone};
 ghost use Rattle.amr_engine.specs.Flush.{let_through, firing_of, resolved_of, labels_of, log_key_of, notified_firing, notified_resolved, notifications_of, notify_all, set_timer, drop_member, drop_resolved, run_pipeline, flush};
+ghost use Rattle.amr_engine.specs.Quiet.{with_timer_reset, IsStill};
+ghost use Rattle.amr_engine.specs.Remembered.{IsTrueOf};
 ghost use Rattle.amr_engine.specs.Weight.{turns, flush_weight};
 
-use crate::stages::taken_away_learning;
+use crate::quiet::QuietGroups;
+use crate::quiet_until::{all_notified_until, quiet_until, still_until};
+use crate::stages::let_through;
 use amr_config::Config;
 use amr_labels::{LabelMap, Labels, Listing};
 use amr_rules::{LogEntry, labels_of};
 use amr_state::{
     FiringAlert, GroupTimer, LogKey, Member, Notification, ResolvedAlert, RouteLabels, Store,
+    members_of,
 };
 use amr_stated::Integration;
 use amr_time::Moment;
@@ -37,10 +42,143 @@ struct Partition {
 
 ghost use Rattle.amr_engine.specs.Partition.{IsPartition, IsGroupOf, entry_of, notified_by, notified_with};
 
+/// Flushes a group at a moment. For a group that is known to be quiet, or found so, it only sets the
+/// group timer. It asks the memory first, then whether all integrations were notified of all
+/// members, and only then what mutes the members. Returns whether the flush is known to have set the
+/// group timer alone.
+pub(crate) fn flush(
+    store: &mut Store,
+    quiet_groups: &mut QuietGroups,
+    at: Moment,
+    group: &RouteLabels,
+) -> Result<bool, AllocError>
+    requires late { at ≤ latest_read }
+    requires memory { IsTrueOf quiet_groups.old store.old.state }
+    ensures ok { OnOk result (store.new.state ≡ flush at group.now store.old.state) }
+    ensures quiet { IfOk result (λ quiet. quiet ≡ true
+        → flush at group.now store.old.state ≡ with_timer_reset at group.now store.old.state) }
+    ensures kept { undone store.new ≡ undone store.old }
+    ensures grown { GrownBy (2 * flush_weight store.old.state group.now) store.old store.new }
+    ensures memory { OnOk result (IsTrueOf quiet_groups.new store.new.state) }
+{
+    if quiet_groups.is_quiet_at(at, group) {
+        reset_timer(store, at, group)?;
+        return Ok(true);
+    }
+    let members = members_of(store, group)?;
+    if is_all_notified(store, quiet_groups, at, group, members.as_slice())? {
+        reset_timer(store, at, group)?;
+        return Ok(true);
+    }
+    flush_unnotified(store, quiet_groups, at, group, members.as_slice())
+}
+
+/// Flushes the group with these members. It finds out what mutes them once, to find out whether the
+/// group is quiet and to notify of them.
+fn flush_unnotified(
+    store: &mut Store,
+    quiet_groups: &mut QuietGroups,
+    at: Moment,
+    group: &RouteLabels,
+    members: &[Member],
+) -> Result<bool, AllocError>
+    requires late { at ≤ latest_read }
+    requires memory { IsTrueOf quiet_groups.old store.old.state }
+    requires members { members.now ≡ state.members store.old.state group.now }
+    ensures ok { OnOk result (store.new.state ≡ flush at group.now store.old.state) }
+    ensures quiet { IfOk result (λ quiet. quiet ≡ true
+        → flush at group.now store.old.state ≡ with_timer_reset at group.now store.old.state) }
+    ensures kept { undone store.new ≡ undone store.old }
+    ensures grown { GrownBy (2 * flush_weight store.old.state group.now) store.old store.new }
+    ensures memory { OnOk result (IsTrueOf quiet_groups.new store.new.state) }
+{
+    let through = let_through(store, at, group.route, members)?;
+    if is_quiet(store, quiet_groups, at, group, members, through.as_slice())? {
+        reset_timer(store, at, group)?;
+        return Ok(true);
+    }
+    quiet_groups.forget_flushed(store.config(), group);
+    flush_in_full(store, at, group, members, through.as_slice())?;
+    Ok(false)
+}
+
+/// Returns true only if a flush of the group with these members only sets its timer, whatever mutes
+/// them, and notes until when.
+fn is_all_notified(
+    store: &Store,
+    quiet_groups: &mut QuietGroups,
+    at: Moment,
+    group: &RouteLabels,
+    members: &[Member],
+) -> Result<bool, AllocError>
+    requires memory { IsTrueOf quiet_groups.old store.now.state }
+    requires members { members.now ≡ state.members store.now.state group.now }
+    ensures quiet { IfOk result (λ quiet. quiet ≡ true
+        → flush at group.now store.now.state ≡ with_timer_reset at group.now store.now.state) }
+    ensures memory { OnOk result (IsTrueOf quiet_groups.new store.now.state) }
+{
+    match all_notified_until(store, at, group, members)? {
+        None => Ok(false),
+        Some(until) => {
+            quiet_groups.note_notified(store, at, group, until);
+            Ok(true)
+        }
+    }
+}
+
+/// Returns true only if a flush of the group with these members, of which no stage mutes `through`,
+/// only sets its timer, and notes until when. The group isn't one that is quiet whatever mutes its
+/// members, so it isn't quiet if nothing does.
+fn is_quiet(
+    store: &Store,
+    quiet_groups: &mut QuietGroups,
+    at: Moment,
+    group: &RouteLabels,
+    members: &[Member],
+    through: &[Member],
+) -> Result<bool, AllocError>
+    requires memory { IsTrueOf quiet_groups.old store.now.state }
+    requires members { members.now ≡ state.members store.now.state group.now }
+    requires through { through.now ≡ let_through store.now.state at group.now.route members.now }
+    ensures quiet { IfOk result (λ quiet. quiet ≡ true
+        → flush at group.now store.now.state ≡ with_timer_reset at group.now store.now.state) }
+    ensures memory { OnOk result (IsTrueOf quiet_groups.new store.now.state) }
+{
+    if through.len() == members.len() {
+        return Ok(false);
+    }
+    let still = still(store, quiet_groups, at);
+    match quiet_until(store, at, group, members, through, still)? {
+        None => Ok(false),
+        Some(until) => {
+            quiet_groups.note_quiet(store, at, group, until);
+            Ok(true)
+        }
+    }
+}
+
+/// Returns a moment until which nothing that may mute an alert changes. That is the next nanosecond
+/// if the memory knows no other and a scan of all stored alerts and silences doesn't pay yet.
+fn still(store: &Store, quiet_groups: &mut QuietGroups, at: Moment) -> u128
+    requires { IsTrueOf quiet_groups.old store.now.state }
+    ensures still { IsStill store.now.state at result }
+    ensures memory { IsTrueOf quiet_groups.new store.now.state }
+{
+    if let Some(until) = quiet_groups.still_at(at) {
+        return until;
+    }
+    if !quiet_groups.allows_scan() {
+        return at.nanoseconds() + 1;
+    }
+    let until = still_until(store, at);
+    quiet_groups.note_still(store, at, until);
+    until
+}
+
 /// Flushes a group at a moment: sets its timer, notifies, and drops its resolved members. `members`
 /// are the group's members, and `through` are those that no stage mutes.
 #[tactic(auto, unfolding(crate::specs::Flush::flush))]
-pub(crate) fn flush(
+fn flush_in_full(
     store: &mut Store,
     at: Moment,
     group: &RouteLabels,
@@ -101,52 +239,6 @@ fn run_pipeline(
     }
     notify_all(store, at, group, through)?;
     drop_resolved(store, at, group, members)
-}
-
-/// Returns the members that no stage mutes. It works out which silences match a member's labels,
-/// and which label sets can be sources of the rules that have it as a target, only if that isn't
-/// known. What it works out is remembered in the store and is no part of the state.
-pub(crate) fn let_through(
-    store: &mut Store,
-    at: Moment,
-    route: usize,
-    members: &[Member],
-) -> Result<Vec<Member>, AllocError>
-    ensures through { IfOk result (λ through. through.items
-        ≡ let_through store.old.state at route members.now) }
-    ensures same { store.new ≡ store.old }
-{
-    let mut through = Vec::with_capacity(store.alloc(), members.len())?;
-    learn_silences(store, at, members)?;
-    for (labels, alert) in members {
-        if taken_away_learning(store, at, route, labels)?.is_none() {
-            through.push((labels.clone()?, alert.clone()?))?;
-        }
-    }
-    Ok(through)
-}
-
-/// Works out which silences match the labels of members, where that isn't known. Without silences it
-/// copies no labels.
-fn learn_silences(store: &mut Store, at: Moment, members: &[Member]) -> Result<(), AllocError>
-    ensures { store.new ≡ store.old }
-{
-    if store.silences().values().next().is_none() {
-        return Ok(());
-    }
-    let label_sets = label_sets_of(store.alloc(), members)?;
-    store.learn_silences(at, label_sets.as_slice())
-}
-
-/// Returns the label sets of members.
-fn label_sets_of(alloc: Global, members: &[Member]) -> Result<Vec<Labels>, AllocError>
-    ensures { IfOk result (λ found. found.items ≡ map (λ member. member.0) members.now) }
-{
-    let mut label_sets = Vec::with_capacity(alloc, members.len())?;
-    for (labels, _) in members {
-        label_sets.push(labels.clone()?)?;
-    }
-    Ok(label_sets)
 }
 
 /// Runs the dedup check for each integration of the group's receiver, and notifies those that are

@@ -1,6 +1,5 @@
 //! The moves of an event: the timers that fire at or before a moment, the earliest first. A move is
-//! the removal of an alert, the removal of a group, or the flush of a group. Flushes go through the
-//! memory of quiet groups (`quiet.rt`).
+//! the removal of an alert, the removal of a group, or the flush of a group (`flush.rt`).
 ghost use Rattle.std.specs.Prelude.{◌≡◌, ◌≤◌, ◌*◌, true, OnOk, IfOk};
 ghost use Rattle.amr_time.specs.Time.{latest_read};
 ghost use Rattle.amr_state.specs.Kept.{GrownBy, undone};
@@ -10,7 +9,7 @@ ghost use Rattle.amr_engine.specs.Events.{move_limit};
 ghost use Rattle.amr_engine.specs.Weight.{move_weight, first_weight};
 ghost use Rattle.amr_engine.specs.QuietMoves.{OnlySets, AreQuietMoves};
 
-use crate::flush::reset_timer;
+use crate::flush::{flush, reset_timer};
 use crate::quiet::QuietGroups;
 use crate::quiet_moves::QuietMoves;
 use crate::too_many::are_too_many;
@@ -90,7 +89,7 @@ fn fire(store: &mut Store, quiet_groups: &mut QuietGroups, due: Due) -> Result<b
         }
         Kind::GroupFlush => {
             let at = Moment::from_nanoseconds(moment);
-            quiet_groups.flush(store, at, &RouteLabels { route, labels })
+            flush(store, quiet_groups, at, &RouteLabels { route, labels })
         }
     }
 }

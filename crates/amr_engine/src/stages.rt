@@ -1,17 +1,18 @@
 //! The stages of a flush that mute alerts, in the order of Alertmanager's notification pipeline. A
 //! flush notifies of no member that one of them mutes, and `explain` names the first that does.
-ghost use Rattle.std.specs.Prelude.{◌≡◌, IfOk};
+ghost use Rattle.std.specs.Prelude.{◌≡◌, map, IfOk};
 ghost use Rattle.amr_rules.specs.Muting.{inhibition_from};
 ghost use Rattle.amr_stated.specs.RuleMatches.{rule_matches};
+ghost use Rattle.amr_engine.specs.Flush.{let_through};
 ghost use Rattle.amr_engine.specs.Stages.{taken_away};
 
 use crate::explain::Finding;
 use amr_labels::Labels;
 use amr_rules::inhibited_by;
-use amr_state::Store;
+use amr_state::{Member, Store};
 use amr_stated::RuleMatch;
 use amr_time::Moment;
-use std::alloc::AllocError;
+use std::alloc::{AllocError, Global};
 
 /// Returns the first stage that mutes an alert with these labels on a route: inhibition, active
 /// time intervals, mute time intervals, silences. Returns `None` if none does.
@@ -27,9 +28,55 @@ pub(crate) fn taken_away(
     first_stage(store, at, route, labels, inhibited)
 }
 
+/// Returns the members that no stage mutes. It works out which silences match a member's labels,
+/// and which label sets can be sources of the rules that have it as a target, only if that isn't
+/// known. What it works out is remembered in the store and is no part of the state.
+pub(crate) fn let_through(
+    store: &mut Store,
+    at: Moment,
+    route: usize,
+    members: &[Member],
+) -> Result<Vec<Member>, AllocError>
+    ensures through { IfOk result (λ through. through.items
+        ≡ let_through store.old.state at route members.now) }
+    ensures same { store.new ≡ store.old }
+{
+    let mut through = Vec::with_capacity(store.alloc(), members.len())?;
+    learn_silences(store, at, members)?;
+    for (labels, alert) in members {
+        if taken_away_learning(store, at, route, labels)?.is_none() {
+            through.push((labels.clone()?, alert.clone()?))?;
+        }
+    }
+    Ok(through)
+}
+
+/// Works out which silences match the labels of members, where that isn't known. Without silences it
+/// copies no labels.
+fn learn_silences(store: &mut Store, at: Moment, members: &[Member]) -> Result<(), AllocError>
+    ensures { store.new ≡ store.old }
+{
+    if store.silences().values().next().is_none() {
+        return Ok(());
+    }
+    let label_sets = label_sets_of(store.alloc(), members)?;
+    store.learn_silences(at, label_sets.as_slice())
+}
+
+/// Returns the label sets of members.
+fn label_sets_of(alloc: Global, members: &[Member]) -> Result<Vec<Labels>, AllocError>
+    ensures { IfOk result (λ found. found.items ≡ map (λ member. member.0) members.now) }
+{
+    let mut label_sets = Vec::with_capacity(alloc, members.len())?;
+    for (labels, _) in members {
+        label_sets.push(labels.clone()?)?;
+    }
+    Ok(label_sets)
+}
+
 /// Returns what `taken_away` returns. It learns first which label sets can be sources of the rules
 /// that have these labels as a target, so it looks up only once which rules these are.
-pub(crate) fn taken_away_learning(
+fn taken_away_learning(
     store: &mut Store,
     at: Moment,
     route: usize,

@@ -10,7 +10,7 @@ ghost use Rattle.amr_engine.specs.Quiet.{all_fire_until};
 ghost use Rattle.amr_engine.specs.Lasting.{IsFlushedBeyond};
 
 use crate::moves::MOST_MOVES;
-use crate::quiet::first_end;
+use crate::quiet_until::first_end;
 use amr_state::{Member, RouteLabels, Store, members_of};
 use amr_time::Moment;
 use std::alloc::AllocError;

@@ -7,6 +7,3 @@ pub returns-clause-memory : goal.returns-clause-memory
 returns-clause-memory c =
     subst (IsTrueOf c.advance.new.quiet_groups) (sym c.in_ok-set_moment.ensures.ok)
     (stays_true c.advance.new.store.state c.args.at c.advance.new.store.state.timers c.advance.new.store.state.notes c.advance.new.quiet_groups c.in_ok-made.ensures.memory)
-
-pub advance-requires-clause-memory : goal.advance-requires-clause-memory
-advance-requires-clause-memory c = c.expect_moves_until.ensures c.args.store.now.state c.requires.memory

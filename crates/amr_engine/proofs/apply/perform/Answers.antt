@@ -14,5 +14,5 @@ returns c =
       kept = c.change.ensures.kept ∙ ap undone same;
       grown = subst (λ (before : Kept). OnOk c.change.result (GrownBy (entries_of c.args.prepared before.state c.change.new.store.state) before c.change.new.store)) same c.change.ensures.grown;
       memory = performed_true c.change.result c.forget_changed.new.self c.args.prepared c.args.store.now.state c.forget_changed.new.store.state c.change.new.store.state
-          (ap (λ (k : Kept). k.state) same) c.in_ok-forget_changed.ensures.memory c.change.ensures.done;
+          (ap (λ (k : Kept). k.state) same) c.forget_changed.ensures.memory c.change.ensures.done;
     }

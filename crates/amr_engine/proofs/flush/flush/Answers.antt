@@ -1,13 +1,25 @@
-use Rattle.std.proofs.Common.{ap}
-use Rattle.amr_state.specs.State.{State}
-use Rattle.amr_engine.proofs.Belonging.{group_of_members}
-use Rattle.amr_engine.proofs.Partitions.{through_after}
+use Rattle.std.proofs.Common.{sym, subst, ◌∙◌}
+use Rattle.amr_engine.specs.Remembered.{IsTrueOf}
+use Rattle.amr_engine.proofs.Remembering.{reset_true}
 use Rattle.amr_engine.proofs.flush.flush.Goals as goal
 
-pub run_pipeline-requires-clause-through : goal.run_pipeline-requires-clause-through
-run_pipeline-requires-clause-through c =
-    through_after c.args.store.now.state c.reset_timer.new.store.state c.args.at c.args.group.now c.args.members.now c.args.through.now c.in_ok-reset_timer.ensures.ok c.requires.through
+pub returns-then-is_quiet_at-clause-ok : goal.returns-then-is_quiet_at-clause-ok
+returns-then-is_quiet_at-clause-ok c =
+    c.in_ok-reset_timer.ensures.ok ∙ sym (c.is_quiet_at.ensures.quiet c.if-is_quiet_at.true c.args.store.now.state c.requires.memory)
 
-pub run_pipeline-requires-clause-group : goal.run_pipeline-requires-clause-group
-run_pipeline-requires-clause-group c =
-    group_of_members c.args.store.now.state c.reset_timer.new.store.state c.args.group.now c.args.members.now (ap (λ (s : State). s.config) c.in_ok-reset_timer.ensures.ok) c.requires.members
+pub returns-then-is_quiet_at-clause-quiet : goal.returns-then-is_quiet_at-clause-quiet
+returns-then-is_quiet_at-clause-quiet c = λ is. c.is_quiet_at.ensures.quiet c.if-is_quiet_at.true c.args.store.now.state c.requires.memory
+
+pub returns-then-is_quiet_at-clause-memory : goal.returns-then-is_quiet_at-clause-memory
+returns-then-is_quiet_at-clause-memory c =
+    let s = c.args.store.now.state in
+    let memory = c.is_quiet_at.new.self in
+    subst (IsTrueOf memory) (sym c.in_ok-reset_timer.ensures.ok) (reset_true s c.args.at c.args.group.now memory (c.is_quiet_at.ensures.memory s c.requires.memory))
+
+pub is_all_notified-requires-clause-memory : goal.is_all_notified-requires-clause-memory
+is_all_notified-requires-clause-memory c = c.is_quiet_at.ensures.memory c.args.store.now.state c.requires.memory
+
+pub returns-then-branch-clause-memory : goal.returns-then-branch-clause-memory
+returns-then-branch-clause-memory c =
+    subst (IsTrueOf c.is_all_notified.new.quiet_groups) (sym c.in_ok-reset_timer-2.ensures.ok)
+    (reset_true c.args.store.now.state c.args.at c.args.group.now c.is_all_notified.new.quiet_groups c.in_ok-is_all_notified.ensures.memory)

@@ -1,5 +1,4 @@
 use Rattle.std.proofs.Common.{◌≡◌, ◌-◌, None, true, IfOk, sym, ap, subst, arith}
-use Rattle.amr_engine.specs.Events.{move_limit}
 use Rattle.amr_engine.specs.Moves.{advance}
 use Rattle.amr_engine.proofs.Cascade.{limit_is}
 use Rattle.amr_engine.proofs.too_many.are_too_many.Goals as goal

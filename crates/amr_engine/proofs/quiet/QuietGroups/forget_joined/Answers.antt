@@ -1,18 +1,15 @@
-use Rattle.std.proofs.Common.{refl, sym, ap, subst, ◌∙◌}
 use Rattle.std.specs.List.{fold}
 use Rattle.amr_engine.specs.Events.{put}
-use Rattle.amr_engine.specs.Notified.{known, AreNotified, without_all_joined}
-use Rattle.amr_engine.specs.declared.notified.NotifiedGroups.{NotifiedGroups}
-use Rattle.amr_engine.proofs.NotifiedStays.{puts_notified}
-use Rattle.amr_engine.proofs.Remembering.{only_notified, then_holds}
+use Rattle.amr_engine.proofs.NotifiedStays.{puts_config}
+use Rattle.amr_engine.proofs.Remembering.{joined_true, joined_outlasts}
 use Rattle.amr_engine.proofs.quiet.QuietGroups.forget_joined.Goals as goal
 
-pub returns-clause-memory : goal.returns-clause-memory
-returns-clause-memory c =
+pub returns-in-Ok-clause-memory : goal.returns-in-Ok-clause-memory
+returns-in-Ok-clause-memory c =
     let s = c.args.store.now.state in
-    then_holds c.forget_all_joined.result
-    (λ left. only_notified (record c.forget_muting.new.self { notified = c.forget_all_joined.new.self }) c.forget_muting.ensures.times c.forget_muting.ensures.still (fold put s c.args.alerts.now)
-    (subst (AreNotified (fold put s c.args.alerts.now))
-    (sym (left ∙ ap (λ (groups : NotifiedGroups). without_all_joined s.config (known groups) c.args.alerts.now) c.forget_muting.ensures.notified))
-    (puts_notified s.config c.args.alerts.now s (known c.args.self.now.notified) refl c.requires.notified)))
-    c.forget_all_joined.ensures.known
+    c.forget_muting.ensures s (fold put s c.args.alerts.now) (puts_config c.args.alerts.now s)
+    (joined_outlasts c.args.self.now c.remove_all_joined.new.times s c.args.alerts.now c.in-Ok.ensures.times)
+    (joined_true c.args.self.now c.remove_all_joined.new.times s c.args.alerts.now c.in-Ok.ensures.times c.requires)
+
+pub returns-in-Err-clause-memory : goal.returns-in-Err-clause-memory
+returns-in-Err-clause-memory c = c.clear.ensures (fold put c.args.store.now.state c.args.alerts.now)

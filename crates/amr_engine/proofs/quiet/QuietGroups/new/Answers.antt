@@ -3,4 +3,4 @@ use Rattle.amr_engine.proofs.Remembering.{nothing_known}
 use Rattle.amr_engine.proofs.quiet.QuietGroups.new.Goals as goal
 
 pub returns : goal.returns
-returns c = λ s. nothing_known _ c.new.ensures.shown refl c.new-2.ensures s
+returns c = λ s. nothing_known _ c.new.ensures.shown refl s

@@ -1,16 +1,19 @@
-use Rattle.std.specs.Prelude.{OnOk}
-use Rattle.std.proofs.Common.{ℕ, subst}
-use Rattle.amr_state.specs.State.{State}
+use Rattle.std.proofs.Common.{◌≤◌, ◌<◌, length, sym, subst, arith}
+use Rattle.amr_time.specs.Time.{Moment}
+use Rattle.amr_stated.specs.Config.{Config}
 use Rattle.amr_engine.specs.Quiet.{IsQuiet}
-use Rattle.amr_engine.specs.Remembered.{IsTrueOf}
-use Rattle.amr_engine.proofs.Remembering.{learned_if}
+use Rattle.amr_engine.proofs.Remembering.{kept_if}
 use Rattle.amr_engine.proofs.quiet.QuietGroups.note_quiet.Goals as goal
-
-pub returns-then-not-is_worth_it : goal.returns-then-not-is_worth_it
-returns-then-not-is_worth_it c = λ s holds quiet. record { quiet = holds.quiet; still = holds.still; notified = holds.notified }
 
 pub returns : goal.returns
 returns c =
-    subst (λ (from : ℕ). OnOk c.learn.result ((s : State) → IsTrueOf c.args.self.now s → IsQuiet s c.args.group.now from c.args.until → IsTrueOf c.learn.new.self s)) c.nanoseconds-from.ensures.value
-    (learned_if c.learn.result c.args.self.now c.learn.new.self c.args.group.now (record { from = c.nanoseconds-from.result; until = c.args.until }) c.learn.ensures.times c.learn.ensures.still
-    c.learn.ensures.notified)
+    let s = c.args.store.now.state in
+    let there : c.args.group.now.route < length c.config-config.result.now.routes = omega arith in
+    let present : c.args.self.now.generation ≤ c.args.self.now.generation = omega arith in
+    kept_if c.insert.result c.args.self.now c.insert.new.times c.args.group.now _ s c.insert.ensures.ok c.insert.ensures.err
+    (record {
+      there = subst (λ (config : Config). c.args.group.now.route < length config.routes) c.config-config.ensures there;
+      not_later = present;
+      quiet = λ _. subst (λ (p : Moment × Moment). IsQuiet s c.args.group.now p.0 p.1) (λ i. (sym c.new.ensures.from i, sym c.new.ensures.until i)) c.requires.quiet;
+    })
+    c.requires.memory
