@@ -52,7 +52,8 @@ class Drawing {
     this.space.style.height = `${this.lanes.length * this.laneHeight}px`;
     const rows = this.lanes.filter((each) => each.kind === "row").length;
     const all = timeline.lanes.filter((each) => each.kind === "row").length;
-    timeline.count.textContent = rows === all ? many(all, "row") : `${rows.toLocaleString("en")} of ${many(all, "row")}`;
+    const areFolded = !rows && this.lanes.some((each) => each.kind === "receiver" && timeline.isFolded(each));
+    timeline.count.textContent = areFolded ? `${many(all, "row")}, folded` : rows === all ? many(all, "row") : `${rows.toLocaleString("en")} of ${many(all, "row")}`;
   }
 
   drawLanes(first, last) {

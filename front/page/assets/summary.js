@@ -1,5 +1,7 @@
 // The text on top: who wasn't notified, who was late, and why, and the search over all alerts.
 const LISTED = 20;
+// Of more than that, so that the timeline isn't far.
+const FEW = 5;
 const FOUND = 40;
 const SECTIONS = { nobody: "Nobody was notified", late: "Late", some: "Some receivers never", expected: "As expected", nowhere: "Only to receivers without integrations" };
 
@@ -45,7 +47,7 @@ class Summary {
       more.hidden = list.children.length >= entries.length;
       more.textContent = `Show more of ${entries.length.toLocaleString("en")}`;
     };
-    fill(name === "nobody" ? LISTED : LISTED / 2);
+    fill(entries.length > LISTED ? FEW : name === "nobody" ? LISTED : LISTED / 2);
     return el("details", { class: `section ${name}`, open: name === "nobody" || (name !== "expected" && entries.length <= LISTED) }, el("summary", {}, el("b", {}, title), " ", el("span", { class: "count" }, entries.length.toLocaleString("en"))), list, more);
   }
 

@@ -160,6 +160,7 @@ class Timeline(Browsing):
         alerts = [alert(f"A{i}", "10:00", "11:00") for i in range(130)]
         self.made(config(), [post("10:00", *alerts), tick("12:00")])
         self.assertEqual((self.count(".lane.row"), self.count(".density")), (0, 1))
+        self.assertEqual(self.text(".timeline .bar > .quiet"), "130 rows, folded")
         self.press(".lane-name.receiver")
         self.assertGreater(self.count(".lane.row"), 5)
 
@@ -347,6 +348,14 @@ class Places(Browsing):
         top = "document.querySelector('{}').getBoundingClientRect().top"
         self.assertLess(self.browser.value(top.format("#summary")), self.browser.value(top.format("#timeline")))
         self.assertIn("event 2 of 3", self.place())
+
+    def test_of_many_a_few_are_told_on_top(self) -> None:
+        alerts = [alert(f"A{i}", "10:00", "11:00") for i in range(30)]
+        matchers = [{"name": "alertname", "value": ".+", "isRegex": True}]
+        self.made(config(), [silence("09:00", "12:00", "A", matchers=matchers), post("10:00", *alerts), tick("12:00")])
+        self.assertEqual((self.count(".nobody .story"), self.text(".nobody .more")), (5, "Show more of 30"))
+        self.press(".nobody .more")
+        self.assertEqual(self.count(".nobody .story"), 30)
 
     def test_a_route_has_its_alerts_at_the_cursor(self) -> None:
         self.made(config({"matchers": ['alertname="A"'], "receiver": "team"}), FAR)
