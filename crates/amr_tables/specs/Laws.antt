@@ -1,6 +1,6 @@
 -- The laws of the table of slots.
 use Rattle.std.specs.Prelude.{◌≡◌, ◌≢◌, ℕ, ◌<◌, Option, None, List, [], ◌∷◌, ◌++◌, length, zero, suc, nat_lt, slice_set, IsTrue, option_and_then}
-use Rattle.std.proofs.Common.{ap, ◌∙◌, refl, get_or, arith}
+use Rattle.std.proofs.Common.{sym, ap, ◌∙◌, refl, get_or, arith}
 use Rattle.std.proofs.lemmas.Option.{slice_get-get_or}
 use Rattle.std.proofs.lemmas.List.{get_or-set_same, set-get_or, length-set, set-set}
 use Rattle.std.proofs.lemmas.Bool.Decides.{nat_tests}
@@ -31,6 +31,10 @@ pub back_law : {V : Type 0} (t : List (Option V)) (k : ℕ) (v : Option V) → I
 back_law t k v h =
     let lt : k < length t = grind (arith, nat_tests) in
     set-set t k v (value_at t k) ∙ ap (slice_set t k) (value_is t k lt) ∙ set-get_or t k None
+
+-- a value that is there already changes nothing
+pub same_law : {V : Type 0} (t : List (Option V)) (k : ℕ) (v : Option V) → k < length t → value_at t k ≡ v → t ≡ slice_set t k v
+same_law t k v h e = sym (set-get_or t k None) ∙ ap (slice_set t k) (sym (value_is t k h) ∙ e)
 
 -- a new place has no value
 pub value_at_push : {V : Type 0} (t : List (Option V)) (k : ℕ) → value_at (t ++ None ∷ []) k ≡ value_at t k

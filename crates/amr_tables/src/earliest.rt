@@ -1,7 +1,7 @@
 //! Moments by number, and which of them is the earliest. The pending timers are kept like this, by
 //! the numbers of alerts and groups. All memory is taken before a moment is set, so that undoing an
 //! event takes none.
-ghost use Rattle.std.specs.Prelude.{◌≡◌, ◌<◌, ◌≤◌, ◌*◌, ◌+◌, ◌-◌, ℕ, [], None, Some, length, OnOk, IfSome, IfNone, slice_set, if◌then◌else◌};
+ghost use Rattle.std.specs.Prelude.{◌≡◌, true, ◌<◌, ◌≤◌, ◌*◌, ◌+◌, ◌-◌, ℕ, [], None, Some, length, OnOk, IfSome, IfNone, slice_set, if◌then◌else◌};
 ghost use Rattle.std.specs.declared.cmp.Ordering.{Ordering};
 ghost use Rattle.std.specs.Ordering.{is_lt};
 ghost use Rattle.std.specs.Cmp.{IsTotalOrder};
@@ -102,13 +102,17 @@ impl Earliest {
         }
     }
 
-    /// Sets or removes the moment of a number. It takes no memory.
+    /// Sets or removes the moment of a number. Plays no match if the number has it already. It takes no
+    /// memory.
     pub fn set<O: Ranking>(&mut self, order: &O, number: usize, moment: Option<u128>)
         requires room { number < length self.old.moments }
         requires kept { IsTournament (O.rank order.now) self.old }
         ensures moments { self.new.moments ≡ slice_set self.old.moments number moment }
         ensures kept { IsTournament (O.rank order.now) self.new }
     {
+        if is_same(self.at(number), moment) {
+            return;
+        }
         self.moments[number] = moment;
         let mut place = self.moments.len() + number;
         while place > 1 {
@@ -173,5 +177,16 @@ impl Earliest {
             None => None,
             Some(_) => Some(winner),
         }
+    }
+}
+
+/// Returns whether two moments are one, or both are missing.
+fn is_same(a: Option<u128>, b: Option<u128>) -> bool
+    ensures { result ≡ true → a ≡ b }
+{
+    match (a, b) {
+        (Some(moment), Some(other)) => moment == other,
+        (None, None) => true,
+        _ => false,
     }
 }

@@ -1,5 +1,6 @@
 use Rattle.std.proofs.Common.{◌≡◌, ◌<◌, ◌/◌, ◌+◌, length, refl, slice_set, sym, ap, subst, ◌∙◌, arith}
 use Rattle.std.proofs.lemmas.Bool.Decides.{nat_tests}
+use Rattle.amr_tables.specs.Laws.{same_law}
 use Rattle.amr_tables.specs.Earliest.{Earliest, later_winner, IsTournament}
 use Rattle.amr_tables.proofs.Playing.{played_above, length_set, moment_changed, none_above_first, half_bounds, IsNotAbove}
 use Rattle.amr_tables.proofs.earliest.Earliest.set.Goals as goal
@@ -36,3 +37,6 @@ loop-place-preserved g c =
 
 pub returns-clause-kept : goal.returns-clause-kept
 returns-clause-kept g c = λ j one within. c.loop-place.invariant.played j one within (none_above_first j c.loop-place.place one (grind (arith, nat_tests)))
+
+pub returns-then-is_same-clause-moments : goal.returns-then-is_same-clause-moments
+returns-then-is_same-clause-moments g c = same_law c.args.self.now.moments c.args.number c.args.moment c.requires.room (sym c.at.ensures ∙ c.is_same.ensures c.if-is_same.true)
