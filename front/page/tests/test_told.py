@@ -235,7 +235,9 @@ class SaidOnThePage(WithRoom):
         example = EXAMPLES / "first-page"
         words = [*PAGE, str(example / "config.json"), str(example / "script.jsonl"), "--output", str(output)]
         environment = {**ENVIRONMENT, "AMREPLAY_PROGRAM": str(slow)}
-        process = subprocess.Popen(words, stderr=subprocess.PIPE, env=environment, start_new_session=True)
+        # Started in the background, these tests may ignore an interruption, and a process that they start would inherit that.
+        heeding = ["env", "--default-signal=INT", *words]
+        process = subprocess.Popen(heeding, stderr=subprocess.PIPE, env=environment, start_new_session=True)
         while not (begun.exists() and len(begun.read_text()) >= 3):
             self.assertIsNone(process.poll())
             time.sleep(0.1)
