@@ -73,7 +73,8 @@ function headline(run, { lists }) {
   if (!run.entries.length) return "No alert fired";
   const told = { nobody: "notified nobody", late: "late", some: "not to all receivers", expected: "as expected", nowhere: "only to receivers without integrations" };
   const counts = Object.entries(told).filter(([name]) => lists[name].length).map(([name, words]) => `${lists[name].length.toLocaleString("en")} ${words}`);
-  return `${many(run.rowsOf.size, "alert")}, ${many(run.entries.length, "firing")}: ${counts.join(", ")}`;
+  const fired = new Set(run.entries.map(({ set }) => set));
+  return `${many(run.entries.length, "firing")} of ${many(fired.size, "alert")}: ${counts.join(", ")}`;
 }
 
 const shortEl = (set) => {

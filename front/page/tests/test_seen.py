@@ -255,6 +255,12 @@ class Words(Browsing):
         self.assertEqual([head.split()[0] for head in heads], ["quiet", "team"])
         self.assertIn("muted by nights until 06:00:00", self.text("#why"))
 
+    def test_the_headline_counts_firings_and_the_alerts_that_fired(self) -> None:
+        """An alert that is posted after its end is stored and notified of, and fires never."""
+        again, ended = alert("A", "11:00", "12:00"), alert("A", "09:00", "09:30", pod="ended")
+        self.made(config(), [post("10:00", alert("A", "10:00", "10:30"), ended), post("11:00", again), tick("13:00")])
+        self.assertEqual(self.text("#summary-title"), "2 firings of 1 alert: 2 as expected")
+
     def test_the_header_names_what_is_shown(self) -> None:
         files = self.files(config(), FAR)
         folder = self.room / "other"
