@@ -1,5 +1,5 @@
 -- A search of bytes, and the same search of a text, in which nothing is found that begins inside a character.
-use Rattle.std.proofs.Common.{◌≡◌, ℕ, ◌+◌, ◌<◌, ◌≤◌, Bool, true, false, List, length, Option, Some, None, is_some, option_map, refl, sym, ap, ap₂, ◌∙◌, subst, ⊎_elim, arith, IsCharBoundary}
+use Rattle.std.proofs.Common.{◌≡◌, ℕ, ◌+◌, ◌<◌, ◌≤◌, true, false, List, length, Option, Some, None, is_some, option_map, refl, sym, ap, ap₂, ◌∙◌, subst, ⊎_elim, arith, IsCharBoundary}
 use Rattle.std.proofs.lemmas.Bool.{cases_Bool}
 use Rattle.regex_hir.specs.Text.{is_boundary}
 use Rattle.regex_hir.specs.Find.{find}

@@ -1,5 +1,5 @@
 -- What is built of a text finds what the grammar reads of it.
-use Rattle.std.proofs.Common.{◌≡◌, ℕ, ◌<◌, Bool, false, Option, Some, None, is_some, get_or, sym, ap, ◌∙◌}
+use Rattle.std.proofs.Common.{◌≡◌, Bool, false, Option, Some, None, is_some, sym, ap, ◌∙◌}
 use Rattle.std.proofs.lemmas.List.{get_or_default}
 use Rattle.std.specs.Prelude.{IsSomeAnd, chars}
 use Rattle.std.specs.Option.{option_map_or}
@@ -14,7 +14,7 @@ use Rattle.regex_syntax.specs.Brackets.{Nested}
 use Rattle.regex_syntax.specs.Same.{SameTree}
 use Rattle.regex_syntax.proofs.CapturesLemmas.{spans}
 use Rattle.regex_syntax.proofs.TreeLaws.{same_refl}
-use Rattle.regex_syntax.proofs.Written.{IsReadAs, find_str_as_read, is_some-option_map}
+use Rattle.regex_syntax.proofs.Written.{find_str_as_read, is_some-option_map}
 use Rattle.amr_labels.specs.Labels.{Text}
 use Rattle.amr_matchers.specs.Patterns.{anchored, pattern_matches, IsBuiltFrom}
 use Rattle.amr_matchers.specs.Searches.{ungrouped, IsFoundAs}

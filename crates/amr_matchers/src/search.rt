@@ -15,12 +15,11 @@ use regex_meta::{Program, Searcher};
 use regex_syntax::Config;
 use std::alloc::{AllocError, Global};
 
-/// The limit in bytes times the groups up to which a pattern keeps its groups. A search takes about
-/// three bytes for each.
-const MOST_WITH_GROUPS: usize = 1 << 20;
+/// A pattern keeps its groups up to this product of their number and its limit in bytes. A search
+/// takes up to three bytes for each.
+const MOST_WITH_GROUPS: usize = 1 << 22;
 
 /// A pattern that was built.
-#[derive(Drop)]
 pub(crate) enum Built {
     /// As `regex` builds it.
     Whole(Regex),
@@ -33,6 +32,16 @@ pub(crate) enum Built {
 pub(crate) enum Search<'p> {
     Whole(Matcher<'p>),
     Bare(Searcher<'p>),
+}
+
+// It is written out so that what drops a pattern, also in other crates, calls this alone.
+impl Drop for Built {
+    fn drop(self) {
+        match self {
+            Built::Whole(_regex) => {}
+            Built::Bare(_program) => {}
+        }
+    }
 }
 
 impl Built {
@@ -63,12 +72,9 @@ impl Built {
     }
 }
 
-/// Builds what a text is read as, without its groups. Returns `None` if that fails.
-fn bare(
-    alloc: Global,
-    source: &str,
-    limit: usize,
-) -> Result<Option<Box<Program>>, AllocError>
+/// Builds what a text is read as, without its groups. Returns `None` if that fails: then the
+/// pattern keeps them.
+fn bare(alloc: Global, source: &str, limit: usize) -> Result<Option<Box<Program>>, AllocError>
     ensures { IfOk result (λ built. IfSome built (λ program. (pattern : Text)
         → source.now ≡ anchored pattern → IsFoundAs (pattern_of program.value) pattern)) }
 {
@@ -76,6 +82,7 @@ fn bare(
         return Ok(None);
     };
     let hir = ungrouped(alloc, &parsed.hir)?;
+    // The whole match counts as a group.
     let Ok(program) = Program::new(alloc, hir, 1, limit) else {
         return Ok(None);
     };

@@ -1,6 +1,4 @@
-use Rattle.std.proofs.Common.{◌≡◌, ◌+◌, ◌<◌, ◌≤◌, false, Some, None, length, IsCharBoundary, is_some, option_map, sym, ap, ◌∙◌, arith, true≢false}
-use Rattle.regex_hir.specs.Find.{find}
-use Rattle.regex.specs.Patterns.{span}
+use Rattle.std.proofs.Common.{Some, None, IsCharBoundary, is_some, sym, ap, ◌∙◌, arith, true≢false}
 use Rattle.regex_meta.specs.Programs.{pattern_of}
 use Rattle.amr_matchers.proofs.BetweenCharacters.{found_in, nothing_found, found_whole, found_within, found_inside}
 use Rattle.amr_matchers.proofs.search.is_found.Goals as goal
@@ -28,7 +26,7 @@ overflow_add-at c =
     let hay = c.args.value.now in
     let some = found_in _ _ _ hay c.loop-from.at (Some (c.in-Some.from, c.in-Some.field-0-1)) inv.2 c.as_bytes.ensures.value c.in-Some.ensures.found in
     let inside : IsCharBoundary hay c.in-Some.from → ⊥ = λ whole.
-        true≢false (sym (c.is_char_boundary.ensures.test.1 whole) ∙ c.if-is_char_boundary.false) in
+    true≢false (sym (c.is_char_boundary.ensures.test.1 whole) ∙ c.if-is_char_boundary.false) in
     let below = (found_inside re hay c.loop-from.at _ _ some inside).0 in
     omega (arith, c.as_bytes.ensures.len)
 
@@ -39,7 +37,7 @@ loop-from-smaller c =
     let hay = c.args.value.now in
     let some = found_in _ _ _ hay c.loop-from.at (Some (c.in-Some.from, c.in-Some.field-0-1)) inv.2 c.as_bytes.ensures.value c.in-Some.ensures.found in
     let inside : IsCharBoundary hay c.in-Some.from → ⊥ = λ whole.
-        true≢false (sym (c.is_char_boundary.ensures.test.1 whole) ∙ c.if-is_char_boundary.false) in
+    true≢false (sym (c.is_char_boundary.ensures.test.1 whole) ∙ c.if-is_char_boundary.false) in
     let below = (found_inside re hay c.loop-from.at _ _ some inside).0 in
     let within = found_within re hay c.loop-from.at _ _ some in
     omega arith
@@ -51,7 +49,7 @@ loop-from-preserved c =
     let hay = c.args.value.now in
     let some = found_in _ _ _ hay c.loop-from.at (Some (c.in-Some.from, c.in-Some.field-0-1)) inv.2 c.as_bytes.ensures.value c.in-Some.ensures.found in
     let inside : IsCharBoundary hay c.in-Some.from → ⊥ = λ whole.
-        true≢false (sym (c.is_char_boundary.ensures.test.1 whole) ∙ c.if-is_char_boundary.false) in
+    true≢false (sym (c.is_char_boundary.ensures.test.1 whole) ∙ c.if-is_char_boundary.false) in
     let later = found_inside re hay c.loop-from.at _ _ some inside in (
       omega (arith, later.0),
       inv.1 ∙ later.1,
