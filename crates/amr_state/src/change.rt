@@ -1,5 +1,5 @@
-//! An entry of a record: a place of the state and the value that an event displaced there. `Store`
-//! writes the entries, and puts them back when an event is undone.
+//! A change of the state: a place, and the value that it gets. `Store` makes changes, and enters for
+//! each the change that leads back into the open record, which undoes the event.
 ghost use Rattle.std.specs.Prelude.{◌≡◌, IfOk};
 
 use crate::membership::Membership;
@@ -14,25 +14,25 @@ use std::alloc::{AllocError, Global};
 use std::marker::Model;
 use std::mem;
 
-/// A place of the state with its former value; `None` if the place was empty.
+/// A place of the state and a value for it; `None` leaves the place empty.
 #[derive(Drop)]
-pub enum Displaced {
+pub enum Change {
     /// The moment of the clock.
-    WasMoment(Moment),
+    OfMoment(Moment),
     /// The configuration in force, with the groups it has worked out so far.
-    WasConfig(BoxedRouter),
+    OfConfig(BoxedRouter),
     /// The stored alert with these labels.
-    WasAlert(Labels, Option<Alert>),
+    OfAlert(Labels, Option<Alert>),
     /// The silence with this id.
-    WasSilence(SilenceId, Option<Silence>),
+    OfSilence(SilenceId, Option<Silence>),
     /// The member of a group with these labels.
-    WasPlacement(Membership, Option<Alert>),
+    OfMember(Membership, Option<Alert>),
     /// The timer of a group.
-    WasTimer(RouteLabels, Option<GroupTimer>),
+    OfTimer(RouteLabels, Option<GroupTimer>),
     /// The entry of the notification log under this key.
-    WasLogged(LogKey, Option<LogEntry>),
-    /// The number of notifications before the event.
-    WasNotes(usize),
+    OfLog(LogKey, Option<LogEntry>),
+    /// The number of notifications, which drops the later ones.
+    OfNotes(usize),
 }
 
 /// A configuration in memory of its own, with what it remembers. A `Router` is far larger than what
