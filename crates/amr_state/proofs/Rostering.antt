@@ -121,6 +121,12 @@ module _ {V : Type 0} (t u : Numbered RouteLabels V) (k : RouteLabels) (n : ℕ)
         | false ↦ λ _ number. others key m number
       ] refl (sym (gets key) ∙ at)
 
+-- a number that is in a group already is put there again
+set_again : (l : List (Option ℕ)) (n : ℕ) (v : Option ℕ) → n < length l → value_at l n ≡ v → slice_set l n v ≡ l
+set_again [] n v h e = absurd (omega (arith, h))
+set_again (x ∷ xs) zero v h e = ap (λ (y : Option ℕ). y ∷ xs) (sym e)
+set_again (x ∷ xs) (suc n) v h e = ap (λ (ys : List (Option ℕ)). x ∷ ys) (set_again xs n v (omega (arith, h)) e)
+
 -- ---- the invariant
 
 module _ (config : Config) (a : Numbered RouteLabels Alert) (gs : Numbered RouteLabels (Unit {0})) (m : Grouped) (is : IsGrouped config a gs m) where
@@ -185,6 +191,18 @@ module _ (config : Config) (a : Numbered RouteLabels Alert) (gs : Numbered Route
                 ∙ is.grouped other x there
           ] refl
           ∙ ap (group_number config gs other) (sym (value other))
+
+  -- a member has changed, or is still none
+  pub grouped_stays : (b : Numbered RouteLabels Alert) (key : RouteLabels) (n g : ℕ) (w : Option Alert) → number_of route_labels_cmp a key ≡ Some n → number_of route_labels_cmp gs (group_key config key) ≡ Some g
+      → b.numbers ≡ a.numbers → shown route_labels_cmp b ≡ set (shown route_labels_cmp a) key w → is_some (get (shown route_labels_cmp a) key) ≡ is_some w → IsGrouped config b gs m
+  grouped_stays b key n g w at in_g numbers shows stays =
+      grouped_set b m key n g w at in_g numbers shows (sym (set_again m.groups n (option_map (λ _. g) w) (is.room key n at) (is.grouped key n at ∙ same (get (shown route_labels_cmp a) key) w stays))) refl
+    where
+      same : (o p : Option Alert) → is_some o ≡ is_some p → group_number config gs key o ≡ option_map (λ _. g) p
+      same None None e = refl
+      same None (Some y) e = absurd (true≢false (sym e))
+      same (Some x) None e = absurd (true≢false e)
+      same (Some x) (Some y) e = in_g
 
   -- a place for a member is made
   pub grouped_placed : (b : Numbered RouteLabels Alert) (k : RouteLabels) → IsNumbering route_labels_cmp a → number_of route_labels_cmp a k ≡ None → GetsNumber route_labels_cmp a b k (next_number a) → shown route_labels_cmp b ≡ shown route_labels_cmp a → next_number a < length m.groups → IsGrouped config b gs m

@@ -167,8 +167,9 @@ impl Roster {
     }
 
     /// Returns the number of a member's place. Makes the place if there is none, and gives the
-    /// member's group a number.
+    /// member's group a number. A group with this member has one.
     pub(crate) fn place_member(&mut self, member: &Membership) -> Result<usize, AllocError>
+        requires { member.now.group ≡ group_key self.old.config (member_on_route member.now) }
         ensures number { IfOk result (λ number. number_of route_labels_cmp self.new.placements
             (member_on_route member.now) ≡ Some number) }
         ensures known { OnOk result
@@ -180,13 +181,20 @@ impl Roster {
         ensures groups { KeepsPlaces route_labels_cmp self.old.groups self.new.groups }
         ensures config { self.new.config ≡ self.old.config }
     {
+        let (number, alert) = self.placements.look_up_number(&member.member);
+        if let (Some(number), Some(_)) = (number, alert) {
+            return Ok(number);
+        }
         self.place_group(&member.group)?;
-        self.place_labels(&member.member)
+        match number {
+            Some(number) => Ok(number),
+            None => self.add_member(&member.member),
+        }
     }
 
     /// Sets or removes a member of its group, given the number of its place, and marks the place as
-    /// entered. Returns the former alert, and whether the place was marked before. It takes no
-    /// memory.
+    /// entered. Returns the former alert, and whether the place was marked before. A member that stays
+    /// in its group keeps its links there. It takes no memory.
     pub(crate) fn displace_member(
         &mut self,
         number: usize,
@@ -207,6 +215,9 @@ impl Roster {
         ensures groups { self.new.groups ≡ self.old.groups }
         ensures config { self.new.config ≡ self.old.config }
     {
+        if self.placements.at(number).is_some() == alert.is_some() {
+            return self.placements.exchange_at(number, alert);
+        }
         let Some(group) = self.groups.number_of(&member.group) else {
             unreachable!()
         };
@@ -259,23 +270,6 @@ impl Roster {
         match self.groups.number_of(group) {
             Some(number) => Ok(number),
             None => unreachable!(),
-        }
-    }
-
-    /// Returns the number of the place of a label set on a route. Makes the place if there is none.
-    fn place_labels(&mut self, route_labels: &RouteLabels) -> Result<usize, AllocError>
-        ensures number { IfOk result (λ number.
-            number_of route_labels_cmp self.new.placements route_labels.now ≡ Some number) }
-        ensures shown { shown route_labels_cmp self.new.placements
-            ≡ shown route_labels_cmp self.old.placements }
-        ensures entered { SameEntered route_labels_cmp self.old.placements self.new.placements }
-        ensures places { KeepsPlaces route_labels_cmp self.old.placements self.new.placements }
-        ensures groups { self.new.groups ≡ self.old.groups }
-        ensures config { self.new.config ≡ self.old.config }
-    {
-        match self.placements.number_of(route_labels) {
-            Some(number) => Ok(number),
-            None => self.add_member(route_labels),
         }
     }
 

@@ -525,6 +525,7 @@ fn make_room(
     journal: &mut Journal<Change>,
     change: &Change,
 ) -> Result<usize, AllocError>
+    requires { FitsOne (shown_by tables.old) change.now }
     ensures number { IfOk result (λ number. IsPlaceOf tables.new change.now number) }
     ensures room { OnOk result (0 < journal.new.entry_room) }
     ensures values { SameValues tables.old tables.new }

@@ -3,8 +3,13 @@ use Rattle.amr_state.specs.Kept.{Kept, undone}
 use Rattle.amr_state.specs.Fitting.{IsAllowed}
 use Rattle.amr_state.specs.Stored.{shown_by}
 use Rattle.amr_state.specs.declared.store.Store.TheInside.{Inside}
-use Rattle.amr_state.proofs.Soundness.{kept_placed, kept_changed, undone_placed, undone_changed, same_state}
+use Rattle.amr_state.proofs.Soundness.{fits_one, kept_placed, kept_changed, undone_placed, undone_changed, same_state}
 use Rattle.amr_state.proofs.store.Store.change.Goals as goal
+
+pub make_room-requires : goal.make_room-requires
+make_room-requires c =
+    let t = c.self.inside.tables in
+    fits_one (shown_by t) c.args.change (subst (λ s. IsAllowed s c.args.change) (sym (ap (λ (k : Kept). k.state) c.self.view_is)) c.requires)
 
 pub invariant_of-self : goal.invariant_of-self
 invariant_of-self c =
