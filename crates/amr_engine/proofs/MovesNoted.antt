@@ -1,7 +1,7 @@
 -- What is noted of the moves from a state holds of them.
-use Rattle.std.specs.Prelude.{◌≡◌, ℕ, zero, suc, Bool, true, false, if◌then◌else◌, ◌==◌, ◌&&◌, nat_lt, ◌+◌, List, [], ◌∷◌, ◌++◌, Option, Some, None, length, get_or, nat_le}
+use Rattle.std.specs.Prelude.{◌≡◌, ◌⊎◌, ℕ, zero, suc, Bool, true, false, if◌then◌else◌, ◌==◌, ◌&&◌, nat_lt, ◌+◌, List, [], ◌∷◌, ◌++◌, Option, Some, None, length, get_or, nat_le}
 use Rattle.std.specs.Option.{option_map_or}
-use Rattle.std.proofs.Common.{refl, sym, ap, ◌∙◌, subst, arith}
+use Rattle.std.proofs.Common.{inl, inr, refl, sym, ap, ◌∙◌, subst, arith}
 use Rattle.std.proofs.lemmas.Bool.Decides.{nat_tests}
 use Rattle.amr_time.specs.Time.{Moment}
 use Rattle.amr_state.specs.declared.due.Due.{Due}
@@ -63,12 +63,13 @@ pub known_move : (moves : List Bool) (made : ℕ) (start s : State) (at : Moment
 known_move moves made start s at due here known next quiet =
     subst (λ (x : State). IsQuietMove x) (sym here) (quiet_move moves made start known quiet) due (next_is_first at s due next)
 
--- one more move is noted after it was made
+-- one more move is noted after it was made, or forgotten
 pub note_move : (moves after : List Bool) (made : ℕ) (quiet : Bool) (start s : State) (at : Moment) (due : Due) → s ≡ moved_times made start → AreQuietMoves moves start → Some due ≡ next_due at s
-    → (quiet ≡ true → OnlySets s due) → after ≡ noted made quiet moves → AreQuietMoves after start
-note_move moves after made quiet start s at due here known next only are =
+    → (quiet ≡ true → OnlySets s due) → (after ≡ noted made quiet moves) ⊎ (after ≡ moves) → AreQuietMoves after start
+note_move moves after made quiet start s at due here known next only (inl are) =
     subst (λ bits. AreQuietMoves bits start) (sym are)
     (still_noted moves made quiet start known (λ is. subst (λ (x : State). IsQuietMove x) here (is_quiet_move s due (next_is_first at s due next) (only is))))
+note_move moves after made quiet start s at due here known next only (inr same) = subst (λ bits. AreQuietMoves bits start) (sym same) known
 
 -- the state after one more move
 pub one_more : (made : ℕ) (start s after : State) (at : Moment) (due : Due) → s ≡ moved_times made start → Some due ≡ next_due at s → after ≡ move due s → after ≡ moved_times (made + 1) start

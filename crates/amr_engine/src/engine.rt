@@ -187,7 +187,11 @@ impl Engine {
     pub fn learn_sources(&mut self, labels: &Labels) -> Result<(), AllocError>
         ensures { self.new ≡ self.old }
     {
-        self.store.learn_sources(labels)
+        if self.store.config().rules().is_empty() {
+            return Ok(());
+        }
+        let matched = self.store.rule_matches(labels)?;
+        self.store.learn_sources(matched.get().as_slice())
     }
 
     /// Explains why an alert with these labels was or wasn't in a notification. It returns one

@@ -24,7 +24,7 @@ use amr_labels::{LabelMap, Labels, Listing};
 use amr_rules::{LogEntry, labels_of};
 use amr_state::{
     Change, FiringAlert, GroupTimer, LogKey, Member, Membership, Notification, ResolvedAlert,
-    RouteLabels, Store, members_of,
+    RouteLabels, Store,
 };
 use amr_stated::Integration;
 use amr_time::Moment;
@@ -65,7 +65,7 @@ pub(crate) fn flush(
         reset_timer(store, at, group)?;
         return Ok(true);
     }
-    let members = members_of(store, group)?;
+    let members = store.members_of(group)?;
     if is_all_notified(store, quiet_groups, at, group, members.as_slice())? {
         reset_timer(store, at, group)?;
         return Ok(true);

@@ -13,7 +13,7 @@ use crate::flush::{flush, reset_timer};
 use crate::quiet::QuietGroups;
 use crate::quiet_moves::QuietMoves;
 use crate::too_many::are_too_many;
-use amr_state::{Change, Due, Kind, RouteLabels, Store, next_due};
+use amr_state::{Change, Due, Kind, RouteLabels, Store};
 use amr_time::Moment;
 use std::alloc::AllocError;
 
@@ -46,15 +46,15 @@ pub(crate) fn advance(
         if are_too_many(store, at, made)? {
             return Ok(None);
         }
-        match next_due(store, at)? {
+        match store.next_due(at)? {
             None => return Ok(Some(made)),
             Some(due) => {
                 let is_quiet = make(store, quiet_groups, due, quiet_moves.is_quiet(made))?;
-                quiet_moves.note(made, is_quiet)?;
+                quiet_moves.note(made, is_quiet);
             }
         }
     }
-    if next_due(store, at)?.is_some() {
+    if store.next_due(at)?.is_some() {
         return Ok(None);
     }
     Ok(Some(MOST_MOVES))

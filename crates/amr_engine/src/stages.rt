@@ -149,7 +149,7 @@ fn inhibition_learning(
         return Ok(None);
     }
     let matched = store.rule_matches(labels)?;
-    store.learn_sources_matched(matched.get().as_slice())?;
+    store.learn_sources(matched.get().as_slice())?;
     inhibition_by(store, at, matched.get().as_slice(), labels)
 }
 

@@ -11,7 +11,7 @@ ghost use Rattle.amr_engine.specs.Lasting.{IsFlushedBeyond};
 
 use crate::moves::MOST_MOVES;
 use crate::quiet_until::first_end;
-use amr_state::{Member, RouteLabels, Store, members_of};
+use amr_state::{Member, RouteLabels, Store};
 use amr_time::Moment;
 use std::alloc::AllocError;
 
@@ -71,7 +71,7 @@ fn is_beyond(
     if at.nanoseconds() - next < left as u128 * interval as u128 {
         return Ok(false);
     }
-    let members = members_of(store, group)?;
+    let members = store.members_of(group)?;
     Ok(do_all_fire(store, at, group, members.as_slice()))
 }
 

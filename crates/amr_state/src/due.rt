@@ -1,16 +1,13 @@
 //! Pending timers: when a stored alert or an empty group is removed and when a group is flushed,
-//! and which timer fires first. `moves.rt` of the engine asks for the next one and fires it;
-//! nothing is changed here.
-ghost use Rattle.std.specs.Prelude.{◌≡◌, ◌≤◌, ℕ, IfOk, IfSome};
+//! and how a timer is named. `moves.rt` of the engine fires them; nothing is changed here.
+ghost use Rattle.std.specs.Prelude.{◌≡◌, ◌≤◌, ℕ, IfSome};
 ghost use Rattle.amr_time.specs.Time.{latest_read};
-ghost use Rattle.amr_state.specs.Dues.{next_due, alert_removal_at, group_removal_at};
+ghost use Rattle.amr_state.specs.Dues.{alert_removal_at, group_removal_at};
 
 use crate::notification::GroupTimer;
-use crate::store::Store;
 use amr_labels::Labels;
 use amr_rules::Alert;
 use amr_time::{Moment, Span, next_multiple};
-use std::alloc::AllocError;
 
 /// The kinds of timers, in the order in which those of one moment fire.
 #[derive(Clone, Copy)]
@@ -31,14 +28,6 @@ pub struct Due {
     pub route: usize,
     /// The labels of the alert, or the group labels.
     pub labels: Labels,
-}
-
-/// Returns the first pending timer at or before a moment, or `None` if no timer is pending then.
-pub fn next_due(store: &Store, at: Moment) -> Result<Option<Due>, AllocError>
-    ensures due { IfOk result (λ due. due ≡ next_due at store.now.state) }
-    ensures within { IfOk result (λ due. IfSome due (λ d. d.moment ≤ at)) }
-{
-    store.next_due(at)
 }
 
 /// Returns when a stored alert is removed, in nanoseconds since 1970: at the first multiple of 30

@@ -18,8 +18,8 @@ mod timetable;
 pub mod views;
 
 pub use change::Change;
-pub use due::{Due, Kind, next_due};
-pub use members::{Member, members_of};
+pub use due::{Due, Kind};
+pub use members::Member;
 pub use membership::Membership;
 pub use notification::{FiringAlert, GroupTimer, LogKey, Notification, ResolvedAlert};
 pub use placing::{group_key, place};

@@ -244,22 +244,10 @@ impl Store {
         Ok(())
     }
 
-    /// Works out which label sets can be sources of the inhibition rules that have labels as a
-    /// target, so that inhibition needn't look for them among all stored alerts. It asks the source
-    /// matchers of such a rule once for each label set. Does nothing without rules.
-    pub fn learn_sources(&mut self, labels: &Labels) -> Result<(), AllocError>
-        ensures same { self.new ≡ self.old }
-    {
-        if self.tables.roster.config().rules().is_empty() {
-            return Ok(());
-        }
-        let matched = self.tables.roster.rule_matches(labels)?;
-        self.learn_sources_matched(matched.get().as_slice())
-    }
-
     /// Works out which label sets can be sources of the inhibition rules that have a label set as a
-    /// target, given which sides of each rule it is on. `learn_sources` looks these up first.
-    pub fn learn_sources_matched(&mut self, matched: &[RuleMatch]) -> Result<(), AllocError>
+    /// target, given which sides of each rule it is on, so that inhibition needn't look for them
+    /// among all stored alerts. It asks the source matchers of such a rule once for each label set.
+    pub fn learn_sources(&mut self, matched: &[RuleMatch]) -> Result<(), AllocError>
         ensures same { self.new ≡ self.old }
     {
         self.tables
@@ -276,7 +264,7 @@ impl Store {
 
     /// Returns the members of a group, by labels.
     #[tactic(auto, unfolding(crate::specs::State::members))]
-    pub(crate) fn members_of(&self, group: &RouteLabels) -> Result<Vec<Member>, AllocError>
+    pub fn members_of(&self, group: &RouteLabels) -> Result<Vec<Member>, AllocError>
         ensures { IfOk result (λ found. found.items ≡ members self.now.state group.now) }
     {
         self.tables.roster.members_of(group)
@@ -310,7 +298,7 @@ impl Store {
 
     /// Returns the first pending timer at or before a moment, or `None` if no timer is pending then.
     #[tactic(auto, unfolding(crate::specs::Dues::next_due, crate::specs::Dues::dues))]
-    pub(crate) fn next_due(&self, at: Moment) -> Result<Option<Due>, AllocError>
+    pub fn next_due(&self, at: Moment) -> Result<Option<Due>, AllocError>
         ensures due { IfOk result (λ due. due ≡ next_due at self.now.state) }
         ensures within { IfOk result (λ due. IfSome due (λ d. d.moment ≤ at)) }
     {

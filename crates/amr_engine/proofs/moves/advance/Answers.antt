@@ -48,7 +48,7 @@ loop-made-preserved c =
       memory = made.memory;
       here = one_more c.loop-made.made c.args.store.now.state c.loop-made.store.state c.make.new.store.state c.args.at c.in-Some.due c.loop-made.invariant.here next made.ok;
       quiet = note_move c.loop-made.quiet_moves c.note.new.self c.loop-made.made c.in_ok-is_quiet-in-Some.is_quiet c.args.store.now.state c.loop-made.store.state c.args.at c.in-Some.due
-          c.loop-made.invariant.here c.loop-made.invariant.quiet next made.quiet c.in_ok-note-in-Some.ensures.ok;
+          c.loop-made.invariant.here c.loop-made.invariant.quiet next made.quiet c.note.ensures;
     }
 
 pub returns-then-is_some-clause-ok : goal.returns-then-is_some-clause-ok
