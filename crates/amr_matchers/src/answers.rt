@@ -86,7 +86,7 @@ impl Answers {
         }
     }
 
-    /// Returns the remembered answer, or else the pattern's, which it remembers.
+    /// Returns the remembered answer, or else the pattern's, which it remembers if there is room.
     fn answer(&mut self, pattern: &Pattern, value: &str) -> Result<bool, AllocError>
         ensures { IfOk result (λ found. found ≡ pattern_matches pattern.now value.now) }
     {
@@ -94,6 +94,22 @@ impl Answers {
         if let Some(found) = self.latest_answer(place, pattern, value) {
             return Ok(found);
         }
+        match self.remembered(place, pattern, value) {
+            Ok(found) => Ok(found),
+            Err(_) => pattern.matches(self.alloc, value),
+        }
+    }
+
+    /// Returns the answer that the tree has, or else the pattern's, which it remembers. It also notes
+    /// the answer as the latest one at a place.
+    fn remembered(
+        &mut self,
+        place: usize,
+        pattern: &Pattern,
+        value: &str,
+    ) -> Result<bool, AllocError>
+        ensures { IfOk result (λ found. found ≡ pattern_matches pattern.now value.now) }
+    {
         let question = (Text::from_str(self.alloc, value)?, pattern.text().clone()?);
         let found = self.kept_answer(pattern, &question)?;
         let (value, pattern) = question;
