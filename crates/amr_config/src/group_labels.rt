@@ -25,13 +25,16 @@ impl Model for GroupLabels {
 
 impl GroupLabels {
     /// Returns these group labels. It returns the ones that it keeps if they are equal, and
-    /// otherwise keeps these.
+    /// otherwise keeps these, if there is room.
     pub(crate) fn share(&mut self, labels: Labels) -> Result<Labels, AllocError>
         ensures { IfOk result (λ shared. shared ≡ labels) }
     {
         match self.kept.get(&labels) {
             Some(kept) => kept.clone(),
-            None => self.keep(labels),
+            None => {
+                let _forgotten = self.keep(&labels);
+                Ok(labels)
+            }
         }
     }
 
@@ -44,13 +47,13 @@ impl GroupLabels {
         }
     }
 
-    /// Keeps these group labels, and returns them.
-    fn keep(&mut self, labels: Labels) -> Result<Labels, AllocError>
-        ensures { IfOk result (λ kept. kept ≡ labels) }
+    /// Keeps these group labels.
+    fn keep(&mut self, labels: &Labels) -> Result<(), AllocError>
+        ensures { self.new ≡ self.old }
     {
         let kept = labels.clone()?;
         self.kept.make_place(labels.clone()?)?;
-        self.kept.displace(&labels, Some(kept));
-        Ok(labels)
+        self.kept.displace(labels, Some(kept));
+        Ok(())
     }
 }

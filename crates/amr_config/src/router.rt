@@ -123,7 +123,8 @@ impl Router {
         }
     }
 
-    /// Works out the groups that take an alert with these labels, and remembers them.
+    /// Works out the groups that take an alert with these labels, and remembers them if there is
+    /// room.
     fn learn(&mut self, labels: &Labels) -> Result<Shared<Listing<RouteGroup>>, AllocError>
         ensures groups { IfOk result (λ groups. groups ≡ groups_of self.old labels.now) }
         ensures same { self.new ≡ self.old }
@@ -136,7 +137,7 @@ impl Router {
             labels,
         )?;
         let groups = Shared::new(self.alloc, found)?;
-        self.remember(labels, groups.clone()?)?;
+        let _forgotten = self.remember(labels, groups.clone()?);
         Ok(groups)
     }
 
@@ -178,14 +179,28 @@ impl Router {
         }
     }
 
-    /// Works out which sides of the inhibition rules these labels are on, and remembers them.
+    /// Works out which sides of the inhibition rules these labels are on, and remembers them if
+    /// there is room.
     fn learn_sides(&mut self, kept: Labels) -> Result<Shared<Listing<RuleMatch>>, AllocError>
         ensures sides { IfOk result (λ found. found ≡ rule_matches kept self.old.rules) }
         ensures same { self.new ≡ self.old }
     {
         let sides = sides_of(self.alloc, &self.config, &mut self.answers, &kept)?;
-        self.sides.insert(kept, sides.clone()?)?;
+        let _forgotten = self.keep_sides(kept, sides.clone()?);
         Ok(sides)
+    }
+
+    /// Remembers which sides of the inhibition rules these labels are on.
+    fn keep_sides(
+        &mut self,
+        kept: Labels,
+        sides: Shared<Listing<RuleMatch>>,
+    ) -> Result<(), AllocError>
+        requires { sides ≡ rule_matches kept self.old.rules }
+        ensures { self.new ≡ self.old }
+    {
+        self.sides.insert(kept, sides)?;
+        Ok(())
     }
 }
 

@@ -7,7 +7,7 @@ use Rattle.amr_config.proofs.group_labels.GroupLabels.keep.Goals as goal
 
 pub invariant_of-self-2 : goal.invariant_of-self-2
 invariant_of-self-2 c =
-    let here = c.args.labels in
+    let here = c.args.labels.now in
     let kept = c.in_ok-kept.kept in
     let shows : shown label_set_cmp c.displace.new.self ≡ set (shown label_set_cmp c.self.inside.kept) here (Some kept) =
     c.displace.ensures.shown ∙ ap (λ m. set m here (Some kept)) c.make_place.ensures.shown in
