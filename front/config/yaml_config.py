@@ -1,6 +1,7 @@
 """Reads a configuration by its schema: what YAML takes for a number, a boolean or a date is a text where Alertmanager has a text."""
 from __future__ import annotations
 
+import codecs
 import json
 import re
 from dataclasses import dataclass, field
@@ -30,13 +31,15 @@ class Unread:
 
 @dataclass
 class Reading:
-    """A configuration as the program reads it, with the line of each place in the user's file."""
+    """A configuration as the program reads it, with the line of each place in the user's file. `bad_zone` says where and why a `location` can't be
+    written in UTC."""
 
     value: Any
     lines: dict[str, int] = field(default_factory=dict)
     unread: list[Unread] = field(default_factory=list)
     is_json: bool = False
     original: bytes = b""
+    bad_zone: str = ""
 
     def line_of(self, path: str) -> int | None:
         """Returns the line of a place, or of the nearest place around it that has one."""
@@ -64,7 +67,7 @@ def _read_json(text: str, data: bytes) -> Reading | None:
     if not text.lstrip().startswith("{"):
         return None
     try:
-        reading = Reading(json.loads(text), is_json=True, original=data)
+        reading = Reading(json.loads(text), is_json=True, original=data.removeprefix(codecs.BOM_UTF8))
     except (ValueError, RecursionError):
         return None
     try:
