@@ -12,7 +12,7 @@ from .inputs import Config, Inputs, opened
 from .labels import labels_in
 from .moments import DAY, HOUR, moment_text
 from .program import Program, session
-from .story.config import Route, routes_of
+from .story.config import Route, routes_of, rules_of
 from .story.model import Pairs
 from .telling import printable
 
@@ -97,6 +97,9 @@ def _lines(routes: list[Route], config: dict[str, Any], chosen: Optional[list[in
         details = _details(route, routes)
         if details:
             yield f"{indent}   {details}"
+    for rule in rules_of(config) if chosen is None else []:
+        sources, targets = (", ".join(texts) or "all alerts" for texts in (rule.source_texts, rule.target_texts))
+        yield f"rule {rule.number}  {sources}  mutes  {targets}" + (f"  same {', '.join(rule.equal)}" if rule.equal else "")
 
 
 def _way(routes: list[Route], number: int) -> Iterator[int]:

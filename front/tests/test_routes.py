@@ -25,6 +25,7 @@ class Routes(unittest.TestCase):
         self.assertIn('    4  severity="critical"  ->  payments-pager (pagerduty)', lines)
         self.assertIn("       group_wait 10s; repeat_interval 30m; active in business-hours", lines)
         self.assertIn('  2  severity="critical"  ->  sre-pager (pagerduty, slack)  continue', lines)
+        self.assertIn('rule 0  alertname="NodeDown"  mutes  severity=~"warning|info"  same cluster, instance', lines)
 
     def test_labels(self) -> None:
         for words in (
