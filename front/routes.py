@@ -99,7 +99,9 @@ def _lines(routes: list[Route], config: dict[str, Any], chosen: Optional[list[in
             yield f"{indent}   {details}"
     for rule in rules_of(config) if chosen is None else []:
         sources, targets = (", ".join(texts) or "all alerts" for texts in (rule.source_texts, rule.target_texts))
-        yield f"rule {rule.number}  {sources}  mutes  {targets}" + (f"  same {', '.join(rule.equal)}" if rule.equal else "")
+        yield f"rule {rule.number}  {sources}  mutes  {targets}" + (
+            f"  same {', '.join(rule.equal)}" if rule.equal else ""
+        )
 
 
 def _way(routes: list[Route], number: int) -> Iterator[int]:

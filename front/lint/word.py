@@ -92,7 +92,8 @@ def _nearly_json(config: Config) -> list[Finding]:
 def _zones(config: Config) -> Iterator[Finding]:
     """Yields where time intervals have a zone."""
     for key in ("mute_time_intervals", "time_intervals"):
-        for i, interval in enumerate(config.value.get(key) or []):
+        listed = config.value.get(key)
+        for i, interval in enumerate(listed if isinstance(listed, list) else []):
             members = interval.get("time_intervals") if isinstance(interval, dict) else None
             for j, member in enumerate(members if isinstance(members, list) else []):
                 zone = member.get("location") if isinstance(member, dict) else None

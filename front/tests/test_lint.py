@@ -43,6 +43,7 @@ REFUSED = [
     (with_interval(days_of_month=["0"]), '"0" is no day of a month', "1 to 31"),
     ({**OPS, "receivers": [{"name": "ops", "telegram_configs": [{}]}]}, "receivers[0].telegram_configs[0]: the program has no default of send_resolved for telegram", 'write "send_resolved": true, which is Alertmanager\'s default'),  # noqa: E501
     ({**OPS, "receivers": [{"name": "ops", "telgram_configs": [{}]}]}, "the kind telgram isn't known", "did you mean telegram_configs?"),
+    ({**OPS, "time_intervals": 1.5}, "time_intervals: 1.5 is no list", "write [1.5]"),
     ({"receivers": []}, "route is required, and isn't there (5 BadConfig)", "write a route"),
     (with_route(receiver="opps"), 'route.receiver: there is no receiver "opps" (6 UnknownReceiver)', "did you mean ops?"),
     ({**OPS, "receivers": OPS["receivers"] * 2}, 'receivers[1].name: there is a receiver "ops" already', "(7 DuplicateReceiver)"),
