@@ -7,10 +7,12 @@ import re
 from dataclasses import dataclass, field
 from typing import Any
 
+from ..program import Fault
+
 from .schema import (
     CONFIGURATION, ROUTE, SENDS_RESOLVED, TEXT, Boolean, Integration, ListOf, Object, Route, Shape, Texts, shape_in, with_default,
 )  # fmt: skip
-from .tree import BadYaml, Mapping, Node, Scalar, Sequence, tree_of
+from .tree import BadYaml, Mapping, Node, Scalar, Sequence, tree_of, tree_of_json
 
 BYTES_AT_MOST = 16 * 1024 * 1024
 
@@ -75,6 +77,8 @@ def _read_json(text: str, data: bytes) -> Reading | None:
         node = tree_of(text.replace("\t", " "), are_keys_unique=False)
     except BadYaml:
         return reading
+    except Fault:
+        node = tree_of_json(reading.value)
     if node is not None:
         _Reader(reading).read(node, CONFIGURATION, "")
     return reading

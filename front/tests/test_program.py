@@ -127,6 +127,19 @@ class Interrupted(WithRoom):
         self.assertEqual((done.returncode, done.stderr), (0, b""))
         self.assertIn(b"D\\xe9", done.stdout)
 
+    def test_json_needs_no_yaml(self) -> None:
+        without = (
+            "import sys; sys.modules['yaml'] = None; from front.__main__ import main; sys.exit(main(sys.argv[1:]))"
+        )
+        script = self.write_lines("script.jsonl", [TICK])
+        odd = self.write_json("odd.json", {**CONFIG, "inhibit_rule": []})
+        said = f"amreplay: {odd}: warning: inhibit_rule: unknown key inhibit_rule, which is ignored; did you mean inhibit_rules?\n"
+        needed = "amreplay: reading YAML needs PyYAML; Debian's package is python3-yaml\n"
+        for config, status, errors in ((odd, 0, said), (self.write("a.yml", "route: {}"), 1, needed)):
+            words = [sys.executable, "-B", "-c", without, "why", config, script]
+            done = subprocess.run(words, cwd=TOP, capture_output=True, text=True)
+            self.assertEqual((done.returncode, done.stderr), (status, errors))
+
     def test_a_closed_pipe_is_no_traceback(self) -> None:
         words = f"{sys.executable} -m front why {INCIDENT}/config.json {INCIDENT}/script.jsonl | head -1"
         done = subprocess.run(words, shell=True, cwd=TOP, capture_output=True, check=True)
