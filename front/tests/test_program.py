@@ -93,7 +93,7 @@ class Sessions(WithRoom):
         self.assertIn("5 BadConfig at route", raised.exception.line)
 
 
-class Interrupted(WithRoom):
+class Processes(WithRoom):
     def test_an_interrupt_prints_nothing(self) -> None:
         fifo = str(self.room / "pipe")
         os.mkfifo(fifo)
