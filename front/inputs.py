@@ -12,7 +12,7 @@ from dataclasses import dataclass
 from pathlib import Path
 from typing import Any, Iterator, Optional
 
-from .config.yaml_config import BadConfiguration, Reading, read_config
+from .config.yaml_config import BYTES_AT_MOST, BadConfiguration, Reading, read_config
 from .config.zones import BadZone, in_utc
 from .lint.findings import Finding
 from .lint.odd import unknown_keys
@@ -63,10 +63,10 @@ class Inputs:
         self._count = 0
         self._script: Optional[Given] = None
 
-    def read(self, path: str) -> Given:
-        """Reads a file, or standard input. Raises a fault that names it."""
+    def read(self, path: str, at_most: int = -1) -> Given:
+        """Reads a file, or standard input, whole or so many bytes of it. Raises a fault that names it."""
         try:
-            data = sys.stdin.buffer.read() if path == STANDARD_INPUT else Path(path).read_bytes()
+            data = _bytes_of(path, at_most)
         except OSError as error:
             raise Fault(f"amreplay: cannot read {shown(path)}: {error.strerror}") from error
         return Given("standard input" if path == STANDARD_INPUT else shown(path), data)
@@ -91,7 +91,7 @@ class Inputs:
 
     def config_as_it_is(self, path: str) -> Config:
         """Reads a configuration, and writes it for the program as JSON."""
-        given = self.read(path)
+        given = self.read(path, BYTES_AT_MOST + 1)
         try:
             reading = read_config(given.data)
         except BadConfiguration as error:
@@ -132,6 +132,13 @@ class Inputs:
         path = self.room / f"file-{self._count}"
         path.write_bytes(data)
         return str(path)
+
+
+def _bytes_of(path: str, at_most: int) -> bytes:
+    if path == STANDARD_INPUT:
+        return sys.stdin.buffer.read(at_most)
+    with open(path, "rb") as file:
+        return file.read(at_most)
 
 
 def _explained(fault: Fault, findings: list[Finding], name: str) -> Fault:

@@ -105,6 +105,10 @@ class Forms(WithRoom):
             marked = self.write("marked.json", "\ufeff" + file.read())
         self.assertEqual(self.answers("check", marked), self.says("check", self.json))
 
+    def test_a_file_without_an_end(self) -> None:
+        status, printed, errors = self.answers("check", "/dev/zero")
+        self.assertEqual((status, printed, errors), (1, b"", "amreplay: /dev/zero: more than 16777216 bytes\n"))
+
     def test_a_fault_has_the_line_in_the_user_s_file(self) -> None:
         path = self.write("b.yml", YAML.replace("group_wait: 10s", "group_wiat: 10s\n  group_wait: 10 s"))
         status, printed, errors = self.answers("run", path, self.script)
