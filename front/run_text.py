@@ -17,7 +17,7 @@ from .story.walk import pairs_of
 from .telling import printable
 
 MARKS = {"firing": "▲", "resolved": "○"}
-ALERTS_AT_MOST = 10
+ALERTS_AT_MOST = 5
 WIDTH_AT_MOST = 40
 PLAIN = re.compile(r'[^\s,={}"]+')
 

@@ -167,7 +167,7 @@ class Text(WithRoom):
         alerts = [{"alertname": "A", "n": str(n)} for n in range(1_010, 2_300)]
         (found,) = self.text(config, [post("10:00:00", *alerts), tick("10:01:00")])
         self.assertEqual(
-            found, f"10:00:30 ops/webhook ▲ {', '.join(f'A{{{n}}}' for n in range(1_010, 1_020))} and 1,280 more"
+            found, f"10:00:30 ops/webhook ▲ {', '.join(f'A{{{n}}}' for n in range(1_010, 1_015))} and 1,285 more"
         )
 
     def test_what_is_no_notification(self) -> None:
