@@ -44,7 +44,10 @@ def answer(arguments: list[str]) -> int:
         return fault.status
     except KeyboardInterrupt:
         return INTERRUPTED
-    except BrokenPipeError:
+    except OSError as error:
+        if not isinstance(error, BrokenPipeError):
+            print(f"amreplay: {error.filename or 'cannot write'}: {error.strerror}", file=sys.stderr)
+        # What is still to be written has nowhere to go.
         os.dup2(os.open(os.devnull, os.O_WRONLY), sys.stdout.fileno())
         return 1
 

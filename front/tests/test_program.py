@@ -140,6 +140,15 @@ class Processes(WithRoom):
             done = subprocess.run(words, cwd=TOP, capture_output=True, text=True)
             self.assertEqual((done.returncode, done.stderr), (status, errors))
 
+    def test_a_full_output_is_no_traceback(self) -> None:
+        for words in (["why"], ["run", "--text"], ["page"]):
+            files = [str(INCIDENT / "config.json"), str(INCIDENT / "script.jsonl")]
+            with open("/dev/full", "wb") as full:
+                words = [sys.executable, "-B", "-m", "front", *words, *files]
+                done = subprocess.run(words, cwd=TOP, stdout=full, stderr=subprocess.PIPE)
+            said = b"amreplay: cannot write: No space left on device\n"
+            self.assertEqual((done.returncode, done.stderr), (1, said))
+
     def test_a_closed_pipe_is_no_traceback(self) -> None:
         words = f"{sys.executable} -m front why {INCIDENT}/config.json {INCIDENT}/script.jsonl | head -1"
         done = subprocess.run(words, shell=True, cwd=TOP, capture_output=True, check=True)
