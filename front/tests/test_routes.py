@@ -48,3 +48,5 @@ class Routes(unittest.TestCase):
         self.assertEqual([route["number"] for route in value["routes"]], [2, 7])
         self.assertEqual((value["routes"][1]["group_wait"], value["routes"][1]["repeat_interval"]), ("30s", "1h"))
         self.assertEqual(value["receivers"], ["sre-pager", "db-pager"])
+        rule = {"number": 0, "source": ['alertname="NodeDown"'], "target": ['severity=~"warning|info"']}
+        self.assertEqual(value["rules"][0], {**rule, "equal": ["cluster", "instance"]})
