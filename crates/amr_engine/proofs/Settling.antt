@@ -3,7 +3,7 @@ use Rattle.std.specs.Prelude.{◌≡◌, ℕ, Bool, true, false, if◌then◌els
 use Rattle.std.proofs.Common.{sym, ap, subst, ◌∙◌, arith}
 use Rattle.std.proofs.lemmas.List.{nil_from_length}
 use Rattle.amr_actions.specs.Events.{Event, is_label}
-use Rattle.amr_state.specs.declared.displaced.Displaced.{Displaced}
+use Rattle.amr_state.specs.declared.change.Change.{Change}
 use Rattle.amr_state.specs.State.{State}
 use Rattle.amr_state.specs.Kept.{Kept, undone}
 use Rattle.amr_state.specs.Records.{put_back, befores}
@@ -47,7 +47,7 @@ settled event begun tried left (Refused reason) idle leads kept light is = recor
 }
 
 -- the record of a label is empty
-pub label_entryless : (s after : State) (event : Event) (r : List Displaced) → length r ≤ 4 * event_weight s event after → is_label event.act ≡ true → r ≡ []
+pub label_entryless : (s after : State) (event : Event) (r : List Change) → length r ≤ 4 * event_weight s event after → is_label event.act ≡ true → r ≡ []
 label_entryless s after event r short h =
     let none : event_weight s event after ≡ 0 = ap (λ b. if b then 0 else run_weight s event after) h in
     nil_from_length r (omega (arith, none, short))
@@ -102,4 +102,4 @@ some_record store past is h =
 
 pub no_past : (store : Kept) → store.records ≡ [] → befores store.records store.state ≡ []
 unfolding befores
-no_past store none = ap (λ (rs : List (List Displaced)). befores rs store.state) none
+no_past store none = ap (λ (rs : List (List Change)). befores rs store.state) none

@@ -2,7 +2,7 @@
 use Rattle.std.specs.Prelude.{◌≡◌, true, ◌≤◌, ◌*◌, List, [], ◌∷◌, ◌++◌, length, Result, Ok, Err}
 use Rattle.amr_actions.specs.Events.{Event, is_label}
 use Rattle.amr_posts.specs.declared.reason.Reason.{Reason}
-use Rattle.amr_state.specs.declared.displaced.Displaced.{Displaced}
+use Rattle.amr_state.specs.declared.change.Change.{Change}
 use Rattle.amr_state.specs.Kept.{Kept, GrownBy}
 use Rattle.amr_state.specs.Records.{put_back}
 use Rattle.amr_state.specs.Steps.{Steps}
@@ -12,16 +12,16 @@ use Rattle.amr_engine.specs.declared.outcome.Outcome.{Outcome}
 use Rattle.amr_engine.specs.declared.outcome.Outcome.TheVariants.{Accepted, Refused}
 
 abbrev pub Records : Type 0
-Records = List (List Displaced)
+Records = List (List Change)
 
 -- a refused event displaces nothing
-abbrev pub IsEmptyIfRefused : Outcome → List Displaced → Type 0
+abbrev pub IsEmptyIfRefused : Outcome → List Change → Type 0
 IsEmptyIfRefused (Accepted moves notes skipped) r = Unit {0}
 IsEmptyIfRefused (Refused reason) r = r ≡ []
 
 -- The last record leads back to the state before the event, and has at most four entries for each
 -- unit of the event's weight. That of a label has none.
-pub record RecordOf (before : Steps) (event : Event) (after : Steps) (outcome : Outcome) (r : List Displaced) : Type 0 where
+pub record RecordOf (before : Steps) (event : Event) (after : Steps) (outcome : Outcome) (r : List Change) : Type 0 where
   pub added : after.records ≡ before.records ++ r ∷ []
   pub back : put_back r after.state ≡ before.state
   pub empty : IsEmptyIfRefused outcome r

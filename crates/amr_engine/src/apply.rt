@@ -25,7 +25,7 @@ use crate::silencing::store_update;
 use amr_actions::Event;
 use amr_labels::{Listing, Shared};
 use amr_posts::Reason;
-use amr_state::{Notification, Store};
+use amr_state::{Change, Notification, Store};
 use amr_time::Moment;
 use std::alloc::{AllocError, Global};
 
@@ -122,7 +122,7 @@ fn advance_to(
     ensures quiet { AreQuietMoves quiet_moves.new store.old.state }
 {
     let made = advance(store, quiet_groups, quiet_moves, at)?;
-    store.set_moment(at)?;
+    store.change(Change::OfMoment(at))?;
     Ok(made)
 }
 
@@ -164,7 +164,7 @@ fn change(store: &mut Store, prepared: Prepared) -> Result<Listing<usize>, Alloc
             new_id,
             silence_update,
         } => store_update(store, id, new_id, silence_update)?,
-        Prepared::Expire { id, ended } => store.insert_silence(id, ended)?,
+        Prepared::Expire { id, ended } => store.change(Change::OfSilence(id, Some(ended)))?,
         Prepared::Reload(config) => reload(store, config)?,
         Prepared::Tick => {}
     }

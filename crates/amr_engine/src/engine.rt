@@ -3,7 +3,7 @@
 ghost use Rattle.std.specs.Prelude.{◌≡◌, ◌<◌, List, [], ◌∷◌, ◌++◌, length, IfOk, OnOk, OnErr, Some, option_map, slice_get};
 ghost use Rattle.amr_state.specs.State.{start};
 ghost use Rattle.amr_state.specs.Records.{put_back};
-ghost use Rattle.amr_state.specs.declared.displaced.Displaced.{Displaced};
+ghost use Rattle.amr_state.specs.declared.change.Change.{Change};
 ghost use Rattle.amr_engine.specs.Events.{after_event, outcome_of, without_notifications};
 ghost use Rattle.amr_engine.specs.Outcomes.{outcome_view};
 ghost use Rattle.amr_engine.specs.Kept.{Records, RecordOf};
@@ -75,7 +75,7 @@ impl Engine {
         ensures state { OnOk result (self.new.state ≡ after_event self.old.state event.now) }
         ensures past { OnOk result (self.new.past ≡ self.old.past ++ self.old.state ∷ []) }
         ensures record_kept { IfOk result (λ outcome.
-            (r : List Displaced) × RecordOf self.old event.now self.new outcome r) }
+            (r : List Change) × RecordOf self.old event.now self.new outcome r) }
         ensures err { OnErr result (self.new ≡ self.old) }
     {
         let mut quiet_moves = QuietMoves::new(self.store.alloc());
@@ -96,7 +96,7 @@ impl Engine {
         ensures state { OnOk result (self.new.state ≡ after_event self.old.state event.now) }
         ensures past { OnOk result (self.new.past ≡ self.old.past ++ self.old.state ∷ []) }
         ensures record_kept { IfOk result (λ outcome.
-            (r : List Displaced) × RecordOf self.old event.now self.new outcome r) }
+            (r : List Change) × RecordOf self.old event.now self.new outcome r) }
         ensures err { OnErr result (self.new ≡ self.old) }
     {
         self.store.begin()?;
@@ -121,7 +121,7 @@ impl Engine {
     pub fn undo_last(&mut self)
         requires { 0 < length self.old.past }
         ensures past { self.old.past ≡ self.new.past ++ self.new.state ∷ [] }
-        ensures records { (last : List Displaced)
+        ensures records { (last : List Change)
             × (self.old.records ≡ self.new.records ++ last ∷ []) }
     {
         self.store.reopen();

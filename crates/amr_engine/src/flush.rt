@@ -23,8 +23,8 @@ use amr_config::Config;
 use amr_labels::{LabelMap, Labels, Listing};
 use amr_rules::{LogEntry, labels_of};
 use amr_state::{
-    FiringAlert, GroupTimer, LogKey, Member, Notification, ResolvedAlert, RouteLabels, Store,
-    members_of,
+    Change, FiringAlert, GroupTimer, LogKey, Member, Membership, Notification, ResolvedAlert,
+    RouteLabels, Store, members_of,
 };
 use amr_stated::Integration;
 use amr_time::Moment;
@@ -532,11 +532,8 @@ fn drop_each_resolved(
 {
     for (labels, alert) in members {
         if alert.is_resolved_at(at) {
-            let route_labels = RouteLabels {
-                route: group.route,
-                labels: labels.clone()?,
-            };
-            store.remove_member(group, &route_labels)?;
+            let member = Membership::new(group, labels)?;
+            store.change(Change::OfMember(member, None))?;
         }
     }
     Ok(())
@@ -568,7 +565,7 @@ fn mark_empty(store: &mut Store, at: Moment, group: &RouteLabels) -> Result<(), 
                 empty_since: Some(at),
                 ..timer
             };
-            store.set_timer(group, empty)
+            store.change(Change::OfTimer(group.clone()?, Some(empty)))
         }
     }
 }

@@ -13,7 +13,7 @@ use crate::flush::{flush, reset_timer};
 use crate::quiet::QuietGroups;
 use crate::quiet_moves::QuietMoves;
 use crate::too_many::are_too_many;
-use amr_state::{Due, Kind, RouteLabels, Store, next_due};
+use amr_state::{Change, Due, Kind, RouteLabels, Store, next_due};
 use amr_time::Moment;
 use std::alloc::AllocError;
 
@@ -80,11 +80,11 @@ fn fire(store: &mut Store, quiet_groups: &mut QuietGroups, due: Due) -> Result<b
     match kind {
         Kind::AlertRemoval => {
             quiet_groups.alert_leaves(store, &labels);
-            store.remove_alert(&labels)?;
+            store.change(Change::OfAlert(labels, None))?;
             Ok(false)
         }
         Kind::GroupRemoval => {
-            store.remove_timer(&RouteLabels { route, labels })?;
+            store.change(Change::OfTimer(RouteLabels { route, labels }, None))?;
             Ok(false)
         }
         Kind::GroupFlush => {

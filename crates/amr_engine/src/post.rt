@@ -12,7 +12,7 @@ ghost use Rattle.amr_engine.specs.Weight.{alert_weight, alerts_weight};
 use amr_labels::{Labels, Listing};
 use amr_posts::PostedAlert;
 use amr_rules::{Alert, complete_alert, merge};
-use amr_state::{Store, place};
+use amr_state::{Change, Store, place};
 use amr_time::{Moment, Span};
 use std::alloc::{AllocError, Global};
 
@@ -69,7 +69,8 @@ fn put(store: &mut Store, labels: &Labels, alert: Alert) -> Result<(), AllocErro
     ensures grown { GrownBy (alert_weight store.old.state.config labels.now) store.old store.new }
 {
     let stored = joined(store, labels, alert);
-    store.insert_alert(labels, stored.clone()?)?;
+    let change = Change::OfAlert(labels.clone()?, Some(stored.clone()?));
+    store.change(change)?;
     place(store, labels, &stored)
 }
 

@@ -8,7 +8,7 @@ ghost use Rattle.amr_engine.specs.Events.{with_silences};
 
 use amr_posts::SilenceId;
 use amr_rules::{Silence, SilenceUpdate};
-use amr_state::Store;
+use amr_state::{Change, Store};
 use std::alloc::AllocError;
 
 /// Stores what was decided of a post of a silence. `id` is that of the silence it names, and
@@ -29,7 +29,7 @@ pub(crate) fn store_update(
         SilenceUpdate::InPlace(silence) => store_under(store, id, Some(silence)),
         SilenceUpdate::New(silence, old) => {
             store_under(store, id, old)?;
-            store.insert_silence(new_id, silence)
+            store.change(Change::OfSilence(new_id, Some(silence)))
         }
     }
 }
@@ -46,7 +46,7 @@ fn store_under(
     ensures grown { GrownBy 1 store.old store.new }
 {
     match (id, silence) {
-        (Some(id), Some(silence)) => store.insert_silence(id, silence),
+        (Some(id), Some(silence)) => store.change(Change::OfSilence(id, Some(silence))),
         _ => Ok(()),
     }
 }

@@ -1,6 +1,5 @@
 -- Stored alerts have places, and the label sets that have a place are among those that arrived.
 use Rattle.std.proofs.Common.{◌≡◌, ℕ, true, false, cond, List, [], Option, Some, None, refl, sym, ap, subst, ◌∙◌, IsTrue, is_some}
-use Rattle.std.specs.Prelude.{Result, Ok, Err, OnOk, OnErr}
 use Rattle.std.specs.Ordering.{eq_by_cmp}
 use Rattle.std.specs.FinMap.{find}
 use Rattle.std.proofs.lemmas.Bool.{true≢false}
@@ -9,7 +8,7 @@ use Rattle.amr_labels.specs.Map.{get, set, empty, get-set, get-empty}
 use Rattle.amr_labels.specs.Labels.{LabelSet, label_set_cmp, label_set_cmp_total, label_set_cmp-IsAntisymmetric}
 use Rattle.amr_rules.specs.declared.alert.Alert.{Alert}
 use Rattle.amr_rules.specs.Muting.{Alerts}
-use Rattle.amr_tables.specs.Numbered.{Numbered, shown, has_place, entry_of, KeepsPlaces, SamePlaces, SameEntered, IsUnchanged}
+use Rattle.amr_tables.specs.Numbered.{Numbered, shown, has_place, KeepsPlaces, SamePlaces}
 use Rattle.amr_indexes.specs.RuleSources.{AllArrived, IsFollowed}
 
 pub nothing_arrived : (t : Numbered LabelSet Alert) (arrived : List LabelSet) → t.numbers ≡ [] → AllArrived t arrived
@@ -58,20 +57,3 @@ module _ (t u : Numbered LabelSet Alert) (arrived : List LabelSet) (is : IsFollo
     stored = stored_set t u is.stored (keeps t u same) k alert (subst IsTrue (sym (same k)) at) shows;
     arrived = arrived_same t u arrived is.arrived same;
   }
-
-  followed_same : SamePlaces label_set_cmp t u → shown label_set_cmp u ≡ shown label_set_cmp t → IsFollowed u arrived
-  followed_same same shows = record {
-    stored = stored_same t u is.stored (keeps t u same) shows;
-    arrived = arrived_same t u arrived is.arrived same;
-  }
-
-  -- an alert is set or removed at a place, unless that fails
-  pub followed_changed : {X E : Type 0} (r : Result X E) (k : LabelSet) (alert : Option Alert) → SamePlaces label_set_cmp t u → IsTrue (has_place label_set_cmp t k)
-      → OnOk r (shown label_set_cmp u ≡ set (shown label_set_cmp t) k alert) → OnErr r (IsUnchanged label_set_cmp t u) → IsFollowed u arrived
-  followed_changed (Ok x) k alert same at shows err = followed_set k alert same at shows
-  followed_changed (Err e) k alert same at shows err = followed_same same err.0
-
--- what a change enters follows what the table shows and what is entered
-pub entry_same : (a b : Numbered LabelSet Alert) (k : LabelSet) → shown label_set_cmp b ≡ shown label_set_cmp a → SameEntered label_set_cmp a b → entry_of label_set_cmp b k ≡ entry_of label_set_cmp a k
-unfolding entry_of
-entry_same a b k shows same = λ i. cond (same k i) None (Some (k, get (shows i) k))

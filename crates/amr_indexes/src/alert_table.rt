@@ -1,12 +1,12 @@
 //! The stored alerts by label set, with the label sets that can be sources of inhibition rules.
 //! `timetable.rt` changes the table; inhibition asks it for a rule's sources. It neither merges
 //! alerts nor decides when one is removed.
-ghost use Rattle.std.specs.Prelude.{◌≡◌, ◌<◌, [], None, Some, IsTrue, is_some, OnOk, OnErr, IfOk};
+ghost use Rattle.std.specs.Prelude.{◌≡◌, [], None, OnOk, OnErr, IfOk};
 ghost use Rattle.std.specs.Option.{option_copied};
 ghost use Rattle.amr_labels.specs.Labels.{label_set_cmp};
 ghost use Rattle.amr_labels.specs.Map as map;
 ghost use Rattle.amr_tables.specs.Places.{present};
-ghost use Rattle.amr_tables.specs.Numbered.{shown, has_place, number_of, next_number, entry_of, Enters, KeepsPlaces, SamePlaces, SameEntered, NoneEntered, IsUnchanged, IsNumber, IsSetAt, GetsNumber, GrowsBy, HasPlaces, places_for};
+ghost use Rattle.amr_tables.specs.Numbered.{shown, number_of, next_number, EntersAt, KeepsPlaces, SamePlaces, SameEntered, NoneEntered, IsMarkOf, IsNumber, IsSetAt, IsValueOf, GetsNumber};
 ghost use Rattle.amr_rules.specs.Muting.{sources_of};
 ghost use Rattle.amr_indexes.specs.RuleSources.{AllArrived, pairs_of, stored_of};
 ghost use Rattle.amr_labels.specs.Set as set;
@@ -15,7 +15,7 @@ use crate::rule_source::RuleSources;
 use amr_labels::{LabelMap, Labels};
 use amr_rules::{Alert, AlertStore, is_agreeing};
 use amr_stated::InhibitRule;
-use amr_tables::{Journal, Keyed, Values, change_found};
+use amr_tables::{Keyed, Values};
 use std::alloc::{AllocError, Global};
 use std::marker::Model;
 
@@ -117,41 +117,18 @@ impl AlertTable {
         self.sources.forget_places();
     }
 
-    /// Sets or removes the alert with these labels, given the number of their place, and marks the
-    /// place as entered. Returns the entry that the open record needs, and leaves room for it there.
-    /// It doesn't look for the place. If memory runs out, no alert changes.
-    pub fn change_found<E>(
-        &mut self,
-        journal: &mut Journal<E>,
-        labels: &Labels,
-        number: usize,
-        alert: Option<Alert>,
-    ) -> Result<Option<(Labels, Option<Alert>)>, AllocError>
-        requires { number_of label_set_cmp self.old labels.now ≡ Some number }
-        ensures entry { IfOk result (λ entry. entry ≡ entry_of label_set_cmp self.old labels.now) }
-        ensures shown { OnOk result (shown label_set_cmp self.new
-            ≡ map.set (shown label_set_cmp self.old) labels.now alert) }
-        ensures entered { OnOk result (Enters label_set_cmp self.old self.new labels.now) }
-        ensures err { OnErr result (IsUnchanged label_set_cmp self.old self.new) }
-        ensures keys { self.new.numbers ≡ self.old.numbers }
-        ensures room { IfOk result (λ entry. IsTrue (is_some entry) → 0 < journal.new.entry_room) }
-        ensures closed { journal.new.closed ≡ journal.old.closed }
-        ensures current { journal.new.current ≡ journal.old.current }
-        ensures record_room { journal.new.record_room ≡ journal.old.record_room }
-    {
-        change_found(&mut self.alerts, journal, labels, Some(number), alert)
-    }
-
-    /// Sets or removes the alert with these labels, given the number of their place, and returns the
-    /// former one. It takes no memory.
-    pub fn displace_at(&mut self, number: usize, alert: Option<Alert>) -> Option<Alert>
+    /// Sets or removes the alert of the label set with a number, and marks its place as entered.
+    /// Returns the former alert, and whether the place was marked before. It takes no memory.
+    pub fn exchange_at(&mut self, number: usize, alert: Option<Alert>) -> (Option<Alert>, bool)
         requires { IsNumber label_set_cmp self.old number }
+        ensures answer { IsValueOf label_set_cmp self.old number result.0 }
+        ensures was_entered { IsMarkOf label_set_cmp self.old number result.1 }
         ensures shown { IsSetAt label_set_cmp self.old number alert self.new }
         ensures places { SamePlaces label_set_cmp self.old self.new }
-        ensures entered { SameEntered label_set_cmp self.old self.new }
+        ensures entered { EntersAt label_set_cmp self.old number self.new }
         ensures keys { self.new.numbers ≡ self.old.numbers }
     {
-        self.alerts.displace_at(number, alert)
+        self.alerts.exchange_at(number, alert)
     }
 
     /// Makes a place for this label set, which has none, and adds it to the sources.

@@ -1,12 +1,12 @@
 //! The silences by id, with what is known of the label sets that flushes asked about: the periods
 //! of the silences that match them. `store.rt` changes the table and asks it which silence mutes.
-ghost use Rattle.std.specs.Prelude.{◌≡◌, ◌<◌, ◌≤◌, ℕ, List, IsTrue, [], is_some, OnOk, OnErr, IfOk, IfSome};
+ghost use Rattle.std.specs.Prelude.{◌≡◌, ◌<◌, ◌≤◌, ℕ, List, [], Some, is_some, OnOk, IfOk, IfSome};
 ghost use Rattle.std.specs.Ordering.{nat_cmp};
 ghost use Rattle.amr_labels.specs.Map as map;
 ghost use Rattle.amr_rules.specs.Muting.{is_silenced, silencer_of};
 ghost use Rattle.amr_rules.specs.SilencePeriods.{silence_periods, silence_rows, silenced_in, unexpired};
 ghost use Rattle.amr_rules.specs.Silences.{Silences};
-ghost use Rattle.amr_tables.specs.Numbered.{shown, has_place, entry_of, Enters, GrowsBy, KeepsPlaces, SamePlaces, SameEntered, NoneEntered, IsUnchanged, HasPlaces, places_for};
+ghost use Rattle.amr_tables.specs.Numbered.{shown, number_of, is_entered, Enters, KeepsPlaces, SamePlaces, SameEntered, NoneEntered};
 
 use crate::known_periods::KnownPeriods;
 use crate::silence_change::SilenceChange;
@@ -18,7 +18,7 @@ use amr_rules::{
     Silence, SilencePeriod, SilenceRow, periods_at, silence_periods, silence_rows, silenced_by,
     silenced_in, unexpired,
 };
-use amr_tables::{Journal, Keyed, change_found};
+use amr_tables::Keyed;
 use amr_time::Moment;
 use std::alloc::{AllocError, Global};
 use std::marker::Model;
@@ -95,8 +95,6 @@ impl SilenceTable {
     pub fn new(alloc: Global) -> SilenceTable
         ensures shown { shown nat_cmp result ≡ map.empty }
         ensures entered { NoneEntered nat_cmp result }
-        ensures keys { result.numbers ≡ [] }
-        ensures enough { HasPlaces nat_cmp result }
     {
         SilenceTable {
             alloc,
@@ -373,57 +371,38 @@ impl SilenceTable {
         self.silences.clear_entered();
     }
 
-    /// Sets or removes the silence with this id. It makes a place for it and marks the place as
-    /// entered, if need be. Returns the entry that the open record needs, and leaves room for it
-    /// there. If memory runs out, no silence changes.
-    pub fn change<E>(
-        &mut self,
-        journal: &mut Journal<E>,
-        id: &SilenceId,
-        silence: Option<Silence>,
-    ) -> Result<Option<(SilenceId, Option<Silence>)>, AllocError>
-        ensures entry { IfOk result (λ entry. entry ≡ entry_of nat_cmp self.old id.now) }
-        ensures shown { OnOk result (shown nat_cmp self.new
-            ≡ map.set (shown nat_cmp self.old) id.now silence) }
-        ensures entered { OnOk result (Enters nat_cmp self.old self.new id.now) }
-        ensures made { OnOk result (IsTrue (has_place nat_cmp self.new id.now)) }
-        ensures err { OnErr result (IsUnchanged nat_cmp self.old self.new) }
-        ensures keys { GrowsBy nat_cmp
-            (places_for nat_cmp self.old id.now) self.old self.new }
-        ensures enough { OnOk result (HasPlaces nat_cmp self.new) }
+    /// Returns the number of a silence's place. Makes the place if there is none, and room to note
+    /// its next change.
+    pub fn place(&mut self, id: &SilenceId) -> Result<usize, AllocError>
+        ensures number { IfOk result (λ number. number_of nat_cmp self.new id.now ≡ Some number) }
+        ensures shown { shown nat_cmp self.new ≡ shown nat_cmp self.old }
+        ensures entered { SameEntered nat_cmp self.old self.new }
         ensures places { KeepsPlaces nat_cmp self.old self.new }
-        ensures room { IfOk result (λ entry. IsTrue (is_some entry) → 0 < journal.new.entry_room) }
-        ensures closed { journal.new.closed ≡ journal.old.closed }
-        ensures current { journal.new.current ≡ journal.old.current }
-        ensures record_room { journal.new.record_room ≡ journal.old.record_room }
     {
-        self.unexpired = None;
         // Room for this change and for its undoing. Without room everything known is forgotten.
         drop(self.changes.reserve(2));
-        let noted = SilenceChange::new(id, silence.as_ref());
-        let number = self.silences.number_of(id);
-        let entry = change_found(&mut self.silences, journal, id, number, silence)?;
-        let asked = &mut self.asked_ahead;
-        note_change(
-            self.alloc,
-            &mut self.known,
-            &mut self.places,
-            &mut self.changes,
-            asked,
-            noted,
-        );
-        Ok(entry)
+        self.silences.make_place(*id)?;
+        match self.silences.number_of(id) {
+            Some(number) => Ok(number),
+            None => unreachable!(),
+        }
     }
 
-    /// Restores the silence with this id, or its absence, and drops the present one. It takes no
+    /// Sets or removes the silence with this id, given the number of its place, and marks the place
+    /// as entered. Returns the former silence, and whether the place was marked before. It takes no
     /// memory.
-    pub fn put_back(&mut self, id: &SilenceId, silence: Option<Silence>)
-        requires { IsTrue (has_place nat_cmp self.old id.now) }
+    pub fn exchange_at(
+        &mut self,
+        id: &SilenceId,
+        number: usize,
+        silence: Option<Silence>,
+    ) -> (Option<Silence>, bool)
+        requires { number_of nat_cmp self.old id.now ≡ Some number }
+        ensures answer { result.0 ≡ map.get (shown nat_cmp self.old) id.now }
+        ensures was_entered { result.1 ≡ is_entered nat_cmp self.old id.now }
         ensures shown { shown nat_cmp self.new ≡ map.set (shown nat_cmp self.old) id.now silence }
         ensures places { SamePlaces nat_cmp self.old self.new }
-        ensures entered { SameEntered nat_cmp self.old self.new }
-        ensures keys { self.new.numbers ≡ self.old.numbers }
-        ensures enough { HasPlaces nat_cmp self.new }
+        ensures entered { Enters nat_cmp self.old self.new id.now }
     {
         self.unexpired = None;
         let noted = SilenceChange::new(id, silence.as_ref());
@@ -436,11 +415,11 @@ impl SilenceTable {
             asked,
             noted,
         );
-        drop(self.silences.displace(id, silence));
+        self.silences.exchange_at(number, silence)
     }
 }
 
-/// Notes that a silence is about to change. Forgets all that is known of label sets if there have
+/// Notes that a silence changes. Forgets all that is known of label sets if there have
 /// been many changes, or if there is no room for one more. It takes no memory.
 fn note_change(
     alloc: Global,

@@ -1,5 +1,7 @@
 pub mod Asking
 pub mod Finds
+pub mod WithoutGroups
+pub mod BetweenCharacters
 pub mod Remembered
 pub mod BuiltPatterns
 pub mod MatcherRuns

@@ -1,4 +1,5 @@
 pub mod Patterns
+pub mod Searches
 pub mod Questions
 pub mod Matchers
 pub mod Comparisons

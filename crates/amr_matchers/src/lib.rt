@@ -13,6 +13,8 @@ mod matchers;
 mod parse;
 mod pattern;
 mod patterns;
+mod search;
+mod ungrouped;
 
 pub use answers::Answers;
 pub use matcher::Matcher;

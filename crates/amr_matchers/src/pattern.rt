@@ -2,12 +2,13 @@
 //! refuses makes no matcher.
 ghost use Rattle.std.specs.Prelude.{◌≡◌, ◌≤◌, ◌^◌, length, IfOk, IfSome, IfNone, IsErrOf, OnOk};
 ghost use Rattle.amr_matchers.specs.Candidates.{kept_where, found_or_not};
-ghost use Rattle.regex.specs.Strings.{matcher_pattern};
-ghost use Rattle.amr_matchers.specs.Patterns.{pattern_matches, IsSearchFor, MayRefuse};
+ghost use Rattle.amr_matchers.specs.Patterns.{pattern_matches, MayRefuse};
+ghost use Rattle.amr_matchers.specs.Searches.{IsFoundAs, search_pattern};
 ghost use Rattle.amr_matchers.specs.declared.pattern.MatcherError.TheVariants.{BadPattern};
 
+use crate::search::{Built, Search};
 use amr_labels::{Labels, Text, spread_of};
-use regex::{Error, Matcher as Search, Regex, RegexBuilder};
+use regex::{Error, RegexBuilder};
 use std::alloc::{AllocError, AllocFailed, Global};
 use std::marker::Model;
 use std::{error, fmt};
@@ -58,7 +59,7 @@ impl<T: Drop> From<AllocFailed<T>> for MatcherError {
 #[derive(Drop)]
 pub struct Pattern {
     text: Text,
-    regex: Regex,
+    built: Built,
     /// A number made of the text, by which remembered answers are spread out. Contracts don't see
     /// it.
     spread: usize,
@@ -66,13 +67,13 @@ pub struct Pattern {
 
 impl Model for Pattern {
     ghost use Rattle.std.specs.Prelude.{List, ℕ};
-    ghost use Rattle.amr_matchers.specs.Patterns.{IsBuiltFrom};
+    ghost use Rattle.amr_matchers.specs.Searches.{IsFoundAs, built_pattern};
 
     ghost Value = { List ℕ };
 
     ghost view = { λ pattern. pattern.text };
 
-    ghost invariant = { λ pattern. IsBuiltFrom pattern.regex pattern.text };
+    ghost invariant = { λ pattern. IsFoundAs (built_pattern pattern.built) pattern.text };
 }
 
 impl Pattern {
@@ -94,7 +95,7 @@ impl Pattern {
         match builder.build(alloc) {
             Ok(regex) => Ok(Some(Pattern {
                 text: text.clone()?,
-                regex,
+                built: Built::new(alloc, regex, most)?,
                 spread: spread_of(text.as_str()),
             })),
             Err(Error::CompiledTooBig) => Ok(None),
@@ -130,7 +131,7 @@ impl Pattern {
         ensures { OnOk result (marks.new
             ≡ kept_where (found_or_not negated self.now) name.now label_sets.now marks.old) }
     {
-        let mut search = self.regex.matcher(alloc)?;
+        let mut search = self.built.search(alloc)?;
         self.ask_each(&mut search, name, negated, label_sets, marks);
         Ok(())
     }
@@ -144,7 +145,7 @@ impl Pattern {
         label_sets: &[Labels],
         marks: &mut [bool],
     )
-        requires search { IsSearchFor search.old self.now }
+        requires search { IsFoundAs (search_pattern search.old) self.now }
         requires marks { length marks.old ≡ length label_sets.now }
         ensures { marks.new
             ≡ kept_where (found_or_not negated self.now) name.now label_sets.now marks.old }
@@ -155,11 +156,11 @@ impl Pattern {
     }
 
     /// Returns whether the pattern matches the whole value, or whether it doesn't if `negated`.
-    #[tactic(auto, unfolding(crate::specs::Patterns::IsSearchFor))]
+    #[tactic(auto, unfolding(crate::specs::Searches::IsFoundAs))]
     fn passes(&self, search: &mut Search<'_>, negated: bool, value: &str) -> bool
-        requires { IsSearchFor search.old self.now }
+        requires { IsFoundAs (search_pattern search.old) self.now }
         ensures found { result ≡ found_or_not negated self.now value.now }
-        ensures same { matcher_pattern search.new ≡ matcher_pattern search.old }
+        ensures same { search_pattern search.new ≡ search_pattern search.old }
     {
         let found = search.is_match(value);
         if negated { !found } else { found }
@@ -169,7 +170,7 @@ impl Pattern {
     pub fn matches(&self, alloc: Global, value: &str) -> Result<bool, AllocError>
         ensures { IfOk result (λ found. found ≡ pattern_matches self.now value.now) }
     {
-        let mut matcher = self.regex.matcher(alloc)?;
-        Ok(matcher.is_match(value))
+        let mut search = self.built.search(alloc)?;
+        Ok(search.is_match(value))
     }
 }

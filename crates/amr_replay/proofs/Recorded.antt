@@ -5,7 +5,7 @@ use Rattle.std.proofs.Common.{refl, sym, ap, subst, ◌∙◌, arith, length-tak
 use Rattle.amr_stated.specs.Config.{Config}
 use Rattle.amr_posts.specs.Reasons.{Reason}
 use Rattle.amr_actions.specs.Events.{Event, is_label}
-use Rattle.amr_state.specs.declared.displaced.Displaced.{Displaced}
+use Rattle.amr_state.specs.declared.change.Change.{Change}
 use Rattle.amr_state.specs.State.{State, start}
 use Rattle.amr_state.specs.Records.{put_back}
 use Rattle.amr_state.specs.Steps.{Steps}
@@ -20,7 +20,7 @@ use Rattle.amr_replay.specs.Records.{IsRecord, AreRecords, HasEntries}
 use Rattle.amr_replay.proofs.Places.{front, item}
 
 abbrev Records : Type 0
-Records = List (List Displaced)
+Records = List (List Change)
 
 -- ---- from any state
 
@@ -30,13 +30,13 @@ length-records s [] (r ∷ rs) h = absurd h
 length-records s (e ∷ es) [] h = absurd h
 length-records s (e ∷ es) (r ∷ rs) h = ap suc (length-records (after_event s e) es rs h.1)
 
-records-push : (s : State) (es : List Event) (rs : Records) (e : Event) (r : List Displaced) → AreRecords s es rs → IsRecord (after_events s es) e r → AreRecords s (es ++ e ∷ []) (rs ++ r ∷ [])
+records-push : (s : State) (es : List Event) (rs : Records) (e : Event) (r : List Change) → AreRecords s es rs → IsRecord (after_events s es) e r → AreRecords s (es ++ e ∷ []) (rs ++ r ∷ [])
 records-push s [] [] e r h is = (is, tt)
 records-push s [] (q ∷ rs) e r h is = absurd h
 records-push s (d ∷ es) [] e r h is = absurd h
 records-push s (d ∷ es) (q ∷ rs) e r h is = (h.0, records-push (after_event s d) es rs e r h.1 is)
 
-records-pop : (s : State) (es : List Event) (rs : Records) (e : Event) (r : List Displaced) → AreRecords s (es ++ e ∷ []) (rs ++ r ∷ []) → AreRecords s es rs
+records-pop : (s : State) (es : List Event) (rs : Records) (e : Event) (r : List Change) → AreRecords s (es ++ e ∷ []) (rs ++ r ∷ []) → AreRecords s es rs
 records-pop s [] [] e r h = tt
 records-pop s [] (q ∷ []) e r h = absurd h.1
 records-pop s [] (q ∷ x ∷ rs) e r h = absurd h.1
@@ -57,7 +57,7 @@ record_at (suc n) s (d ∷ es) (r ∷ rs) zero e m h before at is =
 record_at (suc n) s (d ∷ es) (r ∷ rs) (suc k) e m h before at is = record_at n (after_event s d) es rs k e m h.1 (omega (arith, before)) at is
 
 -- what the engine's contract gives of an event's record
-is_record : (before after : Steps) (e : Event) (o : code.Outcome) (r : List Displaced) → outcome_view o ≡ outcome_of before.state e → after.state ≡ after_event before.state e → RecordOf before e after o r → IsRecord before.state e r
+is_record : (before after : Steps) (e : Event) (o : code.Outcome) (r : List Change) → outcome_view o ≡ outcome_of before.state e → after.state ≡ after_event before.state e → RecordOf before e after o r → IsRecord before.state e r
 is_record before after e o r told is kept = record {
   back = ap (put_back r) (sym is) ∙ kept.back;
   empty = λ reason refused. entryless o reason (told ∙ refused) kept.empty;
@@ -86,7 +86,7 @@ pub label_has_none : (s : State) (e : Event) (m : ℕ) → HasEntries s e m → 
 label_has_none s e m has label = sym has.2 ∙ ap length (has.1.label label)
 
 -- one event on
-pub records_next : (c : Config) (es : List Event) (n : ℕ) (before after : Steps) (e : Event) (o : code.Outcome) (r : List Displaced) → AreRecords (start c) (take n es) before.records → before.state ≡ state_at c es n
+pub records_next : (c : Config) (es : List Event) (n : ℕ) (before after : Steps) (e : Event) (o : code.Outcome) (r : List Change) → AreRecords (start c) (take n es) before.records → before.state ≡ state_at c es n
     → slice_get es n ≡ Some e → outcome_view o ≡ outcome_of before.state e → after.state ≡ after_event before.state e → RecordOf before e after o r → AreRecords (start c) (take (n + 1) es) after.records
 records_next c es n before after e o r h here at told is kept =
     let one : IsRecord (state_at c es n) e r = subst (λ s. IsRecord s e r) here (is_record before after e o r told is kept) in
@@ -94,7 +94,7 @@ records_next c es n before after e o r h here at told is kept =
     subst (AreRecords (start c) (take (n + 1) es)) (sym kept.added) (subst (λ x. AreRecords (start c) x (before.records ++ r ∷ [])) (sym (front es n e at)) all)
 
 -- one event back
-pub records_last : (c : Config) (es : List Event) (m n : ℕ) (rs rs' : Records) (last : List Displaced) → m ≡ n + 1 → m ≤ length es → AreRecords (start c) (take m es) rs → rs ≡ rs' ++ last ∷ [] → AreRecords (start c) (take n es) rs'
+pub records_last : (c : Config) (es : List Event) (m n : ℕ) (rs rs' : Records) (last : List Change) → m ≡ n + 1 → m ≤ length es → AreRecords (start c) (take m es) rs → rs ≡ rs' ++ last ∷ [] → AreRecords (start c) (take n es) rs'
 records_last c es m n rs rs' last one within h popped =
     let e = item es n (omega (arith, one, within)) in
     let more : AreRecords (start c) (take (n + 1) es) (rs' ++ last ∷ []) = subst (λ k. AreRecords (start c) (take k es) (rs' ++ last ∷ [])) one (subst (AreRecords (start c) (take m es)) popped h) in

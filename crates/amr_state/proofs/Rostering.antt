@@ -1,6 +1,6 @@
 -- The members of groups by number, how a change of one of them goes on, and the members of a group.
 use Rattle.std.proofs.Common.{◌≡◌, ◌≢◌, ◌≤◌, ◌<◌, ◌+◌, ℕ, zero, suc, Bool, true, false, IsTrue, cond, ◌||◌, ◌&&◌, T, List, [], ◌∷◌, ◌++◌, Option, Some, None, is_some, map, length, get_or, drop, Bor, refl, sym, ap, subst, ◌∙◌, arith}
-use Rattle.std.specs.Prelude.{◌==◌, option_map, if◌then◌else◌, nat_lt, Result, Ok, Err, OnErr, IfSome, IsPermutation, IsSorted, slice_set}
+use Rattle.std.specs.Prelude.{◌==◌, option_map, if◌then◌else◌, nat_lt, IfSome, IsPermutation, IsSorted, slice_set}
 use Rattle.std.specs.Option.{option_and_then}
 use Rattle.std.specs.List.{All, AllByRecursion, IsDistinct, list_any, filter, filter_map, cons_option}
 use Rattle.std.specs.List.Sorted.{IsStrictlySortedBy}
@@ -23,15 +23,14 @@ use Rattle.amr_rules.specs.declared.alert.Alert.{Alert}
 use Rattle.amr_tables.specs.Places.{value_at}
 use Rattle.amr_tables.specs.Laws.{at_law, others_law}
 use Rattle.amr_tables.specs.Members.{has}
-use Rattle.amr_tables.specs.Numbered.{Numbered, shown, is_entered, entry_of, number_of, has_place, next_number, key_at, GetsNumber, IsNumber, IsNumbering}
+use Rattle.amr_tables.specs.Numbered.{Numbered, shown, number_of, has_place, next_number, key_at, GetsNumber, IsNumber, IsNumbering}
 use Rattle.amr_tables.specs.Grouped.{Grouped, group_at, AreNumbersOf}
 use Rattle.amr_tables.proofs.Naming.{key_at_number}
 use Rattle.amr_tables.proofs.Sorting.{same_from_members}
 use Rattle.amr_tables.proofs.Counting.{strictly}
 use Rattle.amr_state.specs.declared.route_labels.RouteLabels.{RouteLabels}
-use Rattle.amr_state.specs.declared.membership.Membership.{Membership}
 use Rattle.amr_state.specs.State.{on_route, route_labels_cmp, route_labels_cmp_total, route_labels_cmp-IsAntisymmetric, group_key, members_among}
-use Rattle.amr_state.specs.Rostered.{membership_of, in_group, member_entry_of, labels_of_members, labels_of_numbered, numbered_labels, with_alert, group_number, IsNumbered, IsGrouped}
+use Rattle.amr_state.specs.Rostered.{labels_of_members, labels_of_numbered, numbered_labels, with_alert, group_number, IsNumbered, IsGrouped}
 use Rattle.amr_state.proofs.Scheduling.{not_none, numbered_same, numbered_set, numbered_placed, none_numbered}
 
 -- ---- truth values
@@ -543,44 +542,3 @@ numbered_among a route members i member less is all =
     of_each (x ∷ xs) h =
         All-cons (λ (y : Bor LabelSet × ℕ). IsNumbered a route (numbered_labels y)) x xs (All-head (IsNumbered a route) (numbered_labels x) (map numbered_labels xs) h)
         (of_each xs (All-tail (IsNumbered a route) (numbered_labels x) (map numbered_labels xs) h))
-
--- ---- entries
-
-nothing : {A B : Type 0} (f : A → B) (b : Bool) (x : A) → None ≡ option_map f (cond b None (Some x)) → IsTrue b
-nothing f true x e = refl
-nothing f false x e = cc
-
-something : {A B : Type 0} (f : A → B) (b : Bool) (x : A) (y : B) → Some y ≡ option_map f (cond b None (Some x)) → y ≡ f x
-something f true x y e = cc
-something f false x y e = cc
-
--- nothing is entered if the place is entered already
-pub member_entry-none : (config : Config) (placements : Numbered RouteLabels Alert) (route_labels : RouteLabels) → None ≡ member_entry_of config placements route_labels → IsTrue (is_entered route_labels_cmp placements route_labels)
-unfolding entry_of
-member_entry-none config placements route_labels e =
-    nothing {B = Membership × Option Alert} (λ (entry : RouteLabels × Option Alert). (membership_of config entry.0, entry.1)) (is_entered route_labels_cmp placements route_labels) (route_labels, get (shown route_labels_cmp placements) route_labels) e
-
--- else the member with what is there
-pub member_entry-some : (config : Config) (placements : Numbered RouteLabels Alert) (route_labels : RouteLabels) (entry : Membership × Option Alert) → Some entry ≡ member_entry_of config placements route_labels
-    → entry ≡ (membership_of config route_labels, get (shown route_labels_cmp placements) route_labels)
-unfolding entry_of
-member_entry-some config placements route_labels entry e =
-    something {B = Membership × Option Alert} (λ (entry : RouteLabels × Option Alert). (membership_of config entry.0, entry.1)) (is_entered route_labels_cmp placements route_labels) (route_labels, get (shown route_labels_cmp placements) route_labels) entry e
-
--- making a place enters nothing
-pub same_entry : (a b : Numbered RouteLabels Alert) (k : RouteLabels) → shown route_labels_cmp b ≡ shown route_labels_cmp a → is_entered route_labels_cmp b k ≡ is_entered route_labels_cmp a k → entry_of route_labels_cmp b k ≡ entry_of route_labels_cmp a k
-unfolding entry_of
-same_entry a b k shows marks = λ i. cond (marks i) None (Some (k, get (shows i) k))
-
-pub on_err : {T E : Type 0} (r : Result T E) (P : Type 0) → P → OnErr r P
-on_err (Ok x) P p = tt
-on_err (Err e) P p = p
-
--- what a change of a place enters is what it enters of the member there
-pub entry_is : (config : Config) (placements : Numbered RouteLabels Alert) (group route_labels : RouteLabels) (entry : Option (RouteLabels × Option Alert)) → group ≡ group_key config route_labels → entry ≡ entry_of route_labels_cmp placements route_labels
-    → option_map (λ entry. (in_group group entry.0, entry.1)) entry ≡ member_entry_of config placements route_labels
-unfolding entry_of
-entry_is config placements group route_labels entry is same =
-    (λ i. option_map {U = Membership × Option Alert} (λ (entry : RouteLabels × Option Alert). (in_group (is i) entry.0, entry.1)) (same i))
-    ∙ elim (is_entered route_labels_cmp placements route_labels) as (λ b. option_map {U = Membership × Option Alert} (λ (entry : RouteLabels × Option Alert). (in_group (group_key config route_labels) entry.0, entry.1)) (cond b None (Some (route_labels, get (shown route_labels_cmp placements) route_labels)))
-    ≡ option_map {U = Membership × Option Alert} (λ (entry : RouteLabels × Option Alert). (membership_of config entry.0, entry.1)) (cond b None (Some (route_labels, get (shown route_labels_cmp placements) route_labels)))) [ true ↦ refl | false ↦ refl ]

@@ -19,7 +19,7 @@ use Rattle.amr_rules.specs.Muting.{Alerts}
 use Rattle.amr_time.specs.Time.{Moment}
 use Rattle.amr_tables.specs.Laws.{at_law, others_law}
 use Rattle.amr_tables.specs.Places.{value_at}
-use Rattle.amr_tables.specs.Numbered.{Numbered, shown, has_place, number_of, next_number, key_with, key_at, rank_of, entry_of, KeepsPlaces, SameEntered, GetsNumber, IsNumbering}
+use Rattle.amr_tables.specs.Numbered.{Numbered, shown, has_place, number_of, next_number, key_with, key_at, rank_of, KeepsPlaces, GetsNumber, IsNumbering}
 use Rattle.amr_tables.specs.Earliest.{Earliest, moment_at, IsTournament, IsEarliest}
 use Rattle.amr_tables.proofs.Playing.{tournament_agrees}
 use Rattle.amr_tables.specs.Members.{has}
@@ -255,10 +255,6 @@ module _ {K V : Type 0} (R : K → K → Ordering) (t u : Numbered K V) where
 
   pub ranked : u.numbers ≡ t.numbers → (e : Earliest) → IsTournament (rank_of R t) e → IsTournament (rank_of R u) e
   ranked numbers e tournament = subst (λ ns. IsTournament (λ a b. option_cmp R (key_with ns a) (key_with ns b)) e) (sym numbers) tournament
-
-  pub entry_same : shown R u ≡ shown R t → SameEntered R t u → (k : K) → entry_of R u k ≡ entry_of R t k
-  unfolding entry_of
-  entry_same shows entered k = λ i. if entered k i then None else Some (k, get (shows i) k)
 
   -- a key that got a number has it
   pub got : IsTotalOrder R → (k : K) (n : ℕ) → GetsNumber R t u k n → number_of R u k ≡ Some n

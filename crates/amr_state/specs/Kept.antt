@@ -1,6 +1,6 @@
 -- The state with its journal.
 use Rattle.std.specs.Prelude.{ℕ, List, [], length, ◌+◌, ◌≤◌}
-use Rattle.amr_state.specs.declared.displaced.Displaced.{Displaced}
+use Rattle.amr_state.specs.declared.change.Change.{Change}
 use Rattle.amr_state.specs.State.{State}
 use Rattle.amr_state.specs.Records.{put_back}
 
@@ -8,8 +8,8 @@ use Rattle.amr_state.specs.Records.{put_back}
 -- records that there is room for.
 pub record Kept : Type 0 where
   pub state : State
-  pub current : List Displaced
-  pub records : List (List Displaced)
+  pub current : List Change
+  pub records : List (List Change)
   pub room : ℕ
 
 -- the state with the open record undone

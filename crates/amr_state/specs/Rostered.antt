@@ -6,20 +6,11 @@ use Rattle.amr_labels.specs.Map.{Map, get}
 use Rattle.amr_labels.specs.Labels.{LabelSet}
 use Rattle.amr_stated.specs.Config.{Config}
 use Rattle.amr_rules.specs.declared.alert.Alert.{Alert}
-use Rattle.amr_tables.specs.Numbered.{Numbered, shown, entry_of, has_place, number_of, IsNumber}
+use Rattle.amr_tables.specs.Numbered.{Numbered, shown, has_place, number_of, IsNumber}
 use Rattle.amr_tables.specs.Grouped.{Grouped, group_at}
 use Rattle.amr_state.specs.declared.route_labels.RouteLabels.{RouteLabels}
-use Rattle.amr_state.specs.declared.membership.Membership.{Membership}
 use Rattle.amr_state.specs.State.{on_route, route_labels_cmp, group_key}
 use Rattle.amr_state.specs.Timed.{AreNumbered}
-
--- the membership of a label set on a route: its group, and its labels
-abbrev pub membership_of : Config → RouteLabels → Membership
-membership_of config route_labels = record { group = group_key config route_labels; labels = route_labels.labels }
-
--- the membership of the same label set in a given group
-abbrev pub in_group : RouteLabels → RouteLabels → Membership
-in_group group route_labels = record { group = group; labels = route_labels.labels }
 
 -- the label sets of members
 abbrev pub labels_of_members : List (LabelSet × Alert) → List LabelSet
@@ -59,8 +50,3 @@ numbered_labels member = (member.0.now, member.1)
 
 abbrev pub labels_of_numbered : List (Bor LabelSet × ℕ) → List LabelSet
 labels_of_numbered members = map (λ member. member.0.now) members
-
--- the entry for a change of a member: the membership with its present alert, unless the place is
--- entered already
-abbrev pub member_entry_of : Config → Numbered RouteLabels Alert → RouteLabels → Option (Membership × Option Alert)
-member_entry_of config placements route_labels = option_map (λ entry. (membership_of config entry.0, entry.1)) (entry_of route_labels_cmp placements route_labels)

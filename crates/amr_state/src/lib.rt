@@ -3,7 +3,7 @@
 //! it through `Store` and lists it through `views`. No rule about what an event does is here.
 #![tactic(auto)]
 
-mod displaced;
+mod change;
 mod due;
 mod logging;
 mod members;
@@ -17,7 +17,7 @@ mod tables;
 mod timetable;
 pub mod views;
 
-pub use displaced::Displaced;
+pub use change::Change;
 pub use due::{Due, Kind, next_due};
 pub use members::{Member, members_of};
 pub use membership::Membership;

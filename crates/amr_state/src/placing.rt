@@ -9,6 +9,8 @@ ghost use Rattle.amr_time.specs.Time.{latest_read};
 ghost use Rattle.amr_state.specs.State.{on_route, group_key, timer_with, place_on, place};
 ghost use Rattle.amr_state.specs.Kept.{GrownBy, undone};
 
+use crate::change::Change;
+use crate::membership::Membership;
 use crate::notification::GroupTimer;
 use crate::route_labels::RouteLabels;
 use crate::store::Store;
@@ -50,21 +52,20 @@ fn stays(before: &Option<GroupTimer>, after: &GroupTimer) -> bool
 /// posted again whose group has it already.
 fn change_timer(
     store: &mut Store,
-    group: &RouteLabels,
+    group: RouteLabels,
     before: Option<GroupTimer>,
     after: GroupTimer,
 ) -> Result<(), AllocError>
-    requires { before ≡ map.get store.old.state.timers group.now }
+    requires { before ≡ map.get store.old.state.timers group }
     ensures ok { OnOk result (store.new.state
-        ≡ record store.old.state
-        { timers = map.insert store.old.state.timers group.now after }) }
+        ≡ record store.old.state { timers = map.insert store.old.state.timers group after }) }
     ensures kept { undone store.new ≡ undone store.old }
     ensures grown { GrownBy 1 store.old store.new }
 {
     if stays(&before, &after) {
         return Ok(());
     }
-    store.set_timer(group, after)
+    store.change(Change::OfTimer(group, Some(after)))
 }
 
 /// Inserts an alert into a group, and sets the group timer.
@@ -88,12 +89,9 @@ fn place_on(
     let wait = store.config().group_wait(route);
     let before = store.timers().get(&group).copied();
     let after = timer_with(store.moment(), wait, alert, before);
-    let route_labels = RouteLabels {
-        route,
-        labels: labels.clone()?,
-    };
-    store.place_copy(&group, &route_labels, alert.clone()?)?;
-    change_timer(store, &group, before, after)
+    let member = Membership::new(&group, labels)?;
+    store.change(Change::OfMember(member, Some(alert.clone()?)))?;
+    change_timer(store, group, before, after)
 }
 
 /// Returns the group of an alert on a route.

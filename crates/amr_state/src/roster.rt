@@ -1,16 +1,16 @@
 //! The configuration in force with the members of all groups, and which member is in which group.
 //! `Store` changes it. The group of a member depends on the configuration, so both are kept
 //! together.
-ghost use Rattle.std.specs.Prelude.{◌≡◌, ◌<◌, ◌+◌, ◌++◌, [], IsTrue, Some, None, is_some, map, option_map, OnOk, OnErr, IfOk};
+ghost use Rattle.std.specs.Prelude.{◌≡◌, ◌<◌, ◌+◌, ◌++◌, [], IsTrue, Some, None, map, option_map, OnOk, IfOk};
 ghost use Rattle.amr_labels.specs.Map as map;
 ghost use Rattle.amr_config.specs.Groups.{groups_of};
 ghost use Rattle.amr_stated.specs.RuleMatches.{rule_matches};
-ghost use Rattle.amr_tables.specs.Numbered.{shown, has_place, number_of, next_number, IsNumbering, KeepsPlaces, SamePlaces, Enters, SameEntered, NoneEntered, IsUnchanged};
+ghost use Rattle.amr_tables.specs.Numbered.{shown, has_place, number_of, next_number, IsMarkOf, IsNumbering, IsSetAt, IsValueOf, KeepsPlaces, SamePlaces, EntersAt, SameEntered, NoneEntered};
 ghost use Rattle.std.specs.List.{All, filter_map, cons_option};
 ghost use Rattle.amr_state.specs.State.{member_on_route, route_labels_cmp, group_key, members_among};
-ghost use Rattle.amr_state.specs.Rostered.{in_group, member_entry_of, labels_of_members, labels_of_numbered, numbered_labels, with_alert, IsNumbered};
+ghost use Rattle.amr_state.specs.Rostered.{labels_of_members, labels_of_numbered, numbered_labels, with_alert, IsNumbered};
 
-use crate::displaced::BoxedRouter;
+use crate::change::BoxedRouter;
 use crate::members::Member;
 use crate::membership::Membership;
 use crate::route_labels::RouteLabels;
@@ -18,7 +18,7 @@ use amr_config::{Config, RouteGroup, Router};
 use amr_labels::{Labels, Listing, Shared};
 use amr_rules::Alert;
 use amr_stated::RuleMatch;
-use amr_tables::{Grouped, Journal, Keyed, change_found};
+use amr_tables::{Grouped, Keyed};
 use std::alloc::{AllocError, Global};
 use std::marker::Model;
 
@@ -166,76 +166,54 @@ impl Roster {
         self.placements.clear_entered();
     }
 
-    /// Sets or removes the member with these labels on this route, given its group. Returns the
-    /// entry that the open record needs, and leaves room for it there.
-    pub(crate) fn change_member<E>(
-        &mut self,
-        journal: &mut Journal<E>,
-        group: &RouteLabels,
-        route_labels: &RouteLabels,
-        alert: Option<Alert>,
-    ) -> Result<Option<(Membership, Option<Alert>)>, AllocError>
-        requires { group.now ≡ group_key self.old.config route_labels.now }
-        ensures entry { IfOk result (λ entry. entry
-            ≡ member_entry_of self.old.config self.old.placements route_labels.now) }
-        ensures shown { OnOk result (shown route_labels_cmp self.new.placements ≡
-            map.set (shown route_labels_cmp self.old.placements) route_labels.now alert) }
-        ensures entered { OnOk result
-            (Enters route_labels_cmp self.old.placements self.new.placements route_labels.now) }
-        ensures made { OnOk result
-            (IsTrue (has_place route_labels_cmp self.new.placements route_labels.now)) }
-        ensures known { OnOk result (IsTrue (has_place route_labels_cmp self.new.groups group.now)) }
-        ensures err { OnErr result
-            (IsUnchanged route_labels_cmp self.old.placements self.new.placements) }
+    /// Returns the number of a member's place. Makes the place if there is none, and gives the
+    /// member's group a number.
+    pub(crate) fn place_member(&mut self, member: &Membership) -> Result<usize, AllocError>
+        ensures number { IfOk result (λ number. number_of route_labels_cmp self.new.placements
+            (member_on_route member.now) ≡ Some number) }
+        ensures known { OnOk result
+            (IsTrue (has_place route_labels_cmp self.new.groups member.now.group)) }
+        ensures shown { shown route_labels_cmp self.new.placements
+            ≡ shown route_labels_cmp self.old.placements }
+        ensures entered { SameEntered route_labels_cmp self.old.placements self.new.placements }
         ensures places { KeepsPlaces route_labels_cmp self.old.placements self.new.placements }
         ensures groups { KeepsPlaces route_labels_cmp self.old.groups self.new.groups }
         ensures config { self.new.config ≡ self.old.config }
-        ensures room { IfOk result (λ entry. IsTrue (is_some entry) → 0 < journal.new.entry_room) }
-        ensures closed { journal.new.closed ≡ journal.old.closed }
-        ensures current { journal.new.current ≡ journal.old.current }
-        ensures record_room { journal.new.record_room ≡ journal.old.record_room }
     {
-        let named_group = group.clone()?;
-        let group = self.place_group(group)?;
-        let member = self.place_member(route_labels)?;
-        let in_group = if_member(&alert, group);
-        let entry = change_found(
-            &mut self.placements,
-            journal,
-            route_labels,
-            Some(member),
-            alert,
-        )?;
-        self.members.set(member, in_group);
-        Ok(member_entry(named_group, entry))
+        self.place_group(&member.group)?;
+        self.place_labels(&member.member)
     }
 
-    /// Restores a member of its group, or its absence. It takes no memory.
-    pub(crate) fn put_back_member(&mut self, member: Membership, alert: Option<Alert>)
-        requires place { IsTrue
-            (has_place route_labels_cmp self.old.placements (member_on_route member)) }
-        requires known { IsTrue (has_place route_labels_cmp self.old.groups member.group) }
-        requires group { member.group ≡ group_key self.old.config (member_on_route member) }
-        ensures shown { shown route_labels_cmp self.new.placements ≡
-            map.set (shown route_labels_cmp self.old.placements) (member_on_route member) alert }
+    /// Sets or removes a member of its group, given the number of its place, and marks the place as
+    /// entered. Returns the former alert, and whether the place was marked before. It takes no
+    /// memory.
+    pub(crate) fn displace_member(
+        &mut self,
+        number: usize,
+        member: &Membership,
+        alert: Option<Alert>,
+    ) -> (Option<Alert>, bool)
+        requires place { number_of route_labels_cmp self.old.placements
+            (member_on_route member.now) ≡ Some number }
+        requires known { IsTrue (has_place route_labels_cmp self.old.groups member.now.group) }
+        requires group { member.now.group ≡ group_key self.old.config (member_on_route member.now) }
+        ensures answer { IsValueOf route_labels_cmp self.old.placements number result.0 }
+        ensures was_entered { IsMarkOf route_labels_cmp self.old.placements number result.1 }
+        ensures shown { IsSetAt route_labels_cmp self.old.placements number alert
+            self.new.placements }
         ensures places { SamePlaces route_labels_cmp self.old.placements self.new.placements }
-        ensures entered { SameEntered route_labels_cmp self.old.placements self.new.placements }
+        ensures entered { EntersAt route_labels_cmp self.old.placements number
+            self.new.placements }
         ensures groups { self.new.groups ≡ self.old.groups }
         ensures config { self.new.config ≡ self.old.config }
     {
         let Some(group) = self.groups.number_of(&member.group) else {
             unreachable!()
         };
-        let route_labels = RouteLabels {
-            route: member.group.route,
-            labels: member.labels,
-        };
-        let Some(number) = self.placements.number_of(&route_labels) else {
-            unreachable!()
-        };
         let in_group = if_member(&alert, group);
-        let _former = self.placements.displace_at(number, alert);
+        let was = self.placements.exchange_at(number, alert);
         self.members.set(number, in_group);
+        was
     }
 
     /// Replaces the configuration, while no group has members, and returns the one before. The new
@@ -284,8 +262,8 @@ impl Roster {
         }
     }
 
-    /// Returns the number of a member's place. Makes the place if there is none.
-    fn place_member(&mut self, route_labels: &RouteLabels) -> Result<usize, AllocError>
+    /// Returns the number of the place of a label set on a route. Makes the place if there is none.
+    fn place_labels(&mut self, route_labels: &RouteLabels) -> Result<usize, AllocError>
         ensures number { IfOk result (λ number.
             number_of route_labels_cmp self.new.placements route_labels.now ≡ Some number) }
         ensures shown { shown route_labels_cmp self.new.placements
@@ -393,19 +371,4 @@ fn push_member(
         found.push((labels.clone()?, alert.clone()?))?;
     }
     Ok(())
-}
-
-/// Turns the entry of a place into the entry of a member of the group.
-fn member_entry(
-    group: RouteLabels,
-    entry: Option<(RouteLabels, Option<Alert>)>,
-) -> Option<(Membership, Option<Alert>)>
-    ensures { result ≡ option_map (λ entry. (in_group group entry.0, entry.1)) entry }
-{
-    let (route_labels, alert) = entry?;
-    let member = Membership {
-        group,
-        labels: route_labels.labels,
-    };
-    Some((member, alert))
 }

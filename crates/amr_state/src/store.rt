@@ -1,6 +1,6 @@
 //! The state of the replayed instance and its journal. The engine changes the state only through
-//! `Store`, which enters what each change displaces into the open record, so that an event can be
-//! undone. It decides nothing about alerts, groups or silences, but it asks the dedup check of
+//! `Store`, which enters for each change the one that leads back into the open record, so that an
+//! event can be undone. It decides nothing about alerts, groups or silences, but it asks the dedup check of
 //! `amr_rules` whether an entry of the notification log is due, since it finds the former entry.
 ghost use Rattle.std.specs.Prelude.{◌≡◌, ◌≤◌, ◌<◌, ◌+◌, ◌++◌, ◌∷◌, ◌==◌, [], ℕ, Option, Some, None, length, OnOk, IfOk, IfSome};
 ghost use Rattle.std.specs.Prelude.{if◌then◌else◌, is_some, option_map, slice_get};
@@ -18,11 +18,15 @@ ghost use Rattle.amr_state.specs.Dues.{next_due};
 ghost use Rattle.amr_state.specs.Logged.{is_due};
 ghost use Rattle.amr_state.specs.Kept.{GrownBy, undone};
 ghost use Rattle.amr_state.specs.Rostered.{labels_of_members};
+ghost use Rattle.amr_state.specs.Records.{changed};
+ghost use Rattle.amr_state.specs.Fitting.{FitsOne, IsAllowed};
+ghost use Rattle.amr_state.specs.Stored.{shown_by, IsEntered, IsPlaceOf, MorePlaces, NoNewMark, SameValues};
 
-use crate::displaced::{BoxedRouter, Displaced};
+use crate::change::{BoxedRouter, Change};
 use crate::due::Due;
 use crate::logging::is_due;
 use crate::members::Member;
+use crate::membership::Membership;
 use crate::notification::{GroupTimer, LogKey, Notification};
 use crate::placing::group_key;
 use crate::roster::Roster;
@@ -35,12 +39,12 @@ use amr_labels::{Labels, Listing, Shared};
 use amr_posts::SilenceId;
 use amr_rules::{Alert, LogEntry, Silence};
 use amr_stated::RuleMatch;
-use amr_tables::{Journal, Keyed, change_found};
+use amr_tables::{Journal, Keyed};
 use amr_time::{Moment, Span};
 use std::alloc::{AllocError, Global};
 use std::marker::Model;
 
-/// The state of the replayed instance. Each change enters the value that it displaces into the open
+/// The state of the replayed instance. Each change enters the one that leads back into the open
 /// record of the journal, so that the event can be undone without taking memory. A record has one
 /// entry for each place: a later change there displaces a value that the same event made. After a
 /// change of the configuration, places are entered again, so that each member is put back under the
@@ -48,21 +52,19 @@ use std::marker::Model;
 #[derive(Drop)]
 pub struct Store {
     alloc: Global,
-    moment: Moment,
     tables: Tables,
-    notes: Vec<Shared<Notification>>,
-    journal: Journal<Displaced>,
+    journal: Journal<Change>,
 }
 
 impl Model for Store {
     ghost use Rattle.std.specs.Coded.{codes};
     ghost use Rattle.amr_labels.specs.Map as map;
     ghost use Rattle.amr_state.specs.Kept.{Kept};
-    ghost use Rattle.amr_state.specs.contracts.displaced.Displaced as displaced;
+    ghost use Rattle.amr_state.specs.contracts.change.Change as change;
 
     ghost Value = { Kept };
 
-    ghost coded = { Prim.hlevel (codes, map.code, displaced.the_row.coded) };
+    ghost coded = { Prim.hlevel (codes, map.code, change.the_row.coded) };
 
     ghost use Rattle.amr_state.specs.Stored.{kept_of, IsKept};
 
@@ -80,16 +82,16 @@ impl Store {
     {
         Store {
             alloc,
-            moment: Moment::START,
             tables: Tables {
+                moment: Moment::START,
                 timetable: Timetable::new(alloc),
                 silences: SilenceTable::new(alloc),
                 roster: Roster::new(alloc, config),
                 log: Keyed::new(alloc),
+                notes: Vec::new(alloc),
                 is_moment_entered: false,
                 are_notes_entered: false,
             },
-            notes: Vec::new(alloc),
             journal: Journal::new(alloc),
         }
     }
@@ -134,17 +136,10 @@ impl Store {
         ensures kept { undone self.new ≡ undone self.old }
         ensures shorter { length self.new.current + 1 ≡ length self.old.current }
     {
+        let back = self.journal.pop();
+        let number = self.tables.find(&back);
+        drop(self.tables.displace(number, back));
         self.tables.clear_entered();
-        match self.journal.pop() {
-            Displaced::WasMoment(was) => self.moment = was,
-            Displaced::WasConfig(was) => drop(self.tables.roster.replace_config(was)),
-            Displaced::WasAlert(labels, was) => self.tables.timetable.put_back_alert(&labels, was),
-            Displaced::WasSilence(id, was) => self.tables.silences.put_back(&id, was),
-            Displaced::WasPlacement(member, was) => self.tables.roster.put_back_member(member, was),
-            Displaced::WasTimer(group, was) => self.tables.timetable.put_back_timer(&group, was),
-            Displaced::WasLogged(key, was) => drop(self.tables.log.displace(&key, was)),
-            Displaced::WasNotes(count) => self.notes.truncate(count),
-        }
     }
 
     /// Undoes all entries of the open record. It takes no memory.
@@ -173,7 +168,7 @@ impl Store {
         ensures current { self.new.current ≡ [] }
         ensures records { self.new.records ≡ [] }
     {
-        self.notes.clear();
+        self.tables.notes.clear();
     }
 
     /// Returns the number of closed records.
@@ -203,7 +198,7 @@ impl Store {
         ensures value { result ≡ self.now.state.moment }
         ensures bound { self.now.state.moment ≤ latest_read }
     {
-        self.moment
+        self.tables.moment
     }
 
     /// Returns the configuration in force.
@@ -326,7 +321,7 @@ impl Store {
     pub fn notes(&self) -> &[Shared<Notification>]
         ensures { result.now ≡ self.now.state.notes }
     {
-        self.notes.as_slice()
+        self.tables.notes.as_slice()
     }
 
     /// Returns the group of this label set on each route that takes it, by route. It computes them
@@ -350,70 +345,113 @@ impl Store {
 
     // ---- changes
 
-    /// Advances the clock to a moment.
-    pub fn set_moment(&mut self, at: Moment) -> Result<(), AllocError>
-        requires { at ≤ latest_read }
-        ensures ok { OnOk result (self.new.state ≡ record self.old.state { moment = at }) }
+    /// Makes a change, and enters the one that leads back into the open record, unless the record
+    /// has one of its place.
+    pub fn change(&mut self, change: Change) -> Result<(), AllocError>
+        requires { IsAllowed self.old.state change }
+        ensures ok { OnOk result (self.new.state ≡ changed self.old.state change) }
         ensures kept { undone self.new ≡ undone self.old }
         ensures grown { GrownBy 1 self.old self.new }
     {
-        if !self.tables.is_moment_entered {
-            self.journal.reserve_entry()?;
-            self.journal.push(Displaced::WasMoment(self.moment));
-            self.tables.is_moment_entered = true;
-        }
-        self.moment = at;
+        let number = make_room(&mut self.tables, &mut self.journal, &change)?;
+        enter(&mut self.tables, &mut self.journal, number, change);
         Ok(())
     }
 
-    /// Stores an alert.
-    pub fn insert_alert(&mut self, labels: &Labels, alert: Alert) -> Result<(), AllocError>
+    /// Sets the next flush of a group and marks the group as flushed. Does nothing if there is no
+    /// such group. It looks for the group once.
+    pub fn reset_timer(&mut self, group: &RouteLabels, next: Moment) -> Result<(), AllocError>
         ensures ok { OnOk result (self.new.state
             ≡ record self.old.state
-            { alerts = map.insert self.old.state.alerts labels.now alert }) }
+            { timers = timers_after_flush next group.now self.old.state.timers }) }
         ensures kept { undone self.new ≡ undone self.old }
         ensures grown { GrownBy 1 self.old self.new }
     {
-        self.set_alert(labels, Some(alert))
+        let (number, former) = self.tables.timetable.timers().look_up_number(group);
+        let (Some(number), Some(former)) = (number, former.copied()) else {
+            return Ok(());
+        };
+        let timer = GroupTimer {
+            next_flush: next,
+            flushed: true,
+            ..former
+        };
+        let change = Change::OfTimer(group.clone()?, Some(timer));
+        self.journal.reserve_entry()?;
+        enter(&mut self.tables, &mut self.journal, number, change);
+        Ok(())
     }
 
-    /// Removes a stored alert.
-    pub fn remove_alert(&mut self, labels: &Labels) -> Result<(), AllocError>
-        ensures ok { OnOk result (self.new.state
-            ≡ record self.old.state { alerts = map.remove self.old.state.alerts labels.now }) }
-        ensures kept { undone self.new ≡ undone self.old }
-        ensures grown { GrownBy 1 self.old self.new }
-    {
-        self.set_alert(labels, None)
-    }
-
-    /// Sets the copy of an alert that its group on this route holds.
-    pub(crate) fn place_copy(
+    /// Sets an entry of the notification log if the dedup check says that it is due. Returns whether
+    /// it is. It looks for a former entry once.
+    pub fn write_log_if_due(
         &mut self,
-        group: &RouteLabels,
-        route_labels: &RouteLabels,
-        alert: Alert,
-    ) -> Result<(), AllocError>
-        requires { group.now ≡ group_key self.old.state.config route_labels.now }
-        ensures ok { OnOk result (self.new.state
-            ≡ record self.old.state
-            { placements = map.insert self.old.state.placements route_labels.now alert }) }
+        key: &LogKey,
+        entry: LogEntry,
+        send_resolved: bool,
+        repeat_interval: Span,
+    ) -> Result<bool, AllocError>
+        ensures due { IfOk result (λ due. due
+            ≡ is_due (map.get self.old.state.log key.now) entry send_resolved repeat_interval) }
+        ensures ok { IfOk result (λ due. self.new.state ≡ (if due
+            then record self.old.state { log = map.insert self.old.state.log key.now entry }
+            else self.old.state)) }
         ensures kept { undone self.new ≡ undone self.old }
         ensures grown { GrownBy 1 self.old self.new }
     {
-        self.set_placement(group, route_labels, Some(alert))
+        let (number, former) = self.tables.log.look_up_number(key);
+        if !is_due(former, &entry, send_resolved, repeat_interval) {
+            return Ok(false);
+        }
+        let change = Change::OfLog(key.clone()?, Some(entry));
+        let Some(number) = number else {
+            self.change(change)?;
+            return Ok(true);
+        };
+        self.journal.reserve_entry()?;
+        enter(&mut self.tables, &mut self.journal, number, change);
+        Ok(true)
     }
 
-    /// Removes an alert from its group on this route.
-    pub fn remove_copy(&mut self, route_labels: &RouteLabels) -> Result<(), AllocError>
+    /// Appends a notification.
+    pub fn append_notification(&mut self, notification: Notification) -> Result<(), AllocError>
         ensures ok { OnOk result (self.new.state
-            ≡ record self.old.state
-            { placements = map.remove self.old.state.placements route_labels.now }) }
+            ≡ record self.old.state { notes = self.old.state.notes ++ notification ∷ [] }) }
         ensures kept { undone self.new ≡ undone self.old }
         ensures grown { GrownBy 1 self.old self.new }
     {
-        let group = self.group_on(route_labels)?;
-        self.set_placement(&group, route_labels, None)
+        let notification = Shared::new(self.alloc, notification)?;
+        self.tables.notes.reserve(1)?;
+        if !self.tables.are_notes_entered {
+            self.journal.reserve_entry()?;
+            self.journal.push(Change::OfNotes(self.tables.notes.len()));
+            self.tables.are_notes_entered = true;
+        }
+        self.tables.notes.push_reserved(notification);
+        Ok(())
+    }
+
+    /// Replaces the configuration, and removes all groups and their members.
+    pub fn replace_config(&mut self, config: Config) -> Result<(), AllocError>
+        ensures ok { OnOk result (self.new.state
+            ≡ record self.old.state
+            { config = config; placements = map.empty; timers = map.empty }) }
+        ensures kept { undone self.new ≡ undone self.old }
+        ensures grown { GrownBy (1 + len self.old.state.timers + len self.old.state.placements)
+            self.old self.new }
+    {
+        self.clear_placements()?;
+        self.clear_timers()?;
+        self.change_config(config)
+    }
+
+    // ---- shared by the changes
+
+    /// Returns whether the open record is empty.
+    fn is_current_empty(&self) -> bool
+        ensures { result ≡ (length self.now.current == 0) }
+    {
+        self.journal.is_current_empty()
     }
 
     /// Returns the group of a label set on a route. It makes no labels anew if the route takes the
@@ -434,237 +472,6 @@ impl Store {
         }
     }
 
-    /// Removes a member from its group, which the caller names. It is faster than `remove_copy`, which
-    /// works the group out.
-    pub fn remove_member(
-        &mut self,
-        group: &RouteLabels,
-        route_labels: &RouteLabels,
-    ) -> Result<(), AllocError>
-        requires { group.now ≡ group_key self.old.state.config route_labels.now }
-        ensures ok { OnOk result (self.new.state
-            ≡ record self.old.state
-            { placements = map.remove self.old.state.placements route_labels.now }) }
-        ensures kept { undone self.new ≡ undone self.old }
-        ensures grown { GrownBy 1 self.old self.new }
-    {
-        self.set_placement(group, route_labels, None)
-    }
-
-    /// Sets a group timer, and adds the group if it is new.
-    pub fn set_timer(&mut self, group: &RouteLabels, timer: GroupTimer) -> Result<(), AllocError>
-        ensures ok { OnOk result (self.new.state
-            ≡ record self.old.state { timers = map.insert self.old.state.timers group.now timer }) }
-        ensures kept { undone self.new ≡ undone self.old }
-        ensures grown { GrownBy 1 self.old self.new }
-    {
-        self.change_timer(group, Some(timer))
-    }
-
-    /// Sets the next flush of a group and marks the group as flushed. Does nothing if there is no
-    /// such group. It looks for the group once.
-    pub fn reset_timer(&mut self, group: &RouteLabels, next: Moment) -> Result<(), AllocError>
-        ensures ok { OnOk result (self.new.state
-            ≡ record self.old.state
-            { timers = timers_after_flush next group.now self.old.state.timers }) }
-        ensures kept { undone self.new ≡ undone self.old }
-        ensures grown { GrownBy 1 self.old self.new }
-    {
-        let (number, former) = self.tables.timetable.timers().look_up_number(group);
-        let Some(former) = former.copied() else {
-            return Ok(());
-        };
-        let timer = GroupTimer {
-            next_flush: next,
-            flushed: true,
-            ..former
-        };
-        let entry = self
-            .tables
-            .timetable
-            .change_timer(&mut self.journal, group, number, Some(timer))?;
-        if let Some((group, was)) = entry {
-            self.journal.push(Displaced::WasTimer(group, was));
-        }
-        Ok(())
-    }
-
-    /// Removes a group with its timer.
-    pub fn remove_timer(&mut self, group: &RouteLabels) -> Result<(), AllocError>
-        ensures ok { OnOk result (self.new.state
-            ≡ record self.old.state { timers = map.remove self.old.state.timers group.now }) }
-        ensures kept { undone self.new ≡ undone self.old }
-        ensures grown { GrownBy 1 self.old self.new }
-    {
-        self.change_timer(group, None)
-    }
-
-    /// Stores a silence.
-    pub fn insert_silence(&mut self, id: SilenceId, silence: Silence) -> Result<(), AllocError>
-        ensures ok { OnOk result (self.new.state
-            ≡ record self.old.state { silences = map.insert self.old.state.silences id silence }) }
-        ensures kept { undone self.new ≡ undone self.old }
-        ensures grown { GrownBy 1 self.old self.new }
-    {
-        self.set_silence(id, Some(silence))
-    }
-
-    /// Replaces the configuration, and removes all groups and their members.
-    pub fn replace_config(&mut self, config: Config) -> Result<(), AllocError>
-        ensures ok { OnOk result (self.new.state
-            ≡ record self.old.state
-            { config = config; placements = map.empty; timers = map.empty }) }
-        ensures kept { undone self.new ≡ undone self.old }
-        ensures grown { GrownBy (1 + len self.old.state.timers + len self.old.state.placements)
-            self.old self.new }
-    {
-        self.clear_placements()?;
-        self.clear_timers()?;
-        self.change_config(config)
-    }
-
-    /// Sets an entry of the notification log if the dedup check says that it is due. Returns whether
-    /// it is. It looks for the former entry once.
-    pub fn write_log_if_due(
-        &mut self,
-        key: &LogKey,
-        entry: LogEntry,
-        send_resolved: bool,
-        repeat_interval: Span,
-    ) -> Result<bool, AllocError>
-        ensures due { IfOk result (λ due. due
-            ≡ is_due (map.get self.old.state.log key.now) entry send_resolved repeat_interval) }
-        ensures ok { IfOk result (λ due. self.new.state ≡ (if due
-            then record self.old.state { log = map.insert self.old.state.log key.now entry }
-            else self.old.state)) }
-        ensures kept { undone self.new ≡ undone self.old }
-        ensures grown { GrownBy 1 self.old self.new }
-    {
-        let (number, former) = self.tables.log.look_up_number(key);
-        if !is_due(former, &entry, send_resolved, repeat_interval) {
-            return Ok(false);
-        }
-        let displaced = change_found(
-            &mut self.tables.log,
-            &mut self.journal,
-            key,
-            number,
-            Some(entry),
-        )?;
-        if let Some((key, was)) = displaced {
-            self.journal.push(Displaced::WasLogged(key, was));
-        }
-        Ok(true)
-    }
-
-    /// Appends a notification.
-    pub fn append_notification(&mut self, notification: Notification) -> Result<(), AllocError>
-        ensures ok { OnOk result (self.new.state
-            ≡ record self.old.state { notes = self.old.state.notes ++ notification ∷ [] }) }
-        ensures kept { undone self.new ≡ undone self.old }
-        ensures grown { GrownBy 1 self.old self.new }
-    {
-        let notification = Shared::new(self.alloc, notification)?;
-        self.notes.reserve(1)?;
-        if !self.tables.are_notes_entered {
-            self.journal.reserve_entry()?;
-            self.journal.push(Displaced::WasNotes(self.notes.len()));
-            self.tables.are_notes_entered = true;
-        }
-        self.notes.push_reserved(notification);
-        Ok(())
-    }
-
-    // ---- shared by the changes
-
-    /// Returns whether the open record is empty.
-    fn is_current_empty(&self) -> bool
-        ensures { result ≡ (length self.now.current == 0) }
-    {
-        self.journal.is_current_empty()
-    }
-
-    /// Sets or removes a stored alert, and enters the former one into the open record.
-    fn set_alert(&mut self, labels: &Labels, alert: Option<Alert>) -> Result<(), AllocError>
-        ensures ok { OnOk result (self.new.state
-            ≡ record self.old.state { alerts = map.set self.old.state.alerts labels.now alert }) }
-        ensures kept { undone self.new ≡ undone self.old }
-        ensures grown { GrownBy 1 self.old self.new }
-    {
-        let entry = self
-            .tables
-            .timetable
-            .change_alert(&mut self.journal, labels, alert)?;
-        if let Some((labels, was)) = entry {
-            self.journal.push(Displaced::WasAlert(labels, was));
-        }
-        Ok(())
-    }
-
-    /// Sets or removes a silence, and enters the former one into the open record.
-    fn set_silence(&mut self, id: SilenceId, silence: Option<Silence>) -> Result<(), AllocError>
-        ensures ok { OnOk result (self.new.state
-            ≡ record self.old.state { silences = map.set self.old.state.silences id silence }) }
-        ensures kept { undone self.new ≡ undone self.old }
-        ensures grown { GrownBy 1 self.old self.new }
-    {
-        let entry = self
-            .tables
-            .silences
-            .change(&mut self.journal, &id, silence)?;
-        if let Some((_, was)) = entry {
-            self.journal.push(Displaced::WasSilence(id, was));
-        }
-        Ok(())
-    }
-
-    /// Sets or removes the member with these labels on this route, given its group, and enters the
-    /// former one into the open record.
-    fn set_placement(
-        &mut self,
-        group: &RouteLabels,
-        route_labels: &RouteLabels,
-        alert: Option<Alert>,
-    ) -> Result<(), AllocError>
-        requires { group.now ≡ group_key self.old.state.config route_labels.now }
-        ensures ok { OnOk result (self.new.state
-            ≡ record self.old.state
-            { placements = map.set self.old.state.placements route_labels.now alert }) }
-        ensures kept { undone self.new ≡ undone self.old }
-        ensures grown { GrownBy 1 self.old self.new }
-    {
-        let entry = self
-            .tables
-            .roster
-            .change_member(&mut self.journal, group, route_labels, alert)?;
-        if let Some((member, was)) = entry {
-            self.journal.push(Displaced::WasPlacement(member, was));
-        }
-        Ok(())
-    }
-
-    /// Sets or removes a group timer, and enters the former one into the open record.
-    fn change_timer(
-        &mut self,
-        group: &RouteLabels,
-        timer: Option<GroupTimer>,
-    ) -> Result<(), AllocError>
-        ensures ok { OnOk result (self.new.state
-            ≡ record self.old.state { timers = map.set self.old.state.timers group.now timer }) }
-        ensures kept { undone self.new ≡ undone self.old }
-        ensures grown { GrownBy 1 self.old self.new }
-    {
-        let number = self.tables.timetable.timers().number_of(group);
-        let entry = self
-            .tables
-            .timetable
-            .change_timer(&mut self.journal, group, number, timer)?;
-        if let Some((group, was)) = entry {
-            self.journal.push(Displaced::WasTimer(group, was));
-        }
-        Ok(())
-    }
-
     /// Removes all members of all groups.
     fn clear_placements(&mut self) -> Result<(), AllocError>
         ensures ok { OnOk result (self.new.state
@@ -674,7 +481,9 @@ impl Store {
     {
         let placed_keys = keys_of(self.alloc, self.tables.roster.placements())?;
         for route_labels in &placed_keys {
-            self.remove_copy(route_labels)?;
+            let group = self.group_on(route_labels)?;
+            let member = route_labels.clone()?;
+            self.change(Change::OfMember(Membership { group, member }, None))?;
         }
         Ok(())
     }
@@ -687,7 +496,7 @@ impl Store {
     {
         let groups = keys_of(self.alloc, self.tables.timetable.timers())?;
         for group in &groups {
-            self.change_timer(group, None)?;
+            self.change(Change::OfTimer(group.clone()?, None))?;
         }
         Ok(())
     }
@@ -701,11 +510,48 @@ impl Store {
         ensures grown { GrownBy 1 self.old self.new }
     {
         self.journal.reserve_entry()?;
-        let boxed = BoxedRouter::new(self.alloc, config)?;
-        let was = self.tables.roster.replace_config(boxed);
-        self.journal.push(Displaced::WasConfig(was));
+        let config = BoxedRouter::new(self.alloc, config)?;
+        let (back, _) = self.tables.displace(0, Change::OfConfig(config));
+        self.journal.push(back);
         self.tables.clear_entered();
         Ok(())
+    }
+}
+
+/// Returns the number of a change's place. Makes the place if there is none, and room for an entry
+/// in the open record.
+fn make_room(
+    tables: &mut Tables,
+    journal: &mut Journal<Change>,
+    change: &Change,
+) -> Result<usize, AllocError>
+    ensures number { IfOk result (λ number. IsPlaceOf tables.new change.now number) }
+    ensures room { OnOk result (0 < journal.new.entry_room) }
+    ensures values { SameValues tables.old tables.new }
+    ensures places { MorePlaces tables.old tables.new }
+    ensures marks { (place : Change) → NoNewMark tables.old tables.new place }
+    ensures closed { journal.new.closed ≡ journal.old.closed }
+    ensures current { journal.new.current ≡ journal.old.current }
+    ensures records { journal.new.record_room ≡ journal.old.record_room }
+{
+    let number = tables.place(change)?;
+    journal.reserve_entry()?;
+    Ok(number)
+}
+
+/// Makes a change, given the number of its place, and enters the one that leads back into the open
+/// record, unless the place is marked. It takes no memory.
+fn enter(tables: &mut Tables, journal: &mut Journal<Change>, number: usize, change: Change)
+    requires room { 0 < journal.old.entry_room }
+    requires number { IsPlaceOf tables.old change number }
+    requires fits { FitsOne (shown_by tables.old) change }
+    ensures state { shown_by tables.new ≡ changed (shown_by tables.old) change }
+    ensures places { MorePlaces tables.old tables.new }
+    ensures entered { IsEntered tables.old journal.old change tables.new journal.new }
+{
+    let (back, was_marked) = tables.displace(number, change);
+    if !was_marked {
+        journal.push(back);
     }
 }
 

@@ -1,11 +1,11 @@
 //! The stored alerts and the group timers, with the moments at which each alert is removed, and each
 //! group flushed or removed. `Store` changes alerts and timers here, and the moments follow. Nothing
 //! is fired here.
-ghost use Rattle.std.specs.Prelude.{◌≡◌, ◌≢◌, ◌<◌, ◌≤◌, ℕ, IsTrue, is_some, length, option_map, None, Some, OnOk, OnErr, IfOk};
+ghost use Rattle.std.specs.Prelude.{◌≡◌, ◌≢◌, ◌<◌, ◌≤◌, ℕ, length, option_map, None, Some, OnOk, IfOk};
 ghost use Rattle.amr_tables.specs.Earliest.{moment_at, IsTournament};
 ghost use Rattle.amr_labels.specs.Labels.{label_set_cmp};
 ghost use Rattle.amr_labels.specs.Map as map;
-ghost use Rattle.amr_tables.specs.Numbered.{shown, has_place, number_of, entry_of, Enters, KeepsPlaces, SamePlaces, SameEntered, NoneEntered, IsUnchanged, IsNumbering, next_number, rank_of};
+ghost use Rattle.amr_tables.specs.Numbered.{shown, number_of, EntersAt, KeepsPlaces, SamePlaces, SameEntered, NoneEntered, IsMarkOf, IsNumber, IsNumbering, IsSetAt, IsValueOf, next_number, rank_of};
 ghost use Rattle.amr_state.specs.State.{route_labels_cmp};
 ghost use Rattle.amr_state.specs.Dues.{dues_of, least_due, due_by};
 ghost use Rattle.amr_state.specs.declared.due.Kind.TheVariants.{AlertRemoval};
@@ -18,7 +18,7 @@ use amr_indexes::AlertTable;
 use amr_labels::Labels;
 use amr_rules::Alert;
 use amr_stated::{InhibitRule, RuleMatch};
-use amr_tables::{Earliest, Journal, Key, Keyed, change_found};
+use amr_tables::{Earliest, Key, Keyed};
 use amr_time::Moment;
 use std::alloc::{AllocError, Global};
 use std::marker::Model;
@@ -121,113 +121,55 @@ impl Timetable {
         self.timers.clear_entered();
     }
 
-    /// Sets or removes a stored alert. Returns the entry that the open record needs, and leaves
-    /// room for it there.
-    pub(crate) fn change_alert<E>(
+    /// Sets or removes the alert of the label set with a number, and marks its place as entered.
+    /// Returns the former alert, and whether the place was marked before. It takes no memory.
+    pub(crate) fn displace_alert(
         &mut self,
-        journal: &mut Journal<E>,
-        labels: &Labels,
+        number: usize,
         alert: Option<Alert>,
-    ) -> Result<Option<(Labels, Option<Alert>)>, AllocError>
-        ensures entry { IfOk result (λ entry. entry
-            ≡ entry_of label_set_cmp self.old.alerts labels.now) }
-        ensures shown { OnOk result (shown label_set_cmp self.new.alerts ≡
-            map.set (shown label_set_cmp self.old.alerts) labels.now alert) }
-        ensures entered { OnOk result
-            (Enters label_set_cmp self.old.alerts self.new.alerts labels.now) }
-        ensures made { OnOk result (IsTrue (has_place label_set_cmp self.new.alerts labels.now)) }
-        ensures err { OnErr result (IsUnchanged label_set_cmp self.old.alerts self.new.alerts) }
-        ensures places { KeepsPlaces label_set_cmp self.old.alerts self.new.alerts }
-        ensures timers { self.new.timers ≡ self.old.timers }
-        ensures room { IfOk result (λ entry. IsTrue (is_some entry) → 0 < journal.new.entry_room) }
-        ensures closed { journal.new.closed ≡ journal.old.closed }
-        ensures current { journal.new.current ≡ journal.old.current }
-        ensures record_room { journal.new.record_room ≡ journal.old.record_room }
-    {
-        let number = self.place_alert(labels)?;
-        let moment = alert_moment(&alert);
-        let entry = self.alerts.change_found(journal, labels, number, alert)?;
-        self.alert_removals
-            .set(self.alerts.by_number(), number, moment);
-        Ok(entry)
-    }
-
-    /// Sets or removes the timer of a group, given the number of its place, if it has one. Returns
-    /// the entry that the open record needs, and leaves room for it there. It doesn't look for the
-    /// group again.
-    pub(crate) fn change_timer<E>(
-        &mut self,
-        journal: &mut Journal<E>,
-        group: &RouteLabels,
-        number: Option<usize>,
-        timer: Option<GroupTimer>,
-    ) -> Result<Option<(RouteLabels, Option<GroupTimer>)>, AllocError>
-        requires { number ≡ number_of route_labels_cmp self.old.timers group.now }
-        ensures entry { IfOk result (λ entry. entry
-            ≡ entry_of route_labels_cmp self.old.timers group.now) }
-        ensures shown { OnOk result (shown route_labels_cmp self.new.timers ≡
-            map.set (shown route_labels_cmp self.old.timers) group.now timer) }
-        ensures entered { OnOk result
-            (Enters route_labels_cmp self.old.timers self.new.timers group.now) }
-        ensures made { OnOk result (IsTrue (has_place route_labels_cmp self.new.timers group.now)) }
-        ensures err { OnErr result (IsUnchanged route_labels_cmp self.old.timers self.new.timers) }
-        ensures places { KeepsPlaces route_labels_cmp self.old.timers self.new.timers }
-        ensures alerts { self.new.alerts ≡ self.old.alerts }
-        ensures room { IfOk result (λ entry. IsTrue (is_some entry) → 0 < journal.new.entry_room) }
-        ensures closed { journal.new.closed ≡ journal.old.closed }
-        ensures current { journal.new.current ≡ journal.old.current }
-        ensures record_room { journal.new.record_room ≡ journal.old.record_room }
-    {
-        let number = self.place_timer(group, number)?;
-        let flush = flush_moment(&timer);
-        let removal = removal_moment(&timer);
-        let entry = change_found(&mut self.timers, journal, group, Some(number), timer)?;
-        self.flushes.set(&self.timers, number, flush);
-        self.group_removals.set(&self.timers, number, removal);
-        Ok(entry)
-    }
-
-    /// Restores a stored alert, or its absence. It looks for the labels once and takes no memory.
-    pub(crate) fn put_back_alert(&mut self, labels: &Labels, alert: Option<Alert>)
-        requires { IsTrue (has_place label_set_cmp self.old.alerts labels.now) }
-        ensures shown { shown label_set_cmp self.new.alerts ≡
-            map.set (shown label_set_cmp self.old.alerts) labels.now alert }
+    ) -> (Option<Alert>, bool)
+        requires { IsNumber label_set_cmp self.old.alerts number }
+        ensures answer { IsValueOf label_set_cmp self.old.alerts number result.0 }
+        ensures was_entered { IsMarkOf label_set_cmp self.old.alerts number result.1 }
+        ensures shown { IsSetAt label_set_cmp self.old.alerts number alert self.new.alerts }
         ensures places { SamePlaces label_set_cmp self.old.alerts self.new.alerts }
-        ensures entered { SameEntered label_set_cmp self.old.alerts self.new.alerts }
+        ensures entered { EntersAt label_set_cmp self.old.alerts number self.new.alerts }
         ensures timers { self.new.timers ≡ self.old.timers }
     {
-        let Some(number) = self.alerts.by_number().number_of(labels) else {
-            unreachable!()
-        };
         let moment = alert_moment(&alert);
-        let _former = self.alerts.displace_at(number, alert);
+        let was = self.alerts.exchange_at(number, alert);
         self.alert_removals
             .set(self.alerts.by_number(), number, moment);
+        was
     }
 
-    /// Restores a group timer, or its absence. It looks for the group once and takes no memory.
-    pub(crate) fn put_back_timer(&mut self, group: &RouteLabels, timer: Option<GroupTimer>)
-        requires { IsTrue (has_place route_labels_cmp self.old.timers group.now) }
-        ensures shown { shown route_labels_cmp self.new.timers ≡
-            map.set (shown route_labels_cmp self.old.timers) group.now timer }
+    /// Sets or removes the timer of the group with a number, and marks its place as entered. Returns
+    /// the former timer, and whether the place was marked before. It takes no memory.
+    pub(crate) fn displace_timer(
+        &mut self,
+        number: usize,
+        timer: Option<GroupTimer>,
+    ) -> (Option<GroupTimer>, bool)
+        requires { IsNumber route_labels_cmp self.old.timers number }
+        ensures answer { IsValueOf route_labels_cmp self.old.timers number result.0 }
+        ensures was_entered { IsMarkOf route_labels_cmp self.old.timers number result.1 }
+        ensures shown { IsSetAt route_labels_cmp self.old.timers number timer self.new.timers }
         ensures places { SamePlaces route_labels_cmp self.old.timers self.new.timers }
-        ensures entered { SameEntered route_labels_cmp self.old.timers self.new.timers }
+        ensures entered { EntersAt route_labels_cmp self.old.timers number self.new.timers }
         ensures alerts { self.new.alerts ≡ self.old.alerts }
     {
-        let Some(number) = self.timers.number_of(group) else {
-            unreachable!()
-        };
         let flush = flush_moment(&timer);
         let removal = removal_moment(&timer);
         // The prover needs to see the type of moments here.
         let _start = Moment::START;
-        let _former = self.timers.displace_at(number, timer);
+        let was = self.timers.exchange_at(number, timer);
         self.flushes.set(&self.timers, number, flush);
         self.group_removals.set(&self.timers, number, removal);
+        was
     }
 
     /// Returns the number of a label set's place. Makes the place if there is none.
-    fn place_alert(&mut self, labels: &Labels) -> Result<usize, AllocError>
+    pub(crate) fn place_alert(&mut self, labels: &Labels) -> Result<usize, AllocError>
         ensures number { IfOk result (λ number.
             number_of label_set_cmp self.new.alerts labels.now ≡ Some number) }
         ensures shown { shown label_set_cmp self.new.alerts
@@ -261,14 +203,8 @@ impl Timetable {
         }
     }
 
-    /// Returns the number of a group's place, given the number that it has, if there is one. Makes
-    /// the place if there is none.
-    fn place_timer(
-        &mut self,
-        group: &RouteLabels,
-        number: Option<usize>,
-    ) -> Result<usize, AllocError>
-        requires { number ≡ number_of route_labels_cmp self.old.timers group.now }
+    /// Returns the number of a group's place. Makes the place if there is none.
+    pub(crate) fn place_timer(&mut self, group: &RouteLabels) -> Result<usize, AllocError>
         ensures number { IfOk result (λ number.
             number_of route_labels_cmp self.new.timers group.now ≡ Some number) }
         ensures shown { shown route_labels_cmp self.new.timers
@@ -277,7 +213,7 @@ impl Timetable {
         ensures places { KeepsPlaces route_labels_cmp self.old.timers self.new.timers }
         ensures alerts { self.new.alerts ≡ self.old.alerts }
     {
-        match number {
+        match self.timers.number_of(group) {
             Some(number) => Ok(number),
             None => self.add_timer(group),
         }

@@ -1,6 +1,5 @@
 pub mod Listed
 pub mod Counting
-pub mod Entering
 pub mod Marking
 pub mod Numbering
 pub mod Sorting

@@ -83,11 +83,6 @@ module _ {K V : Type 0} where
     unfoldable pub shown : Numbered K V → Map R V
     shown t = from_sorted (filter_map (entry_at t.cells) t.numbers)
 
-    -- the entry that the open record needs for a change of the key's value: the key with its
-    -- present value, unless its place is marked
-    unfoldable pub entry_of : Numbered K V → K → Option (K × Option V)
-    entry_of t key = if is_entered t key then None else Some (key, get (shown t) key)
-
     -- no place is lost
     abbrev pub KeepsPlaces : Numbered K V → Numbered K V → Type 0
     KeepsPlaces old changed = (key : K) → IsTrue (has_place old key) → IsTrue (has_place changed key)
@@ -148,10 +143,6 @@ module _ {K V : Type 0} where
     -- there are at least as many keys as values
     abbrev pub HasPlaces : Numbered K V → Type 0
     HasPlaces t = len (shown t) ≤ length t.numbers
-
-    -- the tables show the same map, and the same places are marked
-    abbrev pub IsUnchanged : Numbered K V → Numbered K V → Type 0
-    IsUnchanged old changed = (shown changed ≡ shown old) × SameEntered old changed
 
     -- The keys rise strictly, each number has a place, no two keys share a number, and only places
     -- are marked.

@@ -7,9 +7,8 @@ ghost use Rattle.std.specs.Option.{option_copied};
 ghost use Rattle.std.specs.FinMap.{IsAntisymmetric};
 ghost use Rattle.amr_labels.specs.Map as map;
 ghost use Rattle.amr_tables.specs.Places.{value_at, present};
-ghost use Rattle.amr_tables.specs.Numbered.{shown, has_place, is_entered, entry_of, next_number, number_of, Enters, KeepsPlaces, GetsPlace, GetsNumber, IsValueOf, IsNumber, IsMarkOf, IsSetAt, EntersAt, SamePlaces, SameEntered, NoneEntered, IsUnchanged, GrowsBy, HasPlaces, places_for, IsNumbering, key_at};
+ghost use Rattle.amr_tables.specs.Numbered.{shown, has_place, next_number, number_of, KeepsPlaces, GetsPlace, GetsNumber, IsValueOf, IsNumber, IsMarkOf, IsSetAt, EntersAt, SamePlaces, SameEntered, NoneEntered, GrowsBy, HasPlaces, places_for, IsNumbering, key_at};
 
-use crate::journal::Journal;
 use crate::marks::Marks;
 use crate::numbers::Numbers;
 use crate::ranking::Ranking;
@@ -114,8 +113,8 @@ impl<K: Key + Drop, V: Drop> Keyed<K, V> {
         self.numbers.contains_key(key)
     }
 
-    /// Returns the number of a key, if it has a place, and its value. With the number, `change_found`
-    /// and `exchange_at` needn't look for the key again.
+    /// Returns the number of a key, if it has a place, and its value. With the number, `exchange_at`
+    /// needn't look for the key again.
     pub fn look_up_number(&self, key: &K) -> (Option<usize>, Option<&V>)
         ensures number { result.0 ≡ number_of K.cmp self.now key.now }
         ensures value { option_copied result.1 ≡ map.get (shown K.cmp self.now) key.now }
@@ -149,14 +148,6 @@ impl<K: Key + Drop, V: Drop> Keyed<K, V> {
         ensures numbering { IsNumbering K.cmp self.now }
     {
         self.slots.len()
-    }
-
-    /// Returns whether the place of the key with a number is marked as entered. It compares no keys.
-    pub fn is_entered_at(&self, number: usize) -> bool
-        requires { IsNumber K.cmp self.now number }
-        ensures { IsMarkOf K.cmp self.now number result }
-    {
-        self.entered.is_marked(number)
     }
 
     /// Returns the value at a place. It compares no keys, so it is faster than `get`.
@@ -205,24 +196,6 @@ impl<K: Key + Drop, V: Drop> Keyed<K, V> {
     {
         match self.numbers.get(key) {
             Some(number) => self.slots.displace(number, value),
-            None => unreachable!(),
-        }
-    }
-
-    /// Sets or removes the value of a key that has a place, and marks the place as entered. Returns
-    /// the former value, and whether the place was marked before. It takes no memory.
-    fn exchange(&mut self, key: &K, value: Option<V>) -> (Option<V>, bool)
-        requires { IsTrue (has_place K.cmp self.old key.now) }
-        ensures answer { result.0 ≡ map.get (shown K.cmp self.old) key.now }
-        ensures was_entered { result.1 ≡ is_entered K.cmp self.old key.now }
-        ensures shown { shown K.cmp self.new ≡ map.set (shown K.cmp self.old) key.now value }
-        ensures places { SamePlaces K.cmp self.old self.new }
-        ensures entered { Enters K.cmp self.old self.new key.now }
-        ensures keys { self.new.numbers ≡ self.old.numbers }
-        ensures enough { HasPlaces K.cmp self.new }
-    {
-        match self.number_of(key) {
-            Some(number) => self.exchange_at(number, value),
             None => unreachable!(),
         }
     }
@@ -278,78 +251,5 @@ impl<K: Key + Drop, V: Drop> Ranking for Keyed<K, V> {
 
     fn compare(&self, a: usize, b: usize) -> Ordering {
         self.key_at(a).cmp(&self.key_at(b))
-    }
-}
-
-/// Sets or removes the value of a key, given its number, if it has one. It makes a place for a new
-/// key and marks the place as entered, if need be. Returns the entry that the open record needs,
-/// which is the key with its former value, and leaves room for it there. Returns `None` if the
-/// place was marked before. It doesn't look for the key again.
-pub fn change_found<K: Key + Drop, V: Drop, E>(
-    table: &mut Keyed<K, V>,
-    journal: &mut Journal<E>,
-    key: &K,
-    number: Option<usize>,
-    value: Option<V>,
-) -> Result<Option<(K, Option<V>)>, AllocError>
-    requires { number ≡ number_of K.cmp table.old key.now }
-    ensures entry { IfOk result (λ entry. entry ≡ entry_of K.cmp table.old key.now) }
-    ensures shown { OnOk result (shown K.cmp table.new
-        ≡ map.set (shown K.cmp table.old) key.now value) }
-    ensures entered { OnOk result (Enters K.cmp table.old table.new key.now) }
-    ensures made { OnOk result (IsTrue (has_place K.cmp table.new key.now)) }
-    ensures err { OnErr result (IsUnchanged K.cmp table.old table.new) }
-    ensures keys { GrowsBy K.cmp (places_for K.cmp table.old key.now) table.old table.new }
-    ensures enough { OnOk result (HasPlaces K.cmp table.new) }
-    ensures places { KeepsPlaces K.cmp table.old table.new }
-    ensures no_new { IsTrue (has_place K.cmp table.old key.now)
-        → SamePlaces K.cmp table.old table.new }
-    ensures numbers { IsTrue (has_place K.cmp table.old key.now)
-        → table.new.numbers ≡ table.old.numbers }
-    ensures room { IfOk result (λ entry. IsTrue (is_some entry) → 0 < journal.new.entry_room) }
-    ensures closed { journal.new.closed ≡ journal.old.closed }
-    ensures current { journal.new.current ≡ journal.old.current }
-    ensures record_room { journal.new.record_room ≡ journal.old.record_room }
-{
-    journal.reserve_entry()?;
-    let copy = key.clone()?;
-    let (was, was_entered) = exchange_placed(table, key, number, value)?;
-    if was_entered {
-        return Ok(None);
-    }
-    Ok(Some((copy, was)))
-}
-
-/// Sets or removes the value of a key that has this number, if it has one, and marks its place as
-/// entered. It makes a place for a new key. Returns the former value, and whether the place was
-/// marked before.
-fn exchange_placed<K: Key + Drop, V: Drop>(
-    table: &mut Keyed<K, V>,
-    key: &K,
-    number: Option<usize>,
-    value: Option<V>,
-) -> Result<(Option<V>, bool), AllocError>
-    requires { number ≡ number_of K.cmp table.old key.now }
-    ensures answer { IfOk result (λ was. was.0 ≡ map.get (shown K.cmp table.old) key.now) }
-    ensures was_entered { IfOk result (λ was. was.1 ≡ is_entered K.cmp table.old key.now) }
-    ensures shown { OnOk result (shown K.cmp table.new
-        ≡ map.set (shown K.cmp table.old) key.now value) }
-    ensures entered { OnOk result (Enters K.cmp table.old table.new key.now) }
-    ensures made { OnOk result (IsTrue (has_place K.cmp table.new key.now)) }
-    ensures err { OnErr result (IsUnchanged K.cmp table.old table.new) }
-    ensures keys { GrowsBy K.cmp (places_for K.cmp table.old key.now) table.old table.new }
-    ensures enough { OnOk result (HasPlaces K.cmp table.new) }
-    ensures places { KeepsPlaces K.cmp table.old table.new }
-    ensures no_new { IsTrue (has_place K.cmp table.old key.now)
-        → SamePlaces K.cmp table.old table.new }
-    ensures numbers { IsTrue (has_place K.cmp table.old key.now)
-        → table.new.numbers ≡ table.old.numbers }
-{
-    match number {
-        Some(number) => Ok(table.exchange_at(number, value)),
-        None => {
-            table.make_place(key.clone()?)?;
-            Ok(table.exchange(key, value))
-        }
     }
 }

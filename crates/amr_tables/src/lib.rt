@@ -16,7 +16,7 @@ mod values;
 pub use earliest::Earliest;
 pub use grouped::Grouped;
 pub use journal::Journal;
-pub use keyed::{Key, Keyed, change_found};
+pub use keyed::{Key, Keyed};
 pub use marks::Marks;
 pub use ranking::Ranking;
 pub use slots::Slots;

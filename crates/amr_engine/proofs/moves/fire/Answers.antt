@@ -4,17 +4,17 @@ use Rattle.amr_engine.specs.Remembered.{IsTrueOf}
 use Rattle.amr_engine.proofs.Remembering.{stays_true}
 use Rattle.amr_engine.proofs.moves.fire.Goals as goal
 
-pub returns-in_ok-remove_alert-in-AlertRemoval-clause-ok : goal.returns-in_ok-remove_alert-in-AlertRemoval-clause-ok
+pub returns-in_ok-change-in-AlertRemoval-clause-ok : goal.returns-in_ok-change-in-AlertRemoval-clause-ok
 unfolding move
-returns-in_ok-remove_alert-in-AlertRemoval-clause-ok c = search rules
+returns-in_ok-change-in-AlertRemoval-clause-ok c = search rules
 
-pub returns-in_ok-remove_timer-in-GroupRemoval-clause-ok : goal.returns-in_ok-remove_timer-in-GroupRemoval-clause-ok
+pub returns-in_ok-change-in-GroupRemoval-clause-ok : goal.returns-in_ok-change-in-GroupRemoval-clause-ok
 unfolding move
-returns-in_ok-remove_timer-in-GroupRemoval-clause-ok c = search rules
+returns-in_ok-change-in-GroupRemoval-clause-ok c = search rules
 
-pub returns-in_ok-remove_timer-in-GroupRemoval-clause-memory : goal.returns-in_ok-remove_timer-in-GroupRemoval-clause-memory
-returns-in_ok-remove_timer-in-GroupRemoval-clause-memory c =
-    subst (IsTrueOf c.args.quiet_groups.now) (sym c.in_ok-remove_timer-in-GroupRemoval.ensures.ok)
+pub returns-in_ok-change-in-GroupRemoval-clause-memory : goal.returns-in_ok-change-in-GroupRemoval-clause-memory
+returns-in_ok-change-in-GroupRemoval-clause-memory c =
+    subst (IsTrueOf c.args.quiet_groups.now) (sym c.in_ok-change-in-GroupRemoval.ensures.ok)
     (stays_true c.args.store.now.state c.args.store.now.state.moment _ c.args.store.now.state.notes c.args.quiet_groups.now c.requires.memory)
 
 pub returns-in-GroupFlush-clause-ok : goal.returns-in-GroupFlush-clause-ok

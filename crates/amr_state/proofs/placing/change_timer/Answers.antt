@@ -6,4 +6,4 @@ use Rattle.amr_state.proofs.placing.change_timer.Goals as goal
 pub returns-then-stays-clause-ok : goal.returns-then-stays-clause-ok
 returns-then-stays-clause-ok c =
     let s = c.args.store.now.state in
-    ap (λ m. record s { timers = m }) (sym (put_as_it_is route_labels_cmp_total route_labels_cmp-IsAntisymmetric s.timers c.args.group.now c.args.after (sym c.requires ∙ c.stays.ensures c.if-stays.true)))
+    ap (λ m. record s { timers = m }) (sym (put_as_it_is route_labels_cmp_total route_labels_cmp-IsAntisymmetric s.timers c.args.group c.args.after (sym c.requires ∙ c.stays.ensures c.if-stays.true)))

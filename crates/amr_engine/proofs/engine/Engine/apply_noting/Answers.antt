@@ -1,4 +1,4 @@
-use Rattle.amr_state.specs.declared.displaced.Displaced.{Displaced}
+use Rattle.amr_state.specs.declared.change.Change.{Change}
 use Rattle.std.proofs.Common.{◌≡◌, ◌≤◌, ◌*◌, List, length, sym, ap, subst, ◌∙◌, ◌++◌, ◌∷◌, []}
 use Rattle.amr_state.specs.State.{State}
 use Rattle.amr_state.specs.Steps.{Steps}
@@ -14,7 +14,7 @@ use Rattle.amr_engine.proofs.Settling.{IsLeft, Settled, settled, has_room, past_
 use Rattle.amr_engine.proofs.engine.Engine.apply_noting.Goals as goal
 use Rattle.amr_engine.proofs.engine.Engine.apply_noting.Goals.{then-is_refused, else-is_refused}
 
-abbrev steps_of : State → List (List Displaced) → Steps
+abbrev steps_of : State → List (List Change) → Steps
 steps_of state records = record { state = state; past = befores records state; records = records }
 
 abbrev seen : Kept → Steps

@@ -1,15 +1,14 @@
 use Rattle.std.proofs.Common.{◌≡◌, Bool, false, ◌&&◌, get_or, ap, ◌∙◌, is_some}
 use Rattle.regex.specs.Patterns.{find_str}
-use Rattle.regex.specs.Strings.{matcher_pattern}
 use Rattle.amr_labels.specs.Labels.{LabelSet, value_of}
-use Rattle.amr_matchers.specs.Patterns.{IsSearchFor}
+use Rattle.amr_matchers.specs.Searches.{IsFoundAs, search_pattern}
 use Rattle.amr_matchers.specs.Candidates.{found_or_not}
 use Rattle.amr_matchers.proofs.Asking.{marked_more}
 use Rattle.amr_matchers.proofs.pattern.Pattern.ask_each.Goals as goal
 use Rattle.amr_matchers.proofs.pattern.Pattern.ask_each.Goals.{then-marks-place, else-marks-place}
 
 pub passes-requires : goal.passes-requires
-unfolding IsSearchFor
+unfolding IsFoundAs
 passes-requires c = λ value bytes.
     ap (λ re. is_some (find_str re value 0)) c.loop-place.invariant.0 ∙ c.requires.search value bytes
 
@@ -20,8 +19,8 @@ loop-place-preserved c =
     let labels = c.index-label_sets-place.result in
     let place = c.loop-place.place in (
       elim c.if-marks-place.branch [
-        | then-marks-place w ↦ ap matcher_pattern w.search-is ∙ w.passes.ensures.same ∙ c.loop-place.invariant.0
-        | else-marks-place w ↦ ap matcher_pattern w.search-is ∙ c.loop-place.invariant.0
+        | then-marks-place w ↦ ap search_pattern w.search-is ∙ w.passes.ensures.same ∙ c.loop-place.invariant.0
+        | else-marks-place w ↦ ap search_pattern w.search-is ∙ c.loop-place.invariant.0
       ],
       let changed : c.if-marks-place.marks ≡ (get_or c.loop-place.marks place false && test labels) =
           elim c.if-marks-place.branch [

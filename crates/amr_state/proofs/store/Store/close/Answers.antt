@@ -1,4 +1,4 @@
-use Rattle.std.proofs.Common.{refl, sym}
+use Rattle.std.proofs.Common.{sym}
 use Rattle.amr_state.specs.declared.store.Store.TheInside.{Inside}
 use Rattle.amr_state.proofs.Soundness.{kept_closed}
 use Rattle.amr_state.proofs.store.Store.close.Goals as goal
@@ -7,5 +7,5 @@ pub invariant_of-self : goal.invariant_of-self
 invariant_of-self c =
     let a = c.self.inside in
     let b : Inside = record a { tables = c.clear_entered.new.self; journal = c.close.new.self } in
-    kept_closed a b c.self.invariant c.clear_entered.ensures.places c.clear_entered.ensures.marks refl c.close.ensures.closed c.close.ensures.current
+    kept_closed a b c.self.invariant c.clear_entered.ensures.places c.clear_entered.ensures.marks c.clear_entered.ensures.values.moment c.close.ensures.closed c.close.ensures.current
     (sym c.clear_entered.ensures.values.config, sym c.clear_entered.ensures.values.placements)

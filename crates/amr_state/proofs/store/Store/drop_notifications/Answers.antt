@@ -8,4 +8,4 @@ invariant_of-self c =
     let current = ap (λ (k : Kept). k.current) c.self.view_is ∙ c.requires.current in
     let closed = ap (λ (k : Kept). k.records) c.self.view_is ∙ c.requires.records in
     let a = c.self.inside in
-    kept_silent a (record a { notes = c.clear.new.self }) c.self.invariant current closed
+    kept_silent a (record a { tables = record a.tables { notes = c.clear.new.self } }) c.self.invariant current closed

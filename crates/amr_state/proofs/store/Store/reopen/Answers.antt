@@ -1,4 +1,4 @@
-use Rattle.std.proofs.Common.{refl, sym, ap, ◌∙◌}
+use Rattle.std.proofs.Common.{sym, ap, ◌∙◌}
 use Rattle.amr_state.specs.Kept.{Kept}
 use Rattle.amr_state.specs.declared.store.Store.TheInside.{Inside}
 use Rattle.amr_state.proofs.Soundness.{kept_reopened}
@@ -8,5 +8,5 @@ pub invariant_of-self : goal.invariant_of-self
 invariant_of-self c =
     let a = c.self.inside in
     let b : Inside = record a { tables = c.clear_entered.new.self; journal = c.reopen.new.self } in
-    kept_reopened a b c.self.invariant c.clear_entered.ensures.places c.clear_entered.ensures.marks refl c.reopen.ensures
+    kept_reopened a b c.self.invariant c.clear_entered.ensures.places c.clear_entered.ensures.marks c.clear_entered.ensures.values.moment c.reopen.ensures
     (ap (λ (k : Kept). k.current) c.self.view_is ∙ c.requires.empty) (sym c.clear_entered.ensures.values.config, sym c.clear_entered.ensures.values.placements)

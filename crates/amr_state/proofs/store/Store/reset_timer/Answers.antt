@@ -1,92 +1,32 @@
-use Rattle.std.proofs.Common.{◌≡◌, true, Some, [], ◌∷◌, ◌++◌, IsTrue, refl, sym, ap, subst, ◌∙◌}
-use Rattle.amr_labels.specs.Map as map
-use Rattle.amr_labels.specs.Labels.{label_set_cmp}
-use Rattle.amr_tables.specs.Numbered.{shown, has_place, is_entered}
-use Rattle.amr_tables.proofs.Entering.{entry_of-none, entry_of-some, entered_again}
-use Rattle.amr_state.specs.declared.displaced.Displaced.{Displaced}
-use Rattle.amr_state.specs.declared.displaced.Displaced.TheVariants.{WasTimer}
-use Rattle.amr_state.specs.declared.notification.GroupTimer.{GroupTimer}
-use Rattle.amr_state.specs.State.{route_labels_cmp, route_labels_cmp-IsAntisymmetric}
-use Rattle.amr_state.specs.Kept.{Kept, undone}
+use Rattle.std.proofs.Common.{◌≡◌, true, Some, sym, ap, subst, ◌∙◌}
+use Rattle.amr_tables.specs.Numbered.{number_of}
+use Rattle.amr_state.specs.declared.change.Change.{Change}
+use Rattle.amr_state.specs.declared.change.Change.TheVariants.{OfTimer}
+use Rattle.amr_state.specs.State.{route_labels_cmp}
+use Rattle.amr_state.specs.Kept.{undone}
 use Rattle.amr_state.specs.declared.store.Store.TheInside.{Inside}
-use Rattle.amr_state.specs.Stored.{state_of}
-use Rattle.amr_state.proofs.Soundness.{by_place, NoNewMark, NewMarkAt, fits_alike, kept_grown, kept_entered, undone_pushed, undone_covered, taken}
-use Rattle.amr_state.proofs.Flushed.{none_flushed, one_flushed}
+use Rattle.amr_state.proofs.Soundness.{kept_reserved, kept_changed, undone_reserved, undone_changed}
 use Rattle.amr_state.proofs.store.Store.reset_timer.Goals as goal
 
-pub invariant_of-self-in-Some-entry : goal.invariant_of-self-in-Some-entry
-invariant_of-self-in-Some-entry c =
+pub invariant_of-self-2 : goal.invariant_of-self-2
+invariant_of-self-2 c =
     let a = c.self.inside in
-    let t = c.change_timer.new.self in
-    let b : Inside = record a { tables = record a.tables { timetable = t }; journal = c.push.new.self } in
-    let e : Displaced = WasTimer c.in-Some-entry.group c.in-Some-entry.was in
-    let is : ◌≡◌ (c.in-Some-entry.group, c.in-Some-entry.was) (c.args.group.now, map.get (shown route_labels_cmp a.tables.timetable.timers) c.args.group.now) = entry_of-some route_labels_cmp a.tables.timetable.timers c.args.group.now (c.in-Some-entry.group, c.in-Some-entry.was) (sym c.in-Some-entry.is ∙ c.in_ok-entry.ensures.entry) in
-    let pushed : c.push.new.self.current ≡ c.change_timer.new.journal.current ++ e ∷ [] = c.push.ensures.current in
-    kept_entered a b e c.self.invariant (record { alerts = λ k h. subst (λ v. IsTrue (has_place label_set_cmp v k)) (sym c.change_timer.ensures.alerts) h; silences = λ k h. h; placements = λ k h. h; groups = λ k h. h; timers = c.change_timer.ensures.places; log = λ k h. h })
-    c.self.invariant.moment (c.push.ensures.closed ∙ c.change_timer.ensures.closed) (pushed ∙ ap (λ es. es ++ e ∷ []) c.change_timer.ensures.current)
-    (subst (λ k. IsTrue (has_place route_labels_cmp t.timers k)) (sym (ap (λ p. p.0) is)) c.in_ok-entry.ensures.made)
-    (subst (λ k. (place : Displaced) → NewMarkAt (WasTimer k c.in-Some-entry.was) a.tables b.tables place) (sym (ap (λ p. p.0) is)) (by_place (NewMarkAt (WasTimer c.args.group.now c.in-Some-entry.was) a.tables b.tables) (λ x h. h) (λ x h. h) (λ k v h. subst (λ x. IsTrue (is_entered label_set_cmp x k)) c.change_timer.ensures.alerts h) (λ k v h. h) (λ k v h. h) (λ q w h. subst IsTrue (c.in_ok-entry.ensures.entered q) h) (λ k v h. h) (λ x h. h))) refl refl refl (refl, refl) tt
+    let j = c.reserve_entry.new.self in
+    let n = c.in-Some-Some.number in
+    let mid : Inside = record a { journal = j } in
+    let b : Inside = record a { tables = c.enter.new.tables; journal = c.enter.new.journal } in
+    let change : Change = OfTimer c.in_ok-clone.field-0 (Some (record c.in-Some-Some.former { next_flush = c.args.next; flushed = true })) in
+    let at : number_of route_labels_cmp a.tables.timetable.timers c.args.group.now ≡ Some n =
+    sym (c.look_up_number-number.ensures.number ∙ ap (λ t. number_of route_labels_cmp t c.args.group.now) c.timers.ensures) ∙ c.in-Some-Some.is-0 in
+    kept_changed mid b change n (kept_reserved a j c.self.invariant c.reserve_entry.ensures.closed c.reserve_entry.ensures.current) tt
+    (subst (λ k. number_of route_labels_cmp a.tables.timetable.timers k ≡ Some n) (sym c.in_ok-clone.ensures.cases) at) c.enter.ensures.places c.enter.ensures.state c.enter.ensures.entered
 
-pub invariant_of-self : goal.invariant_of-self
-invariant_of-self c =
+pub returns-clause-kept : goal.returns-clause-kept
+returns-clause-kept c =
     let a = c.self.inside in
-    let t = c.change_timer.new.self in
-    let b : Inside = record a { tables = record a.tables { timetable = t }; journal = c.change_timer.new.journal } in
-    kept_grown a b c.self.invariant (record { alerts = λ k h. subst (λ v. IsTrue (has_place label_set_cmp v k)) (sym c.change_timer.ensures.alerts) h; silences = λ k h. h; placements = λ k h. h; groups = λ k h. h; timers = c.change_timer.ensures.places; log = λ k h. h }) refl c.change_timer.ensures.closed c.change_timer.ensures.current
-    (by_place (NoNewMark a.tables b.tables) (λ x h. h) (λ x h. h) (λ k v h. subst (λ x. IsTrue (is_entered label_set_cmp x k)) c.change_timer.ensures.alerts h) (λ k v h. h) (λ k v h. h) (λ q w h. subst IsTrue (c.in_err-entry.ensures.err.1 q) h) (λ k v h. h) (λ x h. h)) refl (fits_alike a b c.change_timer.ensures.closed c.change_timer.ensures.current (refl, refl) c.self.invariant.fits)
-
-pub invariant_of-self-in_default-entry : goal.invariant_of-self-in_default-entry
-invariant_of-self-in_default-entry c =
-    let a = c.self.inside in
-    let t = c.change_timer.new.self in
-    let b : Inside = record a { tables = record a.tables { timetable = t }; journal = c.change_timer.new.journal } in
-    let marked = entry_of-none route_labels_cmp a.tables.timetable.timers c.args.group.now (taken _ c.in_default-entry.not-Some ∙ c.in_ok-entry.ensures.entry) in
-    kept_grown a b c.self.invariant (record { alerts = λ k h. subst (λ v. IsTrue (has_place label_set_cmp v k)) (sym c.change_timer.ensures.alerts) h; silences = λ k h. h; placements = λ k h. h; groups = λ k h. h; timers = c.change_timer.ensures.places; log = λ k h. h }) refl c.change_timer.ensures.closed c.change_timer.ensures.current
-    (by_place (NoNewMark a.tables b.tables) (λ x h. h) (λ x h. h) (λ k v h. subst (λ x. IsTrue (is_entered label_set_cmp x k)) c.change_timer.ensures.alerts h) (λ k v h. h) (λ k v h. h) (λ q w h. entered_again route_labels_cmp route_labels_cmp-IsAntisymmetric a.tables.timetable.timers t.timers c.args.group.now q marked c.in_ok-entry.ensures.entered h) (λ k v h. h) (λ x h. h)) refl (fits_alike a b c.change_timer.ensures.closed c.change_timer.ensures.current (refl, refl) c.self.invariant.fits)
-
-pub returns-in-Some-entry-clause-kept : goal.returns-in-Some-entry-clause-kept
-returns-in-Some-entry-clause-kept c =
-    let a = c.self.inside in
-    let b : Inside = record a { tables = record a.tables { timetable = c.change_timer.new.self }; journal = c.push.new.self } in
-    let change : Displaced = WasTimer c.args.group.now (Some (record c.in-Some.former { next_flush = c.args.next; flushed = true })) in
-    let e : Displaced = WasTimer c.in-Some-entry.group c.in-Some-entry.was in
-    let is : ◌≡◌ (c.in-Some-entry.group, c.in-Some-entry.was) (c.args.group.now, map.get (shown route_labels_cmp a.tables.timetable.timers) c.args.group.now) = entry_of-some route_labels_cmp a.tables.timetable.timers c.args.group.now (c.in-Some-entry.group, c.in-Some-entry.was) (sym c.in-Some-entry.is ∙ c.in_ok-entry.ensures.entry) in
-    let pushed : c.push.new.self.current ≡ c.change_timer.new.journal.current ++ e ∷ [] = c.push.ensures.current in
-    undone_pushed a b change e tt (λ i. record (state_of a) { alerts = shown label_set_cmp (c.change_timer.ensures.alerts i); timers = c.in_ok-entry.ensures.shown i }) (ap (λ p. WasTimer p.0 p.1) is)
-    (pushed ∙ ap (λ es. es ++ e ∷ []) c.change_timer.ensures.current) (c.push.ensures.closed ∙ c.change_timer.ensures.closed) (c.push.ensures.records ∙ c.change_timer.ensures.record_room)
-    ∙ ap undone c.self.view_is
-
-pub returns-in_default-entry-clause-kept : goal.returns-in_default-entry-clause-kept
-returns-in_default-entry-clause-kept c =
-    let a = c.self.inside in
-    let b : Inside = record a { tables = record a.tables { timetable = c.change_timer.new.self }; journal = c.change_timer.new.journal } in
-    let change : Displaced = WasTimer c.args.group.now (Some (record c.in-Some.former { next_flush = c.args.next; flushed = true })) in
-    let marked = entry_of-none route_labels_cmp a.tables.timetable.timers c.args.group.now (taken _ c.in_default-entry.not-Some ∙ c.in_ok-entry.ensures.entry) in
-    undone_covered a b change c.self.invariant tt marked (λ i. record (state_of a) { alerts = shown label_set_cmp (c.change_timer.ensures.alerts i); timers = c.in_ok-entry.ensures.shown i }) c.change_timer.ensures.current c.change_timer.ensures.closed c.change_timer.ensures.record_room
-    ∙ ap undone c.self.view_is
-
-pub returns-in_default-clause-ok : goal.returns-in_default-clause-ok
-returns-in_default-clause-ok c =
-    let found : c.copied.result ≡ map.get c.args.self.now.state.timers c.args.group.now =
-    c.copied.ensures ∙ c.look_up_number-number.ensures.value ∙ ap (λ t. map.get (shown route_labels_cmp t) c.args.group.now) c.timers.ensures ∙ ap (λ (k : Kept). map.get k.state.timers c.args.group.now) c.self.view_is in
-    ap (λ m. record c.args.self.now.state { timers = m }) (none_flushed c.args.next c.args.group.now c.args.self.now.state.timers (sym (taken _ c.in_default.not-Some ∙ found)))
-
-pub returns-in-Some-entry-clause-ok : goal.returns-in-Some-entry-clause-ok
-returns-in-Some-entry-clause-ok c =
-    let a = c.self.inside in
-    let found : c.copied.result ≡ map.get c.args.self.now.state.timers c.args.group.now =
-    c.copied.ensures ∙ c.look_up_number-number.ensures.value ∙ ap (λ t. map.get (shown route_labels_cmp t) c.args.group.now) c.timers.ensures ∙ ap (λ (k : Kept). map.get k.state.timers c.args.group.now) c.self.view_is in
-    let timer : GroupTimer = record c.in-Some.former { next_flush = c.args.next; flushed = true } in
-    (λ i. record (state_of a) { alerts = shown label_set_cmp (c.change_timer.ensures.alerts i); timers = c.in_ok-entry.ensures.shown i })
-    ∙ (λ i. record (c.self.view_is i).state { timers = map.insert (c.self.view_is i).state.timers c.args.group.now timer })
-    ∙ ap (λ m. record c.args.self.now.state { timers = m }) (one_flushed c.args.next c.args.group.now c.args.self.now.state.timers c.in-Some.former (sym found ∙ c.in-Some.is))
-
-pub returns-in_default-entry-clause-ok : goal.returns-in_default-entry-clause-ok
-returns-in_default-entry-clause-ok c =
-    let a = c.self.inside in
-    let found : c.copied.result ≡ map.get c.args.self.now.state.timers c.args.group.now =
-    c.copied.ensures ∙ c.look_up_number-number.ensures.value ∙ ap (λ t. map.get (shown route_labels_cmp t) c.args.group.now) c.timers.ensures ∙ ap (λ (k : Kept). map.get k.state.timers c.args.group.now) c.self.view_is in
-    let timer : GroupTimer = record c.in-Some.former { next_flush = c.args.next; flushed = true } in
-    (λ i. record (state_of a) { alerts = shown label_set_cmp (c.change_timer.ensures.alerts i); timers = c.in_ok-entry.ensures.shown i })
-    ∙ (λ i. record (c.self.view_is i).state { timers = map.insert (c.self.view_is i).state.timers c.args.group.now timer })
-    ∙ ap (λ m. record c.args.self.now.state { timers = m }) (one_flushed c.args.next c.args.group.now c.args.self.now.state.timers c.in-Some.former (sym found ∙ c.in-Some.is))
+    let j = c.reserve_entry.new.self in
+    let mid : Inside = record a { journal = j } in
+    let b : Inside = record a { tables = c.enter.new.tables; journal = c.enter.new.journal } in
+    let change : Change = OfTimer c.in_ok-clone.field-0 (Some (record c.in-Some-Some.former { next_flush = c.args.next; flushed = true })) in
+    undone_changed mid b change (kept_reserved a j c.self.invariant c.reserve_entry.ensures.closed c.reserve_entry.ensures.current) tt c.enter.ensures.state c.enter.ensures.entered
+    ∙ undone_reserved a j c.reserve_entry.ensures.closed c.reserve_entry.ensures.current c.reserve_entry.ensures.records ∙ ap undone c.self.view_is

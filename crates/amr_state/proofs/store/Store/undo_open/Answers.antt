@@ -1,10 +1,10 @@
 use Rattle.std.proofs.Common.{◌≡◌, List, [], ◌∷◌, refl, sym, ◌∙◌, length, arith}
-use Rattle.amr_state.specs.declared.displaced.Displaced.{Displaced}
+use Rattle.amr_state.specs.declared.change.Change.{Change}
 use Rattle.amr_state.proofs.Undoing.{undone-idle}
 use Rattle.std.proofs.lemmas.Bool.Decides.{nat_tests}
 use Rattle.amr_state.proofs.store.Store.undo_open.Goals as goal
 
-nothing_left : (es : List Displaced) → length es ≡ 0 → es ≡ []
+nothing_left : (es : List Change) → length es ≡ 0 → es ≡ []
 nothing_left [] e = refl
 nothing_left (x ∷ es) e = absurd (omega arith)
 
