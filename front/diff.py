@@ -11,7 +11,7 @@ from .arguments import add_output, add_script, parser_of
 from .diff_text import text_of
 from .inputs import Given, opened
 from .moments import SECOND, moment_text
-from .script import event_of, script_of
+from .script import event_of
 from .story import Mark, Story, story_of
 from .story.differing import LOST, Difference, differences_of, moment_of
 from .story.names import Names
@@ -41,14 +41,17 @@ def main(arguments: list[str]) -> int:
 
 
 def without_reloads(script: Given) -> Given:
-    """Returns a script without its reloads."""
-    lines = script_of(script.data)
-    kept = [line for line in lines.lines if not _is_reload(line)]
-    return Given(script.name, lines.text(kept) if len(kept) < len(lines.lines) else script.data)
+    """Returns a script with a blank line in place of each reload, so that the other lines keep their numbers."""
+    lines = script.data.split(b"\n")
+    return Given(script.name, b"\n".join(b"" if _is_reload(line) else line for line in lines))
 
 
 def _is_reload(line: bytes) -> bool:
-    return b'"reload"' in line and event_of(line).act == "reload"
+    """Returns whether a line is a reload. One that is no event is left for the program to refuse."""
+    try:
+        return b'"reload"' in line and event_of(line).act == "reload"
+    except (ValueError, KeyError, StopIteration, TypeError):
+        return False
 
 
 def _options(arguments: list[str]) -> argparse.Namespace:

@@ -12,10 +12,12 @@ from dataclasses import dataclass
 from pathlib import Path
 from typing import Any, Iterator, Optional
 
-from .config.yaml_config import BadConfiguration, Reading, read_config
+from .config.yaml_config import BYTES_AT_MOST, BadConfiguration, Reading, read_config
 from .config.zones import BadZone, in_utc
+from .lint.findings import Finding
 from .lint.odd import unknown_keys
 from .lint.refused import explain
+from .lint.scripts import explain_script
 from .moments import DAY, nanoseconds
 from .program import Fault, Program, Source
 from .script import event_of, script_of
@@ -48,6 +50,10 @@ class Config:
     def value(self) -> dict[str, Any]:
         return self.reading.value if isinstance(self.reading.value, dict) else {}
 
+    @property
+    def may_have_zones(self) -> bool:
+        return b"location" in self.reading.original
+
 
 class Inputs:
     """Reads files once, and writes what the program reads to a folder that is removed afterwards."""
@@ -55,29 +61,37 @@ class Inputs:
     def __init__(self, room: Path) -> None:
         self.room = room
         self._count = 0
+        self._script: Optional[Given] = None
 
-    def read(self, path: str) -> Given:
-        """Reads a file, or standard input. Raises a fault that names it."""
+    def read(self, path: str, at_most: int = -1) -> Given:
+        """Reads a file, or standard input, whole or so many bytes of it. Raises a fault that names it."""
         try:
-            data = sys.stdin.buffer.read() if path == STANDARD_INPUT else Path(path).read_bytes()
+            data = _bytes_of(path, at_most)
         except OSError as error:
             raise Fault(f"amreplay: cannot read {shown(path)}: {error.strerror}") from error
         return Given("standard input" if path == STANDARD_INPUT else shown(path), data)
 
     def script(self, path: str) -> Given:
-        return self.read(path)
+        self._script = self.read(path)
+        return self._script
+
+    def explained(self, fault: Fault) -> Fault:
+        """Returns a refusal of the script with what is wrong in its line, and any other fault as it is."""
+        if fault.refusal is None or fault.refusal.file != "script" or self._script is None:
+            return fault
+        return _explained(fault, explain_script(fault.refusal, self._script.data), self._script.name)
 
     def config(self, path: str, script: Optional[Given] = None, days_after: int = 0) -> Config:
         """Reads a configuration, and writes it for the program as JSON: its time intervals in UTC for the days of the script, and some after it.
         Unknown keys are warned of on standard error, and a fault says where and why the program refuses it."""
         config = self.config_as_it_is(path)
         config = self.in_utc(config, script, days_after)
-        _check(config)
+        self.check(config)
         return config
 
     def config_as_it_is(self, path: str) -> Config:
         """Reads a configuration, and writes it for the program as JSON."""
-        given = self.read(path)
+        given = self.read(path, BYTES_AT_MOST + 1)
         try:
             reading = read_config(given.data)
         except BadConfiguration as error:
@@ -86,17 +100,28 @@ class Inputs:
 
     def in_utc(self, config: Config, script: Optional[Given], days_after: int = 0) -> Config:
         """Returns a configuration with its time intervals in UTC, for the days of a script and some after it, or for one day without it."""
-        if b"location" not in config.reading.original:
+        if not config.may_have_zones:
             return config
         first, last = (times_of(script.data) if script is not None else None) or A_DAY
         try:
             value, names = in_utc(config.reading.value, first, min(last + days_after * DAY, LAST))
-        except BadZone:
-            return config
+        except BadZone as error:
+            return dataclasses.replace(config, reading=dataclasses.replace(config.reading, bad_zone=str(error)))
         if not names:
             return config
         reading = dataclasses.replace(config.reading, value=value)
         return Config(config.name, reading, self.write(json.dumps(value, ensure_ascii=False).encode()), tuple(names))
+
+    def check(self, config: Config) -> None:
+        """Warns of unknown keys on standard error. Raises a fault that says where and why the program refuses a configuration."""
+        for finding in unknown_keys(config.reading):
+            print(f"amreplay: {printable(finding.text(config.name))}", file=sys.stderr)
+        try:
+            Program.found().check(config.path, config.name)
+        except Fault as fault:
+            if fault.refusal is None:
+                raise
+            raise _explained(fault, explain(fault.refusal, config.reading), config.name) from fault
 
     def source(self, config: Config, script: Given) -> Source:
         """Returns what is replayed, under the names that were given."""
@@ -109,18 +134,16 @@ class Inputs:
         return str(path)
 
 
-def _check(config: Config) -> None:
-    for finding in unknown_keys(config.reading):
-        print(f"amreplay: {printable(finding.text(config.name))}", file=sys.stderr)
-    try:
-        Program.found().check(config.path, config.name)
-    except Fault as fault:
-        if fault.refusal is None:
-            raise
-        lines = [
-            f"amreplay: {printable(finding.text(config.name))}" for finding in explain(fault.refusal, config.reading)
-        ]
-        raise Fault("\n".join(lines), fault.status, fault.refusal) from fault
+def _bytes_of(path: str, at_most: int) -> bytes:
+    if path == STANDARD_INPUT:
+        return sys.stdin.buffer.read(at_most)
+    with open(path, "rb") as file:
+        return file.read(at_most)
+
+
+def _explained(fault: Fault, findings: list[Finding], name: str) -> Fault:
+    """Returns a refusal of the program with what is found behind it."""
+    return Fault("\n".join(f"amreplay: {printable(each.text(name))}" for each in findings), fault.status, fault.refusal)
 
 
 def _why_unread(data: bytes, error: BadConfiguration) -> str:
@@ -138,9 +161,13 @@ def _why_unread(data: bytes, error: BadConfiguration) -> str:
 
 @contextmanager
 def opened() -> Iterator[Inputs]:
-    """Gives a folder to inputs, and removes it."""
+    """Gives a folder to inputs, and removes it. Where the program refused the script, it says what is wrong there."""
     with tempfile.TemporaryDirectory(prefix="amreplay-") as room:
-        yield Inputs(Path(room))
+        inputs = Inputs(Path(room))
+        try:
+            yield inputs
+        except Fault as fault:
+            raise inputs.explained(fault) from fault
 
 
 def shown(path: str) -> str:

@@ -12,7 +12,7 @@ import threading
 from contextlib import contextmanager
 from dataclasses import dataclass
 from pathlib import Path
-from typing import IO, Any, Iterable, Iterator
+from typing import IO, Any, Iterable, Iterator, NoReturn
 
 TOP = Path(__file__).resolve().parent.parent
 LAST_LINE = b'\n{"command":'
@@ -111,8 +111,35 @@ class Program:
 
     def run(self, source: Source) -> list[dict[str, Any]]:
         """Returns the lines that a run prints. Raises the program's fault if a file is refused."""
-        printed = _printed(source, ["run", source.config, source.script])
-        return [_object(line) for line in printed.split(b"\n")[:-1]]
+        return list(self.lines(source))
+
+    def lines(self, source: Source) -> Iterator[dict[str, Any]]:
+        """Yields the lines of a run as the program prints them. Raises the program's fault, after the lines before it."""
+        with tempfile.TemporaryFile() as errors:
+            words = [source.program, "run", source.config, source.script]
+            try:
+                process = subprocess.Popen(words, stdout=subprocess.PIPE, stderr=errors)
+            except OSError as error:
+                raise _cannot_run(source, error) from error
+            assert process.stdout is not None
+            try:
+                yield from map(_object, process.stdout)
+                status = process.wait()
+                if status != 0:
+                    raise _fault(source, errors, status)
+            finally:
+                process.stdout.close()
+                process.kill()
+                process.wait()
+
+    def become(self, form: str, *files: str | bytes) -> NoReturn:
+        """Makes this process the program, which reads files from their paths or from memory: so none is left behind, and signals, the status and
+        standard input are its own."""
+        paths = [_in_memory(each) if isinstance(each, bytes) else each for each in files]
+        try:
+            os.execv(self.path, [self.path, form, *paths])
+        except OSError as error:
+            raise _cannot_run(self.source("", ""), error) from error
 
 
 class Session:
@@ -223,6 +250,14 @@ def answers_of(source: Source, commands: list[str]) -> list[Answer]:
     if len(answers) != len(commands):
         raise Fault("amreplay: the session answered otherwise than one last line for each command")
     return answers
+
+
+def _in_memory(data: bytes) -> str:
+    """Returns the path of a file in memory, which lasts as long as this process, whatever it becomes."""
+    handle = os.memfd_create("amreplay", 0)
+    with open(handle, "wb", closefd=False) as file:
+        file.write(data)
+    return f"/proc/self/fd/{handle}"
 
 
 def _object(line: bytes) -> dict[str, Any]:

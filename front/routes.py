@@ -12,7 +12,7 @@ from .inputs import Config, Inputs, opened
 from .labels import labels_in
 from .moments import DAY, HOUR, moment_text
 from .program import Program, session
-from .story.config import Route, routes_of
+from .story.config import Route, Rule, routes_of, rules_of
 from .story.model import Pairs
 from .telling import printable
 
@@ -37,7 +37,9 @@ def main(arguments: list[str]) -> int:
     receivers = [] if chosen is None else list(dict.fromkeys(routes[number].receiver for number in chosen))
     if options.output == "json":
         listed = [_as_json(route, routes) for route in routes if chosen is None or route.number in chosen]
-        json.dump({"routes": listed, "receivers": receivers}, sys.stdout, ensure_ascii=False, indent=1)
+        rules = [_rule_as_json(rule) for rule in rules_of(config.value)]
+        told = {"routes": listed, "receivers": receivers, "rules": rules}
+        json.dump(told, sys.stdout, ensure_ascii=False, indent=1)
         print()
     else:
         for line in _lines(routes, config.value, chosen):
@@ -97,6 +99,11 @@ def _lines(routes: list[Route], config: dict[str, Any], chosen: Optional[list[in
         details = _details(route, routes)
         if details:
             yield f"{indent}   {details}"
+    for rule in rules_of(config) if chosen is None else []:
+        sources, targets = (", ".join(texts) or "all alerts" for texts in (rule.source_texts, rule.target_texts))
+        yield f"rule {rule.number}  {sources}  mutes  {targets}" + (
+            f"  same {', '.join(rule.equal)}" if rule.equal else ""
+        )
 
 
 def _way(routes: list[Route], number: int) -> Iterator[int]:
@@ -129,6 +136,10 @@ def _details(route: Route, routes: list[Route]) -> str:
         if route.value.get(key):
             parts.append(f"{words} {', '.join(map(str, route.value[key]))}")
     return "; ".join(parts)
+
+
+def _rule_as_json(rule: Rule) -> dict[str, Any]:
+    return {"number": rule.number, "source": rule.source_texts, "target": rule.target_texts, "equal": list(rule.equal)}
 
 
 def _as_json(route: Route, routes: list[Route]) -> dict[str, Any]:

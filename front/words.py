@@ -23,18 +23,21 @@ class Word:
 MODULES = {"lint": "front.lint.word"}
 
 
-def _listed() -> dict[str, Word]:
-    """Returns the words of the front, as the list of all words has them."""
+def _listed(answerer: str) -> dict[str, Word]:
+    """Returns the words of the front, or the forms of the program, as the list of all words has them."""
     lines = (TOP / "words.txt").read_text("utf-8").splitlines()
     listed = [line.split(None, 2) for line in lines if line and not line.startswith("#")]
-    return {word: Word(MODULES.get(word, f"front.{word}"), does) for who, word, does in listed if who == "front"}
+    return {word: Word(MODULES.get(word, f"front.{word}"), does) for who, word, does in listed if who == answerer}
 
 
-WORDS = _listed()
+WORDS = _listed("front")
+FORMS = tuple(_listed("program"))
 
 
 def load(word: str) -> Main:
-    """Returns the `main` of a word. Its module is loaded now, and those of other words are not."""
+    """Returns the `main` of a word, or the function of a form. Its module is loaded now, and those of other words are not."""
+    if word in FORMS:
+        return cast(Main, getattr(importlib.import_module("front.forms"), word))
     return cast(Main, importlib.import_module(WORDS[word].module).main)
 
 

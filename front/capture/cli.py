@@ -3,13 +3,11 @@
 from __future__ import annotations
 
 import argparse
-import signal
 import sys
 import time
 from contextlib import nullcontext
 from dataclasses import dataclass
 from pathlib import Path
-from types import FrameType
 
 from ..arguments import parser_of
 from ..config.cut import cut
@@ -45,21 +43,10 @@ def main(arguments: list[str]) -> int:
     span = _span(options)
     output = appearing(free_folder(options.output))
     kept = appearing(free_folder(options.keep_responses)) if options.keep_responses else nullcontext(None)
-    _end_in_order()
     with output as files, kept as responses:
         text = _make(files, _servers(options, responses), span, options.config)
     print(text, file=sys.stderr, end="")
     return 0
-
-
-def _end_in_order() -> None:
-    """Lets the signals that ask for an end leave nothing behind."""
-
-    def end(number: int, _frame: FrameType | None) -> None:
-        sys.exit(128 + number)
-
-    for number in (signal.SIGTERM, signal.SIGHUP):
-        signal.signal(number, end)
 
 
 def _make(folder: Path, servers: Servers, span: Span, config: str | None) -> str:

@@ -9,7 +9,7 @@ from ..program import Fault
 try:
     import yaml
 except ModuleNotFoundError:
-    raise Fault("amreplay: reading a configuration needs PyYAML; Debian's package is python3-yaml") from None
+    yaml = None
 
 DEPTH_AT_MOST = 200
 NODES_AT_MOST = 500_000
@@ -61,11 +61,22 @@ Node = Union[Scalar, Sequence, Mapping]
 
 
 def tree_of(text: str, are_keys_unique: bool = True) -> Node | None:
-    """Returns the tree of a YAML text with one document, or nothing if it is empty."""
+    """Returns the tree of a YAML text with one document, or nothing if it is empty. Raises a fault if there is nothing to read YAML with."""
+    if yaml is None:
+        raise Fault("amreplay: reading YAML needs PyYAML; Debian's package is python3-yaml")
     try:
         return _Composer(text, are_keys_unique).document()
     except yaml.YAMLError as error:
         raise BadYaml(_described(error)) from None
+
+
+def tree_of_json(value: Any) -> Node:
+    """Returns the tree of a JSON value, whose lines aren't known."""
+    if isinstance(value, dict):
+        return Mapping(0, [(Scalar(key, False, 0), tree_of_json(member)) for key, member in value.items()])
+    if isinstance(value, list):
+        return Sequence(0, [tree_of_json(each) for each in value])
+    return Scalar("" if value is None else str(value), value is None, 0)
 
 
 def _described(error: yaml.YAMLError) -> str:

@@ -1,15 +1,18 @@
 """Reads a configuration by its schema: what YAML takes for a number, a boolean or a date is a text where Alertmanager has a text."""
 from __future__ import annotations
 
+import codecs
 import json
 import re
 from dataclasses import dataclass, field
 from typing import Any
 
+from ..program import Fault
+
 from .schema import (
     CONFIGURATION, ROUTE, SENDS_RESOLVED, TEXT, Boolean, Integration, ListOf, Object, Route, Shape, Texts, shape_in, with_default,
 )  # fmt: skip
-from .tree import BadYaml, Mapping, Node, Scalar, Sequence, tree_of
+from .tree import BadYaml, Mapping, Node, Scalar, Sequence, tree_of, tree_of_json
 
 BYTES_AT_MOST = 16 * 1024 * 1024
 
@@ -30,13 +33,15 @@ class Unread:
 
 @dataclass
 class Reading:
-    """A configuration as the program reads it, with the line of each place in the user's file."""
+    """A configuration as the program reads it, with the line of each place in the user's file. `bad_zone` says where and why a `location` can't be
+    written in UTC."""
 
     value: Any
     lines: dict[str, int] = field(default_factory=dict)
     unread: list[Unread] = field(default_factory=list)
     is_json: bool = False
     original: bytes = b""
+    bad_zone: str = ""
 
     def line_of(self, path: str) -> int | None:
         """Returns the line of a place, or of the nearest place around it that has one."""
@@ -64,7 +69,7 @@ def _read_json(text: str, data: bytes) -> Reading | None:
     if not text.lstrip().startswith("{"):
         return None
     try:
-        reading = Reading(json.loads(text), is_json=True, original=data)
+        reading = Reading(json.loads(text), is_json=True, original=data.removeprefix(codecs.BOM_UTF8))
     except (ValueError, RecursionError):
         return None
     try:
@@ -72,6 +77,8 @@ def _read_json(text: str, data: bytes) -> Reading | None:
         node = tree_of(text.replace("\t", " "), are_keys_unique=False)
     except BadYaml:
         return reading
+    except Fault:
+        node = tree_of_json(reading.value)
     if node is not None:
         _Reader(reading).read(node, CONFIGURATION, "")
     return reading

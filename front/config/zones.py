@@ -6,7 +6,9 @@ import copy
 from dataclasses import dataclass
 from datetime import date, datetime, timedelta, timezone
 from typing import Any, Callable, Iterator
-from zoneinfo import ZoneInfo
+from zoneinfo import ZoneInfo, available_timezones
+
+from ..meant import did_you_mean
 
 DAY_SECONDS = 86_400
 NANOSECONDS = 1_000_000_000
@@ -87,7 +89,7 @@ def _zone(name: str) -> ZoneInfo:
     try:
         return ZoneInfo(name)
     except (ValueError, OSError, LookupError):
-        raise BadZone(f"there is no zone {name} on this machine") from None
+        raise BadZone(f"there is no zone {name} on this machine{did_you_mean(name, available_timezones())}") from None
 
 
 def _members(member: dict[str, Any], zone: ZoneInfo, days: range) -> Iterator[dict[str, Any]]:

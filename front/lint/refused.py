@@ -11,7 +11,7 @@ from ..program import Refusal
 from ..refusals import CONFIGURATIONS
 from ..story.config import Route, routes_of
 from .findings import ERROR, Finding, value_text
-from .places import value_at
+from .places import last_key, value_at
 from .values import words_for
 
 LEVELS_AT_MOST = 32
@@ -21,7 +21,10 @@ Found = list[tuple[str, str, str]]
 
 def explain(refusal: Refusal, reading: Reading) -> list[Finding]:
     """Returns the faults behind a refusal: what the program said, and where that is in the user's file."""
-    if refusal.number == 5:
+    if reading.bad_zone and last_key(refusal.path) == "location":
+        path, what = reading.bad_zone.split(": ", 1)
+        found = [(path, what, "")]
+    elif refusal.number == 5:
         what, write = words_for(refusal.path, value_at(reading.value, refusal.path), reading.value)
         found = [(refusal.path, what, write)]
     else:

@@ -77,7 +77,7 @@ def words_for(path: str, value: Any, config: Any) -> Words:
     if key in ("mute_time_intervals", "active_time_intervals") and is_item and path.startswith("route"):
         return _of_interval_name(value, config)
     if key == "location":
-        return f"only UTC is known to check, run and session, and not {value_text(value)}", _about_zones(value)
+        return f"the program knows UTC alone, and not {value_text(value)}", _about_zones(value)
     if key == "name":
         return _of_name(path, value, config)
     return _of_interval(path, key, value, is_item) or _of_shape(key, value, is_item)
@@ -209,7 +209,7 @@ def interval_names(config: Any) -> list[str]:
 
 def _about_zones(value: Any) -> str:
     return (
-        "the words of the front write a zone's intervals in UTC for the days of the script"
+        "in YAML, and for the words beside it, a zone's intervals are written in UTC for the days of the script"
         if isinstance(value, str)
         else "write UTC"
     )

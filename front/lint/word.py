@@ -67,9 +67,9 @@ def _options(arguments: list[str]) -> argparse.Namespace:
 
 
 def _nearly_json(config: Config) -> list[Finding]:
-    """Returns what keeps a file from being JSON that was meant as JSON, and that YAML reads."""
+    """Returns what keeps a file from being JSON that begins as JSON, and that YAML reads. The launcher knows YAML by its name too."""
     data = config.reading.original
-    if config.reading.is_json or not data.lstrip().startswith(b"{"):
+    if config.reading.is_json or not data.lstrip().startswith(b"{") or config.name.endswith((".yml", ".yaml")):
         return []
     try:
         json.loads(data)
@@ -81,7 +81,7 @@ def _nearly_json(config: Config) -> list[Finding]:
                 fault.lineno,
                 "",
                 what,
-                "the words of the front read it as YAML, but check, run and session refuse it",
+                "the words beside the program read it as YAML, but check, run and session refuse it",
             )
         ]
     except UnicodeDecodeError:
@@ -92,7 +92,8 @@ def _nearly_json(config: Config) -> list[Finding]:
 def _zones(config: Config) -> Iterator[Finding]:
     """Yields where time intervals have a zone."""
     for key in ("mute_time_intervals", "time_intervals"):
-        for i, interval in enumerate(config.value.get(key) or []):
+        listed = config.value.get(key)
+        for i, interval in enumerate(listed if isinstance(listed, list) else []):
             members = interval.get("time_intervals") if isinstance(interval, dict) else None
             for j, member in enumerate(members if isinstance(members, list) else []):
                 zone = member.get("location") if isinstance(member, dict) else None

@@ -10,7 +10,6 @@ from pathlib import Path
 
 from ..arguments import add_config, add_script, parser_of
 from ..labels import labels_in
-from ..program import Fault
 from .making import Options, make
 
 
@@ -19,14 +18,8 @@ def main(words: list[str]) -> int:
     # What is collected stays until the page is written, and has no cycles to look for.
     gc.disable()
     options = read_words(words)
-    try:
-        options.named = [labels_in(text, "--explain") for text in options.explain]
-        return _write(make(options), options.output)
-    except Fault as fault:
-        print(fault.line, file=sys.stderr)
-        return fault.status
-    except KeyboardInterrupt:
-        return 130
+    options.named = [labels_in(text, "--explain") for text in options.explain]
+    return _write(make(options), options.output)
 
 
 def read_words(words: list[str]) -> Options:

@@ -90,17 +90,23 @@ def beside(task: Task) -> Iterator[Task]:
 
 
 def _send(sender: Any, task: Task) -> None:
-    signal.signal(signal.SIGINT, signal.SIG_IGN)
+    _ends_with_its_parent()
     try:
         sender.send(task())
     except Fault as fault:
         sender.send(fault)
 
 
-def _share(done: Any, tasks: list[Task]) -> None:
-    """Begins a process. An interruption ends the process that began it, and that one ends this."""
-    global _done, _tasks
+def _ends_with_its_parent() -> None:
+    """Lets an interruption end the process that began this one, and that one end this."""
     signal.signal(signal.SIGINT, signal.SIG_IGN)
+    signal.signal(signal.SIGTERM, signal.SIG_DFL)
+
+
+def _share(done: Any, tasks: list[Task]) -> None:
+    """Begins a process."""
+    global _done, _tasks
+    _ends_with_its_parent()
     _done, _tasks = done, tasks
 
 

@@ -10,7 +10,7 @@ import unittest
 from pathlib import Path
 from typing import Any, Iterator
 
-from front.__main__ import main
+from front.__main__ import answer
 from front.program import Program, Source
 
 TOP = Path(__file__).resolve().parent.parent.parent
@@ -45,7 +45,7 @@ def run_word(*words: str) -> tuple[int, str, str]:
     out, errors = io.StringIO(), io.StringIO()
     with contextlib.redirect_stdout(out), contextlib.redirect_stderr(errors):
         try:
-            status = main(list(words))
+            status = answer(list(words))
         except SystemExit as end:
             status = int(end.code or 0)
     return status, out.getvalue(), errors.getvalue()

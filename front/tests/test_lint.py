@@ -43,6 +43,7 @@ REFUSED = [
     (with_interval(days_of_month=["0"]), '"0" is no day of a month', "1 to 31"),
     ({**OPS, "receivers": [{"name": "ops", "telegram_configs": [{}]}]}, "receivers[0].telegram_configs[0]: the program has no default of send_resolved for telegram", 'write "send_resolved": true, which is Alertmanager\'s default'),  # noqa: E501
     ({**OPS, "receivers": [{"name": "ops", "telgram_configs": [{}]}]}, "the kind telgram isn't known", "did you mean telegram_configs?"),
+    ({**OPS, "time_intervals": 1.5}, "time_intervals: 1.5 is no list", "write [1.5]"),
     ({"receivers": []}, "route is required, and isn't there (5 BadConfig)", "write a route"),
     (with_route(receiver="opps"), 'route.receiver: there is no receiver "opps" (6 UnknownReceiver)', "did you mean ops?"),
     ({**OPS, "receivers": OPS["receivers"] * 2}, 'receivers[1].name: there is a receiver "ops" already', "(7 DuplicateReceiver)"),
@@ -65,7 +66,7 @@ ODD = [
     (with_route(routes=[{"match": {"a": "b"}}, {"matchers": ['a="b",c=d']}]), "no alert reaches route 2: route 1 before it takes all"),
     (with_route(routes=[{}, {"matchers": ["a=b"]}]), "no alert reaches route 2: route 1 before it takes all"),
     (with_route(routes=[{"matchers": ["a=b"], "routes": [{"matchers": ["a=c"]}]}]), 'no alert reaches route 2: a="b" and a="c" exclude one another'),
-    (with_interval(location="Europe/Paris"), "location: only UTC is known to check, run and session"),
+    (with_interval(location="Europe/Paris"), "location: the program knows UTC alone, and not"),
 ]  # fmt: skip
 
 EVENT: dict[str, Any] = {"at": "2024-05-01T10:00:00Z"}
@@ -160,6 +161,16 @@ class Configurations(WithRoom):
         status, printed, _ = run_word("lint", path)
         self.assertEqual(status, 0)
         self.assertIn("warning: no JSON: ", printed)
+
+        self.assertIn("; 0 errors, 0 warnings", run_word("lint", self.write("a.yml", json.dumps(OPS)[:-1] + ",}"))[1])
+
+    def test_a_zone_that_is_not_known(self) -> None:
+        zones = [{"location": "Europe/Paris"}, {"location": "Europe/Pariss"}]
+        config = {**OPS, "time_intervals": [{"name": "nights", "time_intervals": zones}]}
+        path = self.write("config.json", json.dumps(config, indent=1))
+        place = f"{path}:21: error: time_intervals[0].time_intervals[1].location: "
+        said = "there is no zone Europe/Pariss on this machine; did you mean Europe/Paris? (5 BadConfig)\n"
+        self.assertIn(place + said, run_word("lint", path)[1])
 
     def test_json_output(self) -> None:
         status, printed, _ = run_word("lint", self.write_json("config.json", with_route(group_wait=30)), "--json")

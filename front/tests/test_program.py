@@ -55,6 +55,18 @@ class Faults(WithRoom):
         assert refusal is not None
         self.assertEqual((refusal.file, refusal.number, refusal.line), ("script", 13, 2))
 
+    def test_words_say_what_is_wrong_in_a_script(self) -> None:
+        config = self.write_json("config.json", CONFIG)
+        reload = {"at": "2024-05-01T09:00:00Z", "reload": CONFIG}
+        wrong = {"reload": {}, "att": "2024-05-01T10:00:00Z"}
+        script = self.write_lines("script.jsonl", [reload, wrong])
+        said = f"amreplay: {script}:2: error: at: at is required, and isn't there (13 BadLine); write a moment"
+        for words in (("why",), ("page", "--ignore-reloads"), ("diff", "--ignore-reloads", config), ("run", "--text")):
+            with self.subTest(words[0]):
+                status, printed, errors = run_word(*words, config, script)
+                self.assertEqual((status, printed), (1, ""))
+                self.assertIn(said, errors)
+
     def test_check_counts(self) -> None:
         counts = Program.found().check(self.write_json("config.json", CONFIG))
         self.assertEqual((counts.receivers, counts.routes, counts.rules), (1, 1, 0))
@@ -81,7 +93,7 @@ class Sessions(WithRoom):
         self.assertIn("5 BadConfig at route", raised.exception.line)
 
 
-class Interrupted(WithRoom):
+class Processes(WithRoom):
     def test_an_interrupt_prints_nothing(self) -> None:
         fifo = str(self.room / "pipe")
         os.mkfifo(fifo)
@@ -94,6 +106,48 @@ class Interrupted(WithRoom):
             process.send_signal(signal.SIGINT)
             printed, errors = process.communicate(timeout=60)
         self.assertEqual((process.returncode, printed, errors), (130, b"", b""))
+
+    def test_a_word_that_is_ended_leaves_nothing(self) -> None:
+        fifo = str(self.room / "pipe")
+        os.mkfifo(fifo)
+        words = [sys.executable, "-B", "-m", "front", "why", str(INCIDENT / "config.json"), fifo]
+        process = subprocess.Popen(words, cwd=TOP, env={**os.environ, "TMPDIR": str(self.room)})
+        with open(fifo, "wb"):
+            # The word has its folder by now, and waits for the script.
+            self.assertEqual(len(list(self.room.iterdir())), 2)
+            process.terminate()
+            self.assertEqual(process.wait(60), 128 + signal.SIGTERM)
+        self.assertEqual([each.name for each in self.room.iterdir()], ["pipe"])
+
+    def test_characters_that_the_output_does_not_have(self) -> None:
+        alert = {"at": "2024-05-01T10:00:00Z", "alerts": [{"labels": {"alertname": "Dé"}}]}
+        config, script = self.write_json("config.json", CONFIG), self.write_lines("script.jsonl", [alert])
+        words = [sys.executable, "-B", "-m", "front", "why", config, script]
+        done = subprocess.run(words, cwd=TOP, env={**os.environ, "PYTHONIOENCODING": "ascii"}, capture_output=True)
+        self.assertEqual((done.returncode, done.stderr), (0, b""))
+        self.assertIn(b"D\\xe9", done.stdout)
+
+    def test_json_needs_no_yaml(self) -> None:
+        without = (
+            "import sys; sys.modules['yaml'] = None; from front.__main__ import main; sys.exit(main(sys.argv[1:]))"
+        )
+        script = self.write_lines("script.jsonl", [TICK])
+        odd = self.write_json("odd.json", {**CONFIG, "inhibit_rule": []})
+        said = f"amreplay: {odd}: warning: inhibit_rule: unknown key inhibit_rule, which is ignored; did you mean inhibit_rules?\n"
+        needed = "amreplay: reading YAML needs PyYAML; Debian's package is python3-yaml\n"
+        for config, status, errors in ((odd, 0, said), (self.write("a.yml", "route: {}"), 1, needed)):
+            words = [sys.executable, "-B", "-c", without, "why", config, script]
+            done = subprocess.run(words, cwd=TOP, capture_output=True, text=True)
+            self.assertEqual((done.returncode, done.stderr), (status, errors))
+
+    def test_a_full_output_is_no_traceback(self) -> None:
+        for words in (["why"], ["run", "--text"], ["page"]):
+            files = [str(INCIDENT / "config.json"), str(INCIDENT / "script.jsonl")]
+            with open("/dev/full", "wb") as full:
+                words = [sys.executable, "-B", "-m", "front", *words, *files]
+                done = subprocess.run(words, cwd=TOP, stdout=full, stderr=subprocess.PIPE)
+            said = b"amreplay: cannot write: No space left on device\n"
+            self.assertEqual((done.returncode, done.stderr), (1, said))
 
     def test_a_closed_pipe_is_no_traceback(self) -> None:
         words = f"{sys.executable} -m front why {INCIDENT}/config.json {INCIDENT}/script.jsonl | head -1"

@@ -25,6 +25,7 @@ class Routes(unittest.TestCase):
         self.assertIn('    4  severity="critical"  ->  payments-pager (pagerduty)', lines)
         self.assertIn("       group_wait 10s; repeat_interval 30m; active in business-hours", lines)
         self.assertIn('  2  severity="critical"  ->  sre-pager (pagerduty, slack)  continue', lines)
+        self.assertIn('rule 0  alertname="NodeDown"  mutes  severity=~"warning|info"  same cluster, instance', lines)
 
     def test_labels(self) -> None:
         for words in (
@@ -47,3 +48,5 @@ class Routes(unittest.TestCase):
         self.assertEqual([route["number"] for route in value["routes"]], [2, 7])
         self.assertEqual((value["routes"][1]["group_wait"], value["routes"][1]["repeat_interval"]), ("30s", "1h"))
         self.assertEqual(value["receivers"], ["sre-pager", "db-pager"])
+        rule = {"number": 0, "source": ['alertname="NodeDown"'], "target": ['severity=~"warning|info"']}
+        self.assertEqual(value["rules"][0], {**rule, "equal": ["cluster", "instance"]})

@@ -9,7 +9,7 @@ from front.labels import labels_in
 from front.moments import HOUR, MINUTE, SECOND, clock_text, length_of, length_text, nanoseconds
 from front.program import Fault
 from front.refusals import EVENTS
-from front.words import WORDS
+from front.words import FORMS, WORDS
 
 from .support import TOP, run_word
 
@@ -23,7 +23,7 @@ class Refusals(unittest.TestCase):
 
 class Words(unittest.TestCase):
     def test_each_has_help(self) -> None:
-        for word in WORDS:
+        for word in (*WORDS, *FORMS):
             with self.subTest(word):
                 status, printed, errors = run_word(word, "--help")
                 self.assertEqual((status, errors), (0, ""))
@@ -38,6 +38,8 @@ class Words(unittest.TestCase):
             ["diff", "a", "b"],
             ["why", "a", "b", "--late", "soon"],
             ["why", "a", "b", "--nope"],
+            ["run", "a.yml"],
+            ["check", "a.yml", "--text"],
         ]
         for words in wrong:
             with self.subTest(words):
