@@ -18,14 +18,14 @@ use Rattle.std.proofs.lemmas.List.{length-map, get_or-map, map-append, take_all,
 use Rattle.std.proofs.lemmas.Option.{none-some, same_Some, slice_get-map}
 use Rattle.std.proofs.lemmas.Simd.{map-map}
 use Rattle.amr_labels.specs.Labels.{Text, text_cmp, text_cmp-IsAntisymmetric, LabelSet}
-use Rattle.amr_matchers.specs.Matchers.{Matcher, all_hold, matcher_cmp, matcher_cmp_total, matcher_cmp-IsAntisymmetric}
-use Rattle.amr_stated.specs.declared.route.Grouping.{Grouping}
-use Rattle.amr_stated.specs.declared.route.Grouping.TheVariants.{AllLabels, Named}
-use Rattle.amr_stated.specs.declared.route.Route.{Route}
-use Rattle.amr_stated.specs.declared.rule.InhibitRule.{InhibitRule}
-use Rattle.amr_stated.specs.declared.rule_sides.RuleMatch.{RuleMatch}
-use Rattle.amr_stated.specs.Config.{Config}
-use Rattle.amr_stated.specs.RuleMatches.{rule_matches}
+use Rattle.amr_labels.specs.Matcher.Matchers.{Matcher, all_hold, matcher_cmp, matcher_cmp_total, matcher_cmp-IsAntisymmetric}
+use Rattle.amr_config.specs.declared.stated.route.Grouping.{Grouping}
+use Rattle.amr_config.specs.declared.stated.route.Grouping.TheVariants.{AllLabels, Named}
+use Rattle.amr_config.specs.declared.stated.route.Route.{Route}
+use Rattle.amr_config.specs.declared.stated.rule.InhibitRule.{InhibitRule}
+use Rattle.amr_config.specs.declared.stated.rule_sides.RuleMatch.{RuleMatch}
+use Rattle.amr_config.specs.Stated.Config.{Config}
+use Rattle.amr_config.specs.Stated.RuleMatches.{rule_matches}
 use Rattle.amr_config.specs.Alike.{RoutingPart, routing_part, sides, AreAlike}
 use Rattle.amr_config.specs.Groups.{groups_of, known_of}
 use Rattle.amr_config.specs.Routing.{route_numbers, parent_of, line_within, line_of, matches_route, is_child, is_cut_off, route_is, first_stated, inherited, grouped_by, chosen, group_of}

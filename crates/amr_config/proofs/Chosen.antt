@@ -10,11 +10,11 @@ use Rattle.std.proofs.lemmas.List.{same_lists, length-set, get_or-set_same, get_
 use Rattle.std.proofs.lemmas.List.Elements.{filter-append}
 use Rattle.std.proofs.lemmas.List.FromFn.{length-map-range_with_len, get_or-map-range_with_len, map-range_with_len_more}
 use Rattle.amr_labels.specs.Labels.{LabelSet}
-use Rattle.amr_matchers.specs.Matchers.{all_hold}
+use Rattle.amr_labels.specs.Matcher.Matchers.{all_hold}
 use Rattle.amr_config.specs.declared.routing.Mark.{Mark}
-use Rattle.amr_stated.specs.Config.{Config}
+use Rattle.amr_config.specs.Stated.Config.{Config}
 use Rattle.amr_config.specs.Routing.{parent_of, matches_route, is_child, is_cut_off, is_chosen, route_is, chosen}
-use Rattle.amr_stated.specs.declared.route.Route.{Route}
+use Rattle.amr_config.specs.declared.stated.route.Route.{Route}
 use Rattle.amr_config.specs.declared.settings.Settings.{Settings}
 use Rattle.amr_config.specs.Settled.{AreParentsFirst, settings_of}
 use Rattle.amr_config.specs.Marks.{is_open, takes_from, closes, mark_of, marks_at, is_chosen_mark, chosen_numbers}

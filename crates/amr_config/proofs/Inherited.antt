@@ -5,9 +5,9 @@ use Rattle.std.specs.List.{slice_get}
 use Rattle.std.specs.Slice.{IsItemAt}
 use Rattle.std.proofs.lemmas.List.FromFn.{length-map-range_with_len, get_or-map-range_with_len}
 use Rattle.std.proofs.lemmas.Option.{slice_get_past}
-use Rattle.amr_stated.specs.declared.route.Route.{Route}
+use Rattle.amr_config.specs.declared.stated.route.Route.{Route}
 use Rattle.amr_config.specs.declared.settings.Settings.{Settings}
-use Rattle.amr_stated.specs.Config.{Config}
+use Rattle.amr_config.specs.Stated.Config.{Config}
 use Rattle.amr_config.specs.Routing.{line_within, first_stated, inherited, sorted_matchers, path_of}
 use Rattle.amr_config.specs.Settled.{settings_of, settled}
 

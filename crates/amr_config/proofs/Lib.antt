@@ -12,3 +12,4 @@ pub mod RuleNames
 pub mod Settling
 pub mod Sorting
 pub mod Spreads
+pub mod ReadLemmas

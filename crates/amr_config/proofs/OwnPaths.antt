@@ -17,9 +17,9 @@ use Rattle.std.proofs.lemmas.Cmp.{tied_itself, on_total, then_total}
 use Rattle.std.proofs.lemmas.List.{length-map, length-reverse, length-set, length_push, get_or_append_left, get_or_push, get_or-set_same, get_or-set_other, same_from_push}
 use Rattle.std.proofs.lemmas.Map.Lookups.{exact_pairs}
 use Rattle.std.proofs.lemmas.Option.{slice_get-get_or}
-use Rattle.amr_matchers.specs.Matchers.{Matcher, matcher_cmp, matcher_cmp_total, matcher_cmp-IsAntisymmetric}
-use Rattle.amr_stated.specs.declared.route.Route.{Route}
-use Rattle.amr_stated.specs.Config.{Config}
+use Rattle.amr_labels.specs.Matcher.Matchers.{Matcher, matcher_cmp, matcher_cmp_total, matcher_cmp-IsAntisymmetric}
+use Rattle.amr_config.specs.declared.stated.route.Route.{Route}
+use Rattle.amr_config.specs.Stated.Config.{Config}
 use Rattle.amr_config.specs.Paths.{Path, path_spread, IsFirst, IsFirstLike, AreFirsts, AreOwn, AreFirstPlaces, IsAlone, AreAlone}
 use Rattle.amr_config.specs.Routing.{parent_of, line_within, line_of, path_of, sorted_matchers}
 use Rattle.amr_config.specs.declared.settings.Settings.{Settings}

@@ -7,9 +7,9 @@ use Rattle.std.specs.BTreeMap.{BTreeMap}
 use Rattle.std.proofs.lemmas.List.{map_more, map-append, length-take-le, get_or-take}
 use Rattle.std.proofs.lemmas.Option.{slice_get-get_or, slice_get-map}
 use Rattle.amr_labels.specs.Labels.{Text, text_cmp}
-use Rattle.amr_stated.specs.declared.receiver.Receiver.{Receiver}
-use Rattle.amr_stated.specs.declared.route.Route.{Route}
-use Rattle.amr_stated.specs.Config.{Config}
+use Rattle.amr_config.specs.declared.stated.receiver.Receiver.{Receiver}
+use Rattle.amr_config.specs.declared.stated.route.Route.{Route}
+use Rattle.amr_config.specs.Stated.Config.{Config}
 use Rattle.amr_config.specs.declared.settings.Settings.{Settings}
 use Rattle.amr_config.specs.Receivers.{receiver_named, receiver_at, ArePlaces, AreReceivers, receiver_parent, place_at}
 use Rattle.amr_config.specs.Routing.{receiver_name_of}

@@ -12,9 +12,9 @@ use Rattle.std.proofs.lemmas.List.Folds.{list_any-append}
 use Rattle.std.proofs.lemmas.Cmp.{eq_by_cmp_equiv}
 use Rattle.amr_labels.specs.Labels.{Text, text_cmp, text_cmp-IsAntisymmetric, LabelSet, value_of}
 use Rattle.amr_labels.specs.Map.{retain_keys, get, get-retain_keys}
-use Rattle.amr_matchers.specs.Matchers.{Matcher, compares, all_hold}
-use Rattle.amr_stated.specs.declared.rule.InhibitRule.{InhibitRule}
-use Rattle.amr_stated.specs.RuleMatches.{rule_match, rule_matches}
+use Rattle.amr_labels.specs.Matcher.Matchers.{Matcher, compares, all_hold}
+use Rattle.amr_config.specs.declared.stated.rule.InhibitRule.{InhibitRule}
+use Rattle.amr_config.specs.Stated.RuleMatches.{rule_match, rule_matches}
 use Rattle.amr_config.specs.RuleNames.{is_named, is_named_by, is_among, AreNamesOf, kept_for}
 
 itself : (name : Text) → eq_by_cmp text_cmp name name ≡ true

@@ -7,9 +7,9 @@ use Rattle.std.proofs.lemmas.List.{reverse-append}
 use Rattle.std.proofs.lemmas.List.FromFn.{length-map-range_with_len, get_or-map-range_with_len, map-range_with_len_more}
 use Rattle.amr_time.specs.Time.{second, minute, hour}
 use Rattle.amr_labels.specs.Labels.{Text}
-use Rattle.amr_stated.specs.declared.route.Route.{Route}
+use Rattle.amr_config.specs.declared.stated.route.Route.{Route}
 use Rattle.amr_config.specs.declared.settings.Settings.{Settings}
-use Rattle.amr_stated.specs.Config.{Config}
+use Rattle.amr_config.specs.Stated.Config.{Config}
 use Rattle.amr_config.specs.declared.defaults.TheConstants.{GROUP_WAIT_SECONDS, GROUP_INTERVAL_MINUTES, REPEAT_INTERVAL_HOURS}
 use Rattle.amr_config.specs.Routing.{parent_of, line_of, first_stated, inherited, receiver_name_of, active_intervals_of, mute_intervals_of, path_of, sorted_matchers}
 use Rattle.amr_config.specs.Receivers.{receiver_parent}

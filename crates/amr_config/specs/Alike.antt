@@ -1,10 +1,10 @@
 -- Configurations that group alerts alike, and whose inhibition rules have the same sides.
 use Rattle.std.specs.Prelude.{◌≡◌, ℕ, Bool, List, map, Option}
-use Rattle.amr_matchers.specs.Matchers.{Matcher}
-use Rattle.amr_stated.specs.declared.route.Grouping.{Grouping}
-use Rattle.amr_stated.specs.declared.route.Route.{Route}
-use Rattle.amr_stated.specs.declared.rule.InhibitRule.{InhibitRule}
-use Rattle.amr_stated.specs.Config.{Config}
+use Rattle.amr_labels.specs.Matcher.Matchers.{Matcher}
+use Rattle.amr_config.specs.declared.stated.route.Grouping.{Grouping}
+use Rattle.amr_config.specs.declared.stated.route.Route.{Route}
+use Rattle.amr_config.specs.declared.stated.rule.InhibitRule.{InhibitRule}
+use Rattle.amr_config.specs.Stated.Config.{Config}
 
 -- what a route says of the alerts that it takes, and of their groups
 pub record RoutingPart : Type 0 where

@@ -5,10 +5,10 @@ use Rattle.amr_labels.specs.Map.{Map, get}
 use Rattle.amr_tables.specs.Numbered.{Numbered, shown}
 use Rattle.amr_config.specs.declared.router.Known.{Known}
 use Rattle.amr_config.specs.declared.router.RouteGroup.{RouteGroup}
-use Rattle.amr_stated.specs.Config.{Config}
+use Rattle.amr_config.specs.Stated.Config.{Config}
 use Rattle.amr_config.specs.Routing.{chosen, group_of}
-use Rattle.amr_stated.specs.declared.rule_sides.RuleMatch.{RuleMatch}
-use Rattle.amr_stated.specs.RuleMatches.{rule_matches}
+use Rattle.amr_config.specs.declared.stated.rule_sides.RuleMatch.{RuleMatch}
+use Rattle.amr_config.specs.Stated.RuleMatches.{rule_matches}
 
 -- the group of an alert with these labels at a route
 abbrev pub group_at : Config → LabelSet → ℕ → RouteGroup

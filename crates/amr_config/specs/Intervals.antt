@@ -5,7 +5,7 @@ use Rattle.std.specs.BTreeMap.{BTreeMap}
 use Rattle.std.specs.List.{find}
 use Rattle.std.specs.Ordering.{eq_by_cmp}
 use Rattle.amr_labels.specs.Labels.{Text, text_cmp}
-use Rattle.amr_stated.specs.declared.interval.NamedInterval.{NamedInterval}
+use Rattle.amr_config.specs.declared.stated.interval.NamedInterval.{NamedInterval}
 
 -- the first time interval with this name
 abbrev pub interval_named : List NamedInterval → Text → Option NamedInterval

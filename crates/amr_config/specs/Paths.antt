@@ -5,8 +5,8 @@ use Rattle.std.specs.declared.cmp.Ordering.{Ordering}
 use Rattle.std.specs.Cmp.{IsTotalOrder}
 use Rattle.std.specs.Cmp.Lexicographic.{slice_cmp, lists_total}
 use Rattle.amr_labels.specs.Spread.{text_spread}
-use Rattle.amr_matchers.specs.Matchers.{Matcher, matcher_cmp, matcher_cmp_total}
-use Rattle.amr_stated.specs.Config.{Config}
+use Rattle.amr_labels.specs.Matcher.Matchers.{Matcher, matcher_cmp, matcher_cmp_total}
+use Rattle.amr_config.specs.Stated.Config.{Config}
 use Rattle.amr_config.specs.Routing.{path_of}
 
 -- the matchers of each route from the root down to one

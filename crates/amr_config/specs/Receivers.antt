@@ -6,8 +6,8 @@ use Rattle.std.specs.List.{find}
 use Rattle.std.specs.Option.{option_map_or}
 use Rattle.std.specs.Ordering.{eq_by_cmp}
 use Rattle.amr_labels.specs.Labels.{Text, text_cmp}
-use Rattle.amr_stated.specs.declared.receiver.Receiver.{Receiver}
-use Rattle.amr_stated.specs.declared.route.Route.{Route}
+use Rattle.amr_config.specs.declared.stated.receiver.Receiver.{Receiver}
+use Rattle.amr_config.specs.declared.stated.route.Route.{Route}
 use Rattle.amr_config.specs.declared.settings.Settings.{Settings}
 
 -- the first receiver with this name

@@ -4,8 +4,8 @@ use Rattle.std.specs.List.{list_any}
 use Rattle.std.specs.Ordering.{eq_by_cmp}
 use Rattle.amr_labels.specs.Labels.{Text, text_cmp, LabelSet}
 use Rattle.amr_labels.specs.Map.{retain_keys}
-use Rattle.amr_matchers.specs.Matchers.{Matcher}
-use Rattle.amr_stated.specs.declared.rule.InhibitRule.{InhibitRule}
+use Rattle.amr_labels.specs.Matcher.Matchers.{Matcher}
+use Rattle.amr_config.specs.declared.stated.rule.InhibitRule.{InhibitRule}
 
 -- one of the matchers names the label
 abbrev pub is_named : List Matcher → Text → Bool

@@ -2,14 +2,14 @@
 use Rattle.std.specs.Prelude.{◌≡◌, ℕ, ◌<◌, ◌*◌, List, [], ◌∷◌, ◌++◌, map, Option, Some, None, slice_get, unwrap_or, IfSome}
 use Rattle.std.specs.Option.{option_map_or, option_or}
 use Rattle.std.specs.List.{range_with_len}
-use Rattle.amr_matchers.specs.Matchers.{Matcher}
+use Rattle.amr_labels.specs.Matcher.Matchers.{Matcher}
 use Rattle.amr_time.specs.Time.{second, minute, hour}
-use Rattle.amr_stated.specs.declared.route.Grouping.{Grouping}
-use Rattle.amr_stated.specs.declared.route.Route.{Route}
+use Rattle.amr_config.specs.declared.stated.route.Grouping.{Grouping}
+use Rattle.amr_config.specs.declared.stated.route.Route.{Route}
 use Rattle.amr_config.specs.declared.settings.Settings.{Settings}
 use Rattle.amr_config.specs.declared.config.Parts.{Parts}
-use Rattle.amr_stated.specs.declared.stated.Stated.{Stated}
-use Rattle.amr_stated.specs.Config.{Config}
+use Rattle.amr_config.specs.declared.stated.stated.Stated.{Stated}
+use Rattle.amr_config.specs.Stated.Config.{Config}
 use Rattle.amr_config.specs.declared.defaults.TheConstants.{GROUP_WAIT_SECONDS, GROUP_INTERVAL_MINUTES, REPEAT_INTERVAL_HOURS}
 use Rattle.amr_config.specs.Intervals.{AreIntervals}
 use Rattle.amr_config.specs.Paths.{AreOwn}

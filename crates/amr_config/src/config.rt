@@ -21,9 +21,9 @@ use crate::receiver_places::receiver_places;
 use crate::route_path::RoutePath;
 use crate::rule_names::rule_names;
 use crate::settings::Settings;
+use crate::stated::{Grouping, InhibitRule, Integration, NamedInterval, Receiver, Route, Stated};
+use amr_labels::matcher::Matchers;
 use amr_labels::{Exact, Labels, Listing, Names, Text};
-use amr_matchers::Matchers;
-use amr_stated::{Grouping, InhibitRule, Integration, NamedInterval, Receiver, Route, Stated};
 use amr_time::{Moment, Span};
 use std::alloc::{AllocError, Global};
 use std::cmp::Ordering;
@@ -55,7 +55,7 @@ pub struct Config {
 }
 
 impl Model for Config {
-    ghost use Rattle.amr_stated.specs.Config.{Config};
+    ghost use Rattle.amr_config.specs.Stated.Config.{Config};
 
     ghost Value = { Config };
 

@@ -9,8 +9,8 @@ use crate::defaults::{GROUP_INTERVAL_MINUTES, GROUP_WAIT_SECONDS, REPEAT_INTERVA
 use crate::route_path::RoutePath;
 use crate::settings::Settings;
 use crate::sorted::sorted;
+use crate::stated::{Grouping, Route, Stated};
 use amr_labels::{Listing, Text};
-use amr_stated::{Grouping, Route, Stated};
 use amr_time::Span;
 use std::alloc::{AllocError, Global};
 

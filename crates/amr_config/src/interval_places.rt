@@ -3,8 +3,8 @@
 ghost use Rattle.std.specs.Prelude.{◌≡◌, IfOk};
 ghost use Rattle.amr_config.specs.Intervals.{AreIntervals};
 
+use crate::stated::NamedInterval;
 use amr_labels::Text;
-use amr_stated::NamedInterval;
 use std::alloc::{AllocError, Global};
 use std::collections::BTreeMap;
 

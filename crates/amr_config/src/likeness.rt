@@ -5,8 +5,8 @@ ghost use Rattle.std.specs.Bool.{Decides};
 ghost use Rattle.amr_config.specs.Alike.{AreAlike, routing_part, sides};
 
 use crate::config::Config;
+use crate::stated::{Grouping, InhibitRule, Route};
 use amr_labels::Names;
-use amr_stated::{Grouping, InhibitRule, Route};
 
 impl Config {
     /// Returns whether another configuration has the same routes and rules as far as the groups of

@@ -8,9 +8,9 @@ ghost use Rattle.amr_config.specs.Settled.{stated_config, settled, AreParentsFir
 
 use crate::route_path::RoutePath;
 use crate::settings::Settings;
+use crate::stated::Stated;
 use amr_labels::Listing;
-use amr_matchers::Matchers;
-use amr_stated::Stated;
+use amr_labels::matcher::Matchers;
 use std::alloc::{AllocError, Global};
 use std::collections::BTreeMap;
 

@@ -10,8 +10,8 @@ ghost use Rattle.amr_config.specs.Receivers.{ArePlaces, AreReceivers, place_at, 
 ghost use Rattle.amr_config.specs.Settled.{stated_config, settled, AreParentsFirst};
 
 use crate::settings::Settings;
+use crate::stated::{Receiver, Route, Stated};
 use amr_labels::{Listing, Text};
-use amr_stated::{Receiver, Route, Stated};
 use std::alloc::{AllocError, Global};
 use std::collections::BTreeMap;
 

@@ -7,8 +7,8 @@ ghost use Rattle.std.specs.Cmp.Rules.{comparing};
 ghost use Rattle.std.specs.Ordering.{as_partial_cmp, eq_by_cmp};
 ghost use Rattle.amr_config.specs.Paths.{path_cmp, path_cmp_total, path_spread, spread_below, spread_with};
 
+use amr_labels::matcher::{Matcher, Matchers};
 use amr_labels::{Exact, Listing, Shared, spread_of};
-use amr_matchers::{Matcher, Matchers};
 use std::alloc::{AllocError, Global};
 use std::cmp::Ordering;
 use std::marker::Model;
@@ -30,7 +30,7 @@ struct SpreadPath {
 
 impl Model for SpreadPath {
     ghost use Rattle.std.specs.Prelude.{◌≡◌, List};
-    ghost use Rattle.amr_matchers.specs.Matchers.{Matcher};
+    ghost use Rattle.amr_labels.specs.Matcher.Matchers.{Matcher};
     ghost use Rattle.amr_config.specs.Paths.{path_spread};
 
     ghost Value = { List (List Matcher) };
@@ -102,7 +102,7 @@ fn spread_with(spread: usize, matcher: &Matcher) -> usize
 
 impl Model for RoutePath {
     ghost use Rattle.std.specs.Prelude.{List};
-    ghost use Rattle.amr_matchers.specs.Matchers.{Matcher};
+    ghost use Rattle.amr_labels.specs.Matcher.Matchers.{Matcher};
 
     ghost Value = { List (List Matcher) };
 

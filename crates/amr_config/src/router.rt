@@ -4,14 +4,14 @@
 //! what it remembers.
 ghost use Rattle.std.specs.Prelude.{◌≡◌, IfOk};
 ghost use Rattle.amr_config.specs.Groups.{groups_of, group_at};
-ghost use Rattle.amr_stated.specs.RuleMatches.{rule_matches};
+ghost use Rattle.amr_config.specs.Stated.RuleMatches.{rule_matches};
 
 use crate::config::Config;
 use crate::group_labels::GroupLabels;
 use crate::routing::chosen_routes;
+use crate::stated::{RuleMatch, rule_matches};
+use amr_labels::matcher::Answers;
 use amr_labels::{LabelMap, Labels, Listing, Shared};
-use amr_matchers::Answers;
-use amr_stated::{RuleMatch, rule_matches};
 use amr_tables::Keyed;
 use std::alloc::{AllocError, Global};
 use std::marker::Model;
@@ -49,7 +49,7 @@ pub struct RouteGroup {
 }
 
 impl Model for Router {
-    ghost use Rattle.amr_stated.specs.Config.{Config};
+    ghost use Rattle.amr_config.specs.Stated.Config.{Config};
     ghost use Rattle.amr_config.specs.Groups.{IsKnown, AreSides};
 
     ghost Value = { Config };

@@ -1,13 +1,13 @@
 //! Routing: which routes take an alert. One pass over the routes in preorder marks each route, and
 //! its parent if it matches.
 ghost use Rattle.std.specs.Prelude.{◌≡◌, ◌+◌, ◌<◌, ◌≤◌, length, vec_len, IfOk, OnOk, Some, false};
-ghost use Rattle.amr_matchers.specs.Matchers.{all_hold};
+ghost use Rattle.amr_labels.specs.Matcher.Matchers.{all_hold};
 ghost use Rattle.amr_config.specs.Routing.{chosen, parent_of, matches_route};
 ghost use Rattle.amr_config.specs.Marks.{marks_at, chosen_numbers, is_chosen_mark};
 
 use crate::config::Config;
 use amr_labels::Labels;
-use amr_matchers::Answers;
+use amr_labels::matcher::Answers;
 use std::alloc::{AllocError, Global};
 
 /// What is known of a route when some of the routes after it have been seen.

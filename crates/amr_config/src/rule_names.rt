@@ -7,9 +7,9 @@ ghost use Rattle.std.specs.Ordering.{eq_by_cmp};
 ghost use Rattle.amr_labels.specs.Labels.{text_cmp};
 ghost use Rattle.amr_config.specs.RuleNames.{AreNamesOf, is_among, is_named};
 
+use crate::stated::InhibitRule;
+use amr_labels::matcher::Matcher;
 use amr_labels::{Listing, Names, Text};
-use amr_matchers::Matcher;
-use amr_stated::InhibitRule;
 use std::alloc::{AllocError, Global};
 
 /// Up to how many rules are asked afresh for each label set, which is faster than to look up what

@@ -2,9 +2,9 @@
 //! configuration.
 
 use crate::route_path::RoutePath;
+use crate::stated::Grouping;
+use amr_labels::matcher::Matchers;
 use amr_labels::{Listing, Text};
-use amr_matchers::Matchers;
-use amr_stated::Grouping;
 use amr_time::Span;
 
 /// The settings of a route. The receiver, the grouping and the three times are the route's own, or

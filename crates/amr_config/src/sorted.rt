@@ -3,7 +3,7 @@
 ghost use Rattle.std.specs.Prelude.{◌≡◌, IfOk};
 ghost use Rattle.amr_config.specs.Routing.{sorted_matchers};
 
-use amr_matchers::{Matcher, Matchers};
+use amr_labels::matcher::{Matcher, Matchers};
 use std::alloc::{AllocError, Global};
 
 /// Returns copies of the matchers, in their order.

@@ -7,13 +7,13 @@ use Rattle.std.proofs.lemmas.List.Elements.{All-nil, All-cons}
 use Rattle.amr_labels.specs.Map.{get, entries}
 use Rattle.amr_labels.specs.Labels.{LabelSet}
 use Rattle.amr_time.specs.Time.{Moment}
-use Rattle.amr_stated.specs.declared.receiver.Integration.{Integration}
-use Rattle.amr_stated.specs.Config.{Config}
+use Rattle.amr_config.specs.declared.stated.receiver.Integration.{Integration}
+use Rattle.amr_config.specs.Stated.Config.{Config}
 use Rattle.amr_config.specs.Routing.{integrations_of, repeat_interval_of}
 use Rattle.amr_rules.specs.declared.alert.Alert.{Alert}
 use Rattle.amr_rules.specs.Dedup.{needs_update}
-use Rattle.amr_state.specs.declared.route_labels.RouteLabels.{RouteLabels}
-use Rattle.amr_state.specs.State.{State, on_route, route_labels_cmp, route_labels_cmp-IsAntisymmetric, group_key, members}
+use Rattle.amr_engine.specs.declared.state.route_labels.RouteLabels.{RouteLabels}
+use Rattle.amr_engine.specs.State.State.{State, on_route, route_labels_cmp, route_labels_cmp-IsAntisymmetric, group_key, members}
 use Rattle.amr_engine.specs.Flush.{Members, firing_of, resolved_of, labels_of, log_key_of, record_notification, notify, notify_all}
 use Rattle.amr_engine.specs.Partition.{IsGroupOf}
 use Rattle.amr_engine.proofs.QuietStays.{equal}

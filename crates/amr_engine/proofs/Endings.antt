@@ -2,19 +2,19 @@
 use Rattle.std.proofs.Common.{◌≡◌, true, false, ℕ, List, [], Option, None, Some, Result, Ok, Err, length, drop, refl, sym, ap, subst, ◌∙◌}
 use Rattle.std.specs.Prelude.{if◌then◌else◌, nat_lt}
 use Rattle.amr_time.specs.Time.{Moment}
-use Rattle.amr_posts.specs.Reasons.{Reason, reason_number}
-use Rattle.amr_actions.specs.Events.{Event, Act, is_label}
-use Rattle.amr_actions.specs.Acts.{event_at}
-use Rattle.amr_state.specs.declared.due.Due.{Due}
-use Rattle.amr_state.specs.State.{State}
-use Rattle.amr_state.specs.Dues.{next_due}
+use Rattle.amr_events.specs.Posts.Reasons.{Reason, reason_number}
+use Rattle.amr_events.specs.Actions.Events.{Event, Act, is_label}
+use Rattle.amr_events.specs.Actions.Acts.{event_at}
+use Rattle.amr_engine.specs.declared.state.due.Due.{Due}
+use Rattle.amr_engine.specs.State.State.{State}
+use Rattle.amr_engine.specs.State.Dues.{next_due}
 use Rattle.amr_engine.specs.Moves.{move, advance}
 use Rattle.amr_engine.specs.Events.{do_event, after_event, outcome_of, outcome_from, skipped_of, judge, finish, after_act, at_moment, on_ok, move_limit}
 use Rattle.amr_engine.specs.Outcomes.{acceptance, refusal}
 use Rattle.amr_engine.specs.Applied.{ComesTo, run_moved}
 use Rattle.amr_engine.specs.Prepared.{IsPrepared, DoesAsPrepared, Stays, performed, skipped_by}
 use Rattle.amr_engine.specs.declared.prepare.Prepared as prepare
-use Rattle.amr_posts.specs.declared.reason.Reason as code
+use Rattle.amr_events.specs.declared.posts.reason.Reason as code
 use Rattle.amr_engine.proofs.RunsLaws.{run_within-sound}
 use Rattle.amr_engine.proofs.MovesLaws.{do_within-act, do_within-label}
 use Rattle.amr_engine.proofs.TickLaws.{Judged, advances_keep}

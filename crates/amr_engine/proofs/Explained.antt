@@ -7,16 +7,16 @@ use Rattle.amr_labels.specs.Map.{get}
 use Rattle.amr_labels.specs.Set.{contains}
 use Rattle.amr_labels.specs.Labels.{Text, LabelSet}
 use Rattle.amr_time.specs.Time.{Moment}
-use Rattle.amr_stated.specs.declared.receiver.Integration.{Integration}
+use Rattle.amr_config.specs.declared.stated.receiver.Integration.{Integration}
 use Rattle.amr_config.specs.Routing.{chosen, group_of, path_of, integrations_of, receiver_name_of, is_active_at, is_muted_at}
 use Rattle.amr_rules.specs.declared.alert.Alert.{Alert}
 use Rattle.amr_rules.specs.declared.dedup.LogEntry.{LogEntry}
 use Rattle.amr_rules.specs.Alerts.{is_resolved_at}
 use Rattle.amr_rules.specs.Muting.{inhibition_from, silencer_of}
-use Rattle.amr_state.specs.declared.notification.GroupTimer.{GroupTimer}
-use Rattle.amr_state.specs.declared.notification.LogKey.{LogKey}
-use Rattle.amr_state.specs.declared.route_labels.RouteLabels.{RouteLabels}
-use Rattle.amr_state.specs.State.{State, on_route}
+use Rattle.amr_engine.specs.declared.state.notification.GroupTimer.{GroupTimer}
+use Rattle.amr_engine.specs.declared.state.notification.LogKey.{LogKey}
+use Rattle.amr_engine.specs.declared.state.route_labels.RouteLabels.{RouteLabels}
+use Rattle.amr_engine.specs.State.State.{State, on_route}
 use Rattle.amr_engine.specs.Stages.{by_inhibition, by_active_time, by_mute_time, by_silence, taken_away}
 use Rattle.amr_engine.specs.Flush.{log_key_of}
 use Rattle.amr_engine.specs.declared.explain.Finding.{Finding}

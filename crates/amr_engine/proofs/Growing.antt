@@ -8,14 +8,14 @@ use Rattle.std.proofs.lemmas.List.Sums.{sum_by-drop_more}
 use Rattle.amr_labels.specs.Map.{entries, len}
 use Rattle.amr_labels.specs.Labels.{LabelSet}
 use Rattle.amr_time.specs.Time.{Moment}
-use Rattle.amr_stated.specs.Config.{Config}
+use Rattle.amr_config.specs.Stated.Config.{Config}
 use Rattle.amr_config.specs.Routing.{chosen}
 use Rattle.amr_rules.specs.declared.alert.Alert.{Alert}
-use Rattle.amr_actions.specs.Events.{Event, Act, is_label}
-use Rattle.amr_actions.specs.Acts.{event_at}
-use Rattle.amr_state.specs.declared.due.Due.{Due}
-use Rattle.amr_state.specs.State.{State}
-use Rattle.amr_state.specs.Dues.{next_due}
+use Rattle.amr_events.specs.Actions.Events.{Event, Act, is_label}
+use Rattle.amr_events.specs.Actions.Acts.{event_at}
+use Rattle.amr_engine.specs.declared.state.due.Due.{Due}
+use Rattle.amr_engine.specs.State.State.{State}
+use Rattle.amr_engine.specs.State.Dues.{next_due}
 use Rattle.amr_engine.specs.declared.prepare.Prepared as prepare
 use Rattle.amr_engine.specs.Runs.{after_step}
 use Rattle.amr_engine.specs.Moves.{move, advance}

@@ -4,12 +4,12 @@ use Rattle.std.specs.List.{fold}
 use Rattle.std.proofs.Common.{refl, sym, subst, arith, inl, inr}
 use Rattle.std.proofs.lemmas.Bool.Decides.{nat_tests}
 use Rattle.amr_time.specs.Time.{Moment}
-use Rattle.amr_stated.specs.Config.{Config}
-use Rattle.amr_posts.specs.Reasons.{Reason}
-use Rattle.amr_actions.specs.Events.{Event, Act}
-use Rattle.amr_state.specs.declared.due.Due.{Due}
-use Rattle.amr_state.specs.State.{State, start}
-use Rattle.amr_state.specs.Dues.{next_due}
+use Rattle.amr_config.specs.Stated.Config.{Config}
+use Rattle.amr_events.specs.Posts.Reasons.{Reason}
+use Rattle.amr_events.specs.Actions.Events.{Event, Act}
+use Rattle.amr_engine.specs.declared.state.due.Due.{Due}
+use Rattle.amr_engine.specs.State.State.{State, start}
+use Rattle.amr_engine.specs.State.Dues.{next_due}
 use Rattle.amr_engine.specs.Moves.{move, Advances}
 use Rattle.amr_engine.specs.Events.{after_act, at_moment, do_event, after_event, after_events, run_of, move_limit}
 use Rattle.amr_engine.specs.Said.{Acts, Does}

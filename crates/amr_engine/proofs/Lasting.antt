@@ -14,16 +14,16 @@ use Rattle.std.proofs.lemmas.Cmp.{tied_itself}
 use Rattle.amr_labels.specs.Map.{Map, get, insert, entries, get-entries, entries-sorted, get-insert, get-remove}
 use Rattle.amr_labels.specs.Labels.{LabelSet}
 use Rattle.amr_time.specs.Time.{Moment, second, next_multiple_of}
-use Rattle.amr_stated.specs.declared.receiver.Integration.{Integration}
-use Rattle.amr_stated.specs.Config.{Config}
+use Rattle.amr_config.specs.declared.stated.receiver.Integration.{Integration}
+use Rattle.amr_config.specs.Stated.Config.{Config}
 use Rattle.amr_config.specs.Routing.{integrations_of, group_interval_of}
 use Rattle.amr_rules.specs.declared.alert.Alert.{Alert}
-use Rattle.amr_state.specs.declared.notification.GroupTimer.{GroupTimer}
-use Rattle.amr_state.specs.declared.route_labels.RouteLabels.{RouteLabels}
-use Rattle.amr_state.specs.declared.due.Due.{Due}
-use Rattle.amr_state.specs.declared.due.Kind.TheVariants.{GroupRemoval}
-use Rattle.amr_state.specs.State.{State, route_labels_cmp, route_labels_cmp_total, route_labels_cmp-IsAntisymmetric, members, members_among}
-use Rattle.amr_state.specs.Dues.{alert_removal_of, group_removal_of, flush_of, least_due, due_by, dues, next_due}
+use Rattle.amr_engine.specs.declared.state.notification.GroupTimer.{GroupTimer}
+use Rattle.amr_engine.specs.declared.state.route_labels.RouteLabels.{RouteLabels}
+use Rattle.amr_engine.specs.declared.state.due.Due.{Due}
+use Rattle.amr_engine.specs.declared.state.due.Kind.TheVariants.{GroupRemoval}
+use Rattle.amr_engine.specs.State.State.{State, route_labels_cmp, route_labels_cmp_total, route_labels_cmp-IsAntisymmetric, members, members_among}
+use Rattle.amr_engine.specs.State.Dues.{alert_removal_of, group_removal_of, flush_of, least_due, due_by, dues, next_due}
 use Rattle.amr_engine.specs.Flush.{Members, firing_of, resolved_of, let_through, log_key_of, record_notification, notify, notify_all, set_timer, drop_member, mark_if_empty, drop_resolved, run_pipeline, flush}
 use Rattle.amr_engine.specs.Quiet.{all_fire_until, with_timer_reset}
 use Rattle.amr_engine.specs.Runs.{after_step}

@@ -32,3 +32,5 @@ pub mod Telling
 pub mod Explained
 pub mod Repeating
 mod Values
+pub mod IndexesLemmas
+pub mod StateLemmas

@@ -11,8 +11,8 @@ use Rattle.std.proofs.lemmas.Cmp.{tied_itself}
 use Rattle.amr_labels.specs.Map.{Map, get, insert, remove, entries, get-insert, get-remove, entries-insert}
 use Rattle.amr_labels.specs.Labels.{LabelSet}
 use Rattle.amr_time.specs.Time.{Moment}
-use Rattle.amr_stated.specs.declared.receiver.Integration.{Integration}
-use Rattle.amr_stated.specs.Config.{Config}
+use Rattle.amr_config.specs.declared.stated.receiver.Integration.{Integration}
+use Rattle.amr_config.specs.Stated.Config.{Config}
 use Rattle.amr_config.specs.Routing.{HasOwnPath, chosen, integrations_of, repeat_interval_of}
 use Rattle.amr_config.specs.Groups.{groups_of, group_at}
 use Rattle.amr_rules.specs.declared.alert.Alert.{Alert}
@@ -20,11 +20,11 @@ use Rattle.amr_rules.specs.Alerts.{joined}
 use Rattle.amr_rules.specs.Dedup.{LabelSets, needs_update}
 use Rattle.amr_rules.specs.Muting.{Alerts}
 use Rattle.amr_rules.specs.Silences.{Silences}
-use Rattle.amr_state.specs.declared.notification.LogKey.{LogKey}
-use Rattle.amr_state.specs.declared.notification.GroupTimer.{GroupTimer}
-use Rattle.amr_state.specs.declared.notification.Notification.{Notification}
-use Rattle.amr_state.specs.declared.route_labels.RouteLabels.{RouteLabels}
-use Rattle.amr_state.specs.State.{State, on_route, route_labels_cmp, route_labels_cmp_total, route_labels_cmp-IsAntisymmetric, group_key, members, place_on, place}
+use Rattle.amr_engine.specs.declared.state.notification.LogKey.{LogKey}
+use Rattle.amr_engine.specs.declared.state.notification.GroupTimer.{GroupTimer}
+use Rattle.amr_engine.specs.declared.state.notification.Notification.{Notification}
+use Rattle.amr_engine.specs.declared.state.route_labels.RouteLabels.{RouteLabels}
+use Rattle.amr_engine.specs.State.State.{State, on_route, route_labels_cmp, route_labels_cmp_total, route_labels_cmp-IsAntisymmetric, group_key, members, place_on, place}
 use Rattle.amr_engine.specs.declared.quiet.Period.{Period}
 use Rattle.amr_engine.specs.declared.quiet.QuietTime.{QuietTime}
 use Rattle.amr_engine.specs.Events as events

@@ -7,14 +7,14 @@ use Rattle.std.proofs.lemmas.List.Elements.{All-nil, All-push, All-pop}
 use Rattle.amr_labels.specs.Map.{get-empty}
 use Rattle.amr_labels.specs.Labels.{LabelSet, label_set_cmp}
 use Rattle.amr_time.specs.Time.{Moment}
-use Rattle.amr_stated.specs.Config.{Config}
+use Rattle.amr_config.specs.Stated.Config.{Config}
 use Rattle.amr_rules.specs.declared.alert.Alert.{Alert}
 use Rattle.amr_rules.specs.Silences.{Silences, after_post, after_expiry}
-use Rattle.amr_posts.specs.Reasons.{Reason}
-use Rattle.amr_actions.specs.Events.{Event, Act}
-use Rattle.amr_state.specs.declared.due.Due.{Due}
-use Rattle.amr_state.specs.State.{State, start, on_route, route_labels_cmp}
-use Rattle.amr_state.specs.Dues.{least_due, due_by, dues, next_due}
+use Rattle.amr_events.specs.Posts.Reasons.{Reason}
+use Rattle.amr_events.specs.Actions.Events.{Event, Act}
+use Rattle.amr_engine.specs.declared.state.due.Due.{Due}
+use Rattle.amr_engine.specs.State.State.{State, start, on_route, route_labels_cmp}
+use Rattle.amr_engine.specs.State.Dues.{least_due, due_by, dues, next_due}
 use Rattle.amr_engine.specs.Moves.{move}
 use Rattle.amr_engine.specs.Events.{put_all, valid_alerts, with_config, with_silences, on_ok, after_act, at_moment, put, after_event, run_of, without_notifications}
 use Rattle.amr_engine.specs.Said.{IsIn}

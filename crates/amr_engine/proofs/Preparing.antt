@@ -7,18 +7,18 @@ use Rattle.std.proofs.lemmas.Bool.Decides.{nat_tests}
 use Rattle.amr_labels.specs.Map.{get, insert}
 use Rattle.amr_labels.specs.Labels.{Text, LabelSet}
 use Rattle.amr_time.specs.Time.{Moment, Span}
-use Rattle.amr_stated.specs.Config.{Config}
-use Rattle.amr_posts.specs.declared.posted_alert.PostedAlert.{PostedAlert}
-use Rattle.amr_posts.specs.declared.posted_silence.PostedSilence.{PostedSilence}
-use Rattle.amr_posts.specs.Reasons.{Reason}
-use Rattle.amr_actions.specs.Events.{Act}
+use Rattle.amr_config.specs.Stated.Config.{Config}
+use Rattle.amr_events.specs.declared.posts.posted_alert.PostedAlert.{PostedAlert}
+use Rattle.amr_events.specs.declared.posts.posted_silence.PostedSilence.{PostedSilence}
+use Rattle.amr_events.specs.Posts.Reasons.{Reason}
+use Rattle.amr_events.specs.Actions.Events.{Act}
 use Rattle.amr_rules.specs.declared.alert.Alert.{Alert}
 use Rattle.amr_rules.specs.declared.silence.Silence.{Silence}
 use Rattle.amr_rules.specs.declared.silence_update.SilenceUpdate.{SilenceUpdate}
 use Rattle.amr_rules.specs.Alerts.{completed}
 use Rattle.amr_rules.specs.Silences.{Silences, after_post, after_expiry, expired}
 use Rattle.amr_rules.specs.Silencing.{with_decision}
-use Rattle.amr_state.specs.State.{State}
+use Rattle.amr_engine.specs.State.State.{State}
 use Rattle.amr_engine.specs.declared.post.Sifted.{Sifted}
 use Rattle.amr_engine.specs.declared.prepare.Prepared.TheVariants as prepared
 use Rattle.amr_engine.specs.Events.{after_act, at_moment, on_ok, put, put_all, valid_alerts, skipped_from, with_silences, with_config}

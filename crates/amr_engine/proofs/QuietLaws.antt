@@ -7,9 +7,9 @@ use Rattle.std.proofs.lemmas.Bool.Decides.{nat_tests}
 use Rattle.amr_labels.specs.Map.{Map, get, entries}
 use Rattle.amr_labels.specs.Labels.{LabelSet, Text}
 use Rattle.amr_time.specs.Time.{Moment, Span}
-use Rattle.amr_stated.specs.declared.rule.InhibitRule.{InhibitRule}
-use Rattle.amr_stated.specs.declared.receiver.Integration.{Integration}
-use Rattle.amr_stated.specs.Config.{Config}
+use Rattle.amr_config.specs.declared.stated.rule.InhibitRule.{InhibitRule}
+use Rattle.amr_config.specs.declared.stated.receiver.Integration.{Integration}
+use Rattle.amr_config.specs.Stated.Config.{Config}
 use Rattle.amr_config.specs.Routing.{is_active_at, is_muted_at, is_within, active_intervals_of, mute_intervals_of, integrations_of, repeat_interval_of}
 use Rattle.amr_rules.specs.declared.alert.Alert.{Alert}
 use Rattle.amr_rules.specs.declared.silence.Silence.{Silence}
@@ -18,12 +18,12 @@ use Rattle.amr_rules.specs.Alerts.{is_resolved_at}
 use Rattle.amr_rules.specs.Muting.{Alerts, inhibits, rule_mutes, inhibition_from, silencer_of, silences_labels}
 use Rattle.amr_rules.specs.Silences.{Silences}
 use Rattle.amr_rules.specs.Dedup.{LabelSets, needs_update}
-use Rattle.amr_state.specs.declared.route_labels.RouteLabels.{RouteLabels}
-use Rattle.amr_state.specs.State.{State, members, route_labels_cmp}
+use Rattle.amr_engine.specs.declared.state.route_labels.RouteLabels.{RouteLabels}
+use Rattle.amr_engine.specs.State.State.{State, members, route_labels_cmp}
 use Rattle.amr_engine.specs.Stages.{taken_away}
 use Rattle.amr_engine.specs.Flush.{Members, let_through, firing_of, resolved_of, labels_of, log_key_of, record_notification, notify, notify_all, drop_member, mark_if_empty, drop_resolved, run_pipeline, flush}
-use Rattle.amr_state.specs.declared.notification.GroupTimer.{GroupTimer}
-use Rattle.amr_state.specs.declared.notification.Notification.{Notification}
+use Rattle.amr_engine.specs.declared.state.notification.GroupTimer.{GroupTimer}
+use Rattle.amr_engine.specs.declared.state.notification.Notification.{Notification}
 use Rattle.amr_labels.specs.Set.{is_subset, is_empty}
 use Rattle.amr_engine.specs.declared.explain.Finding.TheVariants.{Inhibited, OutsideActive, TimeMuted, Silenced}
 use Rattle.amr_engine.proofs.FewerNotified.{both, is_no, fewer_notified}
@@ -78,7 +78,7 @@ module _ (from until at : Moment) (not_before : from ≤ at) (before : at < unti
       → silences_labels at stored.1 labels ≡ silences_labels from stored.1 labels
   silences_same labels stored out =
       let parts = both (is_outside from until stored.1.starts_at) (is_outside from until stored.1.ends_at) out in
-      (λ i. (past_same stored.1.starts_at parts.0 i && ahead_same stored.1.ends_at parts.1 i) && Rattle.amr_matchers.specs.Matchers.all_hold stored.1.matchers labels)
+      (λ i. (past_same stored.1.starts_at parts.0 i && ahead_same stored.1.ends_at parts.1 i) && Rattle.amr_labels.specs.Matcher.Matchers.all_hold stored.1.matchers labels)
 
   silencer_same : (silences : Silences) → no_silence_turns from until silences ≡ true → (labels : LabelSet) → silencer_of at labels silences ≡ silencer_of from labels silences
   silencer_same silences still labels =

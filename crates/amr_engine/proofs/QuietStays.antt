@@ -10,18 +10,18 @@ use Rattle.std.proofs.Common.{refl, sym, ap, ◌∙◌, subst, inl, inr}
 use Rattle.amr_labels.specs.Map.{get, insert, remove, entries, get-insert, entries-retain_keys}
 use Rattle.amr_labels.specs.Labels.{LabelSet}
 use Rattle.amr_time.specs.Time.{Moment}
-use Rattle.amr_stated.specs.declared.receiver.Integration.{Integration}
-use Rattle.amr_stated.specs.Config.{Config}
+use Rattle.amr_config.specs.declared.stated.receiver.Integration.{Integration}
+use Rattle.amr_config.specs.Stated.Config.{Config}
 use Rattle.amr_config.specs.Routing.{integrations_of, repeat_interval_of}
 use Rattle.amr_rules.specs.declared.alert.Alert.{Alert}
 use Rattle.amr_rules.specs.declared.dedup.LogEntry.{LogEntry}
 use Rattle.amr_rules.specs.Dedup.{LabelSets, needs_update}
-use Rattle.amr_state.specs.declared.notification.LogKey.{LogKey}
-use Rattle.amr_state.specs.declared.notification.GroupTimer.{GroupTimer}
-use Rattle.amr_state.specs.declared.notification.Notification.{Notification}
+use Rattle.amr_engine.specs.declared.state.notification.LogKey.{LogKey}
+use Rattle.amr_engine.specs.declared.state.notification.GroupTimer.{GroupTimer}
+use Rattle.amr_engine.specs.declared.state.notification.Notification.{Notification}
 use Rattle.amr_rules.specs.Alerts.{is_resolved_at}
-use Rattle.amr_state.specs.declared.route_labels.RouteLabels.{RouteLabels}
-use Rattle.amr_state.specs.State.{State, on_route, route_labels_cmp, route_labels_cmp-IsAntisymmetric, log_key_cmp_total, log_key_cmp-IsAntisymmetric, group_key, members}
+use Rattle.amr_engine.specs.declared.state.route_labels.RouteLabels.{RouteLabels}
+use Rattle.amr_engine.specs.State.State.{State, on_route, route_labels_cmp, route_labels_cmp-IsAntisymmetric, log_key_cmp_total, log_key_cmp-IsAntisymmetric, group_key, members}
 use Rattle.amr_engine.specs.Stages.{taken_away}
 use Rattle.amr_engine.specs.Flush.{Members, firing_of, resolved_of, labels_of, log_key_of, record_notification, notify, notify_all, set_timer, drop_member, mark_if_empty, drop_resolved, run_pipeline, flush, let_through}
 use Rattle.amr_engine.specs.Quiet.{with_timer_reset, no_repeat_before, is_notified, are_notified, IsQuietWith, IsQuiet, LeavesOthers, IsStill, no_source_ends, no_silence_turns}

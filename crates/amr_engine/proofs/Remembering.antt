@@ -9,22 +9,22 @@ use Rattle.std.proofs.lemmas.Bool.Decides.{nat_tests}
 use Rattle.amr_labels.specs.Map.{Map, entries, get, insert, remove, empty, get-empty}
 use Rattle.amr_labels.specs.Labels.{LabelSet}
 use Rattle.amr_time.specs.Time.{Moment, Span}
-use Rattle.amr_stated.specs.declared.receiver.Integration.{Integration}
-use Rattle.amr_stated.specs.Config.{Config}
+use Rattle.amr_config.specs.declared.stated.receiver.Integration.{Integration}
+use Rattle.amr_config.specs.Stated.Config.{Config}
 use Rattle.amr_config.specs.Routing.{HasOwnPath, repeat_interval_of}
 use Rattle.amr_config.specs.Settled.{settings_of}
 use Rattle.amr_config.specs.declared.settings.Settings.{Settings}
 use Rattle.amr_rules.specs.declared.dedup.LogEntry.{LogEntry}
 use Rattle.amr_rules.specs.Dedup.{LabelSets, needs_update}
-use Rattle.amr_stated.specs.declared.rule.InhibitRule.{InhibitRule}
+use Rattle.amr_config.specs.declared.stated.rule.InhibitRule.{InhibitRule}
 use Rattle.amr_rules.specs.declared.alert.Alert.{Alert}
 use Rattle.amr_rules.specs.declared.silence.Silence.{Silence}
 use Rattle.amr_rules.specs.Muting.{Alerts, inhibition_from}
 use Rattle.amr_rules.specs.Silences.{Silences}
-use Rattle.amr_state.specs.declared.route_labels.RouteLabels.{RouteLabels}
-use Rattle.amr_state.specs.declared.notification.GroupTimer.{GroupTimer}
-use Rattle.amr_state.specs.declared.notification.Notification.{Notification}
-use Rattle.amr_state.specs.State.{State, route_labels_cmp, members}
+use Rattle.amr_engine.specs.declared.state.route_labels.RouteLabels.{RouteLabels}
+use Rattle.amr_engine.specs.declared.state.notification.GroupTimer.{GroupTimer}
+use Rattle.amr_engine.specs.declared.state.notification.Notification.{Notification}
+use Rattle.amr_engine.specs.State.State.{State, route_labels_cmp, members}
 use Rattle.amr_tables.specs.Numbered.{Numbered}
 use Rattle.amr_engine.specs.declared.explain.Finding.TheVariants.{Inhibited}
 use Rattle.amr_engine.specs.Stages.{by_active_time, by_mute_time, by_silence, taken_away}

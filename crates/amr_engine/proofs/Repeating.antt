@@ -7,18 +7,18 @@ use Rattle.std.proofs.lemmas.List.Folds.{list_all-map}
 use Rattle.amr_labels.specs.Map.{get, entries, get-insert}
 use Rattle.amr_labels.specs.Set.{contains, is_subset, is_empty}
 use Rattle.amr_time.specs.Time.{Moment, Span}
-use Rattle.amr_stated.specs.declared.receiver.Integration.{Integration}
-use Rattle.amr_stated.specs.Config.{Config}
+use Rattle.amr_config.specs.declared.stated.receiver.Integration.{Integration}
+use Rattle.amr_config.specs.Stated.Config.{Config}
 use Rattle.amr_config.specs.Routing.{integrations_of, repeat_interval_of}
 use Rattle.amr_rules.specs.declared.dedup.LogEntry.{LogEntry}
 use Rattle.amr_rules.specs.Dedup.{LabelSets, needs_update}
 use Rattle.amr_rules.proofs.Subsets.{items_contained}
-use Rattle.amr_state.specs.declared.notification.LogKey.{LogKey}
-use Rattle.amr_state.specs.declared.route_labels.RouteLabels.{RouteLabels}
-use Rattle.amr_state.specs.declared.due.Due.{Due}
-use Rattle.amr_state.specs.declared.due.Kind.{Kind}
-use Rattle.amr_state.specs.declared.due.Kind.TheVariants.{GroupFlush}
-use Rattle.amr_state.specs.State.{State, on_route, log_key_cmp, log_key_cmp_total, log_key_cmp-IsAntisymmetric, members}
+use Rattle.amr_engine.specs.declared.state.notification.LogKey.{LogKey}
+use Rattle.amr_engine.specs.declared.state.route_labels.RouteLabels.{RouteLabels}
+use Rattle.amr_engine.specs.declared.state.due.Due.{Due}
+use Rattle.amr_engine.specs.declared.state.due.Kind.{Kind}
+use Rattle.amr_engine.specs.declared.state.due.Kind.TheVariants.{GroupFlush}
+use Rattle.amr_engine.specs.State.State.{State, on_route, log_key_cmp, log_key_cmp_total, log_key_cmp-IsAntisymmetric, members}
 use Rattle.amr_engine.specs.Flush.{Members, firing_of, resolved_of, labels_of, log_key_of, let_through, record_notification, notify, notify_all, run_pipeline, flush}
 use Rattle.amr_engine.specs.Told.{RepeatsWait}
 use Rattle.amr_engine.specs.Moves.{move, move_of_kind}

@@ -2,12 +2,12 @@
 use Rattle.std.specs.Prelude.{◌≡◌, ℕ, Bool, true, false, if◌then◌else◌, List, [], ◌∷◌, ◌++◌, length, ◌<◌, ◌≤◌, ◌*◌}
 use Rattle.std.proofs.Common.{sym, ap, subst, ◌∙◌, arith}
 use Rattle.std.proofs.lemmas.List.{nil_from_length}
-use Rattle.amr_actions.specs.Events.{Event, is_label}
-use Rattle.amr_state.specs.declared.change.Change.{Change}
-use Rattle.amr_state.specs.State.{State}
-use Rattle.amr_state.specs.Kept.{Kept, undone}
-use Rattle.amr_state.specs.Records.{put_back, befores}
-use Rattle.amr_state.proofs.Undoing.{befores_push, length-befores, undone-idle, undone-undone}
+use Rattle.amr_events.specs.Actions.Events.{Event, is_label}
+use Rattle.amr_engine.specs.declared.state.change.Change.{Change}
+use Rattle.amr_engine.specs.State.State.{State}
+use Rattle.amr_engine.specs.State.Kept.{Kept, undone}
+use Rattle.amr_engine.specs.State.Records.{put_back, befores}
+use Rattle.amr_engine.proofs.StateLemmas.Undoing.{befores_push, length-befores, undone-idle, undone-undone}
 use Rattle.amr_engine.specs.Events.{after_event}
 use Rattle.amr_engine.specs.Applied.{Leads}
 use Rattle.amr_engine.specs.Kept.{IsEmptyIfRefused, IsLightIfAccepted}

@@ -2,11 +2,11 @@
 use Rattle.std.specs.Prelude.{◌≡◌, ℕ, List, Option, Result, Ok, Err, length, drop}
 use Rattle.std.specs.Option.{option_map}
 use Rattle.amr_time.specs.Time.{Moment}
-use Rattle.amr_actions.specs.Events.{Event}
-use Rattle.amr_posts.specs.declared.reason.Reason as code
-use Rattle.amr_posts.specs.Reasons.{reason_number}
-use Rattle.amr_state.specs.declared.due.Due.{Due}
-use Rattle.amr_state.specs.State.{State}
+use Rattle.amr_events.specs.Actions.Events.{Event}
+use Rattle.amr_events.specs.declared.posts.reason.Reason as code
+use Rattle.amr_events.specs.Posts.Reasons.{reason_number}
+use Rattle.amr_engine.specs.declared.state.due.Due.{Due}
+use Rattle.amr_engine.specs.State.State.{State}
 use Rattle.amr_engine.specs.declared.apply.Done.{Done}
 use Rattle.amr_engine.specs.Events.{Outcome, after_event, outcome_of, at_moment}
 use Rattle.amr_engine.specs.Outcomes.{acceptance, refusal, outcome_view}

@@ -5,18 +5,18 @@ use Rattle.std.specs.List.{flat_map}
 use Rattle.amr_labels.specs.Map.{get}
 use Rattle.amr_labels.specs.Set.{contains}
 use Rattle.amr_labels.specs.Labels.{Text, LabelSet}
-use Rattle.amr_stated.specs.declared.receiver.Integration.{Integration}
+use Rattle.amr_config.specs.declared.stated.receiver.Integration.{Integration}
 use Rattle.amr_config.specs.Routing.{chosen, group_of, receiver_name_of, integrations_of}
 use Rattle.amr_rules.specs.declared.alert.Alert.{Alert}
 use Rattle.amr_rules.specs.Alerts.{is_resolved_at}
 use Rattle.amr_rules.specs.declared.dedup.LogEntry.{LogEntry}
-use Rattle.amr_state.specs.declared.notification.GroupTimer.{GroupTimer}
-use Rattle.amr_state.specs.declared.route_labels.RouteLabels.{RouteLabels}
+use Rattle.amr_engine.specs.declared.state.notification.GroupTimer.{GroupTimer}
+use Rattle.amr_engine.specs.declared.state.route_labels.RouteLabels.{RouteLabels}
 use Rattle.amr_engine.specs.declared.explain.Finding.{Finding}
 use Rattle.amr_engine.specs.declared.explain.Finding.TheVariants.{Waiting, Nowhere, Told, Due}
 use Rattle.amr_engine.specs.declared.explain.Verdict.{Verdict}
 use Rattle.amr_engine.specs.declared.explain.Verdict.TheVariants.{Unknown, Ended, AtRoute}
-use Rattle.amr_state.specs.State.{State, on_route}
+use Rattle.amr_engine.specs.State.State.{State, on_route}
 use Rattle.amr_engine.specs.Stages.{taken_away}
 use Rattle.amr_engine.specs.Flush.{log_key_of}
 

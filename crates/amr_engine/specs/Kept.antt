@@ -1,11 +1,11 @@
 -- The record of an event, and how long it may be.
 use Rattle.std.specs.Prelude.{◌≡◌, true, ◌≤◌, ◌*◌, List, [], ◌∷◌, ◌++◌, length, Result, Ok, Err}
-use Rattle.amr_actions.specs.Events.{Event, is_label}
-use Rattle.amr_posts.specs.declared.reason.Reason.{Reason}
-use Rattle.amr_state.specs.declared.change.Change.{Change}
-use Rattle.amr_state.specs.Kept.{Kept, GrownBy}
-use Rattle.amr_state.specs.Records.{put_back}
-use Rattle.amr_state.specs.Steps.{Steps}
+use Rattle.amr_events.specs.Actions.Events.{Event, is_label}
+use Rattle.amr_events.specs.declared.posts.reason.Reason.{Reason}
+use Rattle.amr_engine.specs.declared.state.change.Change.{Change}
+use Rattle.amr_engine.specs.State.Kept.{Kept, GrownBy}
+use Rattle.amr_engine.specs.State.Records.{put_back}
+use Rattle.amr_engine.specs.State.Steps.{Steps}
 use Rattle.amr_engine.specs.Weight.{event_weight}
 use Rattle.amr_engine.specs.declared.apply.Done.{Done}
 use Rattle.amr_engine.specs.declared.outcome.Outcome.{Outcome}

@@ -1,7 +1,7 @@
 -- The outcome that the code returns, as an outcome of the definitions.
 use Rattle.std.specs.Prelude.{ℕ, List}
-use Rattle.amr_posts.specs.Reasons.{reason_number}
-use Rattle.amr_state.specs.declared.notification.Notification.{Notification}
+use Rattle.amr_events.specs.Posts.Reasons.{reason_number}
+use Rattle.amr_engine.specs.declared.state.notification.Notification.{Notification}
 use Rattle.amr_engine.specs.Events as events
 use Rattle.amr_engine.specs.declared.outcome.Outcome as code
 use Rattle.amr_engine.specs.declared.outcome.Outcome.TheVariants.{Accepted, Refused}

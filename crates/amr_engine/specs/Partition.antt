@@ -4,14 +4,14 @@ use Rattle.std.specs.Prelude.{◌≡◌, ◌++◌, if◌then◌else◌}
 use Rattle.std.specs.List.{All}
 use Rattle.amr_labels.specs.Map.{get, insert}
 use Rattle.amr_time.specs.Time.{Moment}
-use Rattle.amr_stated.specs.Config.{Config}
-use Rattle.amr_stated.specs.declared.receiver.Integration.{Integration}
+use Rattle.amr_config.specs.Stated.Config.{Config}
+use Rattle.amr_config.specs.declared.stated.receiver.Integration.{Integration}
 use Rattle.amr_config.specs.Routing.{repeat_interval_of}
 use Rattle.amr_rules.specs.declared.dedup.LogEntry.{LogEntry}
-use Rattle.amr_state.specs.declared.notification.LogKey.{LogKey}
-use Rattle.amr_state.specs.declared.route_labels.RouteLabels.{RouteLabels}
-use Rattle.amr_state.specs.State.{State, on_route, group_key}
-use Rattle.amr_state.specs.Logged.{is_due}
+use Rattle.amr_engine.specs.declared.state.notification.LogKey.{LogKey}
+use Rattle.amr_engine.specs.declared.state.route_labels.RouteLabels.{RouteLabels}
+use Rattle.amr_engine.specs.State.State.{State, on_route, group_key}
+use Rattle.amr_engine.specs.State.Logged.{is_due}
 use Rattle.amr_engine.specs.declared.flush.Partition.{Partition}
 use Rattle.amr_engine.specs.Flush.{Members, firing_of, resolved_of, labels_of, log_key_of, notifications_of}
 

@@ -7,10 +7,10 @@ use Rattle.amr_time.specs.Time.{Moment}
 use Rattle.amr_config.specs.Routing.{chosen, group_of}
 use Rattle.amr_rules.specs.declared.alert.Alert.{Alert}
 use Rattle.amr_rules.specs.Alerts.{is_resolved_at}
-use Rattle.amr_state.specs.declared.notification.GroupTimer.{GroupTimer}
-use Rattle.amr_state.specs.declared.route_labels.RouteLabels.{RouteLabels}
-use Rattle.amr_state.specs.declared.views.Group.{Group}
-use Rattle.amr_state.specs.State.{State, on_route, group_key}
+use Rattle.amr_engine.specs.declared.state.notification.GroupTimer.{GroupTimer}
+use Rattle.amr_engine.specs.declared.state.route_labels.RouteLabels.{RouteLabels}
+use Rattle.amr_engine.specs.declared.state.views.Group.{Group}
+use Rattle.amr_engine.specs.State.State.{State, on_route, group_key}
 
 -- the group has a timer, by which it isn't empty
 pub record IsTimed (s : State) (group : RouteLabels) : Type 0 where

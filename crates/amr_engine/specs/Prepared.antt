@@ -3,11 +3,11 @@ use Rattle.std.specs.Prelude.{◌≡◌, ◌≤◌, ℕ, ◌+◌, ◌*◌, List,
 use Rattle.std.specs.List.{fold}
 use Rattle.amr_labels.specs.Map.{insert}
 use Rattle.amr_time.specs.Time.{Moment}
-use Rattle.amr_actions.specs.Events.{Act}
-use Rattle.amr_posts.specs.declared.reason.Reason as code
-use Rattle.amr_posts.specs.Reasons.{reason_number}
+use Rattle.amr_events.specs.Actions.Events.{Act}
+use Rattle.amr_events.specs.declared.posts.reason.Reason as code
+use Rattle.amr_events.specs.Posts.Reasons.{reason_number}
 use Rattle.amr_rules.specs.Silencing.{update_stored}
-use Rattle.amr_state.specs.State.{State}
+use Rattle.amr_engine.specs.State.State.{State}
 use Rattle.amr_engine.specs.Weight.{reload_entries, alerts_weight, act_weight}
 use Rattle.amr_engine.specs.declared.prepare.Prepared as prepare
 use Rattle.amr_engine.specs.declared.prepare.Prepared.TheVariants.{Put, Silence, Expire, Reload, Tick}

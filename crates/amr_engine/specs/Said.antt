@@ -1,13 +1,13 @@
 -- The next move and the outcome of an event, defined by relations and not by a computation.
 use Rattle.std.specs.Prelude.{◌≡◌, ℕ, suc, is_ok, true, false, List, [], ◌∷◌, Ok, Err, length, ◌≤◌, nat_lt, ◌⊎◌}
 use Rattle.std.specs.Ordering.{is_gt}
-use Rattle.amr_posts.specs.Reasons.{Reason, reason_number}
-use Rattle.amr_posts.specs.declared.reason.Reason.TheVariants.{Backwards, TooManyMoves}
-use Rattle.amr_actions.specs.Events.{Event, is_label}
-use Rattle.amr_state.specs.declared.due.Due.{Due}
-use Rattle.amr_state.specs.State.{State}
+use Rattle.amr_events.specs.Posts.Reasons.{Reason, reason_number}
+use Rattle.amr_events.specs.declared.posts.reason.Reason.TheVariants.{Backwards, TooManyMoves}
+use Rattle.amr_events.specs.Actions.Events.{Event, is_label}
+use Rattle.amr_engine.specs.declared.state.due.Due.{Due}
+use Rattle.amr_engine.specs.State.State.{State}
 use Rattle.amr_engine.specs.Runs.{Begins}
-use Rattle.amr_state.specs.Dues.{due_cmp, next_due}
+use Rattle.amr_engine.specs.State.Dues.{due_cmp, next_due}
 use Rattle.amr_engine.specs.Moves.{move, Advances}
 use Rattle.amr_engine.specs.Events.{after_act, at_moment}
 

@@ -3,7 +3,7 @@
 //! event is refused or memory runs out. Nothing here undoes a change.
 ghost use Rattle.std.specs.Prelude.{◌≡◌, ◌≤◌, ◌+◌, ◌*◌, OnOk, IfOk, length, drop};
 ghost use Rattle.amr_time.specs.Time.{latest_read};
-ghost use Rattle.amr_state.specs.Kept.{GrownBy, undone};
+ghost use Rattle.amr_engine.specs.State.Kept.{GrownBy, undone};
 ghost use Rattle.amr_engine.specs.Remembered.{IsTrueOf};
 ghost use Rattle.amr_engine.specs.Moves.{advance, moves_to};
 ghost use Rattle.amr_engine.specs.Events.{move_limit};
@@ -22,10 +22,10 @@ use crate::quiet::QuietGroups;
 use crate::quiet_moves::QuietMoves;
 use crate::reload::reload;
 use crate::silencing::store_update;
-use amr_actions::Event;
+use crate::state::{Change, Notification, Store};
+use amr_events::actions::Event;
+use amr_events::posts::Reason;
 use amr_labels::{Listing, Shared};
-use amr_posts::Reason;
-use amr_state::{Change, Notification, Store};
 use amr_time::Moment;
 use std::alloc::{AllocError, Global};
 

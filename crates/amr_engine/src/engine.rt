@@ -1,26 +1,26 @@
 //! The engine: a state, and a record for each event by which the event can be undone. Sessions and
 //! runs apply events through it; nothing else changes a state.
 ghost use Rattle.std.specs.Prelude.{◌≡◌, ◌<◌, List, [], ◌∷◌, ◌++◌, length, IfOk, OnOk, OnErr, Some, option_map, slice_get};
-ghost use Rattle.amr_state.specs.State.{start};
-ghost use Rattle.amr_state.specs.Records.{put_back};
-ghost use Rattle.amr_state.specs.declared.change.Change.{Change};
+ghost use Rattle.amr_engine.specs.State.State.{start};
+ghost use Rattle.amr_engine.specs.State.Records.{put_back};
+ghost use Rattle.amr_engine.specs.declared.state.change.Change.{Change};
 ghost use Rattle.amr_engine.specs.Events.{after_event, outcome_of, without_notifications};
 ghost use Rattle.amr_engine.specs.Outcomes.{outcome_view};
 ghost use Rattle.amr_engine.specs.Kept.{Records, RecordOf};
 ghost use Rattle.amr_engine.specs.QuietMoves.{AreQuietMoves};
 ghost use Rattle.amr_engine.specs.Explain.{verdicts};
 ghost use Rattle.amr_engine.specs.Placed.{ArePlaced, HasTimers, AreListed};
-ghost use Rattle.amr_state.specs.Seen.{groups_of};
+ghost use Rattle.amr_engine.specs.State.Seen.{groups_of};
 
 use crate::apply::attempt;
 use crate::explain::{self, Verdict};
 use crate::outcome::Outcome;
 use crate::quiet::QuietGroups;
 use crate::quiet_moves::QuietMoves;
-use amr_actions::Event;
+use crate::state::{Group, Store, views};
 use amr_config::Config;
+use amr_events::actions::Event;
 use amr_labels::Labels;
-use amr_state::{Group, Store, views};
 use std::alloc::{AllocError, Global};
 use std::marker::Model;
 
@@ -37,8 +37,8 @@ impl Model for Engine {
     ghost use Rattle.std.specs.Coded.{codes};
     ghost use Rattle.std.specs.Prelude.{◌≡◌, []};
     ghost use Rattle.amr_labels.specs.Map as map;
-    ghost use Rattle.amr_state.specs.Records.{befores};
-    ghost use Rattle.amr_state.specs.Steps.{Steps};
+    ghost use Rattle.amr_engine.specs.State.Records.{befores};
+    ghost use Rattle.amr_engine.specs.State.Steps.{Steps};
     ghost use Rattle.amr_engine.specs.Remembered.{IsTrueOf};
     ghost use Rattle.amr_engine.specs.Placed.{StayPlaced};
 

@@ -8,11 +8,11 @@ ghost use Rattle.amr_engine.specs.Explain.{waiting, logged, heard, finding, kind
 
 use crate::flush::log_key;
 use crate::stages::taken_away;
+use crate::state::{GroupTimer, RouteLabels, Store, group_key};
+use amr_config::stated::Integration;
+use amr_events::posts::SilenceId;
 use amr_labels::{Labels, Text};
-use amr_posts::SilenceId;
 use amr_rules::{Alert, LogEntry};
-use amr_state::{GroupTimer, RouteLabels, Store, group_key};
-use amr_stated::Integration;
 use amr_time::Moment;
 use std::alloc::AllocError;
 

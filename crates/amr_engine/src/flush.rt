@@ -9,8 +9,8 @@ ghost use Rattle.amr_labels.specs.Map.{get};
 ghost use Rattle.amr_config.specs.Routing.{group_interval_of, integrations_of};
 ghost use Rattle.amr_time.specs.Time.{latest_read};
 ghost use Rattle.amr_rules.specs.Alerts.{is_resolved_at};
-ghost use Rattle.amr_state.specs.State as state;
-ghost use Rattle.amr_state.specs.Kept.{GrownBy, undone};
+ghost use Rattle.amr_engine.specs.State.State as state;
+ghost use Rattle.amr_engine.specs.State.Kept.{GrownBy, undone};
 ghost use Rattle.amr_engine.specs.Flush.{let_through, firing_of, resolved_of, labels_of, log_key_of, notified_firing, notified_resolved, notifications_of, notify_all, set_timer, drop_member, drop_resolved, run_pipeline, flush};
 ghost use Rattle.amr_engine.specs.Quiet.{with_timer_reset, IsStill};
 ghost use Rattle.amr_engine.specs.Remembered.{IsTrueOf};
@@ -19,14 +19,14 @@ ghost use Rattle.amr_engine.specs.Weight.{turns, flush_weight};
 use crate::quiet::QuietGroups;
 use crate::quiet_until::{all_notified_until, quiet_until, still_until};
 use crate::stages::let_through;
-use amr_config::Config;
-use amr_labels::{LabelMap, Labels, Listing};
-use amr_rules::{LogEntry, labels_of};
-use amr_state::{
+use crate::state::{
     Change, FiringAlert, GroupTimer, LogKey, Member, Membership, Notification, ResolvedAlert,
     RouteLabels, Store,
 };
-use amr_stated::Integration;
+use amr_config::Config;
+use amr_config::stated::Integration;
+use amr_labels::{LabelMap, Labels, Listing};
+use amr_rules::{LogEntry, labels_of};
 use amr_time::Moment;
 use std::alloc::{AllocError, Global};
 

@@ -2,7 +2,7 @@
 //! the removal of an alert, the removal of a group, or the flush of a group (`flush.rt`).
 ghost use Rattle.std.specs.Prelude.{◌≡◌, ◌≤◌, ◌*◌, true, OnOk, IfOk};
 ghost use Rattle.amr_time.specs.Time.{latest_read};
-ghost use Rattle.amr_state.specs.Kept.{GrownBy, undone};
+ghost use Rattle.amr_engine.specs.State.Kept.{GrownBy, undone};
 ghost use Rattle.amr_engine.specs.Remembered.{IsTrueOf};
 ghost use Rattle.amr_engine.specs.Moves.{move, advance, counted_run, moves_to};
 ghost use Rattle.amr_engine.specs.Events.{move_limit};
@@ -12,8 +12,8 @@ ghost use Rattle.amr_engine.specs.QuietMoves.{OnlySets, AreQuietMoves};
 use crate::flush::{flush, reset_timer};
 use crate::quiet::QuietGroups;
 use crate::quiet_moves::QuietMoves;
+use crate::state::{Change, Due, Kind, RouteLabels, Store};
 use crate::too_many::are_too_many;
-use amr_state::{Change, Due, Kind, RouteLabels, Store};
 use amr_time::Moment;
 use std::alloc::AllocError;
 

@@ -2,9 +2,9 @@
 //! store.
 ghost use Rattle.std.specs.Prelude.{◌≡◌};
 
+use crate::state::Notification;
+use amr_events::posts::Reason;
 use amr_labels::{Listing, Shared};
-use amr_posts::Reason;
-use amr_state::Notification;
 
 /// The outcome of an event.
 #[derive(Drop)]

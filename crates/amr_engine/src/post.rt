@@ -5,14 +5,14 @@ ghost use Rattle.std.specs.List.{fold, filter_map};
 ghost use Rattle.amr_labels.specs.Map as map;
 ghost use Rattle.amr_time.specs.Time.{before_year_10000};
 ghost use Rattle.amr_rules.specs.Alerts.{completed, joined};
-ghost use Rattle.amr_state.specs.Kept.{GrownBy, undone};
+ghost use Rattle.amr_engine.specs.State.Kept.{GrownBy, undone};
 ghost use Rattle.amr_engine.specs.Events.{put, skipped_from};
 ghost use Rattle.amr_engine.specs.Weight.{alert_weight, alerts_weight};
 
+use crate::state::{Change, Store, place};
+use amr_events::posts::PostedAlert;
 use amr_labels::{Labels, Listing};
-use amr_posts::PostedAlert;
 use amr_rules::{Alert, complete_alert, merge};
-use amr_state::{Change, Store, place};
 use amr_time::{Moment, Span};
 use std::alloc::{AllocError, Global};
 

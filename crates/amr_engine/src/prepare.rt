@@ -2,15 +2,15 @@
 //! `apply.rt` calls `prepare` and performs the result after the moves. Nothing is stored here.
 ghost use Rattle.std.specs.Prelude.{◌≡◌, ◌≤◌, ℕ, IfOk};
 ghost use Rattle.amr_time.specs.Time.{latest_read};
-ghost use Rattle.amr_actions.specs.Acts.{act_of, by_number};
-ghost use Rattle.amr_actions.specs.Events.{Act as act};
+ghost use Rattle.amr_events.specs.Actions.Acts.{act_of, by_number};
+ghost use Rattle.amr_events.specs.Actions.Events.{Act as act};
 
 use crate::post::{Sifted, sift};
-use amr_actions::Act;
+use crate::state::Store;
 use amr_config::Config;
-use amr_posts::{PostedAlert, PostedSilence, Reason, SilenceId};
+use amr_events::actions::Act;
+use amr_events::posts::{PostedAlert, PostedSilence, Reason, SilenceId};
 use amr_rules::{Silence, SilenceUpdate, set_silence, silence_expire};
-use amr_state::Store;
 use amr_time::Moment;
 use std::alloc::AllocError;
 
@@ -36,7 +36,7 @@ pub(crate) enum Prepared {
     Tick,
 }
 
-ghost use Rattle.amr_state.specs.State.{State};
+ghost use Rattle.amr_engine.specs.State.State.{State};
 ghost use Rattle.amr_engine.specs.Prepared.{IsPrepared};
 
 /// Prepares an action at a moment, or returns the first reason against it.

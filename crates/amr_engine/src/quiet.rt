@@ -6,8 +6,8 @@ ghost use Rattle.std.specs.Prelude.{◌≡◌, ◌≤◌, ◌<◌, true, OnOk, O
 ghost use Rattle.std.specs.List.{fold};
 ghost use Rattle.amr_labels.specs.Map as map;
 ghost use Rattle.amr_time.specs.Time.{Moment as moment};
-ghost use Rattle.amr_state.specs.State.{State};
-ghost use Rattle.amr_state.specs.State as state;
+ghost use Rattle.amr_engine.specs.State.State.{State};
+ghost use Rattle.amr_engine.specs.State.State as state;
 ghost use Rattle.amr_engine.specs.Flush.{flush};
 ghost use Rattle.amr_engine.specs.Quiet.{with_timer_reset, IsStill, IsQuiet, IsAllNotified};
 ghost use Rattle.amr_engine.specs.Events.{put};
@@ -15,10 +15,10 @@ ghost use Rattle.amr_engine.specs.Prepared.{performed};
 
 use crate::prepare::Prepared;
 use crate::scan_budget::ScanBudget;
+use crate::state::{RouteLabels, Store};
 use amr_config::Config;
 use amr_labels::Labels;
 use amr_rules::Alert;
-use amr_state::{RouteLabels, Store};
 use amr_tables::Keyed;
 use amr_time::Moment;
 use std::alloc::{AllocError, Global};

@@ -4,15 +4,15 @@
 ghost use Rattle.std.specs.Prelude.{◌≡◌, ◌≤◌, ◌<◌, true, IfOk, IfSome};
 ghost use Rattle.std.specs.List.{list_all};
 ghost use Rattle.amr_config.specs.Routing.{integrations_of};
-ghost use Rattle.amr_state.specs.State as state;
+ghost use Rattle.amr_engine.specs.State.State as state;
 ghost use Rattle.amr_engine.specs.Flush.{let_through, labels_of};
 ghost use Rattle.amr_engine.specs.Quiet.{is_outside, no_alert_ends, no_silence_turns, all_fire_until, is_untimed, is_notified, are_notified, IsStill, IsQuiet, IsAllNotified};
 
 use crate::flush::log_key;
+use crate::state::{Member, RouteLabels, Store};
 use amr_config::Config;
+use amr_config::stated::Integration;
 use amr_rules::is_due_while_firing;
-use amr_state::{Member, RouteLabels, Store};
-use amr_stated::Integration;
 use amr_time::Moment;
 use std::alloc::AllocError;
 

@@ -2,15 +2,15 @@
 //! and the notification log do.
 ghost use Rattle.std.specs.Prelude.{◌≡◌, ◌*◌, OnOk};
 ghost use Rattle.std.specs.List.{fold};
-ghost use Rattle.amr_state.specs.State.{place};
-ghost use Rattle.amr_state.specs.Kept.{GrownBy, undone};
+ghost use Rattle.amr_engine.specs.State.State.{place};
+ghost use Rattle.amr_engine.specs.State.Kept.{GrownBy, undone};
 ghost use Rattle.amr_engine.specs.Events.{with_config};
 ghost use Rattle.amr_engine.specs.Weight.{copies, reload_entries};
 
+use crate::state::{Store, place, views};
 use amr_config::Config;
 use amr_labels::Labels;
 use amr_rules::Alert;
-use amr_state::{Store, place, views};
 use std::alloc::AllocError;
 
 /// Replaces the configuration, drops all groups, and inserts every stored alert, resolved ones too,

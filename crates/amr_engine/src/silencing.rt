@@ -3,12 +3,12 @@
 ghost use Rattle.std.specs.Prelude.{◌≡◌, OnOk};
 ghost use Rattle.amr_rules.specs.Silences.{stored_under};
 ghost use Rattle.amr_rules.specs.Silencing.{update_stored};
-ghost use Rattle.amr_state.specs.Kept.{GrownBy, undone};
+ghost use Rattle.amr_engine.specs.State.Kept.{GrownBy, undone};
 ghost use Rattle.amr_engine.specs.Events.{with_silences};
 
-use amr_posts::SilenceId;
+use crate::state::{Change, Store};
+use amr_events::posts::SilenceId;
 use amr_rules::{Silence, SilenceUpdate};
-use amr_state::{Change, Store};
 use std::alloc::AllocError;
 
 /// Stores what was decided of a post of a silence. `id` is that of the silence it names, and

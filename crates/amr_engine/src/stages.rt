@@ -2,15 +2,15 @@
 //! flush notifies of no member that one of them mutes, and `explain` names the first that does.
 ghost use Rattle.std.specs.Prelude.{◌≡◌, map, IfOk};
 ghost use Rattle.amr_rules.specs.Muting.{inhibition_from};
-ghost use Rattle.amr_stated.specs.RuleMatches.{rule_matches};
+ghost use Rattle.amr_config.specs.Stated.RuleMatches.{rule_matches};
 ghost use Rattle.amr_engine.specs.Flush.{let_through};
 ghost use Rattle.amr_engine.specs.Stages.{taken_away};
 
 use crate::explain::Finding;
+use crate::state::{Member, Store};
+use amr_config::stated::RuleMatch;
 use amr_labels::Labels;
 use amr_rules::inhibited_by;
-use amr_state::{Member, Store};
-use amr_stated::RuleMatch;
 use amr_time::Moment;
 use std::alloc::{AllocError, Global};
 

@@ -2,8 +2,8 @@
 //! refused without making all its moves first, and keeping their notifications until they are
 //! undone.
 ghost use Rattle.std.specs.Prelude.{◌≡◌, ◌≤◌, ◌<◌, ◌-◌, ◌+◌, true, length, IfOk, None};
-ghost use Rattle.amr_state.specs.State as state;
-ghost use Rattle.amr_state.specs.declared.notification.GroupTimer as specs;
+ghost use Rattle.amr_engine.specs.State.State as state;
+ghost use Rattle.amr_engine.specs.declared.state.notification.GroupTimer as specs;
 ghost use Rattle.amr_engine.specs.Events.{move_limit};
 ghost use Rattle.amr_engine.specs.Moves.{advance};
 ghost use Rattle.amr_engine.specs.Quiet.{all_fire_until};
@@ -11,7 +11,7 @@ ghost use Rattle.amr_engine.specs.Lasting.{IsFlushedBeyond};
 
 use crate::moves::MOST_MOVES;
 use crate::quiet_until::first_end;
-use amr_state::{Member, RouteLabels, Store};
+use crate::state::{Member, RouteLabels, Store};
 use amr_time::Moment;
 use std::alloc::AllocError;
 

@@ -8,8 +8,8 @@ use Rattle.serde_json.proofs.Views.{get_member-put, get_member-put_other}
 use Rattle.amr_labels.specs.Map.{from_entries}
 use Rattle.amr_labels.specs.Labels.{Text}
 use Rattle.amr_time.specs.Time.{Moment}
-use Rattle.amr_actions.specs.Events.{Annotations}
-use Rattle.amr_loading.specs.Members.{present}
+use Rattle.amr_events.specs.Actions.Events.{Annotations}
+use Rattle.amr_config.specs.Read.Members.{present}
 use Rattle.amr_events.specs.Shapes.{◌>>=◌, texts_in}
 use Rattle.amr_events.specs.Posted.{time_at, time_in, annotations_at, annotations_in, alert_of}
 use Rattle.amr_events.specs.Tokens.{IsDraft}

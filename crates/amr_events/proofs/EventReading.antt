@@ -8,17 +8,17 @@ use Rattle.serde_json.specs.Find.{get, as_str, as_bool, as_array}
 use Rattle.amr_time.specs.Time.{Moment, second, latest_read}
 use Rattle.amr_time.specs.MomentRead as moments
 use Rattle.amr_time.specs.MomentRead.{moment_at, in_range}
-use Rattle.amr_actions.specs.Events.{Act, Event}
-use Rattle.amr_actions.specs.Events as events
-use Rattle.amr_loading.specs.Members.{present}
+use Rattle.amr_events.specs.Actions.Events.{Act, Event}
+use Rattle.amr_events.specs.Actions.Events as events
+use Rattle.amr_config.specs.Read.Members.{present}
 use Rattle.amr_events.specs.Shapes.{◌>>=◌, each_item, texts_in, moment_under}
 use Rattle.amr_events.specs.Posted.{is_missing, time_of, time_at, time_in, annotations_in, alert_of, alerts_of}
 use Rattle.amr_events.specs.PostedSilences.{id_at, named_id_in, new_id_in, if_named, matchers_of, silence_of}
 use Rattle.amr_events.specs.Lines.{act_count, post_of, silencing_of, expiry_of, reload_of, tick_if, tick_of, labelling_of, act_of_stated, label_in, act_in}
 use Rattle.amr_events.specs.Refused.{ActIs}
 use Rattle.amr_events.specs.EventLaws.{IsStatable, AlertIsStatable, ActIsStatable, ReadEventsAreStatable}
-use Rattle.amr_posts.specs.declared.posted_alert.PostedAlert.{PostedAlert}
-use Rattle.amr_posts.specs.declared.posted_silence.PostedSilence.{PostedSilence}
+use Rattle.amr_events.specs.declared.posts.posted_alert.PostedAlert.{PostedAlert}
+use Rattle.amr_events.specs.declared.posts.posted_silence.PostedSilence.{PostedSilence}
 use Rattle.amr_events.specs.declared.version.Version.{Version}
 
 -- a step that gave something

@@ -5,7 +5,7 @@ use Rattle.std.specs.List.{AllZip}
 use Rattle.std.proofs.lemmas.List.{at_drop_more, take_more, take_all, take-append-drop, length-take-le}
 use Rattle.std.proofs.lemmas.List.Elements.{All-nil, All-push, filter-append}
 use Rattle.amr_events.specs.Answers.{IsRefused, IsStop}
-use Rattle.amr_actions.specs.Events.{Event}
+use Rattle.amr_events.specs.Actions.Events.{Event}
 use Rattle.amr_events.specs.Refused.{LineIs}
 use Rattle.amr_events.specs.Versions.{is_header}
 use Rattle.amr_events.specs.Scripts.{is_blank, lines_of, longest_line, most_events, full_lines, version_of, after_header, Script, ReadAs, is_header_after, HasFault, HasFirstFault, ScriptIs}

@@ -6,8 +6,8 @@ use Rattle.std.proofs.lemmas.Bool.{lt-ltb, le-ltb, le-leb, lt-leb}
 use Rattle.std.proofs.lemmas.List.Elements.{All-head, All-tail}
 use Rattle.serde_json.specs.Data.{Data}
 use Rattle.amr_time.specs.Time.{Moment}
-use Rattle.amr_actions.specs.Events.{Act, Event}
-use Rattle.amr_actions.specs.Events as events
+use Rattle.amr_events.specs.Actions.Events.{Act, Event}
+use Rattle.amr_events.specs.Actions.Events as events
 use Rattle.amr_events.specs.Shapes.{◌>>=◌, moment_under}
 use Rattle.amr_events.specs.Lines.{act_in, reload_of, event_in, event_of_line}
 use Rattle.amr_events.specs.Refused.{ActIs, LineIs}

@@ -1,6 +1,6 @@
 -- A script while it is read, a line at a time.
 use Rattle.std.specs.Prelude.{◌≡◌, ℕ, ◌<◌, ◌≤◌, ◌&&◌, ◌==◌, List, [], ◌∷◌, ◌++◌, length, Bool, true, false}
-use Rattle.amr_actions.specs.Events.{Event}
+use Rattle.amr_events.specs.Actions.Events.{Event}
 use Rattle.amr_events.specs.Refused.{LineIs}
 use Rattle.amr_events.specs.Versions.{is_header}
 use Rattle.amr_events.specs.Scripts.{is_blank, longest_line, most_events, Script}

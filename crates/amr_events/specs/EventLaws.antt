@@ -1,10 +1,10 @@
 -- The moments of the events that are read.
 use Rattle.std.specs.Prelude.{ℕ, ◌≤◌, List, All, IfSome}
 use Rattle.amr_time.specs.Time.{Moment, latest_read}
-use Rattle.amr_actions.specs.Events.{Act, Event}
-use Rattle.amr_actions.specs.Events as events
+use Rattle.amr_events.specs.Actions.Events.{Act, Event}
+use Rattle.amr_events.specs.Actions.Events as events
 use Rattle.amr_events.specs.Refused.{LineIs}
-use Rattle.amr_posts.specs.declared.posted_alert.PostedAlert.{PostedAlert}
+use Rattle.amr_events.specs.declared.posts.posted_alert.PostedAlert.{PostedAlert}
 use Rattle.amr_events.specs.declared.version.Version.{Version}
 
 -- the moment is one that a text can spell

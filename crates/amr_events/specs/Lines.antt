@@ -5,13 +5,13 @@ use Rattle.serde_json.specs.Data.{Data}
 use Rattle.serde_json.specs.Read.{read}
 use Rattle.serde_json.specs.Find.{get, as_bool, as_str}
 use Rattle.amr_labels.specs.Labels.{Text}
-use Rattle.amr_stated.specs.Config.{Config}
-use Rattle.amr_loading.specs.Refusals.{number_of}
-use Rattle.amr_loading.specs.Reading.{config_of}
-use Rattle.amr_loading.specs.declared.error.Refusal.{Refusal}
-use Rattle.amr_posts.specs.Reasons.{Reason}
-use Rattle.amr_actions.specs.Events.{Act, Event}
-use Rattle.amr_actions.specs.Events as events
+use Rattle.amr_config.specs.Stated.Config.{Config}
+use Rattle.amr_config.specs.Read.Refusals.{number_of}
+use Rattle.amr_config.specs.Read.Reading.{config_of}
+use Rattle.amr_config.specs.declared.read.error.Refusal.{Refusal}
+use Rattle.amr_events.specs.Posts.Reasons.{Reason}
+use Rattle.amr_events.specs.Actions.Events.{Act, Event}
+use Rattle.amr_events.specs.Actions.Events as events
 use Rattle.amr_events.specs.Shapes.{◌>>=◌, moment_under}
 use Rattle.amr_events.specs.Posted.{alerts_of}
 use Rattle.amr_events.specs.PostedSilences.{id_at, silence_of}

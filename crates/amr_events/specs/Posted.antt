@@ -8,10 +8,10 @@ use Rattle.amr_labels.specs.Map.{from_entries}
 use Rattle.amr_labels.specs.Labels.{Text}
 use Rattle.amr_time.specs.Time.{Moment}
 use Rattle.amr_time.specs.MomentRead.{moment_at}
-use Rattle.amr_actions.specs.Events.{Annotations}
-use Rattle.amr_loading.specs.Members.{present}
+use Rattle.amr_events.specs.Actions.Events.{Annotations}
+use Rattle.amr_config.specs.Read.Members.{present}
 use Rattle.amr_events.specs.Shapes.{◌>>=◌, each_item, texts_in}
-use Rattle.amr_posts.specs.declared.posted_alert.PostedAlert.{PostedAlert}
+use Rattle.amr_events.specs.declared.posts.posted_alert.PostedAlert.{PostedAlert}
 
 -- a fraction of this many zeros
 abbrev pub zero_fraction : ℕ → Text

@@ -4,13 +4,13 @@ use Rattle.std.specs.List.{list_any}
 use Rattle.serde_json.specs.Data.{Data}
 use Rattle.serde_json.specs.Find.{get, as_str, as_array}
 use Rattle.amr_labels.specs.Labels.{Text, is_empty}
-use Rattle.amr_matchers.specs.Matchers.{Matcher}
-use Rattle.amr_matchers.specs.declared.Operator.{Operator}
-use Rattle.amr_matchers.specs.declared.Operator.TheVariants.{Equal, NotEqual, Matches, NotMatches}
-use Rattle.amr_posts.specs.Ids.{id_of}
-use Rattle.amr_loading.specs.Members.{present}
+use Rattle.amr_labels.specs.Matcher.Matchers.{Matcher}
+use Rattle.amr_labels.specs.declared.matcher.Operator.{Operator}
+use Rattle.amr_labels.specs.declared.matcher.Operator.TheVariants.{Equal, NotEqual, Matches, NotMatches}
+use Rattle.amr_events.specs.Posts.Ids.{id_of}
+use Rattle.amr_config.specs.Read.Members.{present}
 use Rattle.amr_events.specs.Shapes.{◌>>=◌, each_item, text_under, flag_under, moment_under}
-use Rattle.amr_posts.specs.declared.posted_silence.PostedSilence.{PostedSilence}
+use Rattle.amr_events.specs.declared.posts.posted_silence.PostedSilence.{PostedSilence}
 
 -- the operator by `isRegex` and `isEqual`
 abbrev pub operator_by : Bool → Bool → Operator

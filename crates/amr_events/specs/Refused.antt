@@ -2,17 +2,17 @@
 use Rattle.std.specs.Prelude.{◌≡◌, ◌⊎◌, ℕ, List, codes, Option, Some, None, Result, Any}
 use Rattle.serde_json.specs.Data.{Data}
 use Rattle.serde_json.specs.Find.{get}
-use Rattle.amr_matchers.specs.Matchers.{Matcher}
-use Rattle.amr_matchers.specs.MatcherRefusals.{MayBeRefused}
-use Rattle.amr_stated.specs.Config.{Config}
-use Rattle.amr_loading.specs.Reading.{ConfigIs}
-use Rattle.amr_loading.specs.declared.error.Refusal.{Refusal}
-use Rattle.amr_posts.specs.Reasons.{Reason}
-use Rattle.amr_actions.specs.Events.{Act, Event}
-use Rattle.amr_actions.specs.Events as events
+use Rattle.amr_labels.specs.Matcher.Matchers.{Matcher}
+use Rattle.amr_labels.specs.Matcher.MatcherRefusals.{MayBeRefused}
+use Rattle.amr_config.specs.Stated.Config.{Config}
+use Rattle.amr_config.specs.Read.Reading.{ConfigIs}
+use Rattle.amr_config.specs.declared.read.error.Refusal.{Refusal}
+use Rattle.amr_events.specs.Posts.Reasons.{Reason}
+use Rattle.amr_events.specs.Actions.Events.{Act, Event}
+use Rattle.amr_events.specs.Actions.Events as events
 use Rattle.amr_events.specs.Shapes.{moment_under}
 use Rattle.amr_events.specs.Lines.{json_of, numbered, reload_of, act_in}
-use Rattle.amr_posts.specs.declared.posted_silence.PostedSilence.{PostedSilence}
+use Rattle.amr_events.specs.declared.posts.posted_silence.PostedSilence.{PostedSilence}
 use Rattle.amr_events.specs.declared.version.Version.{Version}
 
 -- there are matchers, and `regex` may refuse one of them

@@ -1,7 +1,7 @@
 -- A script: a line for each event. The first fault decides.
 use Rattle.std.specs.Prelude.{◌≡◌, ℕ, ◌+◌, ◌<◌, ◌≤◌, ◌||◌, ◌&&◌, ◌==◌, List, [], ◌∷◌, ◌++◌, length, filter, Bool, false, not, All, None, Result, Ok, Err, if◌then◌else◌}
 use Rattle.std.specs.List.{slice_split, list_all, AllZip}
-use Rattle.amr_actions.specs.Events.{Event}
+use Rattle.amr_events.specs.Actions.Events.{Event}
 use Rattle.amr_events.specs.Lines.{event_of_line}
 use Rattle.amr_events.specs.Refused.{LineIs}
 use Rattle.amr_events.specs.Versions.{is_header}

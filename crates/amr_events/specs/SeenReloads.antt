@@ -1,9 +1,9 @@
 -- Configurations of reloads that were read before.
 use Rattle.std.specs.Prelude.{◌≡◌, ℕ, List, Option, Some, Result, Ok, option_map}
 use Rattle.serde_json.specs.Read.{read}
-use Rattle.amr_stated.specs.Config.{Config}
-use Rattle.amr_loading.specs.declared.error.Refusal.{Refusal}
-use Rattle.amr_loading.specs.Reading.{config_of}
+use Rattle.amr_config.specs.Stated.Config.{Config}
+use Rattle.amr_config.specs.declared.read.error.Refusal.{Refusal}
+use Rattle.amr_config.specs.Read.Reading.{config_of}
 
 -- what the value of a text is read as, if all patterns are good
 abbrev pub config_spelled : List ℕ → Option (Result Config Refusal)

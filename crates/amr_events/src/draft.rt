@@ -4,11 +4,11 @@ ghost use Rattle.amr_events.specs.Answers.{Stops};
 ghost use Rattle.amr_events.specs.Scripts.{is_blank as is_blank_line, HasFault};
 ghost use Rattle.amr_events.specs.Drafts.{so_far, nothing, begins_with as begins_script_with, Adds};
 
+use crate::actions::Event;
 use crate::error::{Fault, LineError, ScriptError};
 use crate::line::read_line;
 use crate::seen_texts::SeenTexts;
 use crate::version::{Version, is_header};
-use amr_actions::Event;
 use json::Scratch;
 use std::alloc::{AllocError, Global};
 

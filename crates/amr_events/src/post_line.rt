@@ -10,13 +10,13 @@ ghost use Rattle.amr_events.specs.Posted.{alerts_of};
 ghost use Rattle.amr_events.specs.Tokens.{States};
 ghost use Rattle.amr_events.specs.declared.version.Version.{Version};
 
+use crate::actions::{Act, Event};
 use crate::posted_tokens::{
     closes_object, has_key, opens_array, opens_object, string, usual_alert,
 };
+use crate::posts::PostedAlert;
 use crate::seen_texts::SeenTexts;
-use amr_actions::{Act, Event};
 use amr_labels::Listing;
-use amr_posts::PostedAlert;
 use amr_time::{Moment, read_moment};
 use json::{Reader, Scratch};
 use std::alloc::{AllocError, Global};

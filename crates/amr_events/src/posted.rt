@@ -8,10 +8,10 @@ ghost use Rattle.amr_events.specs.Tokens.{spelled};
 ghost use Rattle.amr_events.specs.Posted.{is_missing as is_missing_text, time_of, time_in, annotations_in, alert_of, alerts_of};
 
 use crate::error::LineError;
+use crate::posts::PostedAlert;
 use crate::seen_texts::SeenTexts;
 use crate::shapes::{member, texts};
 use amr_labels::{Listing, Text, TextMap};
-use amr_posts::PostedAlert;
 use amr_time::{BadTime, Moment, read_moment};
 use serde_json::Value;
 use std::alloc::{AllocError, Global};

@@ -5,18 +5,18 @@ ghost use Rattle.std.specs.List.{list_any};
 ghost use Rattle.serde_json.specs.View.{view};
 ghost use Rattle.serde_json.specs.Find.{get};
 ghost use Rattle.amr_labels.specs.Labels.{is_empty};
-ghost use Rattle.amr_matchers.specs.MatcherRefusals.{MayBeRefused};
-ghost use Rattle.amr_matchers.specs.declared.pattern.MatcherError.TheVariants.{BadPattern};
-ghost use Rattle.amr_loading.specs.Members.{present};
+ghost use Rattle.amr_labels.specs.Matcher.MatcherRefusals.{MayBeRefused};
+ghost use Rattle.amr_labels.specs.declared.matcher.pattern.MatcherError.TheVariants.{BadPattern};
+ghost use Rattle.amr_config.specs.Read.Members.{present};
 ghost use Rattle.amr_events.specs.Answers.{Reads, ReadsBut};
 ghost use Rattle.amr_events.specs.PostedSilences.{operator_by, matcher_of, matchers_of, if_named, id_at, named_id as named_id_of, named_id_at, named_id_in, new_id_in, silence_of};
 ghost use Rattle.amr_events.specs.Refused.{MatchersAre, SilenceIs};
 
 use crate::error::LineError;
+use crate::posts::{PostedSilence, SilenceId};
 use crate::shapes::{flag, member, moment, text};
 use amr_labels::Text;
-use amr_matchers::{Matcher, MatcherError, Matchers, Operator, Patterns};
-use amr_posts::{PostedSilence, SilenceId};
+use amr_labels::matcher::{Matcher, MatcherError, Matchers, Operator, Patterns};
 use serde_json::Value;
 use std::alloc::{AllocError, Global};
 use std::marker::Model;
@@ -30,7 +30,7 @@ struct StatedMatcher {
 }
 
 impl Model for StatedMatcher {
-    ghost use Rattle.amr_matchers.specs.Matchers.{Matcher};
+    ghost use Rattle.amr_labels.specs.Matcher.Matchers.{Matcher};
 
     ghost Value = { Matcher };
 

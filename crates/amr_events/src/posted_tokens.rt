@@ -5,14 +5,14 @@ ghost use Rattle.json.specs.Token as token;
 ghost use Rattle.json.specs.Json.{read_key};
 ghost use Rattle.amr_events.specs.Shapes.{texts_in};
 ghost use Rattle.serde_json.specs.Data.{object, Members};
-ghost use Rattle.amr_loading.specs.Members.{present};
+ghost use Rattle.amr_config.specs.Read.Members.{present};
 ghost use Rattle.amr_events.specs.Posted.{alert_of, time_at};
 ghost use Rattle.amr_events.specs.Tokens.{States, IsDraft, Adds, IsAfter, spelled};
 
 use crate::posted::time_of;
+use crate::posts::{PostedAlert, PostedLabels};
 use crate::seen_texts::SeenTexts;
 use amr_labels::TextMap;
-use amr_posts::{PostedAlert, PostedLabels};
 use amr_time::Moment;
 use json::{Reader, Token};
 use std::alloc::{AllocError, Global};

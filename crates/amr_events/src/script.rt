@@ -3,16 +3,16 @@
 ghost use Rattle.std.specs.Prelude.{◌≡◌, ◌<◌, ◌==◌, length, Some, Err};
 ghost use Rattle.std.specs.List.{slice_get};
 ghost use Rattle.std.specs.Global.{Vec};
-ghost use Rattle.amr_actions.specs.Events.{Event};
+ghost use Rattle.amr_events.specs.Actions.Events.{Event};
 ghost use Rattle.amr_events.specs.Answers.{Answers};
 ghost use Rattle.amr_events.specs.Scripts.{ScriptIs, OnlyLineIs};
 
+use crate::actions::Event;
 use crate::draft::{Draft, add_line};
 use crate::error::{Fault, LineError, ScriptError};
 use crate::line::read_single_line;
 use crate::seen_texts::SeenTexts;
 use crate::version::Version;
-use amr_actions::Event;
 use amr_labels::Listing;
 use json::Scratch;
 use std::alloc::Global;
@@ -29,7 +29,7 @@ impl Model for Script {
     ghost use Rattle.std.specs.Prelude.{List};
     ghost use Rattle.std.specs.Coded.{codes};
     ghost use Rattle.amr_labels.specs.Map as map;
-    ghost use Rattle.amr_actions.specs.Events.{Event};
+    ghost use Rattle.amr_events.specs.Actions.Events.{Event};
     ghost use Rattle.amr_events.specs.Scripts.{Script};
 
     ghost Value = { Script };

@@ -8,10 +8,10 @@ ghost use Rattle.amr_labels.specs.Map as map;
 ghost use Rattle.amr_events.specs.Tokens.{spelled};
 
 use crate::places::{Places, Spread};
+use crate::posts::PostedLabels;
 use crate::seen_reloads::SeenReloads;
+use amr_labels::matcher::Patterns;
 use amr_labels::{Text, TextMap, spread_of};
-use amr_matchers::Patterns;
-use amr_posts::PostedLabels;
 use std::alloc::{AllocError, Global};
 
 /// Texts, labels, patterns and configurations that were read before. Looking up a text or labels

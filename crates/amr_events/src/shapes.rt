@@ -5,7 +5,7 @@ ghost use Rattle.serde_json.specs.View.{view};
 ghost use Rattle.serde_json.specs.Find.{get};
 ghost use Rattle.amr_events.specs.Answers.{Reads};
 ghost use Rattle.amr_time.specs.Time.{latest_read};
-ghost use Rattle.amr_loading.specs.Members.{present};
+ghost use Rattle.amr_config.specs.Read.Members.{present};
 ghost use Rattle.amr_events.specs.Shapes.{named_text, texts_in, text_under, flag_under, moment_under};
 
 use crate::error::LineError;

@@ -7,3 +7,4 @@ pub mod Searches
 pub mod SortKeys
 pub mod Sorted
 pub mod Trees
+pub mod MatcherLemmas

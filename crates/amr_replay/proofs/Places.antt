@@ -3,10 +3,10 @@ use Rattle.std.proofs.Common.{◌≡◌, ℕ, ◌+◌, ◌<◌, ◌≤◌, List,
 use Rattle.std.proofs.lemmas.List.{take_more}
 use Rattle.std.proofs.lemmas.Option.{slice_get_within, get_or_from_slice_get, slice_get_cases}
 use Rattle.std.proofs.lemmas.List.Sums.{fold-append}
-use Rattle.amr_stated.specs.Config.{Config}
-use Rattle.amr_actions.specs.Events.{Event}
+use Rattle.amr_config.specs.Stated.Config.{Config}
+use Rattle.amr_events.specs.Actions.Events.{Event}
 use Rattle.amr_events.specs.declared.version.Version.{Version}
-use Rattle.amr_state.specs.State.{State, start}
+use Rattle.amr_engine.specs.State.State.{State, start}
 use Rattle.amr_engine.specs.Events.{after_event, after_events, run_of}
 use Rattle.amr_replay.specs.Session.{View, at_cursor, states_before}
 

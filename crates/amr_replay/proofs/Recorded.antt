@@ -2,13 +2,13 @@
 use Rattle.std.specs.Prelude.{◌≡◌, ℕ, zero, suc, true, ◌+◌, ◌<◌, ◌≤◌, ◌*◌, List, [], ◌∷◌, ◌++◌, length, take, Some, option_map}
 use Rattle.std.specs.List.{slice_get}
 use Rattle.std.proofs.Common.{refl, sym, ap, subst, ◌∙◌, arith, length-take}
-use Rattle.amr_stated.specs.Config.{Config}
-use Rattle.amr_posts.specs.Reasons.{Reason}
-use Rattle.amr_actions.specs.Events.{Event, is_label}
-use Rattle.amr_state.specs.declared.change.Change.{Change}
-use Rattle.amr_state.specs.State.{State, start}
-use Rattle.amr_state.specs.Records.{put_back}
-use Rattle.amr_state.specs.Steps.{Steps}
+use Rattle.amr_config.specs.Stated.Config.{Config}
+use Rattle.amr_events.specs.Posts.Reasons.{Reason}
+use Rattle.amr_events.specs.Actions.Events.{Event, is_label}
+use Rattle.amr_engine.specs.declared.state.change.Change.{Change}
+use Rattle.amr_engine.specs.State.State.{State, start}
+use Rattle.amr_engine.specs.State.Records.{put_back}
+use Rattle.amr_engine.specs.State.Steps.{Steps}
 use Rattle.amr_engine.specs.declared.outcome.Outcome as code
 use Rattle.amr_engine.specs.declared.outcome.Outcome.TheVariants as variant
 use Rattle.amr_engine.specs.Outcomes.{outcome_view}

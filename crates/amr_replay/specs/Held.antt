@@ -1,6 +1,6 @@
 -- What a session holds.
 use Rattle.std.specs.Prelude.{◌≡◌, ◌≤◌, length, take}
-use Rattle.amr_state.specs.State.{start}
+use Rattle.amr_engine.specs.State.State.{start}
 use Rattle.amr_replay.specs.Session.{View, at_cursor}
 use Rattle.amr_replay.specs.Records.{AreRecords}
 use Rattle.amr_replay.specs.QuietEvents.{AreNoted}

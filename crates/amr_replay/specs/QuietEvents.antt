@@ -1,7 +1,7 @@
 -- What is noted of the moves from the state at each place of a cursor.
 use Rattle.std.specs.Prelude.{ℕ, Bool, List, [], get_or}
-use Rattle.amr_stated.specs.Config.{Config}
-use Rattle.amr_actions.specs.Events.{Event}
+use Rattle.amr_config.specs.Stated.Config.{Config}
+use Rattle.amr_events.specs.Actions.Events.{Event}
 use Rattle.amr_engine.specs.QuietMoves.{AreQuietMoves}
 use Rattle.amr_replay.specs.Session.{state_at}
 

@@ -1,10 +1,10 @@
 -- The records of the events that a session has passed.
 use Rattle.std.specs.Prelude.{◌≡◌, true, ◌≤◌, ◌*◌, ℕ, List, [], ◌∷◌, length}
-use Rattle.amr_posts.specs.Reasons.{Reason}
-use Rattle.amr_actions.specs.Events.{Event, is_label}
-use Rattle.amr_state.specs.declared.change.Change.{Change}
-use Rattle.amr_state.specs.State.{State}
-use Rattle.amr_state.specs.Records.{put_back}
+use Rattle.amr_events.specs.Posts.Reasons.{Reason}
+use Rattle.amr_events.specs.Actions.Events.{Event, is_label}
+use Rattle.amr_engine.specs.declared.state.change.Change.{Change}
+use Rattle.amr_engine.specs.State.State.{State}
+use Rattle.amr_engine.specs.State.Records.{put_back}
 use Rattle.amr_engine.specs.Weight.{event_weight}
 use Rattle.amr_engine.specs.Events.{Refused, outcome_of, after_event}
 

@@ -1,10 +1,10 @@
 -- What integrations were notified of, in every run.
 use Rattle.std.specs.Prelude.{◌≡◌, List, ◌∷◌, ◌++◌}
-use Rattle.amr_stated.specs.Config.{Config}
-use Rattle.amr_actions.specs.Events.{Event}
-use Rattle.amr_state.specs.declared.due.Due.{Due}
-use Rattle.amr_state.specs.declared.due.Kind.TheVariants.{GroupFlush}
-use Rattle.amr_state.specs.State.{State, on_route}
+use Rattle.amr_config.specs.Stated.Config.{Config}
+use Rattle.amr_events.specs.Actions.Events.{Event}
+use Rattle.amr_engine.specs.declared.state.due.Due.{Due}
+use Rattle.amr_engine.specs.declared.state.due.Kind.TheVariants.{GroupFlush}
+use Rattle.amr_engine.specs.State.State.{State, on_route}
 use Rattle.amr_engine.specs.Moves.{move}
 use Rattle.amr_engine.specs.Events.{run_of, move_limit}
 use Rattle.amr_engine.specs.Neutral.{Accepts}

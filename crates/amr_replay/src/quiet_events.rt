@@ -1,8 +1,8 @@
 //! What is noted of the moves from the state at each place of a session's cursor. A seek back and
 //! forth, and trials at one place, make the same moves again, and this saves working them out.
 ghost use Rattle.std.specs.Prelude.{◌≡◌, [], List};
-ghost use Rattle.amr_stated.specs.Config.{Config};
-ghost use Rattle.amr_actions.specs.Events.{Event};
+ghost use Rattle.amr_config.specs.Stated.Config.{Config};
+ghost use Rattle.amr_events.specs.Actions.Events.{Event};
 ghost use Rattle.amr_engine.specs.QuietMoves.{AreQuietMoves};
 ghost use Rattle.amr_replay.specs.Session.{state_at};
 ghost use Rattle.amr_replay.specs.QuietEvents.{AreNoted};

@@ -2,23 +2,23 @@
 //! the run of the events before the cursor, from the start. Each event passed has a record, so that
 //! going back takes no memory.
 ghost use Rattle.std.specs.Prelude.{◌≡◌, ◌+◌, ◌-◌, ◌<◌, ◌≤◌, true, [], Some, Err, IsOk, IsErr, IsOkAnd, IfOk, IfErr, OnOk, OnErr, length, map, slice_get};
-ghost use Rattle.amr_actions.specs.Events.{is_label};
+ghost use Rattle.amr_events.specs.Actions.Events.{is_label};
 ghost use Rattle.amr_engine.specs.Events.{Refused, outcome_of};
 ghost use Rattle.amr_engine.specs.Outcomes.{outcome_view};
 ghost use Rattle.amr_engine.specs.Explain.{verdicts};
 ghost use Rattle.amr_engine.specs.Placed.{ArePlaced, HasTimers, AreListed};
-ghost use Rattle.amr_state.specs.Seen.{groups_of};
+ghost use Rattle.amr_engine.specs.State.Seen.{groups_of};
 ghost use Rattle.amr_engine.specs.Told.{ToldIsNotified};
 ghost use Rattle.amr_replay.specs.Session.{at_cursor, state_at, outcomes_passed, events_until};
 ghost use Rattle.amr_replay.specs.Records.{HasEntries};
 
 use crate::quiet_events::QuietEvents;
-use amr_actions::Event;
 use amr_config::Config;
+use amr_engine::state::{Group, Store};
 use amr_engine::{Engine, Outcome, Verdict};
+use amr_events::actions::Event;
 use amr_events::{Script, Version};
 use amr_labels::Labels;
-use amr_state::{Group, Store};
 use amr_time::Moment;
 use std::alloc::{AllocError, Global};
 use std::error::Error;

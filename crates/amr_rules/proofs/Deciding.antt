@@ -3,7 +3,7 @@ use Rattle.std.proofs.Common.{◌≡◌, Bool, true, false, not, ◌&&◌, Optio
 use Rattle.std.specs.Prelude.{ok_or}
 use Rattle.std.specs.Option.{option_copied}
 use Rattle.amr_time.specs.Time.{Moment}
-use Rattle.amr_posts.specs.declared.posted_silence.PostedSilence.{PostedSilence}
+use Rattle.amr_events.specs.declared.posts.posted_silence.PostedSilence.{PostedSilence}
 use Rattle.amr_rules.specs.declared.silence.Silence.{Silence}
 use Rattle.amr_rules.specs.declared.silence_update.SilenceUpdate.{SilenceUpdate}
 use Rattle.amr_rules.specs.Silences.{Silences, decided_post, named_silence, names_unknown, with_update, with_decided, after_post}

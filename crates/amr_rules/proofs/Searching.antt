@@ -4,9 +4,9 @@ use Rattle.std.specs.List.{filter, find, list_all}
 use Rattle.std.proofs.lemmas.Bool.{and_parts}
 use Rattle.amr_labels.specs.Map.{entries}
 use Rattle.amr_labels.specs.Labels.{LabelSet}
-use Rattle.amr_matchers.specs.Matchers.{all_hold}
+use Rattle.amr_labels.specs.Matcher.Matchers.{all_hold}
 use Rattle.amr_time.specs.Time.{Moment}
-use Rattle.amr_stated.specs.declared.rule.InhibitRule.{InhibitRule}
+use Rattle.amr_config.specs.declared.stated.rule.InhibitRule.{InhibitRule}
 use Rattle.amr_rules.specs.declared.alert.Alert.{Alert}
 use Rattle.amr_rules.specs.Alerts.{is_resolved_at}
 use Rattle.amr_rules.specs.Muting.{Alerts, agree_on, is_agreeing, first_source, rule_mutes, inhibits, inhibitor_by, sources_of}

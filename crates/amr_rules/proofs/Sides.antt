@@ -3,9 +3,9 @@ use Rattle.std.proofs.Common.{◌≡◌, ℕ, ◌<◌, List, length, sym, ap, �
 use Rattle.std.proofs.Math.ListN.{get_or}
 use Rattle.std.proofs.lemmas.List.{get_or-map, length-map}
 use Rattle.amr_labels.specs.Labels.{LabelSet}
-use Rattle.amr_stated.specs.declared.rule.InhibitRule.{InhibitRule}
-use Rattle.amr_stated.specs.declared.rule_sides.RuleMatch.{RuleMatch}
-use Rattle.amr_stated.specs.RuleMatches.{rule_match, rule_matches}
+use Rattle.amr_config.specs.declared.stated.rule.InhibitRule.{InhibitRule}
+use Rattle.amr_config.specs.declared.stated.rule_sides.RuleMatch.{RuleMatch}
+use Rattle.amr_config.specs.Stated.RuleMatches.{rule_match, rule_matches}
 
 -- there are as many as rules
 pub sides_counted : (labels : LabelSet) (rules : List InhibitRule) (matched : List RuleMatch) → matched ≡ rule_matches labels rules → length matched ≡ length rules

@@ -4,7 +4,7 @@ use Rattle.std.specs.List.{filter, find}
 use Rattle.std.proofs.lemmas.Bool.Decides.{nat_tests}
 use Rattle.amr_labels.specs.Map.{entries}
 use Rattle.amr_labels.specs.Labels.{LabelSet}
-use Rattle.amr_matchers.specs.Matchers.{all_hold}
+use Rattle.amr_labels.specs.Matcher.Matchers.{all_hold}
 use Rattle.amr_time.specs.Time.{Moment}
 use Rattle.amr_rules.specs.declared.silence.Silence.{Silence}
 use Rattle.amr_rules.specs.declared.silence_period.SilencePeriod.{SilencePeriod}

@@ -4,8 +4,8 @@ use Rattle.std.specs.Prelude.{ℕ, Bool, false, get_or, not, ◌&&◌, List, Opt
 use Rattle.std.specs.List.{find, filter}
 use Rattle.amr_labels.specs.Map.{entries}
 use Rattle.amr_labels.specs.Labels.{LabelSet}
-use Rattle.amr_matchers.specs.Matchers.{all_hold}
-use Rattle.amr_matchers.specs.Candidates.{matches_each}
+use Rattle.amr_labels.specs.Matcher.Matchers.{all_hold}
+use Rattle.amr_labels.specs.Matcher.Candidates.{matches_each}
 use Rattle.amr_time.specs.Time.{Moment}
 use Rattle.amr_rules.specs.declared.silence.Silence.{Silence}
 use Rattle.amr_rules.specs.declared.silence_period.SilencePeriod.{SilencePeriod}

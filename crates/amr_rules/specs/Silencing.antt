@@ -4,9 +4,9 @@ use Rattle.amr_labels.specs.Map.{insert}
 use Rattle.amr_rules.specs.declared.silence_update.SilenceUpdate.{SilenceUpdate}
 use Rattle.amr_rules.specs.declared.silence_update.SilenceUpdate.TheVariants.{InPlace, New}
 use Rattle.amr_rules.specs.Silences.{Silences, stored_under}
-use Rattle.amr_posts.specs.Reasons.{Reason, reason_number}
-use Rattle.amr_posts.specs.declared.posted_silence.PostedSilence.{PostedSilence}
-use Rattle.amr_posts.specs.declared.reason.Reason as code
+use Rattle.amr_events.specs.Posts.Reasons.{Reason, reason_number}
+use Rattle.amr_events.specs.declared.posts.posted_silence.PostedSilence.{PostedSilence}
+use Rattle.amr_events.specs.declared.posts.reason.Reason as code
 
 -- the silences after storing what a post stores; the post names the first id, and its new silence
 -- has the second

@@ -5,8 +5,8 @@ ghost use Rattle.std.specs.Prelude.{◌≡◌, ◌+◌, ◌<◌, IfOk, Some, min
 ghost use Rattle.std.specs.Option.{option_or};
 ghost use Rattle.amr_time.specs.Time.{before_year_10000};
 
+use amr_events::posts::PostedAlert;
 use amr_labels::{Exact, Labels, TextMap};
-use amr_posts::PostedAlert;
 use amr_time::{Moment, Span};
 use std::alloc::AllocError;
 

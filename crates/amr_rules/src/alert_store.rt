@@ -4,8 +4,8 @@ ghost use Rattle.std.specs.Map.Iter.{deref_pair};
 ghost use Rattle.amr_rules.specs.Muting.{Alerts, sources_of};
 
 use crate::alert::Alert;
+use amr_config::stated::InhibitRule;
 use amr_labels::Labels;
-use amr_stated::InhibitRule;
 use std::alloc::{AllocError, Global};
 
 /// Stored alerts under their labels.

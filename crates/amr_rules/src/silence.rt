@@ -3,7 +3,7 @@
 ghost use Rattle.std.specs.Prelude.{◌≡◌};
 
 use amr_labels::Exact;
-use amr_matchers::Matchers;
+use amr_labels::matcher::Matchers;
 use amr_time::Moment;
 use std::alloc::AllocError;
 

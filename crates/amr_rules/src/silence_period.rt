@@ -9,9 +9,9 @@ ghost use Rattle.amr_rules.specs.Muting.{silencer_of};
 ghost use Rattle.amr_rules.specs.Silences.{Silences};
 
 use crate::silence::Silence;
+use amr_events::posts::SilenceId;
+use amr_labels::matcher::Answers;
 use amr_labels::{Labels, Listing};
-use amr_matchers::Answers;
-use amr_posts::SilenceId;
 use amr_tables::Keyed;
 use amr_time::Moment;
 use std::alloc::{AllocError, Global};

@@ -8,8 +8,8 @@ ghost use Rattle.amr_rules.specs.Silences.{Silences};
 
 use crate::silence::Silence;
 use crate::silence_period::SilencePeriod;
+use amr_events::posts::SilenceId;
 use amr_labels::{Labels, Listing};
-use amr_posts::SilenceId;
 use amr_time::Moment;
 use std::alloc::{AllocError, Global};
 

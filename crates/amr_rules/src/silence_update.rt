@@ -6,9 +6,9 @@ ghost use Rattle.std.specs.Option.{option_copied, option_map_or};
 ghost use Rattle.amr_labels.specs.Map as map;
 
 use crate::silence::{Silence, silence_expire};
+use amr_events::posts::PostedSilence;
 use amr_labels::Labels;
-use amr_matchers::{Matcher, Operator};
-use amr_posts::PostedSilence;
+use amr_labels::matcher::{Matcher, Operator};
 use amr_time::Moment;
 use std::alloc::{AllocError, Global};
 
@@ -22,8 +22,8 @@ pub enum SilenceUpdate {
     New(Silence, Option<Silence>),
 }
 
-ghost use Rattle.amr_posts.specs.Reasons.{reason_number};
-ghost use Rattle.amr_posts.specs.declared.reason.Reason.TheVariants.{BadSilence};
+ghost use Rattle.amr_events.specs.Posts.Reasons.{reason_number};
+ghost use Rattle.amr_events.specs.declared.posts.reason.Reason.TheVariants.{BadSilence};
 ghost use Rattle.amr_rules.specs.Silences.{is_negative, narrows, posted_silence, changes_in_place, from_now, update_over, decided_post};
 
 /// Decides what a post of a silence stores, given the stored silence that it names (postable

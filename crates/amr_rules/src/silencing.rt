@@ -10,7 +10,7 @@ ghost use Rattle.amr_rules.specs.Silencing.{after_decision};
 
 use crate::silence::Silence;
 use crate::silence_update::{SilenceUpdate, decided_post};
-use amr_posts::{PostedSilence, Reason, SilenceId};
+use amr_events::posts::{PostedSilence, Reason, SilenceId};
 use amr_tables::Keyed;
 use amr_time::Moment;
 use std::alloc::{AllocError, Global};

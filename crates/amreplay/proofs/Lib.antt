@@ -1,2 +1,4 @@
 pub mod CommandsLemmas
 pub mod ProgramLemmas
+pub mod LinesLemmas
+pub mod CommandLinesLemmas

@@ -4,14 +4,16 @@
 
 ghost use Rattle.std.specs.Prelude.{◌≡◌};
 
+mod command_lines;
 mod commands;
+mod lines;
 mod program;
 
+use crate::lines::{Inlet, Outlet};
 use crate::program::{
     Fault, Form, InputError, check_config, command_of, read_config_file, read_script_file,
     run_script, run_session, status_of, write_fault,
 };
-use amr_lines::lines::{Inlet, Outlet};
 use std::alloc::AllocError;
 use std::io::{BufWriter, Error, ErrorKind};
 use std::process::ExitCode;

@@ -4,8 +4,8 @@ use Rattle.std.specs.Prelude.{◌≡◌, List, [], ◌∷◌, Some, Ok, Err, cod
 use Rattle.std.proofs.Common.{refl}
 use Rattle.amr_labels.specs.Labels.{Text}
 use Rattle.amr_time.specs.Time.{second, hour}
-use Rattle.amr_stated.specs.Config.{Config}
-use Rattle.amr_state.specs.State.{State}
+use Rattle.amr_config.specs.Stated.Config.{Config}
+use Rattle.amr_engine.specs.State.State.{State}
 use Rattle.amr_engine.specs.Events.{on_ok, run_of, do_within, replaying}
 use Rattle.amr_replay.proofs.worked.Setting.{ten, root, config_ops, alert, posts, ticks}
 

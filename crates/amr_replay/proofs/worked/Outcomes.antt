@@ -5,12 +5,12 @@ use Rattle.std.proofs.Common.{refl, subst, arith}
 use Rattle.amr_labels.specs.Map.{from_entries}
 use Rattle.amr_labels.specs.Labels.{Text}
 use Rattle.amr_time.specs.Time.{Moment, second, hour}
-use Rattle.amr_stated.specs.Config.{Config}
-use Rattle.amr_loading.specs.Shape.{IsConfig, stated_receiver, is_receiver}
+use Rattle.amr_config.specs.Stated.Config.{Config}
+use Rattle.amr_config.specs.Read.Shape.{IsConfig, stated_receiver, is_receiver}
 use Rattle.amr_config.specs.Routing.{parent_of}
-use Rattle.amr_posts.specs.declared.posted_alert.PostedAlert.{PostedAlert}
-use Rattle.amr_actions.specs.Events.{Event}
-use Rattle.amr_state.specs.State.{start}
+use Rattle.amr_events.specs.declared.posts.posted_alert.PostedAlert.{PostedAlert}
+use Rattle.amr_events.specs.Actions.Events.{Event}
+use Rattle.amr_engine.specs.State.State.{start}
 use Rattle.amr_engine.specs.Events.{Outcome, outcome_of, run_of, replaying}
 use Rattle.amr_replay.specs.Session.{outcomes_passed}
 use Rattle.amr_engine.specs.declared.explain.Finding.TheVariants as finding

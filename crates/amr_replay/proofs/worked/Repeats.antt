@@ -3,7 +3,7 @@ use Rattle.std.specs.Prelude.{◌≡◌, List, [], ◌∷◌, Some, codes, ◌+�
 use Rattle.std.proofs.Common.{refl}
 use Rattle.amr_labels.specs.Labels.{Text}
 use Rattle.amr_time.specs.Time.{Moment, second, minute, hour}
-use Rattle.amr_actions.specs.Events.{Event}
+use Rattle.amr_events.specs.Actions.Events.{Event}
 use Rattle.amr_engine.specs.Events.{run_of, replaying}
 use Rattle.amr_replay.proofs.worked.Setting.{ten, config_ops, alert, posts, ticks}
 

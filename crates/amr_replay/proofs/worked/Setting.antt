@@ -3,12 +3,12 @@ use Rattle.std.specs.Prelude.{true, false, List, [], ◌∷◌, Option, Some, No
 use Rattle.amr_labels.specs.Map.{entries, empty}
 use Rattle.amr_labels.specs.Labels.{Text}
 use Rattle.amr_time.specs.Time.{Moment, second, minute}
-use Rattle.amr_stated.specs.declared.route.Route.{Route}
-use Rattle.amr_stated.specs.declared.route.Grouping.TheVariants.{Named}
-use Rattle.amr_stated.specs.Config.{Config}
-use Rattle.amr_posts.specs.declared.posted_alert.PostedAlert.{PostedAlert}
-use Rattle.amr_actions.specs.Events.{Event, Act}
-use Rattle.amr_state.specs.declared.notification.Notification.{Notification}
+use Rattle.amr_config.specs.declared.stated.route.Route.{Route}
+use Rattle.amr_config.specs.declared.stated.route.Grouping.TheVariants.{Named}
+use Rattle.amr_config.specs.Stated.Config.{Config}
+use Rattle.amr_events.specs.declared.posts.posted_alert.PostedAlert.{PostedAlert}
+use Rattle.amr_events.specs.Actions.Events.{Event, Act}
+use Rattle.amr_engine.specs.declared.state.notification.Notification.{Notification}
 
 abbrev pub ten : Moment
 ten = 1714557600 * second

@@ -4,16 +4,16 @@ use Rattle.std.proofs.Common.{refl}
 use Rattle.amr_labels.specs.Map.{entries, from_entries}
 use Rattle.amr_labels.specs.Map.{computing}
 use Rattle.amr_labels.specs.Labels.{Text}
-use Rattle.amr_matchers.specs.Matchers.{Matcher}
-use Rattle.amr_matchers.specs.declared.Operator.TheVariants as operator
+use Rattle.amr_labels.specs.Matcher.Matchers.{Matcher}
+use Rattle.amr_labels.specs.declared.matcher.Operator.TheVariants as operator
 use Rattle.amr_time.specs.Time.{Moment, second, minute, hour}
-use Rattle.amr_stated.specs.declared.route.Route.{Route}
-use Rattle.amr_stated.specs.Config.{Config}
+use Rattle.amr_config.specs.declared.stated.route.Route.{Route}
+use Rattle.amr_config.specs.Stated.Config.{Config}
 use Rattle.amr_config.specs.Routing.{chosen, routing}
-use Rattle.amr_actions.specs.Events.{Event, Act}
+use Rattle.amr_events.specs.Actions.Events.{Event, Act}
 use Rattle.amr_rules.specs.declared.silence.Silence.{Silence}
 use Rattle.amr_rules.specs.declared.dedup.LogEntry.{LogEntry}
-use Rattle.amr_state.specs.declared.notification.LogKey.{LogKey}
+use Rattle.amr_engine.specs.declared.state.notification.LogKey.{LogKey}
 use Rattle.amr_engine.specs.Events.{run_of, replaying}
 use Rattle.amr_replay.proofs.worked.Setting.{ten, root, config_ops, alert, posts, ticks, notified}
 

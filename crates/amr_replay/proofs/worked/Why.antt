@@ -3,14 +3,14 @@ use Rattle.std.specs.Prelude.{◌≡◌, Bool, true, false, List, [], ◌∷◌,
 use Rattle.std.proofs.Common.{refl}
 use Rattle.amr_labels.specs.Map.{entries, from_entries}
 use Rattle.amr_labels.specs.Labels.{Text}
-use Rattle.amr_matchers.specs.Matchers.{Matcher}
-use Rattle.amr_matchers.specs.declared.Operator.TheVariants as operator
+use Rattle.amr_labels.specs.Matcher.Matchers.{Matcher}
+use Rattle.amr_labels.specs.declared.matcher.Operator.TheVariants as operator
 use Rattle.amr_time.specs.Time.{Moment, second, minute, hour}
-use Rattle.amr_stated.specs.declared.route.Grouping.TheVariants.{Named}
-use Rattle.amr_stated.specs.Config.{Config}
-use Rattle.amr_actions.specs.Events.{Event, Act}
-use Rattle.amr_state.specs.declared.notification.GroupTimer.{GroupTimer}
-use Rattle.amr_state.specs.declared.route_labels.RouteLabels.{RouteLabels}
+use Rattle.amr_config.specs.declared.stated.route.Grouping.TheVariants.{Named}
+use Rattle.amr_config.specs.Stated.Config.{Config}
+use Rattle.amr_events.specs.Actions.Events.{Event, Act}
+use Rattle.amr_engine.specs.declared.state.notification.GroupTimer.{GroupTimer}
+use Rattle.amr_engine.specs.declared.state.route_labels.RouteLabels.{RouteLabels}
 use Rattle.amr_engine.specs.Events.{run_of, replaying}
 use Rattle.amr_engine.specs.declared.explain.Finding.TheVariants as finding
 use Rattle.amr_engine.specs.declared.explain.Verdict.TheVariants as verdict

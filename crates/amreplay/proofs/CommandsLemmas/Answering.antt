@@ -3,13 +3,13 @@ use Rattle.std.proofs.Common.{ℕ, ◌≤◌, length, sym, ap, subst, inl, inr, 
 use Rattle.std.proofs.lemmas.Result.{MatchResult-weaker}
 use Rattle.std.specs.Io.KnownBytes.{Appends}
 use Rattle.amr_labels.specs.Labels.{Text}
-use Rattle.amr_lines.specs.Lines.Outlet.{AppendsBeginning, WritesText}
-use Rattle.amr_lines.specs.declared.lines.word.Word.{Word}
-use Rattle.amr_lines.specs.CommandLines.Line.{longest}
-use Rattle.amr_lines.specs.CommandLines.ParsedLine.{LineSays, FailsToRead, ReadingTakesMemory}
-use Rattle.amr_lines.specs.declared.command_lines.command.ParsedLine.{ParsedLine}
-use Rattle.amr_lines.specs.declared.command_lines.command.ParsedLine.TheVariants.{Nothing, Asks, Malformed, BadMoment, BadArgument}
-use Rattle.amr_lines.specs.declared.command_lines.command.Command.TheVariants as command
+use Rattle.amreplay.specs.Lines.Outlet.{AppendsBeginning, WritesText}
+use Rattle.amreplay.specs.declared.lines.word.Word.{Word}
+use Rattle.amreplay.specs.CommandLines.Line.{longest}
+use Rattle.amreplay.specs.CommandLines.ParsedLine.{LineSays, FailsToRead, ReadingTakesMemory}
+use Rattle.amreplay.specs.declared.command_lines.command.ParsedLine.{ParsedLine}
+use Rattle.amreplay.specs.declared.command_lines.command.ParsedLine.TheVariants.{Nothing, Asks, Malformed, BadMoment, BadArgument}
+use Rattle.amreplay.specs.declared.command_lines.command.Command.TheVariants as command
 use Rattle.amreplay.specs.Commands.Replies.{Incident, Reply, MayFindNoMemory}
 use Rattle.amreplay.specs.Commands.Talk.{Undone, Done, Answers}
 use Rattle.amreplay.specs.Commands.Answer.{left, Answered, HasLineOutcome, answer_text}

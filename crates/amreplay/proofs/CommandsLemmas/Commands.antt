@@ -3,18 +3,18 @@ use Rattle.std.proofs.Common.{◌≡◌, ℕ, ◌+◌, ◌-◌, ◌<◌, ◌≤�
 use Rattle.std.specs.Global.{Vec}
 use Rattle.std.specs.declared.alloc.Global.{Global}
 use Rattle.amr_time.specs.Time.{Moment}
-use Rattle.amr_actions.specs.Events.{Event}
-use Rattle.amr_state.specs.State.{State}
+use Rattle.amr_events.specs.Actions.Events.{Event}
+use Rattle.amr_engine.specs.State.State.{State}
 use Rattle.amr_engine.specs.Events.{outcome_of}
 use Rattle.amr_replay.specs.Session.{View, at_cursor, events_until}
-use Rattle.amr_lines.specs.declared.lines.word.Word.TheVariants as word
-use Rattle.amr_lines.specs.Lines.LastLines.{place_line}
-use Rattle.amr_lines.specs.CommandLines.Command.{word_of_move}
-use Rattle.amr_lines.specs.declared.command_lines.command.Move.{Move}
-use Rattle.amr_lines.specs.declared.command_lines.command.Move.TheVariants.{Step, Back, Seek, SeekTime}
-use Rattle.amr_lines.specs.declared.command_lines.command.Query.{Query}
-use Rattle.amr_lines.specs.declared.command_lines.command.Command.TheVariants as command
-use Rattle.amr_lines.specs.declared.command_lines.command.ParsedLine.TheVariants.{Asks}
+use Rattle.amreplay.specs.declared.lines.word.Word.TheVariants as word
+use Rattle.amreplay.specs.Lines.LastLines.{place_line}
+use Rattle.amreplay.specs.CommandLines.Command.{word_of_move}
+use Rattle.amreplay.specs.declared.command_lines.command.Move.{Move}
+use Rattle.amreplay.specs.declared.command_lines.command.Move.TheVariants.{Step, Back, Seek, SeekTime}
+use Rattle.amreplay.specs.declared.command_lines.command.Query.{Query}
+use Rattle.amreplay.specs.declared.command_lines.command.Command.TheVariants as command
+use Rattle.amreplay.specs.declared.command_lines.command.ParsedLine.TheVariants.{Asks}
 use Rattle.amreplay.specs.Commands.Replies.{Incident, Reply, incident_of, state_in, moved, listed, tried_lines, reply_to, TakesMemory}
 use Rattle.amreplay.specs.Commands.Answer.{left, Answered, Moves}
 use Rattle.amreplay.specs.declared.commands.answer.Refusal.TheVariants.{AtEnd, AtStart, OutOfRange}

@@ -3,12 +3,12 @@ use Rattle.std.proofs.Common.{◌≡◌, ℕ, ◌+◌, ◌<◌, ◌≤◌, List,
 use Rattle.std.specs.declared.alloc.Global.{Global}
 use Rattle.std.proofs.lemmas.List.{get_or-drop, take_more, length-map, length-take, map-append, drop_all}
 use Rattle.std.proofs.lemmas.Option.{slice_get_cases, slice_get_within, get_or_from_slice_get, slice_get_read}
-use Rattle.amr_lines.specs.Lines.Printed.{event_lines}
-use Rattle.amr_lines.specs.Lines.LastLines.{moves_line}
-use Rattle.amr_lines.specs.declared.lines.word.Word.{Word}
-use Rattle.amr_stated.specs.Config.{Config}
-use Rattle.amr_actions.specs.Events.{Event}
-use Rattle.amr_state.specs.State.{State}
+use Rattle.amreplay.specs.Lines.Printed.{event_lines}
+use Rattle.amreplay.specs.Lines.LastLines.{moves_line}
+use Rattle.amreplay.specs.declared.lines.word.Word.{Word}
+use Rattle.amr_config.specs.Stated.Config.{Config}
+use Rattle.amr_events.specs.Actions.Events.{Event}
+use Rattle.amr_engine.specs.State.State.{State}
 use Rattle.amr_engine.specs.Events.{Outcome, outcome_of, after_event}
 use Rattle.amr_engine.specs.declared.outcome.Outcome as code
 use Rattle.amr_engine.specs.Outcomes.{outcome_view}

@@ -2,7 +2,7 @@
 use Rattle.std.proofs.Common.{◌≡◌, ℕ, ◌<◌, ◌+◌, List, [], ◌∷◌, ◌++◌, length, take, drop, get_or, sym, ap, ◌∙◌, subst, append_assoc, take-append-drop, Ok, Err, Option, Result}
 use Rattle.std.proofs.lemmas.List.{take_more}
 use Rattle.std.proofs.lemmas.Result.{MatchResult-at_ok, MatchResult-at_err}
-use Rattle.amr_lines.specs.declared.command_lines.line.Line.{Line}
+use Rattle.amreplay.specs.declared.command_lines.line.Line.{Line}
 use Rattle.amreplay.specs.Commands.Replies.{Incident}
 use Rattle.amreplay.specs.Commands.Converse.{Stands}
 use Rattle.amreplay.specs.Commands.Talk.{Progress, StopsInside, Takes}

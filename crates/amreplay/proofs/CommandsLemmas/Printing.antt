@@ -3,11 +3,11 @@ use Rattle.std.proofs.Common.{◌≡◌, ℕ, List, [], ◌∷◌, ◌++◌, tak
 use Rattle.std.specs.Io.KnownBytes.{Appends, Consumes}
 use Rattle.std.proofs.KnownBytes.{Appends-trans, Consumes-trans}
 use Rattle.std.proofs.lemmas.Result.{MatchResult-at_ok, MatchResult-at_err}
-use Rattle.amr_lines.specs.declared.command_lines.line.Line.{Line}
+use Rattle.amreplay.specs.declared.command_lines.line.Line.{Line}
 use Rattle.amreplay.specs.Commands.Replies.{Incident}
 use Rattle.amreplay.specs.declared.commands.conversation.Turn.{Turn}
 use Rattle.amreplay.specs.declared.commands.conversation.ConversationError.{ConversationError}
-use Rattle.amr_lines.specs.CommandLines.Line.{Holds}
+use Rattle.amreplay.specs.CommandLines.Line.{Holds}
 use Rattle.amreplay.specs.Commands.Talk.{AnsweredLine, reply, MayBe, out, Answers, Progress, StopsShort, StopsInside, Takes}
 use Rattle.amreplay.specs.Commands.Converse.{Printed, Stands, PrintedAt, Turned, Turns}
 use Rattle.amreplay.proofs.CommandsLemmas.Talks.{out-append, AllMayBe-append, Progress-ended, Progress-nil}

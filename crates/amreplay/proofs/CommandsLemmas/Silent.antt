@@ -3,12 +3,12 @@ use Rattle.std.proofs.Common.{◌≡◌, [], ap, sym, subst, inl, inr, refl, ari
 use Rattle.std.specs.Prelude.{if◌then◌else◌}
 use Rattle.std.proofs.lemmas.Str.{IsUtf8-nil, is_utf8-from_IsUtf8}
 use Rattle.amr_events.specs.declared.version.Version.{Version}
-use Rattle.amr_lines.specs.declared.lines.word.Word.TheVariants as word
-use Rattle.amr_lines.specs.declared.command_lines.command.ParsedLine.{ParsedLine}
-use Rattle.amr_lines.specs.declared.command_lines.command.ParsedLine.TheVariants.{Nothing, Malformed}
-use Rattle.amr_lines.specs.CommandLines.Parts.{word_in, trimmed}
-use Rattle.amr_lines.specs.CommandLines.Command.{word_named, said_in, said_of}
-use Rattle.amr_lines.specs.CommandLines.ParsedLine.{LineSays}
+use Rattle.amreplay.specs.declared.lines.word.Word.TheVariants as word
+use Rattle.amreplay.specs.declared.command_lines.command.ParsedLine.{ParsedLine}
+use Rattle.amreplay.specs.declared.command_lines.command.ParsedLine.TheVariants.{Nothing, Malformed}
+use Rattle.amreplay.specs.CommandLines.Parts.{word_in, trimmed}
+use Rattle.amreplay.specs.CommandLines.Command.{word_named, said_in, said_of}
+use Rattle.amreplay.specs.CommandLines.ParsedLine.{LineSays}
 use Rattle.amreplay.specs.Commands.Replies.{MayFindNoMemory, reply_of}
 use Rattle.amreplay.specs.Commands.Talk.{TooLong, NoMemory, Undone, Done}
 use Rattle.amreplay.specs.Commands.Laws.{EmptyIsSilent}

@@ -5,11 +5,11 @@ use Rattle.std.proofs.Common.{refl}
 use Rattle.amr_labels.specs.Map.{empty}
 use Rattle.amr_time.specs.Time.{Moment, second, minute, hour}
 use Rattle.amr_time.specs.Calendar.{date_of}
-use Rattle.amr_stated.specs.Config.{Config}
-use Rattle.amr_stated.specs.declared.route.Grouping.TheVariants.{Named}
-use Rattle.amr_actions.specs.Events.{Event, Act}
+use Rattle.amr_config.specs.Stated.Config.{Config}
+use Rattle.amr_config.specs.declared.stated.route.Grouping.TheVariants.{Named}
+use Rattle.amr_events.specs.Actions.Events.{Event, Act}
 use Rattle.amr_engine.specs.Events.{replaying}
-use Rattle.amr_lines.specs.Lines.Printed.{printing}
+use Rattle.amreplay.specs.Lines.Printed.{printing}
 use Rattle.amreplay.specs.Program.Runs.{run_lines}
 use Rattle.std.specs.Fmt.{digits}
 use Rattle.serde_json.proofs.OnLiterals.{serde_json_on_literals}

@@ -3,8 +3,8 @@ use Rattle.std.proofs.Common.{◌≡◌, ℕ, ◌+◌, ◌<◌, ◌==◌, ◌&&�
 use Rattle.std.specs.Prelude.{nat_lt}
 use Rattle.std.specs.Io.KnownBytes.{Consumes, IsAtEnd}
 use Rattle.std.proofs.lemmas.Bool.{lt-ltb}
-use Rattle.amr_stated.specs.Config as config
-use Rattle.amr_loading.specs.declared.error.Refusal.{Refusal}
+use Rattle.amr_config.specs.Stated.Config as config
+use Rattle.amr_config.specs.declared.read.error.Refusal.{Refusal}
 use Rattle.std.proofs.lemmas.List.Elements.{filter-append}
 use Rattle.std.proofs.lemmas.List.Folds.{list_all-append}
 use Rattle.amr_events.specs.Scripts.{lines_of, longest_line, is_space, is_blank, full_lines, ScriptIs}

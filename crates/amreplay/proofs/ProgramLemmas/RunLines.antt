@@ -7,16 +7,16 @@ use Rattle.std.specs.List.{slice_get}
 use Rattle.std.specs.Io.KnownBytes.{Appends, Keeps}
 use Rattle.std.proofs.KnownBytes.{Appends-nil, Appends-trans, Appends-kept}
 use Rattle.amr_labels.specs.Labels.{Text}
-use Rattle.amr_stated.specs.Config.{Config}
-use Rattle.amr_actions.specs.Events.{Event}
-use Rattle.amr_state.specs.State.{State, start}
+use Rattle.amr_config.specs.Stated.Config.{Config}
+use Rattle.amr_events.specs.Actions.Events.{Event}
+use Rattle.amr_engine.specs.State.State.{State, start}
 use Rattle.amr_engine.specs.Events.{Outcome, outcome_of, after_event, after_events, run_of}
-use Rattle.amr_lines.specs.Lines.Printed.{event_lines}
+use Rattle.amreplay.specs.Lines.Printed.{event_lines}
 use Rattle.amreplay.specs.Program.Runs.{lines_from, run_lines, LeavesAt, RunLeavesAt, RunLeaves}
-use Rattle.amr_lines.specs.Lines.Outlet.{AppendsBeginning}
+use Rattle.amreplay.specs.Lines.Outlet.{AppendsBeginning}
 use Rattle.amreplay.specs.declared.program.run.RunError.{RunError}
 use Rattle.amreplay.specs.declared.program.run.RunError.TheVariants.{Memory, CannotWrite}
-use Rattle.amr_lines.proofs.LinesLemmas.Parts.{AppendsBeginning-after}
+use Rattle.amreplay.proofs.LinesLemmas.Parts.{AppendsBeginning-after}
 
 lines_from-append : (n : ℕ) (s : State) (events more : List Event)
     → lines_from n s (events ++ more) ≡ lines_from n s events ++ lines_from (n + length events) (after_events s events) more

@@ -1,10 +1,10 @@
 -- What is left, and which end failed, if a run or a session stops at a fault.
 use Rattle.std.proofs.Common.{◌≡◌, ℕ, Bool, List, Option, Err, inr, refl, subst}
 use Rattle.amr_labels.specs.Labels.{Text}
-use Rattle.amr_stated.specs.Config.{Config}
-use Rattle.amr_actions.specs.Events.{Event}
+use Rattle.amr_config.specs.Stated.Config.{Config}
+use Rattle.amr_events.specs.Actions.Events.{Event}
 use Rattle.amr_events.specs.Scripts.{Script}
-use Rattle.amr_state.specs.State.{State, start}
+use Rattle.amr_engine.specs.State.State.{State, start}
 use Rattle.amreplay.specs.declared.commands.conversation.ConversationError.{ConversationError}
 use Rattle.amreplay.specs.declared.commands.conversation.ConversationError.TheVariants.{Reading, Writing}
 use Rattle.amreplay.specs.Commands.Converse.{Converses, BreaksBy}

@@ -3,7 +3,7 @@ use Rattle.std.proofs.Common.{◌≡◌, ℕ, List, [], Option, Ok, Err, refl, s
 use Rattle.std.proofs.KnownBytes.{Appends-kept}
 use Rattle.std.specs.Io.KnownBytes.{Appends, Keeps}
 use Rattle.amr_labels.specs.Labels.{Text}
-use Rattle.amr_stated.specs.Config.{Config}
+use Rattle.amr_config.specs.Stated.Config.{Config}
 use Rattle.amreplay.specs.declared.program.fault.Fault.TheVariants.{CannotWrite}
 use Rattle.amreplay.specs.Program.Files.{ConfigFileIs}
 use Rattle.amreplay.specs.Program.Checked.{counts_line, CheckLeaves}

@@ -1,11 +1,11 @@
 -- What is written for a line, and what was done for it.
 use Rattle.std.specs.Prelude.{◌≡◌, ℕ, ◌<◌, [], ◌⊎◌, string_bytes}
 use Rattle.amr_labels.specs.Labels.{Text}
-use Rattle.amr_lines.specs.declared.lines.word.Word.{Word}
-use Rattle.amr_lines.specs.declared.lines.word.Word.TheVariants as word
-use Rattle.amr_lines.specs.Lines.LastLines.{moves_line, cursor_line, place_line, refused_line}
-use Rattle.amr_lines.specs.declared.command_lines.command.ParsedLine.{ParsedLine}
-use Rattle.amr_lines.specs.CommandLines.ParsedLine.{word_of}
+use Rattle.amreplay.specs.declared.lines.word.Word.{Word}
+use Rattle.amreplay.specs.declared.lines.word.Word.TheVariants as word
+use Rattle.amreplay.specs.Lines.LastLines.{moves_line, cursor_line, place_line, refused_line}
+use Rattle.amreplay.specs.declared.command_lines.command.ParsedLine.{ParsedLine}
+use Rattle.amreplay.specs.CommandLines.ParsedLine.{word_of}
 use Rattle.amr_replay.specs.Session.{View}
 use Rattle.amreplay.specs.Commands.Replies.{Incident, incident_of, Reply, reply_of, moved, MayFindNoMemory}
 use Rattle.amreplay.specs.Commands.Talk.{LineOutcome, reply, MayBe}

@@ -2,9 +2,9 @@
 use Rattle.std.specs.Prelude.{◌≡◌, ℕ, ◌+◌, ◌≤◌, Bool, true, List, [], ◌∷◌, ◌++◌, map, Option, Result, MatchResult, ◌⊎◌}
 use Rattle.std.specs.Io.KnownBytes.{Appends, Consumes, IsAtEnd}
 use Rattle.amr_labels.specs.Labels.{Text}
-use Rattle.amr_lines.specs.Lines.Inlet.{most_calls, HasEnded}
-use Rattle.amr_lines.specs.declared.command_lines.line.Line.{Line}
-use Rattle.amr_lines.specs.CommandLines.Line.{Holds}
+use Rattle.amreplay.specs.Lines.Inlet.{most_calls, HasEnded}
+use Rattle.amreplay.specs.declared.command_lines.line.Line.{Line}
+use Rattle.amreplay.specs.CommandLines.Line.{Holds}
 use Rattle.amreplay.specs.Commands.Lines.{Cuts}
 use Rattle.amreplay.specs.Commands.Replies.{Incident}
 use Rattle.amreplay.specs.Commands.Talk.{AnsweredLine, AllMayBe, out, Progress, StopsShort, StopsInside}

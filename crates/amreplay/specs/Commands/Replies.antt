@@ -3,27 +3,27 @@ use Rattle.std.specs.Prelude.{ℕ, ◌+◌, ◌-◌, ◌<◌, ◌≤◌, nat_lt,
 use Rattle.std.specs.List.{flat_map, sum_by}
 use Rattle.amr_labels.specs.Map.{entries}
 use Rattle.amr_labels.specs.Labels.{Text}
-use Rattle.amr_stated.specs.Config.{Config}
-use Rattle.amr_actions.specs.Events.{Event}
+use Rattle.amr_config.specs.Stated.Config.{Config}
+use Rattle.amr_events.specs.Actions.Events.{Event}
 use Rattle.amr_events.specs.declared.version.Version.{Version}
-use Rattle.amr_state.specs.State.{State}
+use Rattle.amr_engine.specs.State.State.{State}
 use Rattle.amr_engine.specs.Events.{Outcome, Accepted, Refused, outcome_of}
-use Rattle.amr_state.specs.Seen.{groups_of}
+use Rattle.amr_engine.specs.State.Seen.{groups_of}
 use Rattle.amr_engine.specs.Explain.{verdicts}
 use Rattle.amr_replay.specs.Session.{View, state_at, outcomes_passed, events_until}
-use Rattle.amr_lines.specs.declared.lines.word.Word.{Word}
-use Rattle.amr_lines.specs.declared.lines.word.Word.TheVariants as word
-use Rattle.amr_lines.specs.Lines.Printed.{event_lines, notification_line, alert_line, silence_line, group_line, log_line}
-use Rattle.amr_lines.specs.Lines.Verdicts.{verdict_line}
-use Rattle.amr_lines.specs.Lines.LastLines.{moves_line, cursor_line, place_line, refused_line}
-use Rattle.amr_lines.specs.CommandLines.Command.{word_of_query}
-use Rattle.amr_lines.specs.declared.command_lines.command.Move.TheVariants.{Step, Back, Seek, SeekTime}
-use Rattle.amr_lines.specs.declared.command_lines.command.Query.{Query}
-use Rattle.amr_lines.specs.declared.command_lines.command.Query.TheVariants.{Explain, Alerts, Silences, Groups, Log, Transcript}
-use Rattle.amr_lines.specs.declared.command_lines.command.Command.{Command}
-use Rattle.amr_lines.specs.declared.command_lines.command.Command.TheVariants as command
-use Rattle.amr_lines.specs.declared.command_lines.command.ParsedLine.{ParsedLine}
-use Rattle.amr_lines.specs.declared.command_lines.command.ParsedLine.TheVariants.{Nothing, Asks, Malformed, BadMoment, BadArgument}
+use Rattle.amreplay.specs.declared.lines.word.Word.{Word}
+use Rattle.amreplay.specs.declared.lines.word.Word.TheVariants as word
+use Rattle.amreplay.specs.Lines.Printed.{event_lines, notification_line, alert_line, silence_line, group_line, log_line}
+use Rattle.amreplay.specs.Lines.Verdicts.{verdict_line}
+use Rattle.amreplay.specs.Lines.LastLines.{moves_line, cursor_line, place_line, refused_line}
+use Rattle.amreplay.specs.CommandLines.Command.{word_of_query}
+use Rattle.amreplay.specs.declared.command_lines.command.Move.TheVariants.{Step, Back, Seek, SeekTime}
+use Rattle.amreplay.specs.declared.command_lines.command.Query.{Query}
+use Rattle.amreplay.specs.declared.command_lines.command.Query.TheVariants.{Explain, Alerts, Silences, Groups, Log, Transcript}
+use Rattle.amreplay.specs.declared.command_lines.command.Command.{Command}
+use Rattle.amreplay.specs.declared.command_lines.command.Command.TheVariants as command
+use Rattle.amreplay.specs.declared.command_lines.command.ParsedLine.{ParsedLine}
+use Rattle.amreplay.specs.declared.command_lines.command.ParsedLine.TheVariants.{Nothing, Asks, Malformed, BadMoment, BadArgument}
 use Rattle.amreplay.specs.declared.commands.answer.Refusal.TheVariants as refusal
 use Rattle.amreplay.specs.Commands.Refusals.{refusal_number}
 

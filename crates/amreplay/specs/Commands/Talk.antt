@@ -2,12 +2,12 @@
 use Rattle.std.specs.Prelude.{◌≡◌, ℕ, ◌<◌, ◌≤◌, All, List, [], ◌∷◌, ◌++◌, length, map, flat_map, Option, Result, MatchResult, ⊤}
 use Rattle.std.specs.Io.KnownBytes.{Appends}
 use Rattle.amr_labels.specs.Labels.{Text}
-use Rattle.amr_lines.specs.Lines.Outlet.{AppendsBeginning}
-use Rattle.amr_lines.specs.declared.lines.word.Word.TheVariants as word
-use Rattle.amr_lines.specs.declared.command_lines.command.ParsedLine.{ParsedLine}
-use Rattle.amr_lines.specs.declared.command_lines.line.Line.{Line}
-use Rattle.amr_lines.specs.CommandLines.Line.{longest, Holds}
-use Rattle.amr_lines.specs.CommandLines.ParsedLine.{LineSays, word_of}
+use Rattle.amreplay.specs.Lines.Outlet.{AppendsBeginning}
+use Rattle.amreplay.specs.declared.lines.word.Word.TheVariants as word
+use Rattle.amreplay.specs.declared.command_lines.command.ParsedLine.{ParsedLine}
+use Rattle.amreplay.specs.declared.command_lines.line.Line.{Line}
+use Rattle.amreplay.specs.CommandLines.Line.{longest, Holds}
+use Rattle.amreplay.specs.CommandLines.ParsedLine.{LineSays, word_of}
 use Rattle.amreplay.specs.Commands.Lines.{Cuts, ended, IsOneLine}
 use Rattle.amreplay.specs.Commands.Replies.{Incident, Reply, refused, reply_of, MayFindNoMemory}
 use Rattle.amreplay.specs.declared.commands.answer.Refusal.TheVariants as refusal

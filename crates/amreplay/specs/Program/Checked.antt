@@ -3,12 +3,12 @@ use Rattle.std.specs.Prelude.{◌≡◌, ◌⊎◌, ℕ, List, [], ◌∷◌, co
 use Rattle.std.specs.Io.KnownBytes.{Appends, Keeps}
 use Rattle.serde_json.specs.Data.{Data, object}
 use Rattle.amr_labels.specs.Labels.{Text}
-use Rattle.amr_stated.specs.Config as config
+use Rattle.amr_config.specs.Stated.Config as config
 use Rattle.amreplay.specs.declared.program.fault.Fault.{Fault}
 use Rattle.amreplay.specs.declared.program.fault.Fault.TheVariants.{Config, Script, CannotReadConfig, CannotReadScript, CannotReadCommands, CannotWrite, Memory, Usage}
 use Rattle.amreplay.specs.Program.Files.{ConfigFileIs}
-use Rattle.amr_lines.specs.Lines.Outlet.{AppendsBeginning}
-use Rattle.amr_lines.specs.Lines.Printed.{object_of, number_data, data_line}
+use Rattle.amreplay.specs.Lines.Outlet.{AppendsBeginning}
+use Rattle.amreplay.specs.Lines.Printed.{object_of, number_data, data_line}
 
 -- the numbers of receivers, of routes with the root, and of inhibition rules
 abbrev pub counts_data : config.Config → Data

@@ -1,10 +1,10 @@
 -- The lines of faults on standard error, and the exit statuses.
 use Rattle.std.specs.Prelude.{ℕ, List, [], ◌∷◌, ◌++◌, codes, decimal}
-use Rattle.amr_loading.specs.declared.error.Refusal.{Refusal}
-use Rattle.amr_loading.specs.declared.error.Refusal.TheVariants.{BadConfig, UnknownReceiver, DuplicateReceiver, RootRoute, ZeroInterval, BadGroupBy, TooDeep}
-use Rattle.amr_loading.specs.declared.error.ConfigError.{ConfigError}
-use Rattle.amr_loading.specs.Refusals.{name_of_refusal}
-use Rattle.amr_loading.specs.declared.error.ConfigError.TheVariants as config_error
+use Rattle.amr_config.specs.declared.read.error.Refusal.{Refusal}
+use Rattle.amr_config.specs.declared.read.error.Refusal.TheVariants.{BadConfig, UnknownReceiver, DuplicateReceiver, RootRoute, ZeroInterval, BadGroupBy, TooDeep}
+use Rattle.amr_config.specs.declared.read.error.ConfigError.{ConfigError}
+use Rattle.amr_config.specs.Read.Refusals.{name_of_refusal}
+use Rattle.amr_config.specs.declared.read.error.ConfigError.TheVariants as config_error
 use Rattle.amr_events.specs.declared.error.Fault.{Fault as ScriptFault}
 use Rattle.amr_events.specs.declared.error.Fault.TheVariants.{BadLine, LineTooLong, TooManyEvents}
 use Rattle.amr_events.specs.declared.error.ScriptError.{ScriptError}

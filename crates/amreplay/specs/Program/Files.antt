@@ -5,19 +5,19 @@ use Rattle.std.specs.Io.KnownBytes.{Appends, Keeps}
 use Rattle.serde_json.specs.Data.{Data}
 use Rattle.serde_json.specs.Read.{read}
 use Rattle.amr_labels.specs.Labels.{Text}
-use Rattle.amr_stated.specs.Config as config
-use Rattle.amr_actions.specs.Events.{Event}
-use Rattle.amr_loading.specs.declared.error.Refusal.{Refusal}
-use Rattle.amr_loading.specs.declared.error.Refusal.TheVariants.{BadConfig}
-use Rattle.amr_loading.specs.declared.error.ConfigError.{ConfigError}
-use Rattle.amr_loading.specs.declared.error.ConfigError.TheVariants as config_error
-use Rattle.amr_loading.specs.Reading.{ConfigIs}
+use Rattle.amr_config.specs.Stated.Config as config
+use Rattle.amr_events.specs.Actions.Events.{Event}
+use Rattle.amr_config.specs.declared.read.error.Refusal.{Refusal}
+use Rattle.amr_config.specs.declared.read.error.Refusal.TheVariants.{BadConfig}
+use Rattle.amr_config.specs.declared.read.error.ConfigError.{ConfigError}
+use Rattle.amr_config.specs.declared.read.error.ConfigError.TheVariants as config_error
+use Rattle.amr_config.specs.Read.Reading.{ConfigIs}
 use Rattle.amr_events.specs.Scripts.{ScriptIs}
 use Rattle.amr_events.specs.Scripts as scripts
 use Rattle.amr_replay.specs.Session.{View, at_cursor}
 use Rattle.amreplay.specs.declared.program.fault.Fault.{Fault}
 use Rattle.amreplay.specs.declared.program.fault.Fault.TheVariants.{Config, Script, CannotReadConfig, CannotReadScript, CannotReadCommands, CannotWrite, Memory, Usage}
-use Rattle.amr_lines.specs.Lines.Outlet.{AppendsBeginning}
+use Rattle.amreplay.specs.Lines.Outlet.{AppendsBeginning}
 use Rattle.amreplay.specs.Program.Runs.{run_lines}
 
 -- the value that bytes spell, if they are JSON in UTF-8

@@ -2,14 +2,14 @@
 use Rattle.std.specs.Prelude.{ℕ, ◌+◌, List, [], ◌∷◌, ◌++◌, take, Option, Result, Ok, Err}
 use Rattle.std.specs.Io.KnownBytes.{Appends}
 use Rattle.amr_labels.specs.Labels.{Text}
-use Rattle.amr_stated.specs.Config.{Config}
-use Rattle.amr_actions.specs.Events.{Event}
-use Rattle.amr_state.specs.State.{State, start}
+use Rattle.amr_config.specs.Stated.Config.{Config}
+use Rattle.amr_events.specs.Actions.Events.{Event}
+use Rattle.amr_engine.specs.State.State.{State, start}
 use Rattle.amr_engine.specs.Events.{outcome_of, after_event}
 use Rattle.amreplay.specs.declared.program.run.RunError.{RunError}
 use Rattle.amreplay.specs.declared.program.run.RunError.TheVariants.{Memory, CannotWrite}
-use Rattle.amr_lines.specs.Lines.Outlet.{AppendsBeginning}
-use Rattle.amr_lines.specs.Lines.Printed.{event_lines}
+use Rattle.amreplay.specs.Lines.Outlet.{AppendsBeginning}
+use Rattle.amreplay.specs.Lines.Printed.{event_lines}
 
 -- the lines of events, one after another from a state; the first has the number n
 abbrev pub lines_from : ℕ → State → List Event → Text

@@ -1,11 +1,11 @@
 //! What is written for a command line. Each answer is decided first and written after; a refusal, a
 //! step back and the answer to `cursor` are written without memory.
 ghost use Rattle.std.specs.Prelude.{◌≡◌};
-ghost use Rattle.amr_lines.specs.Lines.Outlet.{WritesText, FailsAt};
+ghost use Rattle.amreplay.specs.Lines.Outlet.{WritesText, FailsAt};
 ghost use Rattle.amreplay.specs.Commands.Answer.{answer_text};
 ghost use Rattle.amreplay.specs.Commands.Refusals.{refusal_number};
 
-use amr_lines::lines::{
+use crate::lines::{
     Outlet, Word, WriteFailed, write_back, write_backward_seek, write_place, write_refused,
     write_whole,
 };

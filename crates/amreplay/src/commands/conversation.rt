@@ -2,16 +2,16 @@
 //! `program` calls `converse`. A test can call it with any bytes.
 ghost use Rattle.std.specs.Prelude.{◌≡◌, ℕ, ◌<◌, ◌≤◌, List, [], length, take, Option, MatchResult};
 ghost use Rattle.std.specs.Io.KnownBytes.{Consumes, Keeps, IsAtEnd};
-ghost use Rattle.amr_lines.specs.Lines.Inlet.{CountsCall};
-ghost use Rattle.amr_lines.specs.Lines.Outlet.{FailsAt};
+ghost use Rattle.amreplay.specs.Lines.Inlet.{CountsCall};
+ghost use Rattle.amreplay.specs.Lines.Outlet.{FailsAt};
 ghost use Rattle.amreplay.specs.Commands.Replies.{incident_of};
 ghost use Rattle.amreplay.specs.Commands.Converse.{Converses, Turns, Printed, Stands, EndsBy, CountsTurn};
 ghost use Rattle.amreplay.specs.Commands.Talk.{StopsShort};
 
+use crate::command_lines::Line;
 use crate::commands::dispatch::answer_line;
 use crate::commands::input::take_bytes;
-use amr_lines::command_lines::Line;
-use amr_lines::lines::{Inlet, Outlet, WriteFailed};
+use crate::lines::{Inlet, Outlet, WriteFailed};
 use amr_replay::Session;
 use std::alloc::Global;
 use std::error::Error;

@@ -1,18 +1,18 @@
 //! Answering one command line: parsing it, executing the command, and writing the answer. The
 //! commands themselves are in `queries.rt` and `navigation.rt`.
 ghost use Rattle.std.specs.Prelude.{◌≡◌, ◌≤◌, List, ℕ, length};
-ghost use Rattle.amr_lines.specs.Lines.Outlet.{FailsAt};
-ghost use Rattle.amr_lines.specs.declared.command_lines.command.ParsedLine.TheVariants.{Asks};
-ghost use Rattle.amr_lines.specs.CommandLines.Line.{longest, Holds};
+ghost use Rattle.amreplay.specs.Lines.Outlet.{FailsAt};
+ghost use Rattle.amreplay.specs.declared.command_lines.command.ParsedLine.TheVariants.{Asks};
+ghost use Rattle.amreplay.specs.CommandLines.Line.{longest, Holds};
 ghost use Rattle.amreplay.specs.Commands.Replies.{incident_of};
 ghost use Rattle.amreplay.specs.Commands.Answer.{AnsweredBy, HasLineOutcome};
 ghost use Rattle.amreplay.specs.Commands.Talk.{Answers};
 
+use crate::command_lines::{Command, Content, Line, ParsedLine};
 use crate::commands::answer::{Answer, Refusal, write_answer};
 use crate::commands::navigation::{move_cursor, trial};
 use crate::commands::queries::{list, place};
-use amr_lines::command_lines::{Command, Content, Line, ParsedLine};
-use amr_lines::lines::{Outlet, Word, WriteFailed, flush};
+use crate::lines::{Outlet, Word, WriteFailed, flush};
 use amr_replay::Session;
 use std::alloc::Global;
 use std::io::Write;

@@ -1,13 +1,13 @@
 //! Taking in the bytes of commands as they come, and answering each line at its line feed.
 //! `converse` calls `take_bytes` after each read.
 ghost use Rattle.std.specs.Prelude.{◌≡◌, [], ◌∷◌};
-ghost use Rattle.amr_lines.specs.Lines.Outlet.{FailsAt};
+ghost use Rattle.amreplay.specs.Lines.Outlet.{FailsAt};
 ghost use Rattle.amreplay.specs.Commands.Replies.{incident_of};
 ghost use Rattle.amreplay.specs.Commands.Talk.{Takes};
 
+use crate::command_lines::Line;
 use crate::commands::dispatch::answer_line;
-use amr_lines::command_lines::Line;
-use amr_lines::lines::{Outlet, WriteFailed};
+use crate::lines::{Outlet, WriteFailed};
 use amr_replay::Session;
 use std::alloc::Global;
 use std::io::Write;

@@ -1,14 +1,14 @@
 //! The commands that only ask: those that list what the state holds, and `cursor`. None of them
 //! moves the cursor or changes the state, though the session may remember what it works out.
 ghost use Rattle.std.specs.Prelude.{◌≡◌, ◌++◌, IfOk};
-ghost use Rattle.amr_lines.specs.declared.command_lines.command.ParsedLine.TheVariants.{Asks};
-ghost use Rattle.amr_lines.specs.declared.command_lines.command.Command.TheVariants as command;
+ghost use Rattle.amreplay.specs.declared.command_lines.command.ParsedLine.TheVariants.{Asks};
+ghost use Rattle.amreplay.specs.declared.command_lines.command.Command.TheVariants as command;
 ghost use Rattle.amreplay.specs.Commands.Replies.{lines_of, listed};
 ghost use Rattle.amreplay.specs.Commands.Answer.{AnsweredBy};
 
+use crate::command_lines::Query;
 use crate::commands::answer::{Answer, Refusal};
-use amr_lines::command_lines::Query;
-use amr_lines::lines::{
+use crate::lines::{
     alert_lines, cursor_text, group_lines, log_lines, notes_text, silence_lines, verdicts_text,
 };
 use amr_replay::Session;

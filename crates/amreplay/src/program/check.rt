@@ -4,10 +4,10 @@ ghost use Rattle.std.specs.Prelude.{◌≡◌, IfOk, string_bytes};
 ghost use Rattle.amreplay.specs.Program.Ends.{EndsBy};
 ghost use Rattle.amreplay.specs.Program.Checked.{counts_line, CheckLeaves};
 
+use crate::lines::{Outlet, flush, write_whole};
 use crate::program::fault::Fault;
 use crate::program::load::read_config;
 use amr_config::Config;
-use amr_lines::lines::{Outlet, flush, write_whole};
 use std::alloc::{AllocError, Global};
 use std::io::Write;
 

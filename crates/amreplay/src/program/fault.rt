@@ -1,13 +1,13 @@
 //! What stops the program: the line for standard error, and the exit status. `main` writes it last.
 //! The line takes no memory, so it can also report that memory ran out.
 ghost use Rattle.std.specs.Prelude.{◌≡◌};
-ghost use Rattle.amr_lines.specs.Lines.Outlet.{WritesText, FailsAt};
+ghost use Rattle.amreplay.specs.Lines.Outlet.{WritesText, FailsAt};
 
 use crate::commands::ConversationError;
+use crate::lines::{Outlet, WriteFailed, write_parts};
 use crate::program::run::RunError;
+use amr_config::read::{ConfigError, Refusal};
 use amr_events::{Fault as ScriptFault, ScriptError};
-use amr_lines::lines::{Outlet, WriteFailed, write_parts};
-use amr_loading::{ConfigError, Refusal};
 use itoa::Buffer;
 use std::alloc::AllocError;
 use std::error::Error;

@@ -6,8 +6,8 @@ ghost use Rattle.amreplay.specs.Program.Files.{ConfigFileIs};
 ghost use Rattle.amreplay.specs.Program.Input.{UnreadBy, StandFor, after_byte, after_bytes, most_full_lines, AreSettled};
 ghost use Rattle.amr_events.specs.Scripts.{is_space as is_space_byte, longest_line};
 
+use crate::lines::{Inlet, ReadFailed};
 use crate::program::load::LONGEST_CONFIG;
-use amr_lines::lines::{Inlet, ReadFailed};
 use std::alloc::{AllocError, Global};
 use std::error::Error;
 use std::fmt;

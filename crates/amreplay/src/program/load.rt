@@ -3,13 +3,13 @@
 ghost use Rattle.std.specs.Prelude.{◌≡◌, [], option_map, IfOk};
 ghost use Rattle.serde_json.specs.View.{view};
 ghost use Rattle.amreplay.specs.Program.Files.{json_of, ReadsAs, FilesAre, Opens};
-ghost use Rattle.amr_loading.specs.declared.error.Refusal.TheVariants.{BadConfig};
+ghost use Rattle.amr_config.specs.declared.read.error.Refusal.TheVariants.{BadConfig};
 
 use crate::program::fault::Fault;
 use amr_config::Config;
+use amr_config::read::{ConfigError, Refusal, load_config};
 use amr_events::Script;
 use amr_labels::Text;
-use amr_loading::{ConfigError, Refusal, load_config};
 use amr_replay::Session;
 use serde_json::Value;
 use std::alloc::{AllocError, Global};

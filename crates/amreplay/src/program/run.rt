@@ -1,20 +1,20 @@
 //! The command `run`: applies all events of a script and writes their lines. It never goes back, so
 //! it keeps no record and calls the engine itself instead of a session.
 ghost use Rattle.std.specs.Prelude.{◌≡◌, ◌+◌, [], IfOk, OnOk, length, ℕ, string_bytes};
-ghost use Rattle.amr_lines.specs.Lines.Printed.{event_lines};
+ghost use Rattle.amreplay.specs.Lines.Printed.{event_lines};
 ghost use Rattle.amreplay.specs.Program.Files.{FilesLeave};
 ghost use Rattle.amreplay.specs.Program.Runs.{Leaves, RunLeaves, LeavesAt};
 ghost use Rattle.amreplay.specs.Program.Ends.{StoppedBy, EndsBy};
 ghost use Rattle.amr_engine.specs.Outcomes.{outcome_view};
 ghost use Rattle.amr_engine.specs.Events.{outcome_of, after_event, without_notifications};
-ghost use Rattle.amr_state.specs.State.{start};
+ghost use Rattle.amr_engine.specs.State.State.{start};
 
+use crate::lines::{Outlet, WriteFailed, event_text, flush, write_whole};
 use crate::program::fault::Fault;
 use crate::program::load::read_files;
-use amr_actions::Event;
 use amr_engine::{Engine, Outcome};
 use amr_events::Script;
-use amr_lines::lines::{Outlet, WriteFailed, event_text, flush, write_whole};
+use amr_events::actions::Event;
 use std::alloc::{AllocError, Global};
 use std::error::Error;
 use std::fmt;

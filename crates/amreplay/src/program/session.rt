@@ -4,9 +4,9 @@ ghost use Rattle.amreplay.specs.Program.Ends.{EndsBy, ReadsBy};
 ghost use Rattle.amreplay.specs.Program.Sessions.{SessionLeaves};
 
 use crate::commands::converse;
+use crate::lines::{Inlet, Outlet};
 use crate::program::fault::Fault;
 use crate::program::load::open_session;
-use amr_lines::lines::{Inlet, Outlet};
 use std::alloc::Global;
 use std::io::{Read, Write};
 use std::mem::forget;

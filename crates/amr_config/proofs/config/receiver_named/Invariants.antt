@@ -2,7 +2,7 @@ use Rattle.std.proofs.Common.{◌≡◌, drop}
 use Rattle.std.specs.List.{find}
 use Rattle.std.specs.Ordering.{eq_by_cmp}
 use Rattle.amr_labels.specs.Labels.{text_cmp}
-use Rattle.amr_stated.specs.declared.receiver.Receiver.{Receiver}
+use Rattle.amr_config.specs.declared.stated.receiver.Receiver.{Receiver}
 use Rattle.amr_config.proofs.config.receiver_named.Given as goal
 
 abbrev pub invariant-loop-receiver : goal.invariant-loop-receiver

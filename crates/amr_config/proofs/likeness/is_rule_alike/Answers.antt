@@ -1,5 +1,5 @@
 use Rattle.std.proofs.Common.{List, ap}
-use Rattle.amr_matchers.specs.Matchers.{Matcher}
+use Rattle.amr_labels.specs.Matcher.Matchers.{Matcher}
 use Rattle.amr_config.proofs.Alike.{matchers_decide, second_decides, first_fails}
 use Rattle.amr_config.proofs.likeness.is_rule_alike.Goals as goal
 

@@ -1,6 +1,6 @@
 use Rattle.std.specs.Prelude.{IfOk, OnOk, ◌≡◌}
 use Rattle.std.proofs.Common.{ap, ◌∙◌, subst}
-use Rattle.amr_state.specs.Kept.{Kept, GrownBy, undone}
+use Rattle.amr_engine.specs.State.Kept.{Kept, GrownBy, undone}
 use Rattle.amr_engine.specs.Prepared.{performed, entries_of}
 use Rattle.amr_engine.proofs.Remembering.{performed_true}
 use Rattle.amr_engine.proofs.apply.perform.Goals as goal

@@ -1,5 +1,5 @@
 use Rattle.std.proofs.Common.{ap}
-use Rattle.amr_state.specs.State.{State}
+use Rattle.amr_engine.specs.State.State.{State}
 use Rattle.amr_engine.proofs.Belonging.{group_of_members}
 use Rattle.amr_engine.proofs.Partitions.{through_after}
 use Rattle.amr_engine.proofs.flush.flush_in_full.Goals as goal

@@ -1,6 +1,6 @@
 use Rattle.std.proofs.Common.{◌≡◌, ◌*◌, drop}
 use Rattle.std.specs.List.{fold}
-use Rattle.amr_state.specs.Kept.{GrownBy, undone}
+use Rattle.amr_engine.specs.State.Kept.{GrownBy, undone}
 use Rattle.amr_engine.specs.Partition.{notified_by}
 use Rattle.amr_engine.proofs.flush.notify_others.Given as goal
 

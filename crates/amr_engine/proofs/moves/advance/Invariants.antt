@@ -3,7 +3,7 @@ use Rattle.amr_engine.specs.Events.{move_limit}
 use Rattle.amr_engine.specs.Moves.{advance, counted_run}
 use Rattle.amr_engine.specs.Remembered.{IsTrueOf}
 use Rattle.amr_engine.specs.QuietMoves.{moved_times, AreQuietMoves}
-use Rattle.amr_state.specs.Kept.{undone}
+use Rattle.amr_engine.specs.State.Kept.{undone}
 use Rattle.amr_engine.specs.Weight.{first_weight}
 use Rattle.amr_engine.proofs.Cascade.{plus_moves}
 use Rattle.amr_engine.proofs.moves.advance.Given as goal

@@ -1,7 +1,7 @@
 use Rattle.std.proofs.Common.{◌+◌, length, drop, ap, sym, ◌∙◌}
 use Rattle.std.specs.List.{fold}
 use Rattle.amr_rules.specs.declared.alert.Alert.{Alert}
-use Rattle.amr_state.specs.State.{State}
+use Rattle.amr_engine.specs.State.State.{State}
 use Rattle.amr_engine.specs.Events.{put}
 use Rattle.amr_engine.specs.Weight.{alerts_weight}
 use Rattle.amr_engine.proofs.Copied.{put-config}

@@ -1,7 +1,7 @@
 use Rattle.std.proofs.Common.{◌≡◌, ◌≤◌, ◌+◌, drop, length}
 use Rattle.std.specs.List.{fold}
 use Rattle.amr_engine.specs.Events.{put}
-use Rattle.amr_state.specs.Kept.{undone}
+use Rattle.amr_engine.specs.State.Kept.{undone}
 use Rattle.amr_engine.specs.Weight.{alerts_weight}
 use Rattle.amr_engine.proofs.post.put_all.Given as goal
 

@@ -1,5 +1,5 @@
 use Rattle.std.proofs.Common.{sym, subst}
-use Rattle.amr_actions.specs.Acts.{act_of}
+use Rattle.amr_events.specs.Actions.Acts.{act_of}
 use Rattle.amr_engine.specs.Prepared.{DoesAsPrepared}
 use Rattle.amr_engine.specs.declared.prepare.Prepared.TheVariants as prepared
 use Rattle.amr_engine.proofs.Preparing.{some_tick, some_label}

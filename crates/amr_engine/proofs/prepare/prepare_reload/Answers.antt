@@ -1,9 +1,9 @@
 use Rattle.std.proofs.Common.{Err, Result, sym, subst}
-use Rattle.amr_stated.specs.Config.{Config}
-use Rattle.amr_actions.specs.Events.{Act}
-use Rattle.amr_actions.specs.Acts.{by_number}
-use Rattle.amr_posts.specs.Reasons.{reason_number}
-use Rattle.amr_posts.specs.declared.reason.Reason.{Reason}
+use Rattle.amr_config.specs.Stated.Config.{Config}
+use Rattle.amr_events.specs.Actions.Events.{Act}
+use Rattle.amr_events.specs.Actions.Acts.{by_number}
+use Rattle.amr_events.specs.Posts.Reasons.{reason_number}
+use Rattle.amr_events.specs.declared.posts.reason.Reason.{Reason}
 use Rattle.amr_engine.specs.Prepared.{IsPrepared, DoesAsPrepared}
 use Rattle.amr_engine.specs.declared.prepare.Prepared.TheVariants as prepared
 use Rattle.amr_engine.proofs.Preparing.{some_reload, no_reload}

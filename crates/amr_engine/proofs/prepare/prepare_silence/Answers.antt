@@ -1,4 +1,4 @@
-use Rattle.amr_posts.specs.Reasons.{reason_number}
+use Rattle.amr_events.specs.Posts.Reasons.{reason_number}
 use Rattle.amr_engine.proofs.Preparing.{no_silence, some_silence}
 use Rattle.amr_engine.proofs.prepare.prepare_silence.Goals as goal
 

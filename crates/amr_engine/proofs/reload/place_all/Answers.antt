@@ -1,6 +1,6 @@
 use Rattle.std.proofs.Common.{◌+◌, ◌*◌, length, drop, ap, sym, ◌∙◌}
 use Rattle.std.specs.List.{fold}
-use Rattle.amr_state.specs.State.{State, place}
+use Rattle.amr_engine.specs.State.State.{State, place}
 use Rattle.amr_engine.specs.Weight.{copies}
 use Rattle.amr_engine.proofs.Copied.{place-config}
 use Rattle.amr_engine.proofs.Growing.{fold_left, placed_more}

@@ -1,7 +1,7 @@
 use Rattle.std.proofs.Common.{◌≡◌, ◌≤◌, ◌+◌, ◌*◌, drop, length}
 use Rattle.std.specs.List.{fold}
-use Rattle.amr_state.specs.State.{place}
-use Rattle.amr_state.specs.Kept.{undone}
+use Rattle.amr_engine.specs.State.State.{place}
+use Rattle.amr_engine.specs.State.Kept.{undone}
 use Rattle.amr_engine.specs.Weight.{copies}
 use Rattle.amr_engine.proofs.reload.place_all.Given as goal
 

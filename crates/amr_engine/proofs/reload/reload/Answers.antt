@@ -1,6 +1,6 @@
 use Rattle.std.proofs.Common.{length, ap, ◌∙◌}
 use Rattle.std.specs.List.{fold}
-use Rattle.amr_state.specs.State.{State, place}
+use Rattle.amr_engine.specs.State.State.{State, place}
 use Rattle.amr_engine.specs.Events.{with_config}
 use Rattle.amr_engine.proofs.Partitions.{on_ok}
 use Rattle.amr_engine.proofs.Growing.{reloaded}

@@ -1,5 +1,5 @@
 use Rattle.std.proofs.Common.{◌≤◌, ◌-◌, ◌*◌, sym, ap, ◌∙◌, refl, arith}
-use Rattle.amr_stated.specs.Config.{Config}
+use Rattle.amr_config.specs.Stated.Config.{Config}
 use Rattle.amr_config.specs.Routing.{group_interval_of}
 use Rattle.amr_engine.specs.Lasting.{Lasts}
 use Rattle.amr_engine.proofs.Cascade.{no_value}

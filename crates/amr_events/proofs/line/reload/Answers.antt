@@ -1,7 +1,7 @@
 use Rattle.std.proofs.Common.{◌≡◌, Some, Ok, Err, option_map, refl, sym, ap, ◌∙◌}
 use Rattle.serde_json.specs.View.{view}
 use Rattle.serde_json.specs.Read.{read}
-use Rattle.amr_loading.specs.Reading.{config_of}
+use Rattle.amr_config.specs.Read.Reading.{config_of}
 use Rattle.amr_events.specs.SeenReloads.{Spells}
 use Rattle.amr_events.proofs.line.reload.Goals as goal
 

@@ -6,8 +6,8 @@ use Rattle.serde_json.specs.Data.{Data, object, no_members, put}
 use Rattle.serde_json.specs.Find.{as_str}
 use Rattle.amr_time.specs.Time.{Moment}
 use Rattle.amr_time.specs.MomentRead.{moment_at}
-use Rattle.amr_actions.specs.Events as events
-use Rattle.amr_posts.specs.declared.posted_alert.PostedAlert.{PostedAlert}
+use Rattle.amr_events.specs.Actions.Events as events
+use Rattle.amr_events.specs.declared.posts.posted_alert.PostedAlert.{PostedAlert}
 use Rattle.amr_events.specs.Shapes.{◌>>=◌, moment_under}
 use Rattle.amr_events.specs.Posted.{alerts_of}
 use Rattle.amr_events.specs.Lines.{act_count, post_of, act_in}

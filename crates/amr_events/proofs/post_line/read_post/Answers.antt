@@ -2,7 +2,7 @@ use Rattle.std.proofs.Common.{◌≡◌, ℕ, List, [], Option, Some, None, IfSo
 use Rattle.std.proofs.lemmas.Str.{is_utf8-from_IsUtf8}
 use Rattle.std.specs.Str.{is_utf8}
 use Rattle.json.specs.Lex.{tokens}
-use Rattle.amr_actions.specs.Events.{Event}
+use Rattle.amr_events.specs.Actions.Events.{Event}
 use Rattle.amr_events.specs.Lines.{json_of}
 use Rattle.amr_events.specs.Refused.{LineIs, EventIs}
 use Rattle.amr_events.specs.Tokens.{States}

@@ -1,5 +1,5 @@
 use Rattle.std.proofs.Common.{◌≡◌, Some}
-use Rattle.amr_loading.specs.Members.{present}
+use Rattle.amr_config.specs.Read.Members.{present}
 use Rattle.amr_events.specs.Posted.{time_at}
 use Rattle.amr_events.proofs.Stating.{states_such}
 use Rattle.amr_events.proofs.Drafting.{with_end}

@@ -7,7 +7,7 @@ use Rattle.serde_json.specs.Read.{of_members, converted}
 use Rattle.amr_events.specs.Posted.{alert_of}
 use Rattle.amr_events.specs.Tokens.{States, IsDraft}
 use Rattle.amr_events.specs.declared.posted_tokens.Draft.{Draft}
-use Rattle.amr_posts.specs.declared.posted_alert.PostedAlert.{PostedAlert}
+use Rattle.amr_events.specs.declared.posts.posted_alert.PostedAlert.{PostedAlert}
 use Rattle.amr_events.proofs.Stating.{states_object, no_member_read, one_more_member, all_members_read}
 use Rattle.amr_events.proofs.Drafting.{empty_draft}
 use Rattle.amr_events.proofs.posted_tokens.usual_alert.Goals as goal

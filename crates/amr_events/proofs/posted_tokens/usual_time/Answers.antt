@@ -1,5 +1,5 @@
 use Rattle.std.proofs.Common.{◌≡◌, Some, sym}
-use Rattle.amr_loading.specs.Members.{present}
+use Rattle.amr_config.specs.Read.Members.{present}
 use Rattle.amr_events.specs.Posted.{time_at, time_of}
 use Rattle.amr_events.proofs.Stating.{states_text}
 use Rattle.amr_events.proofs.posted_tokens.usual_time.Goals as goal

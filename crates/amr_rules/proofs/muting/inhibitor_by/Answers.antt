@@ -4,7 +4,7 @@ use Rattle.std.specs.List.{list_all}
 use Rattle.std.specs.Option.{option_copied}
 use Rattle.std.specs.Map.Iter.{deref_pair}
 use Rattle.amr_labels.specs.Map.{entries}
-use Rattle.amr_matchers.specs.Matchers.{all_hold}
+use Rattle.amr_labels.specs.Matcher.Matchers.{all_hold}
 use Rattle.amr_rules.specs.Muting.{first_source, inhibitor_by, is_agreeing, sources_of}
 use Rattle.amr_rules.proofs.MutingLaws.{no_source}
 use Rattle.amr_rules.proofs.Searching.{list_all-filter, first-sources_of}

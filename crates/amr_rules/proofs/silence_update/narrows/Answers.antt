@@ -1,7 +1,7 @@
 use Rattle.std.proofs.Common.{◌≡◌, false, not, ◌||◌, [], sym, ap, ◌∙◌, unwrap_or}
 use Rattle.amr_labels.specs.Map.{get-empty}
 use Rattle.amr_labels.specs.Labels.{text_cmp, value_of}
-use Rattle.amr_matchers.specs.Matchers.{compares}
+use Rattle.amr_labels.specs.Matcher.Matchers.{compares}
 use Rattle.amr_rules.specs.Silences.{is_negative}
 use Rattle.amr_rules.proofs.silence_update.narrows.Goals as goal
 

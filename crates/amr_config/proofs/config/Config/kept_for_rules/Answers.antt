@@ -1,6 +1,6 @@
 use Rattle.std.proofs.Common.{◌≡◌, Some, sym, ap, subst, ◌∙◌}
 use Rattle.std.specs.Prelude.{IfSome}
-use Rattle.amr_stated.specs.Config.{Config}
+use Rattle.amr_config.specs.Stated.Config.{Config}
 use Rattle.amr_config.specs.declared.config.Parts.{Parts}
 use Rattle.amr_config.specs.RuleNames.{AreNamesOf, kept_for}
 use Rattle.amr_config.proofs.RuleNames.{kept_by}

@@ -1,5 +1,5 @@
 use Rattle.std.proofs.Common.{◌≡◌, ◌∙◌, ◌≤◌, length, Some, None, sym, ap, subst}
-use Rattle.amr_stated.specs.Config.{Config}
+use Rattle.amr_config.specs.Stated.Config.{Config}
 use Rattle.amr_config.specs.declared.config.Parts.{Parts}
 use Rattle.amr_config.specs.Receivers.{AreReceivers, receiver_at, receiver_named}
 use Rattle.amr_config.specs.Routing.{receiver_name_of}

@@ -1,7 +1,7 @@
 use Rattle.std.proofs.Common.{◌≡◌, ◌∙◌, sym, ap}
 use Rattle.amr_labels.specs.Labels.{LabelSet}
-use Rattle.amr_stated.specs.Config.{Config}
-use Rattle.amr_stated.specs.RuleMatches.{rule_matches}
+use Rattle.amr_config.specs.Stated.Config.{Config}
+use Rattle.amr_config.specs.Stated.RuleMatches.{rule_matches}
 use Rattle.amr_config.proofs.Remembered.{gives_more}
 use Rattle.amr_config.proofs.router.Router.keep_sides.Goals as goal
 

@@ -1,5 +1,5 @@
 use Rattle.amr_labels.specs.Labels.{LabelSet}
-use Rattle.amr_stated.specs.RuleMatches.{rule_matches}
+use Rattle.amr_config.specs.Stated.RuleMatches.{rule_matches}
 use Rattle.amr_config.specs.Groups.{known_of}
 use Rattle.amr_config.proofs.Remembered.{remembers_none, gives_none}
 use Rattle.amr_config.proofs.router.Router.new.Goals as goal

@@ -2,8 +2,8 @@ use Rattle.std.proofs.Common.{◌≡◌, ◌∙◌, Some, ap, sym}
 use Rattle.amr_labels.specs.Labels.{label_set_cmp}
 use Rattle.amr_labels.specs.Map.{set}
 use Rattle.amr_tables.specs.Numbered.{shown}
-use Rattle.amr_stated.specs.Config.{Config}
-use Rattle.amr_stated.specs.RuleMatches.{rule_matches}
+use Rattle.amr_config.specs.Stated.Config.{Config}
+use Rattle.amr_config.specs.Stated.RuleMatches.{rule_matches}
 use Rattle.amr_config.specs.declared.router.Known.{Known}
 use Rattle.amr_config.specs.Groups.{groups_of, known_of}
 use Rattle.amr_config.proofs.Remembered.{remembers_more}

@@ -1,6 +1,6 @@
 use Rattle.std.proofs.Common.{◌≡◌, ap, ◌∙◌}
 use Rattle.std.proofs.lemmas.Result.{IfOk-weaker}
-use Rattle.amr_stated.specs.RuleMatches.{rule_matches}
+use Rattle.amr_config.specs.Stated.RuleMatches.{rule_matches}
 use Rattle.amr_config.specs.RuleNames.{kept_for}
 use Rattle.amr_config.proofs.RuleNames.{same_sides}
 use Rattle.amr_config.proofs.router.Router.sides_of.Goals as goal

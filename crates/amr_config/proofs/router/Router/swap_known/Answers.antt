@@ -1,7 +1,7 @@
 use Rattle.std.proofs.Common.{sym, ap, subst}
 use Rattle.amr_labels.specs.Labels.{LabelSet, label_set_cmp}
 use Rattle.amr_tables.specs.Numbered.{shown}
-use Rattle.amr_stated.specs.RuleMatches.{rule_matches}
+use Rattle.amr_config.specs.Stated.RuleMatches.{rule_matches}
 use Rattle.amr_config.specs.Groups.{known_of, IsKnown, AreSides}
 use Rattle.amr_config.proofs.Alike.{same_known}
 use Rattle.amr_config.proofs.Remembered.{gives_same}

@@ -1,9 +1,9 @@
-use Rattle.amr_state.specs.declared.change.Change.{Change}
+use Rattle.amr_engine.specs.declared.state.change.Change.{Change}
 use Rattle.std.proofs.Common.{◌≡◌, ◌≤◌, ◌*◌, List, length, sym, ap, subst, ◌∙◌, ◌++◌, ◌∷◌, []}
-use Rattle.amr_state.specs.State.{State}
-use Rattle.amr_state.specs.Steps.{Steps}
-use Rattle.amr_state.specs.Kept.{Kept}
-use Rattle.amr_state.specs.Records.{befores, put_back}
+use Rattle.amr_engine.specs.State.State.{State}
+use Rattle.amr_engine.specs.State.Steps.{Steps}
+use Rattle.amr_engine.specs.State.Kept.{Kept}
+use Rattle.amr_engine.specs.State.Records.{befores, put_back}
 use Rattle.amr_engine.specs.Events.{after_event}
 use Rattle.amr_engine.specs.Remembered.{IsTrueOf}
 use Rattle.amr_engine.specs.Placed.{StayPlaced}

@@ -1,6 +1,6 @@
 use Rattle.std.proofs.Common.{sym, subst, ap, ◌∙◌}
-use Rattle.amr_state.specs.Steps.{Steps}
-use Rattle.amr_state.specs.Records.{befores}
+use Rattle.amr_engine.specs.State.Steps.{Steps}
+use Rattle.amr_engine.specs.State.Records.{befores}
 use Rattle.amr_engine.proofs.PlacedRuns.{dropped_stays}
 use Rattle.amr_engine.specs.Remembered.{IsTrueOf}
 use Rattle.amr_engine.proofs.Remembering.{stays_true}

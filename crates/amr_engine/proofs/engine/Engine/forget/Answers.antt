@@ -1,4 +1,4 @@
-use Rattle.amr_state.specs.Records.{befores}
+use Rattle.amr_engine.specs.State.Records.{befores}
 use Rattle.std.proofs.Common.{sym, subst, ◌∙◌}
 use Rattle.amr_engine.specs.Remembered.{IsTrueOf}
 use Rattle.amr_engine.proofs.PlacedRuns.{forgotten_stays}

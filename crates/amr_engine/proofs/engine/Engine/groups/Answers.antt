@@ -1,5 +1,5 @@
 use Rattle.std.proofs.Common.{ap, subst}
-use Rattle.amr_state.specs.Steps.{Steps}
+use Rattle.amr_engine.specs.State.Steps.{Steps}
 use Rattle.amr_engine.specs.Placed.{ArePlaced}
 use Rattle.amr_engine.proofs.PlacedGroups.{are_listed}
 use Rattle.amr_engine.proofs.engine.Engine.groups.Goals as goal

@@ -1,4 +1,4 @@
-use Rattle.amr_state.specs.Records.{befores}
+use Rattle.amr_engine.specs.State.Records.{befores}
 use Rattle.amr_engine.proofs.PlacedRuns.{start_stays}
 use Rattle.amr_engine.proofs.Settling.{no_past}
 use Rattle.amr_engine.proofs.engine.Engine.new.Goals as goal

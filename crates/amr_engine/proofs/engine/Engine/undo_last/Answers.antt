@@ -1,6 +1,6 @@
 use Rattle.std.proofs.Common.{sym, ap, ◌∙◌, ◌++◌, ◌∷◌, []}
-use Rattle.amr_state.specs.Steps.{Steps}
-use Rattle.amr_state.specs.Records.{befores}
+use Rattle.amr_engine.specs.State.Steps.{Steps}
+use Rattle.amr_engine.specs.State.Records.{befores}
 use Rattle.amr_engine.proofs.PlacedRuns.{undone_stays}
 use Rattle.amr_engine.proofs.Settling.{some_record, is_idle, past_undone, records_undone}
 use Rattle.amr_engine.proofs.engine.Engine.undo_last.Goals as goal

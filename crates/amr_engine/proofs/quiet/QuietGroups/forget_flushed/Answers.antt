@@ -1,5 +1,5 @@
 use Rattle.std.proofs.Common.{◌<◌, length, sym, subst, arith}
-use Rattle.amr_stated.specs.Config.{Config}
+use Rattle.amr_config.specs.Stated.Config.{Config}
 use Rattle.amr_config.specs.Routing.{HasOwnPath}
 use Rattle.amr_engine.specs.Flush.{flush}
 use Rattle.amr_engine.proofs.QuietStays.{flush_leaves}

@@ -1,8 +1,8 @@
 use Rattle.std.proofs.Common.{sym, subst}
 use Rattle.amr_time.specs.Time.{Moment}
-use Rattle.amr_stated.specs.Config.{Config}
+use Rattle.amr_config.specs.Stated.Config.{Config}
 use Rattle.amr_config.specs.Routing.{HasOwnPath}
-use Rattle.amr_state.specs.State.{members}
+use Rattle.amr_engine.specs.State.State.{members}
 use Rattle.amr_engine.specs.Quiet.{IsAllNotified}
 use Rattle.amr_engine.proofs.QuietLaws.{notified_quiet}
 use Rattle.amr_engine.proofs.Remembering.{kept_if}

@@ -1,6 +1,6 @@
 use Rattle.std.proofs.Common.{◌≤◌, ◌<◌, length, sym, subst, arith}
 use Rattle.amr_time.specs.Time.{Moment}
-use Rattle.amr_stated.specs.Config.{Config}
+use Rattle.amr_config.specs.Stated.Config.{Config}
 use Rattle.amr_engine.specs.Quiet.{IsQuiet}
 use Rattle.amr_engine.proofs.Remembering.{kept_if}
 use Rattle.amr_engine.proofs.quiet.QuietGroups.note_quiet.Goals as goal

@@ -1,5 +1,5 @@
 use Rattle.std.proofs.Common.{◌≡◌, ◌<◌, Some, slice_get, ap, subst, arith}
-use Rattle.amr_actions.specs.Events.{Event}
+use Rattle.amr_events.specs.Actions.Events.{Event}
 use Rattle.amr_replay.specs.Session.{View, state_at}
 use Rattle.amr_replay.specs.Records.{HasEntries}
 use Rattle.amr_replay.proofs.Recorded.{records_count, record_has, refused_has_none, label_has_none}

@@ -1,5 +1,5 @@
 use Rattle.std.proofs.Common.{◌≤◌, length, subst, sym}
-use Rattle.amr_lines.specs.CommandLines.Line.{longest}
+use Rattle.amreplay.specs.CommandLines.Line.{longest}
 use Rattle.amreplay.specs.Commands.Replies.{incident_of}
 use Rattle.amreplay.specs.Commands.Answer.{HasLineOutcome}
 use Rattle.amreplay.proofs.commands.dispatch.answer.Goals as goal

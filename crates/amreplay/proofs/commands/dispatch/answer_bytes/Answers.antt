@@ -1,5 +1,5 @@
 use Rattle.std.proofs.Common.{subst}
-use Rattle.amr_lines.specs.CommandLines.ParsedLine.{LineSays, FailsToRead}
+use Rattle.amreplay.specs.CommandLines.ParsedLine.{LineSays, FailsToRead}
 use Rattle.amreplay.specs.Commands.Replies.{incident_of}
 use Rattle.amreplay.proofs.CommandsLemmas.Answering.{outcome_done, outcome_unread}
 use Rattle.amreplay.proofs.commands.dispatch.answer_bytes.Goals as goal

@@ -1,7 +1,7 @@
 use Rattle.std.proofs.Common.{◌≡◌, List, ℕ, Option, ◌++◌, take}
 use Rattle.amreplay.specs.Commands.Replies.{incident_of}
 use Rattle.amreplay.specs.Commands.Talk.{Progress}
-use Rattle.amr_lines.specs.CommandLines.Line.{Holds}
+use Rattle.amreplay.specs.CommandLines.Line.{Holds}
 use Rattle.amreplay.specs.Commands.Converse.{Stands}
 use Rattle.amreplay.proofs.commands.input.take_bytes.Given as goal
 

@@ -1,6 +1,6 @@
 use Rattle.std.proofs.Common.{◌≡◌, ◌+◌, drop, Some, ap, sym, ◌∙◌, ◌++◌, arith, slice_get, string_bytes}
 use Rattle.amr_engine.specs.Outcomes.{outcome_view}
-use Rattle.amr_lines.specs.Lines.Printed.{event_lines}
+use Rattle.amreplay.specs.Lines.Printed.{event_lines}
 use Rattle.amreplay.proofs.CommandsLemmas.EventsPassed.{numbered_none, numbered_more, rest_item}
 use Rattle.amreplay.proofs.commands.navigation.numbered_text.Goals as goal
 

@@ -1,6 +1,6 @@
 use Rattle.std.proofs.Common.{◌≡◌, ◌++◌, length, codes, decimal, append_assoc}
 use Rattle.serde_json.proofs.OnLiterals.{serde_json_on_literals}
-use Rattle.amr_stated.specs.Config as config
+use Rattle.amr_config.specs.Stated.Config as config
 use Rattle.amreplay.specs.Program.Checked.{counts_line}
 use Rattle.amreplay.proofs.program.check.counts_text.Goals as goal
 

@@ -1,7 +1,0 @@
-//! The events that happen to an Alertmanager: an action at a moment. `amr_events` reads them from a
-//! script, and the engine applies them. They don't know the state.
-#![tactic(auto)]
-
-mod event;
-
-pub use event::{Act, Event};

@@ -1,0 +1,72 @@
+-- What is read is what the file says, and a refusal of its shape is that of the first fault.
+use Rattle.std.proofs.Common.{◌≡◌, ℕ, Bool, true, false, List, ◌++◌, Option, Some, None, Result, Ok, Err, inl, inr, refl, sym, ap, subst, ◌∙◌}
+use Rattle.std.proofs.lemmas.List.{append-nil}
+use Rattle.serde_json.specs.Data.{Data}
+use Rattle.amr_labels.specs.Labels.{Text}
+use Rattle.amr_config.specs.declared.read.error.Refusal.{Refusal}
+use Rattle.amr_config.specs.declared.stated.stated.Stated.{Stated}
+use Rattle.amr_config.specs.Read.Levels.{HasDeepRoute}
+use Rattle.amr_config.specs.Read.Readings.{Reading, plain, next, value_after, patterns_after, MayGive, IsBadPattern}
+use Rattle.amr_config.specs.Read.RouteParts.{is_too_deep}
+use Rattle.amr_config.specs.Read.Walking.{walked_at}
+use Rattle.amr_config.specs.Read.Table.{StatesWhole}
+use Rattle.amr_config.specs.Read.Faults.{Finding, first_fault, patterns_before, findings_of}
+use Rattle.amr_config.proofs.ReadLemmas.Judged.{Judged, Tells}
+use Rattle.amr_config.proofs.ReadLemmas.JudgedRoutes.{walked_judged}
+use Rattle.amr_config.proofs.ReadLemmas.DeepRoutes.{deep_route_of}
+use Rattle.amr_config.specs.Stated.Config.{Config}
+use Rattle.amr_config.specs.Read.Judging.{refusal_of}
+use Rattle.amr_config.specs.Read.Reading.{unless_refused, reading_of}
+use Rattle.amr_config.specs.Read.ReadLaws.{WhatIsReadIsStated, AnswersBy, AnswersGoByTheFirstFault}
+use Rattle.amr_config.proofs.ReadLemmas.WholeConfigs.{was_judged}
+
+read_states : (d : Data) (stated : Stated) (r : Result Stated Refusal) (findings : List Finding) → r ≡ Ok stated → Tells r findings (StatesWhole d) → StatesWhole d stated
+read_states d stated r findings is t = (subst (λ (r : Result Stated Refusal). Tells r findings (StatesWhole d)) is t).1
+
+pub what_is_read_is_stated : WhatIsReadIsStated
+what_is_read_is_stated d config e =
+    let was = was_judged d config e in
+    let states = read_states d was.stated (walked_at d).value (findings_of d) was.walked (walked_judged d was.shallow).tells in
+    rw was.is states
+
+-- ---- answers
+
+same_patterns : {A B : Type 0} (part : Reading A) (f : A → Result B Refusal) → (next part (λ x. plain (f x))).patterns ≡ part.patterns
+unfolding next
+same_patterns part f = go part.value
+  where
+    go : (r : Result _ Refusal) → part.patterns ++ patterns_after r (λ x. plain (f x)) ≡ part.patterns
+    go (Ok x) = append-nil part.patterns
+    go (Err refusal) = append-nil part.patterns
+
+by_value : (d : Data) (answer : Result Config Refusal) (r : Result Stated Refusal) → Tells r (findings_of d) (StatesWhole d) → value_after r (λ stated. plain (unless_refused stated (refusal_of stated))) ≡ answer → AnswersBy d (first_fault (findings_of d)) answer
+by_value d answer (Ok stated) (none, states) is = rw none (inl (stated, states, sym is))
+by_value d answer (Err refusal) (path, same, first) is = rw first (inl (sym is ∙ ap (λ (r : Refusal). Err r) same))
+
+by_pattern : (d : Data) (refusal : Refusal) (o : Option (List ℕ)) → IsBadPattern (patterns_before (findings_of d)) refusal → AnswersBy d o (Err refusal)
+by_pattern d refusal None bad = inr bad
+by_pattern d refusal (Some path) bad = inr bad
+
+answered : (d : Data) (answer : Result Config Refusal) → Judged (walked_at d) (findings_of d) (StatesWhole d) → MayGive (next (walked_at d) (λ stated. plain (unless_refused stated (refusal_of stated)))) answer → AnswersBy d (first_fault (findings_of d)) answer
+unfolding next
+answered d (Ok config) j is = by_value d (Ok config) (walked_at d).value j.tells is
+answered d (Err refusal) j (inl is) = by_value d (Err refusal) (walked_at d).value j.tells is
+answered d (Err refusal) j (inr bad) =
+    let same = same_patterns (walked_at d) (λ stated. unless_refused stated (refusal_of stated)) ∙ j.met in
+    by_pattern d refusal (first_fault (findings_of d)) (subst (λ (patterns : List (List ℕ × Text)). IsBadPattern patterns refusal) same bad)
+
+not_too_deep : (d : Data) → ¬ HasDeepRoute d → is_too_deep d ≡ false
+not_too_deep d none = go (is_too_deep d) refl
+  where
+    go : (b : Bool) → is_too_deep d ≡ b → is_too_deep d ≡ false
+    go true is = absurd (none (deep_route_of d is))
+    go false is = is
+
+past_depth : (d : Data) → is_too_deep d ≡ false → reading_of d ≡ next (walked_at d) (λ stated. plain (unless_refused stated (refusal_of stated)))
+unfolding reading_of
+past_depth d shallow = rw shallow refl
+
+pub answers_go_by_the_first_fault : AnswersGoByTheFirstFault
+answers_go_by_the_first_fault d answer none is =
+    let shallow = not_too_deep d none in
+    answered d answer (walked_judged d shallow) (subst (λ (reading : Reading Config). MayGive reading answer) (past_depth d shallow) is)

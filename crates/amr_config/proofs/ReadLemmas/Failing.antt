@@ -1,0 +1,21 @@
+-- Where a part of a reading fails, the whole fails.
+use Rattle.std.proofs.Common.{◌≡◌, ℕ, List, refl}
+use Rattle.amr_config.specs.declared.read.error.ConfigError.{ConfigError}
+use Rattle.amr_config.specs.declared.read.error.ConfigError.TheVariants.{Memory, Refused}
+use Rattle.amr_config.specs.Read.Answers.{IsFault, Fails}
+use Rattle.amr_config.specs.Read.Readings.{Reading, give, faulty, next}
+
+pub fails_first : {A B : Type 0} (e : ConfigError) (part : Reading A) (rest : A → Reading B) → Fails e part → Fails e (next part rest)
+unfolding next
+fails_first Memory part rest h = tt
+fails_first (Refused refusal) part rest h = rw h refl
+
+-- past a part that is read
+pub fails_later : {A B : Type 0} (e : ConfigError) (part : Reading A) (rest : A → Reading B) (x : A) → part ≡ give x → Fails e (rest x) → Fails e (next part rest)
+unfolding next
+fails_later e part rest x is h = rw is h
+
+-- at a faulty place
+pub fails_at : (A : Type 0) (e : ConfigError) (path : List ℕ) → IsFault e path → Fails {Y = A} e (faulty path)
+fails_at A Memory path h = tt
+fails_at A (Refused refusal) path h = rw h refl

@@ -1,0 +1,81 @@
+-- A walk goes as its parts go.
+use Rattle.std.proofs.Common.{◌≡◌, ℕ, List, Option, Some, None, is_some, Result, Ok, Err, true, false, inl, inr, refl, ap, ◌∙◌}
+use Rattle.std.proofs.lemmas.List.Elements.{Contains-append_left, Contains-append_right}
+use Rattle.std.specs.Prelude.{unwrap_or}
+use Rattle.serde_json.specs.Data.{Data, Members}
+use Rattle.serde_json.specs.Find.{as_object}
+use Rattle.amr_config.specs.declared.read.error.ConfigError.{ConfigError}
+use Rattle.amr_config.specs.declared.read.error.ConfigError.TheVariants.{Memory, Refused}
+use Rattle.amr_config.specs.Read.Members.{members_at}
+use Rattle.amr_config.specs.Read.Readings.{Reading, give, next, patterns_after, value_after, MayGive}
+use Rattle.amr_config.specs.Read.Answers.{IsFault, Fails, Stops, Reads}
+use Rattle.amr_config.proofs.ReadLemmas.Failing.{fails_at}
+
+is_none_from : {A : Type 0} (o : Option A) → is_some o ≡ false → o ≡ None
+is_none_from None e = refl
+is_none_from (Some x) e = cc
+
+some_from : {A : Type 0} (o : Option A) → is_some o ≡ true → (x : A) × (o ≡ Some x)
+some_from None e = cc
+some_from (Some x) e = (x, refl)
+
+-- where the first part stops, the walk stops
+pub stops_first : {A B : Type 0} (e : ConfigError) (part : Reading A) (rest : A → Reading B) → Stops e (MayGive part) → Stops e (MayGive (next part rest))
+unfolding next
+stops_first Memory part rest h = tt
+stops_first (Refused r) part rest (inl bad) = inl (ap (λ v. value_after v rest) bad)
+stops_first (Refused r) part rest (inr (path, text, met, may, is)) =
+    inr (path, text, Contains-append_left part.patterns (patterns_after part.value rest) (path, text) met, may, is)
+
+-- past a part that is read it stops where the rest stops
+pub stops_later : {A B : Type 0} (e : ConfigError) (part : Reading A) (rest : A → Reading B) (a : A) → part.value ≡ Ok a → Stops e (MayGive (rest a)) → Stops e (MayGive (next part rest))
+unfolding next
+stops_later Memory part rest a read h = tt
+stops_later (Refused r) part rest a read (inl bad) = inl (ap (λ v. value_after v rest) read ∙ bad)
+stops_later (Refused r) part rest a read (inr (path, text, met, may, is)) =
+    let same : patterns_after part.value rest ≡ (rest a).patterns = ap (λ v. patterns_after v rest) read in
+    inr (path, text, Contains-append_right part.patterns (patterns_after part.value rest) (path, text) (rw same met), may, is)
+
+-- past a part without patterns that is read
+pub stops_past : {A B : Type 0} (e : ConfigError) (part : Reading A) (rest : A → Reading B) (a : A) → part ≡ give a → Stops e (MayGive (rest a)) → Stops e (MayGive (next part rest))
+unfolding next
+stops_past e part rest a read h = rw read h
+
+-- a part without patterns
+pub stops_plain : {A : Type 0} (e : ConfigError) (reading : Reading A) → Fails e reading → Stops e (MayGive reading)
+stops_plain Memory reading h = tt
+stops_plain (Refused r) reading h = inl (ap (λ (reading : Reading _). reading.value) h)
+
+-- what is read past a part
+pub read_on : {A B : Type 0} (part : Reading A) (rest : A → Reading B) (a : A) → part.value ≡ Ok a → (next part rest).value ≡ (rest a).value
+unfolding next
+read_on part rest a read = ap (λ v. value_after v rest) read
+
+-- an object that isn't there
+pub no_members : (e : ConfigError) (path : List ℕ) (d : Data) → as_object d ≡ None → IsFault e path → Fails e (members_at path d)
+no_members e path d none h = rw none (fails_at _ e path h)
+
+pub no_object : (e : ConfigError) (path : List ℕ) (d : Data) → is_some (as_object d) ≡ false → IsFault e path → Fails e (members_at path d)
+no_object e path d none h = no_members e path d (is_none_from (as_object d) none) h
+
+-- an object that is there, and whose members aren't asked as one
+pub object_there : {B : Type 0} (path : List ℕ) (d : Data) (rest : Reading B) → is_some (as_object d) ≡ true → next (members_at path d) (λ (whole : Members). rest) ≡ rest
+unfolding next
+object_there path d rest some = rw (some_from (as_object d) some).1 refl
+
+pub fails_past_object : {B : Type 0} (e : ConfigError) (path : List ℕ) (d : Data) (rest : Reading B) → is_some (as_object d) ≡ true → Fails e rest → Fails e (next (members_at path d) (λ (whole : Members). rest))
+fails_past_object e path d rest some h = rw (object_there path d rest some) h
+
+pub past_object : {B : Type 0} (e : ConfigError) (path : List ℕ) (d : Data) (rest : Reading B) → is_some (as_object d) ≡ true → Stops e (MayGive rest) → Stops e (MayGive (next (members_at path d) (λ (whole : Members). rest)))
+past_object e path d rest some h = rw (object_there path d rest some) h
+
+-- what is read past it
+pub read_past_object : {B : Type 0} (path : List ℕ) (d : Data) (rest : Reading B) → is_some (as_object d) ≡ true → (next (members_at path d) (λ (whole : Members). rest)).value ≡ rest.value
+read_past_object path d rest some = ap (λ (reading : Reading _). reading.value) (object_there path d rest some)
+
+-- a list that is there
+pub reads_stated : {X : Type 0} (result : Result (List X) ConfigError) (part : Reading (List X)) (default : List X) → Reads (λ xs. xs) result part → Reads (λ xs. xs) result (next (next part (λ xs. give (Some xs))) (λ found. give (unwrap_or found default)))
+reads_stated (Ok xs) part default h =
+    read_on (next part (λ xs. give (Some xs))) (λ found. give (unwrap_or found default)) (Some xs) (read_on part (λ xs. give (Some xs)) xs h)
+reads_stated (Err e) part default h =
+    stops_first e (next part (λ xs. give (Some xs))) (λ found. give (unwrap_or found default)) (stops_first e part (λ xs. give (Some xs)) h)

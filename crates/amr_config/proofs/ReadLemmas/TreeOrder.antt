@@ -1,0 +1,186 @@
+-- The routes that are parsed are in preorder.
+use Rattle.std.proofs.Math.Nat.{eq-or-lt_of_le}
+use Rattle.std.proofs.Common.{◌≡◌, inl, inr, ℕ, zero, suc, ◌+◌, ◌<◌, ◌≤◌, List, [], ◌∷◌, ◌++◌, length, Option, Some, None, Ok, codes, refl, sym, ap, ◌∙◌, arith, append_assoc}
+use Rattle.std.specs.Option.{option_map_or}
+use Rattle.std.specs.List.{slice_get}
+use Rattle.std.proofs.lemmas.Option.{none-some}
+use Rattle.std.proofs.lemmas.List.{length_push, append-nil}
+use Rattle.serde_json.specs.Data.{Data, Items, no_items, item}
+use Rattle.amr_config.specs.declared.stated.route.Route.{Route}
+use Rattle.amr_config.specs.declared.stated.stated.Stated.{Stated}
+use Rattle.amr_config.specs.Read.Paths.{under, item_path}
+use Rattle.amr_config.specs.Read.Members.{member_of}
+use Rattle.amr_config.specs.Read.ReadIntervals.{intervals_at}
+use Rattle.amr_config.specs.Read.Readings.{items_in_turn}
+use Rattle.amr_config.specs.Read.Timeout.{timeout_at}
+use Rattle.amr_config.specs.Read.ReadReceivers.{receivers_at}
+use Rattle.amr_config.specs.Read.ReadRules.{rules_at}
+use Rattle.amr_config.specs.Read.RouteParts.{children_at}
+use Rattle.amr_config.specs.Read.ReadRoutes.{own_into, add_route, child_into, tree_from, routes_at}
+use Rattle.amr_config.specs.Read.Walking.{walked_at}
+use Rattle.amr_config.proofs.ReadLemmas.Preorder.{ok_same, bind_ok, own_adds, found_ok}
+
+abbrev pub parent_at : List Route → ℕ → Option ℕ
+parent_at routes n = option_map_or (λ (route : Route). route.parent) (slice_get routes n) None
+
+-- the second is the first, or is above it
+pub data IsAbove (routes : List Route) : ℕ → ℕ → Type 0 where
+  Itself : (n : ℕ) → IsAbove routes n n
+  Further : (n parent above : ℕ) → parent_at routes n ≡ Some parent → IsAbove routes parent above → IsAbove routes n above
+
+-- the parent of each route but the first is the route before it, or a route above that one
+abbrev pub IsLinked : List Route → Type 0
+IsLinked routes = (n : ℕ) → suc n < length routes → (parent : ℕ) × (parent_at routes (suc n) ≡ Some parent) × IsAbove routes n parent
+
+get_further : (routes more : List Route) (n : ℕ) → n < length routes → slice_get (routes ++ more) n ≡ slice_get routes n
+get_further [] more n lt = absurd (omega (arith, lt))
+get_further (r ∷ routes) more zero lt = refl
+get_further (r ∷ routes) more (suc n) lt = get_further routes more n (omega (arith, lt))
+
+get_last : (routes : List Route) (route : Route) → slice_get (routes ++ route ∷ []) (length routes) ≡ Some route
+get_last [] route = refl
+get_last (r ∷ routes) route = get_last routes route
+
+parent_further : (routes more : List Route) (n : ℕ) → n < length routes → parent_at (routes ++ more) n ≡ parent_at routes n
+parent_further routes more n lt = ap (λ o. option_map_or (λ (route : Route). route.parent) o None) (get_further routes more n lt)
+
+pub parent_within : (routes : List Route) (n parent : ℕ) → parent_at routes n ≡ Some parent → n < length routes
+parent_within [] n parent e = absurd (none-some parent e)
+parent_within (r ∷ routes) zero parent e = omega arith
+parent_within (r ∷ routes) (suc n) parent e = omega (arith, parent_within routes n parent e)
+
+above_further : (routes more : List Route) (n above : ℕ) → IsAbove routes n above → IsAbove (routes ++ more) n above
+above_further routes more _ _ (Itself n) = Itself n
+above_further routes more _ _ (Further n parent above e up) =
+    Further n parent above (parent_further routes more n (parent_within routes n parent e) ∙ e) (above_further routes more parent above up)
+
+above_above : (routes : List Route) (n m parent : ℕ) → IsAbove routes n m → parent_at routes m ≡ Some parent → IsAbove routes n parent
+above_above routes _ _ parent (Itself n) e = Further n parent parent e (Itself parent)
+above_above routes _ _ top (Further n parent above is up) e = Further n parent top is (above_above routes parent above top up e)
+
+-- the next route to be added may have this parent
+record MayFollow (routes : List Route) (parent : Option ℕ) : Type 0 where
+  linked : IsLinked routes
+  follows : (last : ℕ) → suc last ≡ length routes → (p : ℕ) × (parent ≡ Some p) × IsAbove routes last p
+
+-- what a route and those below it add
+record Adds (routes after : List Route) (parent : Option ℕ) : Type 0 where
+  grown : (more : List Route) × (after ≡ routes ++ more)
+  longer : length routes < length after
+  linked : IsLinked after
+  has : parent_at after (length routes) ≡ parent
+  under : (last : ℕ) → suc last ≡ length after → IsAbove after last (length routes)
+
+linked_push : (routes : List Route) (route : Route) → MayFollow routes route.parent → IsLinked (routes ++ route ∷ [])
+linked_push routes route may n lt =
+    let long = length_push routes route in
+    let le : suc n ≤ length routes = omega (arith, lt, long) in
+    elim (eq-or-lt_of_le le) [
+      | inl last ↦ let (p, is, up) = may.follows n last in
+          (p, ap (λ m. parent_at (routes ++ route ∷ []) m) last ∙ ap (λ o. option_map_or (λ (r : Route). r.parent) o None) (get_last routes route) ∙ is, above_further routes (route ∷ []) n p up)
+      | inr before ↦ let (p, is, up) = may.linked n before in
+          (p, parent_further routes (route ∷ []) (suc n) before ∙ is, above_further routes (route ∷ []) n p up)
+    ]
+
+-- below a route, after it and some that are below it
+record Open (routes : List Route) (top : ℕ) : Type 0 where
+  linked : IsLinked routes
+  within : top < length routes
+  under : (last : ℕ) → suc last ≡ length routes → IsAbove routes last top
+
+open_may : (routes : List Route) (top : ℕ) → Open routes top → MayFollow routes (Some top)
+open_may routes top o = record { linked = o.linked; follows = λ last is. (top, refl, o.under last is) }
+
+-- what a list of routes below one adds
+record AddsAll (routes after : List Route) (top : ℕ) : Type 0 where
+  grown : (more : List Route) × (after ≡ routes ++ more)
+  longer : length routes ≤ length after
+  still : Open after top
+
+open_after : (routes after : List Route) (top : ℕ) → Open routes top → Adds routes after (Some top) → Open after top
+open_after routes after top o adds =
+    record {
+      linked = adds.linked;
+      within = omega (arith, o.within, adds.longer);
+      under = λ last is. above_above after last (length routes) top (adds.under last is) adds.has;
+    }
+
+grown_twice : (a b c : List Route) → (more : List Route) × (b ≡ a ++ more) → (more : List Route) × (c ≡ b ++ more) → (more : List Route) × (c ≡ a ++ more)
+grown_twice a b c (m, e) (n, f) = (m ++ n, f ∙ ap (λ l. l ++ n) e ∙ append_assoc a m n)
+
+items_add : (whole : Data) (left : ℕ) (path : List ℕ) (top : ℕ)
+    → ((path : List ℕ) (parent : Option ℕ) (d : Data) (routes after : List Route) → (add_route whole left path parent d routes).value ≡ Ok after → MayFollow routes parent → Adds routes after parent)
+    → (i : ℕ) (ds : Items) (routes after : List Route) → (items_in_turn (child_into whole left path top) i ds routes).value ≡ Ok after → Open routes top → AddsAll routes after top
+items_add whole left path top adds i no_items routes after e o =
+    let same = ok_same routes after e in
+    rw (← same) (record { grown = ([], sym (append-nil routes)); longer = omega arith; still = o })
+items_add whole left path top adds i (item d ds) routes after e o =
+    let a = bind_ok (child_into whole left path top i d routes) _ after e in
+    let one = adds (item_path (under path (codes "routes")) i) (Some top) d routes a.0 a.1 (open_may routes top o) in
+    let rest = items_add whole left path top adds (i + 1) ds a.0 after a.2 (open_after routes a.0 top o one) in
+    record { grown = grown_twice routes a.0 after one.grown rest.grown; longer = omega (arith, one.longer, rest.longer); still = rest.still }
+
+own_opens : (routes : List Route) (route : Route) (after : List Route) → after ≡ routes ++ route ∷ [] → MayFollow routes route.parent → Open after (length routes)
+own_opens routes route after is may =
+    let long = length_push routes route in
+    rw is (record {
+      linked = linked_push routes route may;
+      within = omega (arith, long);
+      under = λ last e.
+          let same : last ≡ length routes = omega (arith, e, long) in
+          rw same (Itself (length routes));
+    })
+
+kept_parent : (routes after : List Route) (n : ℕ) → n < length routes → (more : List Route) × (after ≡ routes ++ more) → parent_at after n ≡ parent_at routes n
+kept_parent routes after n lt (more, is) = rw is (parent_further routes more n lt)
+
+route_adds : (whole : Data) (left : ℕ) (path : List ℕ) (parent : Option ℕ) (d : Data) (routes after : List Route) → (add_route whole left path parent d routes).value ≡ Ok after → MayFollow routes parent → Adds routes after parent
+unfolding add_route
+route_adds whole zero path parent d routes after e may = cc
+route_adds whole (suc left) path parent d routes after e may =
+    let a = bind_ok (own_into whole path parent d routes) _ after e in
+    let b = bind_ok (children_at path d) _ after a.2 in
+    let own = own_adds whole path parent d routes a.0 a.1 in
+    let opened = own_opens routes own.0 a.0 own.2 (rw own.1 may) in
+    let rest = items_add whole left path (length routes) (route_adds whole left) 0 b.0 a.0 after b.2 opened in
+    let within : length routes < length a.0 = opened.within in
+    let first : parent_at a.0 (length routes) ≡ parent =
+    ap (λ rs. parent_at rs (length routes)) own.2 ∙ ap (λ o. option_map_or (λ (r : Route). r.parent) o None) (get_last routes own.0) ∙ own.1 in
+    record {
+      grown = grown_twice routes a.0 after (own.0 ∷ [], own.2) rest.grown;
+      longer = omega (arith, within, rest.longer);
+      linked = rest.still.linked;
+      has = kept_parent a.0 after (length routes) within rest.grown ∙ first;
+      under = rest.still.under;
+    }
+
+none_yet : MayFollow [] None
+none_yet = record { linked = λ n lt. absurd (omega (arith, lt)); follows = λ last e. absurd (omega (arith, e)) }
+
+found_adds : (whole : Data) (found : Option Data) (routes : List Route) → (tree_from whole found).value ≡ Ok routes → Adds [] routes None
+found_adds whole found routes e =
+    let (d, is) = found_ok whole found routes e in
+    route_adds whole 32 (codes "route") None d [] routes is none_yet
+
+routes_add : (d : Data) (routes : List Route) → (routes_at d).value ≡ Ok routes → Adds [] routes None
+unfolding routes_at
+routes_add d routes e = found_adds d (member_of (codes "route") d) routes e
+
+-- the routes of a whole configuration
+pub record IsTree (routes : List Route) : Type 0 where
+  pub some : 0 < length routes
+  pub root : parent_at routes 0 ≡ None
+  pub linked : IsLinked routes
+
+pub walked_tree : (d : Data) (stated : Stated) → (walked_at d).value ≡ Ok stated → IsTree stated.routes
+unfolding walked_at
+walked_tree d stated e =
+    let timeout = bind_ok (timeout_at d) _ stated e in
+    let rules = bind_ok (rules_at d) _ stated timeout.2 in
+    let mute = bind_ok (intervals_at (codes "mute_time_intervals") d []) _ stated rules.2 in
+    let receivers = bind_ok (receivers_at d) _ stated mute.2 in
+    let routes = bind_ok (routes_at d) _ stated receivers.2 in
+    let named = bind_ok (intervals_at (codes "time_intervals") d mute.0) _ stated routes.2 in
+    let same = ok_same _ stated named.2 in
+    let adds = routes_add d routes.0 routes.1 in
+    rw (← same) (record { some = adds.longer; root = adds.has; linked = adds.linked })

@@ -1,0 +1,112 @@
+//! Reads the inhibition rules of a configuration (`inhibit_rules` of Alertmanager's configuration
+//! reference). `read.rt` calls `read_rules`.
+ghost use Rattle.std.specs.Prelude.{◌≡◌};
+ghost use Rattle.serde_json.specs.View.{view};
+ghost use Rattle.amr_config.specs.Read.Paths.{place_path};
+ghost use Rattle.amr_config.specs.Read.Answers.{Reads, ReadsInto};
+ghost use Rattle.amr_config.specs.Read.ReadRules.{rule_at, rule_into, rules_list, rules_at};
+
+use crate::read::error::ConfigError;
+use crate::read::members::{items, member, texts_member};
+use crate::read::place::Place;
+use crate::read::read_matchers::read_matchers;
+use crate::stated::InhibitRule;
+use amr_labels::Listing;
+use amr_labels::matcher::Patterns;
+use serde_json::Value;
+use std::alloc::Global;
+
+/// Reads the inhibition rules of a whole configuration; none if the member is absent.
+#[tactic(auto, unfolding(crate::specs::Read::ReadRules::rules_at))]
+pub(crate) fn read_rules(
+    alloc: Global,
+    seen: &mut Patterns,
+    value: &Value,
+) -> Result<Listing<InhibitRule>, ConfigError>
+    ensures { Reads (λ rules. rules) result (rules_at (view value.now)) }
+{
+    match member(value, "inhibit_rules") {
+        Some(found) => rules(
+            alloc,
+            seen,
+            &Place::Member(&Place::Top, "inhibit_rules"),
+            found,
+        ),
+        None => Ok(Listing::new(alloc)),
+    }
+}
+
+/// Reads a list of inhibition rules.
+#[tactic(auto, unfolding(crate::specs::Read::ReadRules::rules_list, crate::specs::Read::Readings::next))]
+fn rules(
+    alloc: Global,
+    seen: &mut Patterns,
+    place: &Place,
+    value: &Value,
+) -> Result<Listing<InhibitRule>, ConfigError>
+    ensures { Reads (λ rules. rules) result (rules_list (place_path place.now) (view value.now)) }
+{
+    let items = items(alloc, place, value)?;
+    let mut rules = Listing::new(alloc);
+    for (index, item) in items.iter().enumerate() {
+        add_rule(alloc, seen, place, index, item, &mut rules)?;
+    }
+    Ok(rules)
+}
+
+/// Appends the rule at an index of a list.
+#[tactic(auto, unfolding(crate::specs::Read::ReadRules::rule_into, crate::specs::Read::Readings::next))]
+fn add_rule(
+    alloc: Global,
+    seen: &mut Patterns,
+    place: &Place,
+    index: usize,
+    value: &Value,
+    rules: &mut Listing<InhibitRule>,
+) -> Result<(), ConfigError>
+    ensures { ReadsInto (λ rules. rules) result rules.new
+        (rule_into (place_path place.now) index (view value.now) rules.old) }
+{
+    let rule = read_rule(alloc, seen, &Place::Item(place, index), value)?;
+    rules.push(rule)?;
+    Ok(())
+}
+
+/// Reads an inhibition rule, by its keys in byte order.
+#[tactic(auto, unfolding(crate::specs::Read::ReadRules::rule_at, crate::specs::Read::Readings::next))]
+fn read_rule(
+    alloc: Global,
+    seen: &mut Patterns,
+    place: &Place,
+    value: &Value,
+) -> Result<InhibitRule, ConfigError>
+    ensures { Reads (λ rule. rule) result (rule_at (place_path place.now) (view value.now)) }
+{
+    if !value.is_object() {
+        return Err(place.faulty(alloc));
+    }
+    let equal = texts_member(alloc, place, value, "equal")?;
+    let source = read_matchers(
+        alloc,
+        seen,
+        place,
+        "source_match",
+        "source_match_re",
+        "source_matchers",
+        value,
+    )?;
+    let target = read_matchers(
+        alloc,
+        seen,
+        place,
+        "target_match",
+        "target_match_re",
+        "target_matchers",
+        value,
+    )?;
+    Ok(InhibitRule {
+        source,
+        target,
+        equal: equal.unwrap_or(Listing::new(alloc)),
+    })
+}

@@ -1,0 +1,289 @@
+-- What the sides of inhibition rules list, and how they take in label sets.
+use Rattle.std.proofs.Common.{◌≡◌, ℕ, ◌+◌, ◌<◌, ◌≤◌, Bool, true, false, cond, ◌||◌, ◌&&◌, T, List, [], ◌∷◌, Option, Some, None, ◌↔◌, map, length, take, refl, sym, ap, ◌∙◌, IsTrue, is_some, arith}
+use Rattle.std.specs.Prelude.{Result, Ok, Err, OnOk, OnErr, option_map, unwrap_or}
+use Rattle.std.proofs.Math.ListN.{get_or}
+use Rattle.std.specs.List.{cons_option, filter_map}
+use Rattle.std.specs.declared.cmp.Ordering.{Ordering}
+use Rattle.std.specs.declared.cmp.Ordering.TheVariants.{Less, Equal, Greater}
+use Rattle.std.specs.Ordering.{eq_by_cmp, is_eq, is_lt, ordering_then}
+use Rattle.std.specs.Cmp.{eq_by_cmp_equiv, tied_itself}
+use Rattle.std.specs.Cmp.Lexicographic.{slice_cmp, lists_total}
+use Rattle.std.specs.FinMap.{find, is_sorted, slice_cmp-IsAntisymmetric}
+use Rattle.std.specs.FinMap.Entries.{below_all, find-where_key, is_sorted-where_key, same_entries}
+use Rattle.std.proofs.lemmas.Bool.{true≢false}
+use Rattle.std.proofs.lemmas.List.{take_all, nil_from_length}
+use Rattle.std.proofs.lemmas.List.Folds.{list_any_more}
+use Rattle.std.proofs.lemmas.Map.Views.{tells_apart}
+use Rattle.amr_labels.specs.Map.{get, set, insert, empty, entries, from_sorted, checked, get-empty, get-insert, get-set, get-entries, entries-sorted}
+use Rattle.amr_labels.specs.Set.{Set, contains, items}
+use Rattle.amr_labels.specs.Labels.{Text, text_cmp, text_cmp-IsAntisymmetric, LabelSet, label_set_cmp, label_set_cmp_total, label_set_cmp-IsAntisymmetric, value_of}
+use Rattle.amr_labels.specs.Matcher.Matchers.{Matcher, all_hold, matcher_cmp, matcher_cmp_total, matcher_cmp-IsAntisymmetric}
+use Rattle.amr_config.specs.declared.stated.rule.InhibitRule.{InhibitRule}
+use Rattle.amr_rules.specs.declared.alert.Alert.{Alert}
+use Rattle.amr_rules.specs.Muting.{Alerts, agree_on, sources_of}
+use Rattle.amr_tables.specs.Numbered.{shown, next_number, entry_at}
+use Rattle.amr_tables.specs.Members.{has}
+use Rattle.amr_engine.specs.declared.indexes.rule_source.SourceSide.{SourceSide}
+use Rattle.amr_engine.specs.declared.indexes.rule_source.KnownSide.{KnownSide}
+use Rattle.amr_engine.specs.Indexes.LabelValues.{values_cmp, values_cmp_total, values_cmp-IsAntisymmetric, label_values}
+use Rattle.amr_engine.specs.Indexes.RuleSources.{ByValues, is_in, is_under, is_source, ListsSide, IsSideOf, IsPut, IsListedToo, ListsSame, ListsAgreeing, stored_of}
+
+eq_then : (a b : Ordering) → is_eq (ordering_then a b) ≡ (is_eq a && is_eq b)
+eq_then Less b = refl
+eq_then Equal b = refl
+eq_then Greater b = refl
+
+equal_of : (w : Ordering) → is_eq w ≡ true → w ≡ Equal
+equal_of Less e = absurd (true≢false (sym e))
+equal_of Equal e = refl
+equal_of Greater e = absurd (true≢false (sym e))
+
+both : (a b : Bool) → T a → T b → T (a && b)
+both true b p q = q
+both false b p q = absurd p
+
+parts : (a b : Bool) → T (a && b) → T a × T b
+parts true b h = (tt, h)
+parts false b h = absurd h
+
+-- ---- a label set is listed under values
+
+twice : {A : Type 0} (b : Bool) (x y z : A) → cond b x (cond b y z) ≡ cond b x z
+twice true x y z = refl
+twice false x y z = refl
+
+some_or : (b : Bool) (x : Option (Unit {0})) → is_some (cond b (Some tt) x) ≡ (b || is_some x)
+some_or true x = refl
+some_or false x = refl
+
+in_or_empty : (found : Option (Set label_set_cmp)) (other : LabelSet) → contains (unwrap_or found empty) other ≡ is_in found other
+in_or_empty None other = ap is_some (get-empty label_set_cmp other)
+in_or_empty (Some listed) other = refl
+
+module _ (old gone changed : ByValues) (values : List Text) (listed : Set label_set_cmp)
+    (takes : shown values_cmp gone ≡ set (shown values_cmp old) values None) (puts : shown values_cmp changed ≡ set (shown values_cmp gone) values (Some listed)) where
+  replaced : (under : List Text) → get (shown values_cmp changed) under ≡ cond (eq_by_cmp values_cmp under values) (Some listed) (get (shown values_cmp old) under)
+  replaced under =
+      ap (λ m. get m under) puts ∙ get-set values_cmp_total (shown values_cmp gone) values (Some listed) under
+      ∙ ap (λ m. cond (eq_by_cmp values_cmp under values) (Some listed) (get m under)) takes
+      ∙ ap (cond (eq_by_cmp values_cmp under values) (Some listed)) (get-set values_cmp_total (shown values_cmp old) values None under)
+      ∙ twice (eq_by_cmp values_cmp under values) (Some listed) None (get (shown values_cmp old) under)
+
+  module _ (was : Set label_set_cmp) (were : was ≡ unwrap_or (get (shown values_cmp old) values) empty) where
+    was_under : (under : List Text) (other : LabelSet) → eq_by_cmp values_cmp under values ≡ true → contains was other ≡ is_under old under other
+    was_under under other same =
+        ap (λ m. contains m other) were ∙ in_or_empty (get (shown values_cmp old) values) other
+        ∙ ap (λ v. is_under old v other) (sym (tells_apart values_cmp-IsAntisymmetric under values same))
+
+    one_more : (labels : LabelSet) → listed ≡ insert was labels tt → (under : List Text) (other : LabelSet) (same : Bool) → eq_by_cmp values_cmp under values ≡ same
+        → is_in (cond same (Some listed) (get (shown values_cmp old) under)) other ≡ ((same && eq_by_cmp label_set_cmp other labels) || is_under old under other)
+    one_more labels grown under other true same =
+        ap (λ m. contains m other) grown ∙ ap is_some (get-insert label_set_cmp_total was labels tt other)
+        ∙ some_or (eq_by_cmp label_set_cmp other labels) (get was other) ∙ ap (λ b. eq_by_cmp label_set_cmp other labels || b) (was_under under other same)
+    one_more labels grown under other false same = refl
+
+    no_more : listed ≡ was → (under : List Text) (other : LabelSet) (same : Bool) → eq_by_cmp values_cmp under values ≡ same
+        → is_in (cond same (Some listed) (get (shown values_cmp old) under)) other ≡ is_under old under other
+    no_more kept under other true same = ap (λ m. contains m other) kept ∙ was_under under other same
+    no_more kept under other false same = refl
+
+    -- the set under the values takes in a label set
+    pub listed_too : {A E : Type 0} (r : Result A E) (labels : LabelSet) → OnOk r (listed ≡ insert was labels tt) → OnOk r (IsListedToo values labels old changed)
+    listed_too (Ok _) labels grown = λ under other. ap (λ found. is_in found other) (replaced under) ∙ one_more labels grown under other (eq_by_cmp values_cmp under values) refl
+    listed_too (Err _) labels grown = tt
+
+    -- or it stays as it was
+    pub listed_same : {A E : Type 0} (r : Result A E) → OnErr r (listed ≡ was) → OnErr r (ListsSame old changed)
+    listed_same (Ok _) kept = tt
+    listed_same (Err _) kept = λ under other. ap (λ found. is_in found other) (replaced under) ∙ no_more kept under other (eq_by_cmp values_cmp under values) refl
+
+-- ---- a label set is taken in
+
+same_put : (m e h : Bool) → ((m && (e && true)) || (h && (m && e))) ≡ ((h || true) && (m && e))
+same_put true true true = refl
+same_put true true false = refl
+same_put true false true = refl
+same_put true false false = refl
+same_put false e true = refl
+same_put false e false = refl
+
+other_put : (m e h x : Bool) → ((m && (e && false)) || (h && x)) ≡ ((h || false) && x)
+other_put true true true x = refl
+other_put true true false x = refl
+other_put true false true x = refl
+other_put true false false x = refl
+other_put false e true x = refl
+other_put false e false x = refl
+
+put_is : (side : SourceSide) (labels q : LabelSet) (values : List Text) (h same : Bool) → eq_by_cmp label_set_cmp q labels ≡ same
+    → ((all_hold side.source labels && (eq_by_cmp values_cmp values (label_values side.equal.items labels) && same)) || (h && is_source side q values)) ≡ ((h || same) && is_source side q values)
+put_is side labels q values h true e =
+    let own : q ≡ labels = tells_apart label_set_cmp-IsAntisymmetric q labels e in
+    ap (λ x. (all_hold side.source labels && (eq_by_cmp values_cmp values (label_values side.equal.items labels) && true)) || (h && is_source side x values)) own
+    ∙ same_put (all_hold side.source labels) (eq_by_cmp values_cmp values (label_values side.equal.items labels)) h
+    ∙ ap (λ x. (h || true) && is_source side x values) (sym own)
+put_is side labels q values h false e =
+    other_put (all_hold side.source labels) (eq_by_cmp values_cmp values (label_values side.equal.items labels)) h (is_source side q values)
+
+-- a side that takes in the next label set lists those of one label set more
+pub side_seen : (arrived : List LabelSet) (old put new : KnownSide) (labels : LabelSet) → ListsSide arrived old → old.seen < length arrived → labels ≡ get_or arrived old.seen labels
+    → IsPut labels old put → put.side ≡ old.side → new.side ≡ put.side → new.seen ≡ old.seen + 1 → new.sources ≡ put.sources → ListsSide arrived new
+side_seen arrived old put new labels is lt at puts side side_too seen sources = record {
+  within = omega (arith, lt, seen);
+  exact = λ values q.
+      ap (λ (l : ByValues). is_under l values q) sources ∙ puts values q
+      ∙ ap (λ b. (all_hold old.side.source labels && (eq_by_cmp values_cmp values (label_values old.side.equal.items labels) && eq_by_cmp label_set_cmp q labels)) || b) (is.exact values q)
+      ∙ put_is old.side labels q values (has label_set_cmp (take old.seen arrived) q) (eq_by_cmp label_set_cmp q labels) refl
+      ∙ ap (λ x. (has label_set_cmp (take old.seen arrived) q || eq_by_cmp label_set_cmp q x) && is_source old.side q values) at
+      ∙ ap (λ b. b && is_source old.side q values) (sym (list_any_more (eq_by_cmp label_set_cmp q) arrived old.seen labels lt))
+      ∙ (λ i. has label_set_cmp (take (sym seen i) arrived) q && is_source (sym (side_too ∙ side) i) q values);
+}
+
+-- a side at which nothing changed but that label sets were listed in vain
+pub side_same : (arrived : List LabelSet) (old new : KnownSide) → ListsSide arrived old → ListsSame old.sources new.sources → new.side ≡ old.side → new.seen ≡ old.seen → ListsSide arrived new
+side_same arrived old new is same side seen = record {
+  within = omega (arith, is.within, seen);
+  exact = λ values q. same values q ∙ is.exact values q ∙ (λ i. has label_set_cmp (take (sym seen i) arrived) q && is_source (sym side i) q values);
+}
+
+-- nothing is listed under any values where there is no place
+no_entries : (keys : List (List Text × ℕ)) → filter_map (entry_at {V = Set label_set_cmp} []) keys ≡ []
+no_entries [] = refl
+no_entries (key ∷ keys) = no_entries keys
+
+pub none_listed : (sources : ByValues) (values : List Text) → next_number sources ≡ 0 → None ≡ get (shown values_cmp sources) values
+unfolding shown get from_sorted checked
+none_listed sources values none =
+    sym (ap (λ es. get (from_sorted {R = values_cmp} es) values) (ap (λ cells. filter_map (entry_at cells) sources.numbers) (nil_from_length sources.cells none) ∙ no_entries sources.numbers))
+
+-- a side of which nothing is known yet
+pub side_new : (arrived : List LabelSet) (known : KnownSide) → known.seen ≡ 0 → shown values_cmp known.sources ≡ empty → ListsSide arrived known
+side_new arrived known seen none = record {
+  within = omega (arith, seen);
+  exact = λ values q. ap (λ m. is_in (get m values) q) none ∙ ap (λ found. is_in found q) (get-empty values_cmp values) ∙ (λ i. has label_set_cmp (take (sym seen i) arrived) q && is_source known.side q values);
+}
+
+-- a label set that matches the side is put at it
+pub is_put : (old changed : KnownSide) (labels : LabelSet) (values : List Text) → all_hold old.side.source labels ≡ true → values ≡ label_values old.side.equal.items labels → IsListedToo values labels old.sources changed.sources
+    → IsPut labels old changed
+is_put old changed labels values matches are too under other =
+    too under other
+    ∙ (λ i. ((sym matches i) && (eq_by_cmp values_cmp under (are i) && eq_by_cmp label_set_cmp other labels)) || is_under old.sources under other)
+
+-- ---- what a side lists under values
+
+agrees_by_values : (names : List Text) (a b : LabelSet) → eq_by_cmp values_cmp (label_values names a) (label_values names b) ≡ agree_on names a b
+agrees_by_values [] a b = refl
+agrees_by_values (name ∷ names) a b =
+    eq_then (text_cmp (value_of a name) (value_of b name)) (values_cmp (label_values names a) (label_values names b))
+    ∙ ap (λ x. eq_by_cmp text_cmp (value_of a name) (value_of b name) && x) (agrees_by_values names a b)
+
+-- a side that has seen all label sets lists those that agree with the target under its values
+pub side_agreeing : (arrived : List LabelSet) (known : KnownSide) (rule : InhibitRule) (target : LabelSet) (values : List Text) (found : Option (Set label_set_cmp)) → ListsSide arrived known → IsSideOf known.side rule
+    → length arrived ≤ known.seen → values ≡ label_values rule.equal target → found ≡ get (shown values_cmp known.sources) values → ListsAgreeing rule target arrived found
+side_agreeing arrived known rule target values found is of seen are lists = λ q.
+    let o = values_cmp_total in
+    ap (λ f. is_in f q) lists ∙ is.exact values q
+    ∙ ap (λ l. has label_set_cmp l q && is_source known.side q values) (take_all known.seen arrived seen)
+    ∙ (λ i. has label_set_cmp arrived q && (all_hold (of.source i) q && eq_by_cmp values_cmp (are i) (label_values (of.equal i) q)))
+    ∙ ap (λ b. has label_set_cmp arrived q && (all_hold rule.source q && b)) ((eq_by_cmp_equiv o).symm (label_values rule.equal target) (label_values rule.equal q) ∙ agrees_by_values rule.equal q target)
+
+-- ---- the stored alerts of listed label sets
+
+module _ (m : Alerts) where
+  abbrev firsts : List (LabelSet × Unit {0}) → List LabelSet
+  firsts = map (λ entry. entry.0)
+
+  below_got : (x y : LabelSet) (alert : Option Alert) (rest : List (LabelSet × Alert)) → T (is_lt (label_set_cmp x y)) → T (below_all label_set_cmp x rest) → T (below_all label_set_cmp x (cons_option (option_map (λ a. (y, a)) alert) rest))
+  below_got x y None rest e h = h
+  below_got x y (Some a) rest e h = both _ _ e h
+
+  all_below : (x : LabelSet) (l : List (LabelSet × Unit {0})) → T (below_all label_set_cmp x l) → T (below_all label_set_cmp x (stored_of m (firsts l)))
+  all_below x [] a = tt
+  all_below x (y ∷ l) a =
+      let p = parts (is_lt (label_set_cmp x y.0)) (below_all label_set_cmp x l) a in
+      below_got x y.0 (get m y.0) (stored_of m (firsts l)) p.0 (all_below x l p.1)
+
+  sorted_one : (x : LabelSet) (alert : Option Alert) (rest : List (LabelSet × Alert)) → T (below_all label_set_cmp x rest) → T (is_sorted label_set_cmp rest) → T (is_sorted label_set_cmp (cons_option (option_map (λ a. (x, a)) alert) rest))
+  sorted_one x None rest b s = s
+  sorted_one x (Some a) rest b s = both _ _ b s
+
+  sorted_got : (l : List (LabelSet × Unit {0})) → T (is_sorted label_set_cmp l) → T (is_sorted label_set_cmp (stored_of m (firsts l)))
+  sorted_got [] s = tt
+  sorted_got (x ∷ l) s =
+      let p = parts (below_all label_set_cmp x.0 l) (is_sorted label_set_cmp l) s in
+      sorted_one x.0 (get m x.0) (stored_of m (firsts l)) (all_below x.0 l p.0) (sorted_got l p.1)
+
+  none_either : (b : Bool) (x : Option Alert) → x ≡ None → cond b x None ≡ None
+  none_either true x e = e
+  none_either false x e = refl
+
+  find_one : (q x : LabelSet) (alert : Option Alert) (rest : List (LabelSet × Alert)) (same listed : Bool) → get m x ≡ alert → eq_by_cmp label_set_cmp q x ≡ same → find label_set_cmp q rest ≡ cond listed (get m q) None
+      → find label_set_cmp q (cons_option (option_map (λ a. (x, a)) alert) rest) ≡ cond (same || listed) (get m q) None
+  find_one q x None rest true listed at e h =
+      let none : get m q ≡ None = ap (get m) (tells_apart label_set_cmp-IsAntisymmetric q x e) ∙ at in
+      h ∙ none_either listed (get m q) none ∙ sym none
+  find_one q x None rest false listed at e h = h
+  find_one q x (Some a) rest true listed at e h =
+      ap (λ b. cond b (Some a) (find label_set_cmp q rest)) e ∙ sym at ∙ ap (get m) (sym (tells_apart label_set_cmp-IsAntisymmetric q x e))
+  find_one q x (Some a) rest false listed at e h = ap (λ b. cond b (Some a) (find label_set_cmp q rest)) e ∙ h
+
+  some_found : (same : Bool) (x : Unit {0}) (rest : Option (Unit {0})) → is_some (cond same (Some x) rest) ≡ (same || is_some rest)
+  some_found true x rest = refl
+  some_found false x rest = refl
+
+  find_got : (q : LabelSet) (l : List (LabelSet × Unit {0})) → find label_set_cmp q (stored_of m (firsts l)) ≡ cond (is_some (find label_set_cmp q l)) (get m q) None
+  find_got q [] = refl
+  find_got q (x ∷ l) =
+      find_one q x.0 (get m x.0) (stored_of m (firsts l)) (eq_by_cmp label_set_cmp q x.0) (is_some (find label_set_cmp q l)) refl refl (find_got q l)
+      ∙ ap (λ b. cond b (get m q) None) (sym (some_found (eq_by_cmp label_set_cmp q x.0) x.1 (find label_set_cmp q l)))
+
+  kept_alike : (arrived test : Bool) (found : Option Alert) → (is_some found ≡ true → arrived ≡ true) → cond (arrived && test) found None ≡ cond test found None
+  kept_alike arrived test None h = none_either (arrived && test) None refl ∙ sym (none_either test None refl)
+  kept_alike arrived test (Some a) h = ap (λ b. cond (b && test) (Some a) None) (h refl)
+
+  abbrev pub members : Option (Set label_set_cmp) → List LabelSet
+  members None = []
+  members (Some listed) = items listed
+
+  sorted_members : (found : Option (Set label_set_cmp)) → T (is_sorted label_set_cmp (stored_of m (members found)))
+  sorted_members None = tt
+  sorted_members (Some listed) = sorted_got (entries listed) (entries-sorted listed)
+
+  find_member : (q : LabelSet) (found : Option (Set label_set_cmp)) → find label_set_cmp q (stored_of m (members found)) ≡ cond (is_in found q) (get m q) None
+  find_member q None = refl
+  find_member q (Some listed) = find_got q (entries listed) ∙ ap (λ x. cond (is_some x) (get m q) None) (sym (get-entries listed q))
+
+  -- the stored alerts of the listed label sets are the rule's sources
+  pub sources_are : (rule : InhibitRule) (target : LabelSet) (arrived : List LabelSet) (found : Option (Set label_set_cmp)) → ListsAgreeing rule target arrived found
+      → ((q : LabelSet) → IsTrue (is_some (get m q)) → IsTrue (has label_set_cmp arrived q)) → stored_of m (members found) ≡ sources_of rule target m
+  sources_are rule target arrived found is stored =
+      let test : LabelSet → Bool = λ q. all_hold rule.source q && agree_on rule.equal q target in
+      same_entries label_set_cmp label_set_cmp_total label_set_cmp-IsAntisymmetric (stored_of m (members found)) _ (sorted_members found) (is_sorted-where_key label_set_cmp test (entries m) (entries-sorted m)) (λ q.
+      find_member q found ∙ ap (λ b. cond b (get m q) None) (is q) ∙ kept_alike (has label_set_cmp arrived q) (test q) (get m q) (stored q)
+      ∙ ap (λ x. cond (test q) x None) (get-entries m q)
+      ∙ sym (find-where_key label_set_cmp test q (λ x e. ap test (sym (label_set_cmp-IsAntisymmetric q x e))) (entries m)))
+
+-- ---- sides that compare as equal
+
+same_sources : (a b : List Matcher) → eq_by_cmp (slice_cmp matcher_cmp) a b ≡ true → a ≡ b
+same_sources a b e = slice_cmp-IsAntisymmetric matcher_cmp-IsAntisymmetric a b (equal_of _ e)
+
+same_names : (a b : List Text) → eq_by_cmp (slice_cmp text_cmp) a b ≡ true → a ≡ b
+same_names a b e = slice_cmp-IsAntisymmetric text_cmp-IsAntisymmetric a b (equal_of _ e)
+
+source_equal : (side : SourceSide) (rule : InhibitRule) → IsSideOf side rule → eq_by_cmp (slice_cmp matcher_cmp) side.source rule.source ≡ true
+source_equal side rule of = ap (λ l. eq_by_cmp (slice_cmp matcher_cmp) l rule.source) of.source ∙ ap is_eq (tied_itself (lists_total matcher_cmp_total) rule.source)
+
+names_equal : (side : SourceSide) (rule : InhibitRule) → IsSideOf side rule → eq_by_cmp (slice_cmp text_cmp) side.equal.items rule.equal ≡ true
+names_equal side rule of = ap (λ l. eq_by_cmp (slice_cmp text_cmp) l rule.equal) of.equal ∙ ap is_eq (tied_itself values_cmp_total rule.equal)
+
+module _ (side : SourceSide) (rule : InhibitRule) (source : Bool) (asked : source ≡ eq_by_cmp (slice_cmp matcher_cmp) side.source rule.source) where
+  -- a side with other source matchers isn't the rule's
+  pub other_source : source ≡ false → IsTrue source ↔ IsSideOf side rule
+  other_source other = (λ h. absurd (true≢false (sym h ∙ other)), λ of. absurd (true≢false (sym (source_equal side rule of) ∙ sym asked ∙ other)))
+
+  -- and one with the rule's is so if its names in `equal` are the rule's
+  pub by_names : (names : Bool) → names ≡ eq_by_cmp (slice_cmp text_cmp) side.equal.items rule.equal → source ≡ true → IsTrue names ↔ IsSideOf side rule
+  by_names names compared same =
+      (λ h. record { source = same_sources side.source rule.source (sym asked ∙ same); equal = same_names side.equal.items rule.equal (sym compared ∙ h) }, λ of. compared ∙ names_equal side rule of)

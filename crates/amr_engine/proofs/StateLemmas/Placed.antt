@@ -1,0 +1,72 @@
+-- An alert that is placed on a route: first its copy, then the clock of its group.
+use Rattle.std.specs.Prelude.{◌≡◌, ℕ, zero, suc, List, [], ◌∷◌, Result, Ok, Err}
+use Rattle.std.specs.Result.{OnOk}
+use Rattle.std.specs.Prelude.{Some, cond, map, length, slice_get}
+use Rattle.std.specs.declared.cmp.Ordering.{Ordering}
+use Rattle.std.specs.declared.cmp.Ordering.TheVariants.{Less, Equal, Greater}
+use Rattle.std.specs.Cmp.{IsTotalOrder}
+use Rattle.std.specs.FinMap.{IsAntisymmetric}
+use Rattle.std.specs.Ordering.{is_eq}
+use Rattle.std.proofs.Common.{ap, sym, refl, ◌∙◌}
+use Rattle.amr_labels.specs.Map.{Map, get, insert, get-insert, get_tied, same_map}
+use Rattle.amr_labels.specs.Labels.{LabelSet}
+use Rattle.amr_config.specs.Stated.Config.{Config}
+use Rattle.amr_config.specs.Routing.{chosen, group_wait_of}
+use Rattle.amr_config.specs.Groups.{groups_of, group_at}
+use Rattle.amr_config.specs.declared.router.RouteGroup.{RouteGroup}
+use Rattle.amr_rules.specs.declared.alert.Alert.{Alert}
+use Rattle.amr_engine.specs.declared.state.notification.GroupTimer.{GroupTimer}
+use Rattle.amr_engine.specs.declared.state.route_labels.RouteLabels.{RouteLabels}
+use Rattle.amr_engine.specs.State.State.{State, on_route, group_key, timer_with, place_on}
+
+-- what follows from the fact at a value
+pub on_ok : {T E : Type 0} (r : Result T E) (P Q : Type 0) → (P → Q) → OnOk r P → OnOk r Q
+on_ok (Ok x) P Q f p = f p
+on_ok (Err e) P Q f p = p
+
+pub placed : (s copied : State) (labels : LabelSet) (alert copy : Alert) (route : ℕ) (group route_labels : RouteLabels) (timer : GroupTimer)
+    → group ≡ group_key s.config (on_route route labels) → route_labels ≡ on_route route labels → copy ≡ alert
+    → timer ≡ timer_with s.moment (group_wait_of s.config route) alert (get s.timers group)
+    → copied ≡ record s { placements = insert s.placements route_labels copy }
+    → record copied { timers = insert copied.timers group timer } ≡ place_on labels alert s route
+placed s copied labels alert copy route group route_labels timer grouped at same reset is =
+    let by : timer ≡ timer_with s.moment (group_wait_of s.config route) alert (get s.timers (group_key s.config (on_route route labels))) =
+    reset ∙ ap (λ (g : RouteLabels). timer_with s.moment (group_wait_of s.config route) alert (get s.timers g)) grouped in
+    ap (λ (x : State). record x { timers = insert x.timers group timer }) is
+    ∙ (λ i. record s { placements = insert s.placements (at i) (same i); timers = insert s.timers (grouped i) (by i) })
+
+-- putting the value of a key under that key changes nothing
+pub put_as_it_is : {K X : Type 0} {R : K → K → Ordering} (o : IsTotalOrder R) → IsAntisymmetric R → (m : Map R X) (k : K) (v : X) → get m k ≡ Some v → insert m k v ≡ m
+put_as_it_is {R = R} o same m k v e =
+    same_map o same _ _ (λ q. get-insert o m k v q ∙ elim (R q k) as (λ r. R q k ≡ r → cond (is_eq r) (Some v) (get m q) ≡ get m q) [
+      | Less ↦ λ h. refl
+      | Equal ↦ λ h. sym e ∙ get_tied o m q k h
+      | Greater ↦ λ h. refl
+    ] refl)
+
+-- ---- the groups that take an alert
+
+routes_of_made : (config : Config) (labels : LabelSet) (routes : List ℕ) → map (λ (group : RouteGroup). group.route) (map (group_at config labels) routes) ≡ routes
+routes_of_made config labels [] = refl
+routes_of_made config labels (n ∷ ns) = ap (λ t. n ∷ t) (routes_of_made config labels ns)
+
+pub routes_of_groups : (config : Config) (labels : LabelSet) → map (λ (group : RouteGroup). group.route) (groups_of config labels) ≡ chosen config labels
+unfolding groups_of
+routes_of_groups config labels = routes_of_made config labels (chosen config labels)
+
+made_count : (config : Config) (labels : LabelSet) (routes : List ℕ) → length (map (group_at config labels) routes) ≡ length routes
+made_count config labels [] = refl
+made_count config labels (n ∷ ns) = ap suc (made_count config labels ns)
+
+pub count_of_groups : (config : Config) (labels : LabelSet) → length (groups_of config labels) ≡ length (chosen config labels)
+unfolding groups_of
+count_of_groups config labels = made_count config labels (chosen config labels)
+
+made_among : (config : Config) (labels : LabelSet) (routes : List ℕ) (n : ℕ) (group : RouteGroup) → slice_get (map (group_at config labels) routes) n ≡ Some group → group ≡ group_at config labels group.route
+made_among config labels [] n group e = cc
+made_among config labels (r ∷ rs) zero group e = let same : group_at config labels r ≡ group = cc in sym same ∙ ap (λ (g : RouteGroup). group_at config labels g.route) same
+made_among config labels (r ∷ rs) (suc n) group e = made_among config labels rs n group e
+
+pub group_among : (config : Config) (labels : LabelSet) (n : ℕ) (group : RouteGroup) → slice_get (groups_of config labels) n ≡ Some group → group ≡ group_at config labels group.route
+unfolding groups_of
+group_among config labels n group = made_among config labels (chosen config labels) n group

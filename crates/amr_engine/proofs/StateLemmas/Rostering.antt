@@ -1,0 +1,562 @@
+-- The members of groups by number, how a change of one of them goes on, and the members of a group.
+use Rattle.std.proofs.Common.{◌≡◌, ◌≢◌, ◌≤◌, ◌<◌, ◌+◌, ℕ, zero, suc, Bool, true, false, IsTrue, cond, ◌||◌, ◌&&◌, T, List, [], ◌∷◌, ◌++◌, Option, Some, None, is_some, map, length, get_or, drop, Bor, refl, sym, ap, subst, ◌∙◌, arith}
+use Rattle.std.specs.Prelude.{◌==◌, option_map, if◌then◌else◌, nat_lt, IfSome, IsPermutation, IsSorted, slice_set}
+use Rattle.std.specs.Option.{option_and_then}
+use Rattle.std.specs.List.{All, AllByRecursion, IsDistinct, list_any, filter, filter_map, cons_option}
+use Rattle.std.specs.List.Sorted.{IsStrictlySortedBy}
+use Rattle.std.specs.declared.cmp.Ordering.{Ordering}
+use Rattle.std.specs.declared.cmp.Ordering.TheVariants.{Less, Equal, Greater}
+use Rattle.std.specs.Ordering.{nat_cmp, eq_by_cmp, is_eq, is_lt, ordering_then, ordering_reverse}
+use Rattle.std.specs.Cmp.{nat_cmp_total, tied_itself}
+use Rattle.std.specs.FinMap.{find, is_sorted}
+use Rattle.std.specs.FinMap.Entries.{below_all, is_some-find}
+use Rattle.std.proofs.lemmas.Bool.{true≢false}
+use Rattle.std.proofs.lemmas.Bool.Decides.{nat_tests}
+use Rattle.std.proofs.lemmas.List.{append_assoc, at_drop_more, length-set}
+use Rattle.std.proofs.lemmas.List.Elements.{All-nil, All-cons, All-head, All-tail, All-get_or}
+use Rattle.std.proofs.lemmas.List.Sorted.{All-permutation, IsPermutation-map, list_any-IsPermutation}
+use Rattle.std.proofs.lemmas.Map.Keys.{IsDistinct-IsPermutation}
+use Rattle.amr_labels.specs.Labels.{LabelSet, label_set_cmp, label_set_cmp_total, label_set_cmp-IsAntisymmetric}
+use Rattle.amr_labels.specs.Map.{Map, get, set, empty, entries, get-set, get-empty, get-entries, entries-sorted}
+use Rattle.amr_config.specs.Stated.Config.{Config}
+use Rattle.amr_rules.specs.declared.alert.Alert.{Alert}
+use Rattle.amr_tables.specs.Places.{value_at}
+use Rattle.amr_tables.specs.Laws.{at_law, others_law}
+use Rattle.amr_tables.specs.Members.{has}
+use Rattle.amr_tables.specs.Numbered.{Numbered, shown, number_of, has_place, next_number, key_at, GetsNumber, IsNumber, IsNumbering}
+use Rattle.amr_tables.specs.Grouped.{Grouped, group_at, AreNumbersOf}
+use Rattle.amr_tables.proofs.Naming.{key_at_number}
+use Rattle.amr_tables.proofs.Sorting.{same_from_members}
+use Rattle.amr_tables.proofs.Counting.{strictly}
+use Rattle.amr_engine.specs.declared.state.route_labels.RouteLabels.{RouteLabels}
+use Rattle.amr_engine.specs.State.State.{on_route, route_labels_cmp, route_labels_cmp_total, route_labels_cmp-IsAntisymmetric, group_key, members_among}
+use Rattle.amr_engine.specs.State.Rostered.{labels_of_members, labels_of_numbered, numbered_labels, with_alert, group_number, IsNumbered, IsGrouped}
+use Rattle.amr_engine.proofs.StateLemmas.Scheduling.{not_none, numbered_same, numbered_set, numbered_placed, none_numbered}
+
+-- ---- truth values
+
+equal_of : (w : Ordering) → is_eq w ≡ true → w ≡ Equal
+equal_of Less e = absurd (true≢false (sym e))
+equal_of Equal e = refl
+equal_of Greater e = absurd (true≢false (sym e))
+
+alike : (a b : Bool) → (a ≡ true → b ≡ true) → (b ≡ true → a ≡ true) → a ≡ b
+alike true b f g = sym (f refl)
+alike false true f g = g refl
+alike false false f g = refl
+
+both : (a b : Bool) → a ≡ true → b ≡ true → (a && b) ≡ true
+both true b e f = f
+both false b e f = absurd (true≢false (sym e))
+
+one_of : (a b : Bool) → (a && b) ≡ true → a ≡ true
+one_of true b e = refl
+one_of false b e = e
+
+other_of : (a b : Bool) → (a && b) ≡ true → b ≡ true
+other_of true b e = e
+other_of false b e = absurd (true≢false (sym e))
+
+less_is : (o : Ordering) → T (is_lt o) → o ≡ Less
+less_is Less p = refl
+less_is Equal p = absurd p
+less_is Greater p = absurd p
+
+first : (a b : Bool) → T (a && b) → T a
+first true b p = tt
+first false b p = p
+
+second : (a b : Bool) → T (a && b) → T b
+second true b p = p
+second false b p = absurd p
+
+some_same : {A : Type 0} (a b : A) → Some a ≡ Some b → a ≡ b
+some_same a b e = cc
+
+the_value : {A : Type 0} (x : Option A) → IsTrue (is_some x) → (a : A) × (x ≡ Some a)
+the_value None h = absurd (true≢false (sym h))
+the_value (Some a) h = (a, refl)
+
+tied_key : (k other : RouteLabels) → is_eq (route_labels_cmp other k) ≡ true → other ≡ k
+tied_key k other e = route_labels_cmp-IsAntisymmetric other k (equal_of _ e)
+
+-- a number within a bound, if there is one
+pub within_if : (w : Option Alert) (g count : ℕ) → g < count → IfSome (option_map (λ _. g) w) (λ x. x < count)
+within_if None g count h = tt
+within_if (Some x) g count h = h
+
+-- ---- places and numbers
+
+pub keeps_numbered : (a b : Numbered RouteLabels Alert) → b.numbers ≡ a.numbers → (key : RouteLabels) → has_place route_labels_cmp b key ≡ has_place route_labels_cmp a key
+unfolding has_place
+keeps_numbered a b same key = ap (λ ns. is_some (find route_labels_cmp key ns)) same
+
+module _ {V : Type 0} (t : Numbered RouteLabels V) where
+  pub place_number : (k : RouteLabels) → IsTrue (has_place route_labels_cmp t k) → (n : ℕ) × (number_of route_labels_cmp t k ≡ Some n)
+  unfolding has_place
+  place_number k h = the_value (number_of route_labels_cmp t k) h
+
+  pub number_place : (k : RouteLabels) (n : ℕ) → number_of route_labels_cmp t k ≡ Some n → IsTrue (has_place route_labels_cmp t k)
+  unfolding has_place
+  number_place k n at = ap is_some at
+
+  no_place : (k : RouteLabels) → number_of route_labels_cmp t k ≡ None → IsTrue (has_place route_labels_cmp t k) → ⊥
+  unfolding has_place
+  no_place k none h = true≢false (sym h ∙ ap is_some none)
+
+-- a key that had a number keeps it when another gets one
+kept_number : {V : Type 0} (t u : Numbered RouteLabels V) (k : RouteLabels) (n : ℕ) → number_of route_labels_cmp t k ≡ None → GetsNumber route_labels_cmp t u k n → (key : RouteLabels) (m : ℕ) → number_of route_labels_cmp t key ≡ Some m → number_of route_labels_cmp u key ≡ Some m
+kept_number t u k n new gets key m at =
+    gets key ∙ elim (eq_by_cmp route_labels_cmp key k) as (λ b. eq_by_cmp route_labels_cmp key k ≡ b → (if b then Some n else number_of route_labels_cmp t key) ≡ Some m) [
+      | true ↦ λ same. not_none m _ (sym at ∙ ap (number_of route_labels_cmp t) (tied_key k key same) ∙ new)
+      | false ↦ λ _. at
+    ] refl
+
+-- a key with a number had it, or is the one that got it
+module _ {V : Type 0} (t u : Numbered RouteLabels V) (k : RouteLabels) (n : ℕ) (gets : GetsNumber route_labels_cmp t u k n) (P : RouteLabels → ℕ → Type 0) (own : P k n) (others : (key : RouteLabels) (m : ℕ) → number_of route_labels_cmp t key ≡ Some m → P key m) where
+  by_number : (key : RouteLabels) (m : ℕ) → number_of route_labels_cmp u key ≡ Some m → P key m
+  by_number key m at =
+      elim (eq_by_cmp route_labels_cmp key k) as (λ b. eq_by_cmp route_labels_cmp key k ≡ b → (if b then Some n else number_of route_labels_cmp t key) ≡ Some m → P key m) [
+        | true ↦ λ same number. subst (λ (x : RouteLabels × ℕ). P x.0 x.1) (λ i. (sym (tied_key k key same) i, some_same n m number i)) own
+        | false ↦ λ _ number. others key m number
+      ] refl (sym (gets key) ∙ at)
+
+-- a number that is in a group already is put there again
+set_again : (l : List (Option ℕ)) (n : ℕ) (v : Option ℕ) → n < length l → value_at l n ≡ v → slice_set l n v ≡ l
+set_again [] n v h e = absurd (omega (arith, h))
+set_again (x ∷ xs) zero v h e = ap (λ (y : Option ℕ). y ∷ xs) (sym e)
+set_again (x ∷ xs) (suc n) v h e = ap (λ (ys : List (Option ℕ)). x ∷ ys) (set_again xs n v (omega (arith, h)) e)
+
+-- ---- the invariant
+
+module _ (config : Config) (a : Numbered RouteLabels Alert) (gs : Numbered RouteLabels (Unit {0})) (m : Grouped) (is : IsGrouped config a gs m) where
+  -- the same members, with room for more
+  pub grouped_same : (b : Numbered RouteLabels Alert) (hs : Numbered RouteLabels (Unit {0})) (k : Grouped) → b.numbers ≡ a.numbers → shown route_labels_cmp b ≡ shown route_labels_cmp a → hs.numbers ≡ gs.numbers → shown route_labels_cmp hs ≡ shown route_labels_cmp gs
+      → ((n : ℕ) → group_at k n ≡ group_at m n) → length m.groups ≤ length k.groups → m.count ≤ k.count → IsGrouped config b hs k
+  unfolding has_place
+  grouped_same b hs k numbers shows groups same_groups same longer more = record {
+    numbered = numbered_same route_labels_cmp_total route_labels_cmp-IsAntisymmetric a b numbers shows is.numbered;
+    groups_numbered = numbered_same route_labels_cmp_total route_labels_cmp-IsAntisymmetric gs hs groups same_groups is.groups_numbered;
+    grouped = λ key n at. same n ∙ is.grouped key n (ap (find route_labels_cmp key) (sym numbers) ∙ at)
+        ∙ (λ i. option_and_then (λ _. find route_labels_cmp (group_key config key) (sym groups i)) (get (sym shows i) key));
+    known = λ key h. subst (λ ns. IsTrue (is_some (find route_labels_cmp (group_key config key) ns))) (sym groups) (is.known key (subst (λ (s : Map route_labels_cmp Alert). IsTrue (is_some (get s key))) shows h));
+    named = λ n g at. let by = is.named n g (sym (same n) ∙ at) in (by.0, ap (find route_labels_cmp by.0) numbers ∙ by.1);
+    room = λ key n at. omega (arith, longer, is.room key n (ap (find route_labels_cmp key) (sym numbers) ∙ at));
+    group_room = λ group g at. omega (arith, more, is.group_room group g (ap (find route_labels_cmp group) (sym groups) ∙ at));
+  }
+
+  -- a member has come, has changed, or has left
+  pub grouped_set : (b : Numbered RouteLabels Alert) (k : Grouped) (key : RouteLabels) (n g : ℕ) (w : Option Alert) → number_of route_labels_cmp a key ≡ Some n → number_of route_labels_cmp gs (group_key config key) ≡ Some g
+      → b.numbers ≡ a.numbers → shown route_labels_cmp b ≡ set (shown route_labels_cmp a) key w → k.groups ≡ slice_set m.groups n (option_map (λ _. g) w) → k.count ≡ m.count → IsGrouped config b gs k
+  grouped_set b k key n g w at in_g numbers shows groups count = record {
+    numbered = numbered_set route_labels_cmp_total route_labels_cmp-IsAntisymmetric a b key n w at numbers shows is.numbered;
+    groups_numbered = is.groups_numbered;
+    grouped = λ other x there. by_key other x (ap (find route_labels_cmp other) (sym numbers) ∙ there);
+    known = λ other h. elim (eq_by_cmp route_labels_cmp other key) as (λ y. eq_by_cmp route_labels_cmp other key ≡ y → IsTrue (is_some (cond y w (get (shown route_labels_cmp a) other))) → IsTrue (has_place route_labels_cmp gs (group_key config other))) [
+      | true ↦ λ same _. subst (λ (x : RouteLabels). IsTrue (has_place route_labels_cmp gs (group_key config x))) (sym (tied_key key other same)) (number_place gs (group_key config key) g in_g)
+      | false ↦ λ _ there. is.known other there
+    ] refl (subst (λ x. IsTrue (is_some x)) (value other) h);
+    named = λ x y there. elim (x == n) as (λ z. (x == n) ≡ z → IsNumber route_labels_cmp b x) [
+      | true ↦ λ same. let e : n ≡ x = grind (arith, nat_tests) in (key, ap (find route_labels_cmp key) numbers ∙ at ∙ ap (λ n. Some n) e)
+      | false ↦ λ other. let e : x ≢ n = grind (arith, nat_tests) in let by = is.named x y (sym (apart x e) ∙ there) in (by.0, ap (find route_labels_cmp by.0) numbers ∙ by.1)
+    ] refl;
+    room = λ other x there. omega (arith, ap length groups, length-set m.groups n (option_map (λ _. g) w), is.room other x (ap (find route_labels_cmp other) (sym numbers) ∙ there));
+    group_room = λ group x there. omega (arith, count, is.group_room group x there);
+  }
+    where
+      value : (other : RouteLabels) → get (shown route_labels_cmp b) other ≡ cond (eq_by_cmp route_labels_cmp other key) w (get (shown route_labels_cmp a) other)
+      value other = ap (λ (s : Map route_labels_cmp Alert). get s other) shows ∙ get-set route_labels_cmp_total (shown route_labels_cmp a) key w other
+
+      within : IsTrue (nat_lt n (length m.groups))
+      within = let room = is.room key n at in grind (arith, nat_tests)
+
+      own : (o : Option Alert) → option_map (λ _. g) o ≡ group_number config gs key o
+      own None = refl
+      own (Some x) = sym in_g
+
+      apart : (x : ℕ) → x ≢ n → group_at k x ≡ group_at m x
+      apart x e = ap (λ gs. value_at gs x) groups ∙ others_law m.groups n (option_map (λ _. g) w) x e
+
+      there_now : group_at k n ≡ option_map (λ _. g) w
+      there_now = ap (λ gs. value_at gs n) groups ∙ at_law m.groups n (option_map (λ _. g) w) within
+
+      by_key : (other : RouteLabels) (x : ℕ) → number_of route_labels_cmp a other ≡ Some x → group_at k x ≡ group_number config gs other (get (shown route_labels_cmp b) other)
+      by_key other x there =
+          elim (eq_by_cmp route_labels_cmp other key) as (λ y. eq_by_cmp route_labels_cmp other key ≡ y → group_at k x ≡ group_number config gs other (cond y w (get (shown route_labels_cmp a) other))) [
+            | true ↦ λ same.
+                let e : other ≡ key = tied_key key other same in
+                let number : n ≡ x = some_same n x (sym at ∙ ap (number_of route_labels_cmp a) (sym e) ∙ there) in
+                ap (group_at k) (sym number) ∙ there_now ∙ own w ∙ ap (λ (r : RouteLabels). group_number config gs r w) (sym e)
+            | false ↦ λ other_key. apart x (λ e. true≢false (sym (ap is_eq (tied_itself route_labels_cmp_total key)) ∙ ap (λ (r : RouteLabels). eq_by_cmp route_labels_cmp r key) (is.numbered.apart key other n at (there ∙ ap (λ n. Some n) e)) ∙ other_key))
+                ∙ is.grouped other x there
+          ] refl
+          ∙ ap (group_number config gs other) (sym (value other))
+
+  -- a member has changed, or is still none
+  pub grouped_stays : (b : Numbered RouteLabels Alert) (key : RouteLabels) (n g : ℕ) (w : Option Alert) → number_of route_labels_cmp a key ≡ Some n → number_of route_labels_cmp gs (group_key config key) ≡ Some g
+      → b.numbers ≡ a.numbers → shown route_labels_cmp b ≡ set (shown route_labels_cmp a) key w → is_some (get (shown route_labels_cmp a) key) ≡ is_some w → IsGrouped config b gs m
+  grouped_stays b key n g w at in_g numbers shows stays =
+      grouped_set b m key n g w at in_g numbers shows (sym (set_again m.groups n (option_map (λ _. g) w) (is.room key n at) (is.grouped key n at ∙ same (get (shown route_labels_cmp a) key) w stays))) refl
+    where
+      same : (o p : Option Alert) → is_some o ≡ is_some p → group_number config gs key o ≡ option_map (λ _. g) p
+      same None None e = refl
+      same None (Some y) e = absurd (true≢false (sym e))
+      same (Some x) None e = absurd (true≢false e)
+      same (Some x) (Some y) e = in_g
+
+  -- a place for a member is made
+  pub grouped_placed : (b : Numbered RouteLabels Alert) (k : RouteLabels) → IsNumbering route_labels_cmp a → number_of route_labels_cmp a k ≡ None → GetsNumber route_labels_cmp a b k (next_number a) → shown route_labels_cmp b ≡ shown route_labels_cmp a → next_number a < length m.groups → IsGrouped config b gs m
+  grouped_placed b k numbering new gets shows room = record {
+    numbered = numbered_placed route_labels_cmp_total route_labels_cmp-IsAntisymmetric a b k (next_number a) gets numbering.within shows is.numbered;
+    groups_numbered = is.groups_numbered;
+    grouped = λ key n at. by_number a b k (next_number a) gets (λ key n. group_at m n ≡ group_number config gs key (get (shown route_labels_cmp a) key))
+        (nobody ∙ ap (group_number config gs k) (sym no_value)) is.grouped key n at ∙ ap (λ (s : Map route_labels_cmp Alert). group_number config gs key (get s key)) (sym shows);
+    known = λ key h. is.known key (subst (λ (s : Map route_labels_cmp Alert). IsTrue (is_some (get s key))) shows h);
+    named = λ n g at. let by = is.named n g at in (by.0, kept_number a b k (next_number a) new gets by.0 n by.1);
+    room = by_number a b k (next_number a) gets (λ key n. n < length m.groups) room is.room;
+    group_room = is.group_room;
+  }
+    where
+      none_of : {A : Type 0} (x : Option A) → (IsTrue (is_some x) → ⊥) → x ≡ None
+      none_of None h = refl
+      none_of (Some x) h = absurd (h refl)
+
+      no_value : get (shown route_labels_cmp a) k ≡ None
+      no_value = none_of (get (shown route_labels_cmp a) k) (λ h. no_place a k new (is.numbered.placed k h))
+
+      nobody : group_at m (next_number a) ≡ None
+      nobody = none_of (group_at m (next_number a)) (λ h.
+          let g = the_value (group_at m (next_number a)) h in
+          let by = is.named (next_number a) g.0 g.1 in
+          let less = numbering.within by.0 (next_number a) by.1 in
+          omega (arith, less))
+
+  -- a group gets a number
+  pub group_placed : (hs : Numbered RouteLabels (Unit {0})) (k : RouteLabels) → IsNumbering route_labels_cmp gs → number_of route_labels_cmp gs k ≡ None → GetsNumber route_labels_cmp gs hs k (next_number gs) → shown route_labels_cmp hs ≡ shown route_labels_cmp gs → next_number gs < m.count → IsGrouped config a hs m
+  group_placed hs k numbering new gets shows room = record {
+    numbered = is.numbered;
+    groups_numbered = numbered_placed route_labels_cmp_total route_labels_cmp-IsAntisymmetric gs hs k (next_number gs) gets numbering.within shows is.groups_numbered;
+    grouped = λ key n at. is.grouped key n at ∙ same_group key (get (shown route_labels_cmp a) key) (is.known key);
+    known = λ key h. let by = place_number gs (group_key config key) (is.known key h) in number_place hs (group_key config key) by.0 (kept_number gs hs k (next_number gs) new gets (group_key config key) by.0 by.1);
+    named = is.named;
+    room = is.room;
+    group_room = by_number gs hs k (next_number gs) gets (λ group g. g < m.count) room is.group_room;
+  }
+    where
+      same_group : (key : RouteLabels) (o : Option Alert) → (IsTrue (is_some o) → IsTrue (has_place route_labels_cmp gs (group_key config key))) → group_number config gs key o ≡ group_number config hs key o
+      same_group key None h = refl
+      same_group key (Some x) h = let by = place_number gs (group_key config key) (h refl) in by.1 ∙ sym (kept_number gs hs k (next_number gs) new gets (group_key config key) by.0 by.1)
+
+  -- without members, any configuration may be in force
+  pub grouped_again : (after : Config) → shown route_labels_cmp a ≡ empty → IsGrouped after a gs m
+  grouped_again after none = record {
+    numbered = is.numbered;
+    groups_numbered = is.groups_numbered;
+    grouped = λ key n at. is.grouped key n at ∙ ap (group_number config gs key) (nobody key) ∙ sym (ap (group_number after gs key) (nobody key));
+    known = λ key h. absurd (true≢false (sym h ∙ ap is_some (nobody key)));
+    named = is.named;
+    room = is.room;
+    group_room = is.group_room;
+  }
+    where
+      nobody : (key : RouteLabels) → get (shown route_labels_cmp a) key ≡ None
+      nobody key = ap (λ (s : Map route_labels_cmp Alert). get s key) none ∙ get-empty route_labels_cmp key
+
+pub grouped_first : (config : Config) (a : Numbered RouteLabels Alert) (gs : Numbered RouteLabels (Unit {0})) (m : Grouped) → a.numbers ≡ [] → shown route_labels_cmp a ≡ empty → gs.numbers ≡ [] → shown route_labels_cmp gs ≡ empty → m.groups ≡ [] → IsGrouped config a gs m
+grouped_first config a gs m none no_members no_groups no_values nothing = record {
+  numbered = none_numbered route_labels_cmp_total route_labels_cmp-IsAntisymmetric a none no_members;
+  groups_numbered = none_numbered route_labels_cmp_total route_labels_cmp-IsAntisymmetric gs no_groups no_values;
+  grouped = λ key n at. not_none n _ (sym at ∙ ap (find route_labels_cmp key) none);
+  known = λ key h. absurd (true≢false (sym h ∙ ap (λ (s : Map route_labels_cmp Alert). is_some (get s key)) no_members ∙ ap is_some (get-empty route_labels_cmp key)));
+  named = λ n g at. not_none g _ (sym at ∙ ap (λ gs. value_at gs n) nothing);
+  room = λ key n at. not_none n _ (sym at ∙ ap (find route_labels_cmp key) none);
+  group_room = λ group g at. not_none g _ (sym at ∙ ap (find route_labels_cmp group) no_groups);
+}
+
+-- ---- the number of a member of the group
+
+module _ (config : Config) (a : Numbered RouteLabels Alert) (gs : Numbered RouteLabels (Unit {0})) (m : Grouped) (is : IsGrouped config a gs m) (group : RouteLabels) (g : ℕ) (at : number_of route_labels_cmp gs group ≡ Some g) where
+  grouped_at : (key : RouteLabels) (o : Option Alert) → group_number config gs key o ≡ Some g → IsTrue (is_some o) × (group_key config key ≡ group)
+  grouped_at key None e = cc
+  grouped_at key (Some x) e = (refl, is.groups_numbered.apart (group_key config key) group g e at)
+
+  -- who has a number in the group is a member of it
+  pub member_of : (n : ℕ) → group_at m n ≡ Some g → (key : RouteLabels) × (number_of route_labels_cmp a key ≡ Some n) × (IsTrue (is_some (get (shown route_labels_cmp a) key)) × (group_key config key ≡ group))
+  member_of n there = let by = is.named n g there in (by.0, by.1, grouped_at by.0 (get (shown route_labels_cmp a) by.0) (sym (is.grouped by.0 n by.1) ∙ there))
+
+  -- a member of the group has a number in it
+  pub number_in : (key : RouteLabels) → IsTrue (is_some (get (shown route_labels_cmp a) key)) → group_key config key ≡ group → (n : ℕ) × (number_of route_labels_cmp a key ≡ Some n) × (group_at m n ≡ Some g)
+  number_in key h e =
+      let by = place_number a key (is.numbered.placed key h) in
+      let value = the_value (get (shown route_labels_cmp a) key) h in
+      (by.0, by.1, is.grouped key by.0 by.1 ∙ ap (group_number config gs key) value.1 ∙ ap (number_of route_labels_cmp gs) e ∙ at)
+
+  -- the key that a number in the group names
+  pub named_by : IsNumbering route_labels_cmp a → (n : ℕ) → group_at m n ≡ Some g → (key : RouteLabels) → Some key ≡ key_at a n → IsNumbered a group.route (key.labels, n)
+  named_by numbering n there key is_key =
+      let by = member_of n there in
+      let same : by.0 ≡ key = some_same by.0 key (sym (key_at_number route_labels_cmp_total route_labels_cmp-IsAntisymmetric a numbering by.0 n by.1) ∙ sym is_key) in
+      let route : key.route ≡ group.route = ap (λ (r : RouteLabels). r.route) (sym same) ∙ ap (λ (r : RouteLabels). r.route) by.2.1 in
+      ap (number_of route_labels_cmp a) ((λ i. on_route (sym route i) key.labels) ∙ sym same) ∙ by.1
+
+-- ---- the members of a group, from the members of all
+
+skips : (a b c : Bool) → (a ≡ true → b ≡ false) → (b && c) ≡ (b && (a || c))
+skips true b c f = ap (λ x. x && c) (f refl) ∙ sym (ap (λ x. x && true) (f refl))
+skips false b c f = refl
+
+keeps : (a b c : Bool) → (a ≡ true → b ≡ true) → (a || (b && c)) ≡ (b && (a || c))
+keeps true b c f = sym (ap (λ x. x && true) (f refl))
+keeps false b c f = refl
+
+never : (a : Bool) → false ≡ (a && false)
+never true = refl
+never false = refl
+
+-- each placement is found by its key, also where others are in front
+later : (e : RouteLabels × Alert) (es fs : List (RouteLabels × Alert)) → T (below_all route_labels_cmp e.0 fs) → AllByRecursion (λ f. find route_labels_cmp f.0 es ≡ Some f.1) fs → AllByRecursion (λ f. find route_labels_cmp f.0 (e ∷ es) ≡ Some f.1) fs
+later e es [] h found = tt
+later e es (f ∷ fs) h found = (
+  ap (λ r. cond (is_eq r) (Some e.1) (find route_labels_cmp f.0 es)) (route_labels_cmp_total.antisymm f.0 e.0 ∙ ap ordering_reverse (less_is _ (first _ _ h))) ∙ found.0,
+  later e es fs (second _ _ h) found.1,
+)
+
+own_alerts : (es : List (RouteLabels × Alert)) → T (is_sorted route_labels_cmp es) → AllByRecursion (λ e. find route_labels_cmp e.0 es ≡ Some e.1) es
+own_alerts [] h = tt
+own_alerts (e ∷ es) h = (
+  ap (λ r. cond (is_eq r) (Some e.1) (find route_labels_cmp e.0 es)) (tied_itself route_labels_cmp_total e.0),
+  later e es es (first _ _ h) (own_alerts es (second _ _ h)),
+)
+
+got : (m : Map route_labels_cmp Alert) (es : List (RouteLabels × Alert)) → AllByRecursion (λ e. find route_labels_cmp e.0 (entries m) ≡ Some e.1) es → AllByRecursion (λ e. get m e.0 ≡ Some e.1) es
+got m [] h = tt
+got m (e ∷ es) h = (get-entries m e.0 ∙ h.0, got m es h.1)
+
+module _ (config : Config) (group : RouteLabels) where
+  abbrev is_in : RouteLabels → Bool
+  is_in key = eq_by_cmp route_labels_cmp (group_key config key) group
+
+  abbrev among : List (RouteLabels × Alert) → List (LabelSet × Alert)
+  among es = map (λ placement. (placement.0.labels, placement.1)) (filter (λ placement. is_in placement.0) es)
+
+  -- a member of the group is on its route
+  on_its_route : (key : RouteLabels) → is_in key ≡ true → on_route group.route key.labels ≡ key
+  on_its_route key e = λ i. on_route (sym (ap (λ (r : RouteLabels). r.route) (tied_key group (group_key config key) e)) i) key.labels
+
+  same_labels : (l : LabelSet) (key : RouteLabels) → is_in key ≡ true → eq_by_cmp route_labels_cmp (on_route group.route l) key ≡ eq_by_cmp label_set_cmp l key.labels
+  same_labels l key e =
+      ap (λ (n : ℕ). is_eq (ordering_then (nat_cmp group.route n) (label_set_cmp l key.labels))) (ap (λ (r : RouteLabels). r.route) (tied_key group (group_key config key) e))
+      ∙ ap (λ o. is_eq (ordering_then o (label_set_cmp l key.labels))) (tied_itself nat_cmp_total group.route)
+
+  has_among : (l : LabelSet) (es : List (RouteLabels × Alert)) → has label_set_cmp (labels_of_members (among es)) l ≡ (is_in (on_route group.route l) && list_any (eq_by_cmp route_labels_cmp (on_route group.route l)) (map (λ e. e.0) es))
+  has_among l [] = never (is_in (on_route group.route l))
+  has_among l (e ∷ es) =
+      let own = on_route group.route l in
+      let rest = list_any (eq_by_cmp route_labels_cmp own) (map (λ e. e.0) es) in
+      elim (is_in e.0) as (λ b. is_in e.0 ≡ b → has label_set_cmp (labels_of_members (map (λ placement. (placement.0.labels, placement.1)) (cond b (e ∷ filter (λ placement. is_in placement.0) es) (filter (λ placement. is_in placement.0) es)))) l
+      ≡ (is_in own && (eq_by_cmp route_labels_cmp own e.0 || rest))) [
+        | true ↦ λ in_e. ap (λ b. eq_by_cmp label_set_cmp l e.0.labels || b) (has_among l es) ∙ ap (λ b. b || (is_in own && rest)) (sym (same_labels l e.0 in_e))
+            ∙ keeps (eq_by_cmp route_labels_cmp own e.0) (is_in own) rest (λ t. ap is_in (tied_key e.0 own t) ∙ in_e)
+        | false ↦ λ in_e. has_among l es ∙ skips (eq_by_cmp route_labels_cmp own e.0) (is_in own) rest (λ t. ap is_in (tied_key e.0 own t) ∙ in_e)
+      ] refl
+
+  -- a label set is among the members of the group just where it is a member on the route
+  has_member : (m : Map route_labels_cmp Alert) (l : LabelSet) → has label_set_cmp (labels_of_members (members_among config m group)) l ≡ (is_in (on_route group.route l) && is_some (get m (on_route group.route l)))
+  has_member m l =
+      has_among l (entries m) ∙ ap (λ b. is_in (on_route group.route l) && b) (sym (is_some-find route_labels_cmp (on_route group.route l) (entries m)) ∙ ap is_some (sym (get-entries m (on_route group.route l))))
+
+  below_among : (k : RouteLabels) (es : List (RouteLabels × Alert)) → is_in k ≡ true → T (below_all route_labels_cmp k es) → AllByRecursion (λ y. label_set_cmp k.labels y ≡ Less) (labels_of_members (among es))
+  below_among k [] in_k h = tt
+  below_among k (f ∷ fs) in_k h =
+      elim (is_in f.0) as (λ b. is_in f.0 ≡ b → AllByRecursion (λ y. label_set_cmp k.labels y ≡ Less) (labels_of_members (map (λ placement. (placement.0.labels, placement.1)) (cond b (f ∷ filter (λ placement. is_in placement.0) fs) (filter (λ placement. is_in placement.0) fs))))) [
+        | true ↦ λ in_f. (by_labels in_f (less_is _ (first _ _ h)), below_among k fs in_k (second _ _ h))
+        | false ↦ λ _. below_among k fs in_k (second _ _ h)
+      ] refl
+    where
+      by_labels : is_in f.0 ≡ true → route_labels_cmp k f.0 ≡ Less → label_set_cmp k.labels f.0.labels ≡ Less
+      by_labels in_f less =
+          sym (ap (λ o. ordering_then o (label_set_cmp k.labels f.0.labels)) (ap (λ (n : ℕ). nat_cmp n f.0.route) (ap (λ (r : RouteLabels). r.route) (tied_key group (group_key config k) in_k ∙ sym (tied_key group (group_key config f.0) in_f))) ∙ tied_itself nat_cmp_total f.0.route))
+          ∙ less
+
+  sorted_among : (es : List (RouteLabels × Alert)) → T (is_sorted route_labels_cmp es) → IsStrictlySortedBy label_set_cmp (labels_of_members (among es))
+  unfolding IsStrictlySortedBy
+  sorted_among [] h = tt
+  sorted_among (e ∷ es) h =
+      elim (is_in e.0) as (λ b. is_in e.0 ≡ b → IsStrictlySortedBy label_set_cmp (labels_of_members (map (λ placement. (placement.0.labels, placement.1)) (cond b (e ∷ filter (λ placement. is_in placement.0) es) (filter (λ placement. is_in placement.0) es))))) [
+        | true ↦ λ in_e. (below_among e.0 es in_e (first _ _ h), sorted_among es (second _ _ h))
+        | false ↦ λ _. sorted_among es (second _ _ h)
+      ] refl
+
+  -- each label set of the group has its alert
+  looked_up : (m : Map route_labels_cmp Alert) (es : List (RouteLabels × Alert)) → AllByRecursion (λ e. get m e.0 ≡ Some e.1) es → filter_map (with_alert m group.route) (labels_of_members (among es)) ≡ among es
+  looked_up m [] h = refl
+  looked_up m (e ∷ es) h =
+      elim (is_in e.0) as (λ b. is_in e.0 ≡ b → filter_map (with_alert m group.route) (labels_of_members (map (λ placement. (placement.0.labels, placement.1)) (cond b (e ∷ filter (λ placement. is_in placement.0) es) (filter (λ placement. is_in placement.0) es))))
+      ≡ map (λ placement. (placement.0.labels, placement.1)) (cond b (e ∷ filter (λ placement. is_in placement.0) es) (filter (λ placement. is_in placement.0) es))) [
+        | true ↦ λ in_e. ap (λ x. cons_option (option_map (λ alert. (e.0.labels, alert)) x) (filter_map (with_alert m group.route) (labels_of_members (among es)))) (ap (get m) (on_its_route e.0 in_e) ∙ h.0)
+            ∙ ap (λ l. (e.0.labels, e.1) ∷ l) (looked_up m es h.1)
+        | false ↦ λ _. looked_up m es h.1
+      ] refl
+
+  pub members_are : (m : Map route_labels_cmp Alert) → filter_map (with_alert m group.route) (labels_of_members (members_among config m group)) ≡ members_among config m group
+  members_are m = looked_up m (entries m) (got m (entries m) (own_alerts (entries m) (entries-sorted m)))
+
+  -- a list in order of the same label sets lists the members
+  listed : (m : Map route_labels_cmp Alert) (ls : List LabelSet) → IsStrictlySortedBy label_set_cmp ls → ((l : LabelSet) → has label_set_cmp ls l ≡ (is_in (on_route group.route l) && is_some (get m (on_route group.route l)))) → ls ≡ labels_of_members (members_among config m group)
+  listed m ls sorted same = same_from_members label_set_cmp label_set_cmp_total label_set_cmp-IsAntisymmetric ls _ sorted (sorted_among (entries m) (entries-sorted m)) (λ l. same l ∙ sym (has_member m l))
+
+-- ---- the members that are listed by their numbers
+
+-- the numbers that are listed
+abbrev pub numbers_of_listed : List (Bor LabelSet × ℕ) → List ℕ
+numbers_of_listed members = map (λ member. member.1) members
+
+module _ (config : Config) (a : Numbered RouteLabels Alert) (gs : Numbered RouteLabels (Unit {0})) (m : Grouped) (is : IsGrouped config a gs m) (group : RouteLabels) where
+  -- no member is in a group without a number
+  pub none_listed : number_of route_labels_cmp gs group ≡ None → [] ≡ labels_of_members (members_among config (shown route_labels_cmp a) group)
+  unfolding IsStrictlySortedBy
+  none_listed none = listed config group (shown route_labels_cmp a) [] tt (λ l. nobody (on_route group.route l) _ _ refl refl)
+    where
+      nobody : (key : RouteLabels) (x y : Bool) → is_in config group key ≡ x → is_some (get (shown route_labels_cmp a) key) ≡ y → false ≡ (x && y)
+      nobody key true true e h = absurd (no_place gs group none (subst (λ r. IsTrue (has_place route_labels_cmp gs r)) (tied_key group (group_key config key) e) (is.known key h)))
+      nobody key true false e h = refl
+      nobody key false y e h = refl
+
+  module _ (g : ℕ) (at : number_of route_labels_cmp gs group ≡ Some g) where
+    abbrev pub IsListed : List (Bor LabelSet × ℕ) → Type 0
+    IsListed members = All (IsNumbered a group.route) (map numbered_labels members)
+
+    -- the labels of a number that is listed are its own
+    listed_labels : (members : List (Bor LabelSet × ℕ)) → IsListed members → (l : LabelSet) (n : ℕ) → number_of route_labels_cmp a (on_route group.route l) ≡ Some n → IsTrue (list_any (λ x. n == x) (numbers_of_listed members)) → IsTrue (has label_set_cmp (labels_of_numbered members) l)
+    listed_labels [] all l n there h = absurd (true≢false (sym h))
+    listed_labels (x ∷ xs) all l n there h =
+        elim (n == x.1) as (λ b. (n == x.1) ≡ b → IsTrue (b || list_any (λ x. n == x) (numbers_of_listed xs)) → IsTrue (has label_set_cmp (labels_of_numbered (x ∷ xs)) l)) [
+          | true ↦ λ e _.
+              let same : n ≡ x.1 = grind (arith, nat_tests) in
+              let own : number_of route_labels_cmp a (on_route group.route x.0.now) ≡ Some x.1 = All-head (IsNumbered a group.route) (numbered_labels x) (map numbered_labels xs) all in
+              let keys : on_route group.route l ≡ on_route group.route x.0.now = is.numbered.apart (on_route group.route l) (on_route group.route x.0.now) n there (own ∙ ap (λ n. Some n) (sym same)) in
+              ap (λ (r : RouteLabels). eq_by_cmp label_set_cmp r.labels x.0.now || has label_set_cmp (labels_of_numbered xs) l) keys ∙ ap (λ o. is_eq o || has label_set_cmp (labels_of_numbered xs) l) (tied_itself label_set_cmp_total x.0.now)
+          | false ↦ λ _ rest. or_right (eq_by_cmp label_set_cmp l x.0.now) _ (listed_labels xs (All-tail (IsNumbered a group.route) (numbered_labels x) (map numbered_labels xs) all) l n there rest)
+        ] refl h
+      where
+        or_right : (a b : Bool) → IsTrue b → IsTrue (a || b)
+        or_right true b h = refl
+        or_right false b h = h
+
+    -- a label set that is listed has a number that is
+    listed_number : (members : List (Bor LabelSet × ℕ)) → IsListed members → (l : LabelSet) → IsTrue (has label_set_cmp (labels_of_numbered members) l) → (n : ℕ) × (IsTrue (list_any (λ x. n == x) (numbers_of_listed members)) × (number_of route_labels_cmp a (on_route group.route l) ≡ Some n))
+    listed_number [] all l h = absurd (true≢false (sym h))
+    listed_number (x ∷ xs) all l h =
+        elim (eq_by_cmp label_set_cmp l x.0.now) as (λ b. eq_by_cmp label_set_cmp l x.0.now ≡ b → IsTrue (b || has label_set_cmp (labels_of_numbered xs) l) → (n : ℕ) × (IsTrue (list_any (λ y. n == y) (numbers_of_listed (x ∷ xs))) × (number_of route_labels_cmp a (on_route group.route l) ≡ Some n))) [
+          | true ↦ λ e _.
+              let same : l ≡ x.0.now = label_set_cmp-IsAntisymmetric l x.0.now (equal_of _ e) in
+              let itself : (x.1 == x.1) ≡ true = grind (arith, nat_tests) in
+              (x.1, (ap (λ b. b || list_any (λ y. x.1 == y) (numbers_of_listed xs)) itself, ap (λ l. number_of route_labels_cmp a (on_route group.route l)) same ∙ All-head (IsNumbered a group.route) (numbered_labels x) (map numbered_labels xs) all))
+          | false ↦ λ _ rest.
+              let by = listed_number xs (All-tail (IsNumbered a group.route) (numbered_labels x) (map numbered_labels xs) all) l rest in
+              (by.0, (or_right (by.0 == x.1) _ by.1.0, by.1.1))
+        ] refl h
+      where
+        or_right : (a b : Bool) → IsTrue b → IsTrue (a || b)
+        or_right true b h = refl
+        or_right false b h = h
+
+    apart_from : (x : Bor LabelSet × ℕ) (xs : List (Bor LabelSet × ℕ)) → number_of route_labels_cmp a (on_route group.route x.0.now) ≡ Some x.1 → IsListed xs → AllByRecursion (λ y. (x.1 == y) ≡ false) (numbers_of_listed xs)
+        → AllByRecursion (λ y. eq_by_cmp label_set_cmp x.0.now y ≡ false) (labels_of_numbered xs)
+    apart_from x [] own all differ = tt
+    apart_from x (y ∷ ys) own all differ = (
+      elim (eq_by_cmp label_set_cmp x.0.now y.0.now) as (λ b. eq_by_cmp label_set_cmp x.0.now y.0.now ≡ b → b ≡ false) [
+        | true ↦ λ e.
+            let same : x.0.now ≡ y.0.now = label_set_cmp-IsAntisymmetric x.0.now y.0.now (equal_of _ e) in
+            let number : x.1 ≡ y.1 = some_same x.1 y.1 (sym own ∙ ap (λ l. number_of route_labels_cmp a (on_route group.route l)) same ∙ All-head (IsNumbered a group.route) (numbered_labels y) (map numbered_labels ys) all) in
+            let other = differ.0 in
+            absurd (grind (arith, nat_tests))
+        | false ↦ λ _. refl
+      ] refl,
+      apart_from x ys own (All-tail (IsNumbered a group.route) (numbered_labels y) (map numbered_labels ys) all) differ.1,
+    )
+
+    -- different numbers have different label sets
+    labels_apart : (xs : List (Bor LabelSet × ℕ)) → IsListed xs → IsDistinct (λ (a b : ℕ). a == b) (numbers_of_listed xs) → IsDistinct (eq_by_cmp label_set_cmp) (labels_of_numbered xs)
+    unfolding IsDistinct
+    labels_apart [] all d = tt
+    labels_apart (x ∷ xs) all d = (
+      apart_from x xs (All-head (IsNumbered a group.route) (numbered_labels x) (map numbered_labels xs) all) (All-tail (IsNumbered a group.route) (numbered_labels x) (map numbered_labels xs) all) d.0,
+      labels_apart xs (All-tail (IsNumbered a group.route) (numbered_labels x) (map numbered_labels xs) all) d.1,
+    )
+
+    -- the members of the group are those of its numbers, in order of their labels
+    module _ (numbers : List ℕ) (those : AreNumbersOf m g numbers) (found members : List (Bor LabelSet × ℕ)) (found_are : numbers_of_listed found ≡ numbers) (all : IsListed found) (moved : IsPermutation found members)
+        (up : IsSorted (λ (x y : Bor LabelSet × ℕ). ordering_then (label_set_cmp x.0.now y.0.now) (nat_cmp x.1 y.1)) members) where
+      pub all_listed : IsListed members
+      all_listed = All-permutation (IsNumbered a group.route) (map numbered_labels found) (map numbered_labels members) (IsPermutation-map numbered_labels found members moved) all
+
+      same_numbers : IsPermutation numbers (numbers_of_listed members)
+      same_numbers = subst (λ ns. IsPermutation ns (numbers_of_listed members)) found_are (IsPermutation-map (λ (x : Bor LabelSet × ℕ). x.1) found members moved)
+
+      distinct_numbers : IsDistinct (λ (a b : ℕ). a == b) (numbers_of_listed members)
+      distinct_numbers = IsDistinct-IsPermutation (λ (a b : ℕ). a == b) flips numbers (numbers_of_listed members) same_numbers those.distinct
+        where
+          flips : (x y : ℕ) → (x == y) ≡ (y == x)
+          flips x y = alike (x == y) (y == x) (λ e. grind (arith, nat_tests)) (λ e. grind (arith, nat_tests))
+
+      in_order : IsStrictlySortedBy label_set_cmp (labels_of_numbered members)
+      in_order = strictly label_set_cmp_total (eq_by_cmp label_set_cmp) (λ x y. refl) numbered_labels members up (labels_apart members all_listed distinct_numbers)
+
+      has_listed : (l : LabelSet) → has label_set_cmp (labels_of_numbered members) l ≡ (is_in config group (on_route group.route l) && is_some (get (shown route_labels_cmp a) (on_route group.route l)))
+      has_listed l =
+          let key = on_route group.route l in
+          alike (has label_set_cmp (labels_of_numbered members) l) (is_in config group key && is_some (get (shown route_labels_cmp a) key))
+          (λ h.
+          let by = listed_number members all_listed l h in
+          let there : group_at m by.0 ≡ Some g = those.members by.0 (list_any-IsPermutation (λ x. by.0 == x) numbers (numbers_of_listed members) same_numbers ∙ by.1.0) in
+          let member = member_of config a gs m is group g at by.0 there in
+          let same : member.0 ≡ key = is.numbered.apart member.0 key by.0 member.1 by.1.1 in
+          both _ _ (subst (λ r. is_in config group r ≡ true) same (ap (λ r. eq_by_cmp route_labels_cmp r group) member.2.1 ∙ ap is_eq (tied_itself route_labels_cmp_total group)))
+          (subst (λ r. is_some (get (shown route_labels_cmp a) r) ≡ true) same member.2.0))
+          (λ h.
+          let by = number_in config a gs m is group g at key (other_of _ _ h) (tied_key group (group_key config key) (one_of _ _ h)) in
+          listed_labels members all_listed l by.0 by.1 (sym (list_any-IsPermutation (λ x. by.0 == x) numbers (numbers_of_listed members) same_numbers) ∙ those.all by.0 by.2))
+
+      pub labels_found : labels_of_numbered members ≡ labels_of_members (members_among config (shown route_labels_cmp a) group)
+      labels_found = listed config group (shown route_labels_cmp a) (labels_of_numbered members) in_order has_listed
+
+-- an item of a list is among it
+pub among_at : (xs : List ℕ) (i d : ℕ) → i < length xs → IsTrue (list_any (λ m. get_or xs i d == m) xs)
+among_at [] i d h = absurd (omega arith)
+among_at (x ∷ xs) zero d h = ap (λ b. b || list_any (λ m. x == m) xs) (itself x)
+  where
+    itself : (n : ℕ) → (n == n) ≡ true
+    itself n = grind (arith, nat_tests)
+among_at (x ∷ xs) (suc i) d h = or_right (get_or xs i d == x) _ (among_at xs i d (omega arith))
+  where
+    or_right : (a b : Bool) → IsTrue b → IsTrue (a || b)
+    or_right true b h = refl
+    or_right false b h = h
+
+-- ---- copies of members
+
+-- one more member with its alert
+pub member_more : (m : Map route_labels_cmp Alert) (route : ℕ) (members : List (Bor LabelSet × ℕ)) (i : ℕ) (member : Bor LabelSet × ℕ) (found more total : List (LabelSet × Alert)) → i < length members → member ≡ get_or members i member
+    → more ≡ found ++ cons_option (with_alert m route member.0.now) [] → found ++ filter_map (with_alert m route) (labels_of_numbered (drop i members)) ≡ total → more ++ filter_map (with_alert m route) (labels_of_numbered (drop (i + 1) members)) ≡ total
+member_more m route members i member found more total less is gives so_far =
+    let rest = filter_map (with_alert m route) (labels_of_numbered (drop (i + 1) members)) in
+    ap (λ l. l ++ rest) gives ∙ append_assoc found (cons_option (with_alert m route member.0.now) []) rest
+    ∙ ap (λ l. found ++ l) (at_front (with_alert m route member.0.now) rest
+    ∙ ap (λ (x : Bor LabelSet × ℕ). cons_option (with_alert m route x.0.now) rest) is
+    ∙ sym (at_drop_more (λ l. filter_map (with_alert m route) (labels_of_numbered l)) members i member less))
+    ∙ so_far
+  where
+    at_front : {X : Type 0} (o : Option X) (rest : List X) → cons_option o [] ++ rest ≡ cons_option o rest
+    at_front None rest = refl
+    at_front (Some x) rest = refl
+
+pub numbered_among : (a : Numbered RouteLabels Alert) (route : ℕ) (members : List (Bor LabelSet × ℕ)) (i : ℕ) (member : Bor LabelSet × ℕ) → i < length members → member ≡ get_or members i member → All (IsNumbered a route) (map numbered_labels members) → IsNumbered a route (numbered_labels member)
+numbered_among a route members i member less is all =
+    subst (λ (x : Bor LabelSet × ℕ). IsNumbered a route (numbered_labels x)) (sym is) (All-get_or (λ (x : Bor LabelSet × ℕ). IsNumbered a route (numbered_labels x)) members i member less (of_each members all))
+  where
+    of_each : (xs : List (Bor LabelSet × ℕ)) → All (IsNumbered a route) (map numbered_labels xs) → All (λ (x : Bor LabelSet × ℕ). IsNumbered a route (numbered_labels x)) xs
+    of_each [] h = All-nil (λ (x : Bor LabelSet × ℕ). IsNumbered a route (numbered_labels x))
+    of_each (x ∷ xs) h =
+        All-cons (λ (y : Bor LabelSet × ℕ). IsNumbered a route (numbered_labels y)) x xs (All-head (IsNumbered a route) (numbered_labels x) (map numbered_labels xs) h)
+        (of_each xs (All-tail (IsNumbered a route) (numbered_labels x) (map numbered_labels xs) h))

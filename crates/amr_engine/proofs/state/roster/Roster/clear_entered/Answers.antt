@@ -1,0 +1,15 @@
+use Rattle.std.proofs.Common.{length, refl, ap, ◌∙◌}
+use Rattle.std.proofs.Math.Nat.{le_refl}
+use Rattle.amr_tables.specs.Numbered.{has_place}
+use Rattle.amr_engine.specs.State.State.{route_labels_cmp}
+use Rattle.amr_engine.specs.State.Rostered.{Rostered}
+use Rattle.amr_engine.proofs.StateLemmas.Rostering.{grouped_same}
+use Rattle.amr_engine.proofs.state.roster.Roster.clear_entered.Goals as goal
+
+pub returns-clause-places : goal.returns-clause-places
+returns-clause-places c = λ key. c.clear_entered.ensures.places key ∙ ap (λ (r : Rostered). has_place route_labels_cmp r.placements key) c.self.view_is
+
+pub invariant_of-self : goal.invariant_of-self
+invariant_of-self c =
+    let r = c.self.inside in
+    grouped_same r.config r.placements r.groups r.members c.self.invariant c.clear_entered.new.self r.groups r.members c.clear_entered.ensures.keys c.clear_entered.ensures.shown refl refl (λ n. refl) (le_refl (length r.members.groups)) (le_refl r.members.count)

@@ -1,0 +1,16 @@
+use Rattle.std.proofs.Common.{sym, ap, subst, ◌∙◌}
+use Rattle.amr_tables.specs.Numbered.{number_of}
+use Rattle.amr_engine.specs.State.State.{route_labels_cmp, member_on_route}
+use Rattle.amr_engine.specs.State.Stored.{IsSound, IsPlaceOf}
+use Rattle.amr_engine.proofs.state.tables.Tables.find.Goals as goal
+
+pub returns-in-OfMember : goal.returns-in-OfMember
+returns-in-OfMember c =
+    let sound = subst (IsSound c.args.self.now) c.in-OfMember.is c.requires in
+    subst (λ e. IsPlaceOf c.args.self.now e c.number_in-in-OfMember.result) (sym c.in-OfMember.is)
+    (ap (λ t. number_of route_labels_cmp t (member_on_route c.in-OfMember.member)) (sym c.placements.ensures) ∙ c.number_in-in-OfMember.ensures, sound.1)
+
+pub returns-in-OfTimer : goal.returns-in-OfTimer
+returns-in-OfTimer c =
+    subst (λ e. IsPlaceOf c.args.self.now e c.number_in-in-OfTimer.result) (sym c.in-OfTimer.is)
+    (ap (λ t. number_of route_labels_cmp t c.in-OfTimer.group) (sym c.timers.ensures) ∙ c.number_in-in-OfTimer.ensures)

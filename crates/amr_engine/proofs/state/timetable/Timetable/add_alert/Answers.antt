@@ -1,0 +1,42 @@
+use Rattle.std.proofs.Common.{◌<◌, length, refl, sym, ap, subst, ◌∙◌}
+use Rattle.amr_labels.specs.Labels.{LabelSet, label_set_cmp, label_set_cmp_total}
+use Rattle.amr_rules.specs.declared.alert.Alert.{Alert}
+use Rattle.amr_tables.specs.Numbered.{Numbered, number_of, next_number, rank_of, IsNumbering}
+use Rattle.amr_tables.specs.Earliest.{IsTournament}
+use Rattle.amr_engine.specs.State.Timed.{Timed, IsTimed}
+use Rattle.amr_engine.proofs.StateLemmas.Scheduling.{alerts_same, alert_placed, got, not_none}
+use Rattle.amr_engine.proofs.state.timetable.Timetable.add_alert.Goals as goal
+
+pub invariant_of-self : goal.invariant_of-self
+invariant_of-self c =
+    let t = c.self.inside in
+    let r = c.make_room.new.moments in
+    let tournament = subst (λ (v : Numbered LabelSet Alert). IsTournament (rank_of label_set_cmp v) r) c.by_number.ensures c.make_room.ensures.kept in
+    alerts_same t.alerts t.timers t.alert_removals t.group_removals t.flushes c.self.invariant t.alerts refl refl r c.make_room.ensures.same c.make_room.ensures.more tournament
+
+pub invariant_of-self-in_err-make_place : goal.invariant_of-self-in_err-make_place
+invariant_of-self-in_err-make_place c =
+    let t = c.self.inside in
+    let r = c.make_room.new.moments in
+    let tournament = subst (λ (v : Numbered LabelSet Alert). IsTournament (rank_of label_set_cmp v) r) c.by_number.ensures c.make_room.ensures.kept in
+    alerts_same t.alerts t.timers t.alert_removals t.group_removals t.flushes c.self.invariant c.make_place.new.self c.in_err-make_place.ensures.kept c.make_place.ensures.shown r c.make_room.ensures.same c.make_room.ensures.more tournament
+
+pub unreachable-requires : goal.unreachable-requires
+unreachable-requires c =
+    let t = c.self.inside in
+    let labels = c.args.labels.now in
+    not_none (next_number t.alerts) _ (sym (got label_set_cmp t.alerts c.make_place.new.self label_set_cmp_total labels (next_number t.alerts) c.in_ok-make_place.ensures.number)
+    ∙ sym (ap (λ (v : Numbered LabelSet Alert). number_of label_set_cmp v labels) c.by_number-2.ensures) ∙ sym c.number_of.ensures.number ∙ c.in-None.is)
+
+pub invariant_of-self-2 : goal.invariant_of-self-2
+invariant_of-self-2 c =
+    let t = c.self.inside in
+    let r = c.make_room.new.moments in
+    let labels = c.args.labels.now in
+    let tournament = subst (λ (v : Numbered LabelSet Alert). IsTournament (rank_of label_set_cmp v) r) c.by_number.ensures c.make_room.ensures.kept in
+    let roomy : IsTimed t.alerts t.timers r t.group_removals t.flushes = alerts_same t.alerts t.timers t.alert_removals t.group_removals t.flushes c.self.invariant t.alerts refl refl r c.make_room.ensures.same c.make_room.ensures.more tournament in
+    alert_placed t.alerts t.timers r t.group_removals t.flushes roomy c.make_place.new.self labels
+    (subst (IsNumbering label_set_cmp) c.by_number.ensures c.make_room.ensures.numbering)
+    (subst (IsNumbering label_set_cmp) c.by_number-2.ensures c.number_of.ensures.numbering)
+    (ap (λ (v : Timed). number_of label_set_cmp v.alerts labels) c.self.view_is ∙ c.requires) c.in_ok-make_place.ensures.number c.make_place.ensures.shown
+    (subst (λ (v : Numbered LabelSet Alert). next_number v < length r.moments) c.by_number.ensures c.in_ok-make_room.ensures.room)

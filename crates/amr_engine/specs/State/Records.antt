@@ -1,0 +1,77 @@
+-- Records of events: changes that lead back, and how an event is undone.
+use Rattle.std.specs.Prelude.{◌≤◌, ◌⊎◌, ℕ, Bool, true, false, List, [], ◌∷◌, take, length}
+use Rattle.std.specs.List.{list_any}
+use Rattle.std.specs.Ordering.{nat_cmp, eq_by_cmp}
+use Rattle.amr_labels.specs.Map.{get, set}
+use Rattle.amr_labels.specs.Labels.{label_set_cmp}
+use Rattle.amr_engine.specs.declared.state.change.Change.{Change}
+use Rattle.amr_engine.specs.declared.state.change.Change.TheVariants.{OfMoment, OfConfig, OfAlert, OfSilence, OfMember, OfTimer, OfLog, OfNotes}
+use Rattle.amr_engine.specs.State.State.{State, member_on_route, route_labels_cmp, log_key_cmp}
+
+-- the state after a change: with the change's value at its place
+abbrev pub changed : State → Change → State
+changed s (OfMoment moment) = record s { moment = moment }
+changed s (OfConfig config) = record s { config = config }
+changed s (OfAlert labels alert) = record s { alerts = set s.alerts labels alert }
+changed s (OfSilence id silence) = record s { silences = set s.silences id silence }
+changed s (OfMember member alert) = record s { placements = set s.placements (member_on_route member) alert }
+changed s (OfTimer group timer) = record s { timers = set s.timers group timer }
+changed s (OfLog key entry) = record s { log = set s.log key entry }
+changed s (OfNotes count) = record s { notes = take count s.notes }
+
+-- a record is undone from its last entry to its first
+unfoldable pub put_back : List Change → State → State
+put_back [] s = s
+put_back (first ∷ rest) s = changed (put_back rest s) first
+
+-- the same place with its present value; for the notifications, their present number
+abbrev pub present : State → Change → Change
+present s (OfMoment moment) = OfMoment s.moment
+present s (OfConfig config) = OfConfig s.config
+present s (OfAlert labels alert) = OfAlert labels (get s.alerts labels)
+present s (OfSilence id silence) = OfSilence id (get s.silences id)
+present s (OfMember member alert) = OfMember member (get s.placements (member_on_route member))
+present s (OfTimer group timer) = OfTimer group (get s.timers group)
+present s (OfLog key entry) = OfLog key (get s.log key)
+present s (OfNotes count) = OfNotes (length s.notes)
+
+-- whether two entries are of one place
+abbrev pub same_place : Change → Change → Bool
+same_place (OfMoment a) (OfMoment b) = true
+same_place (OfConfig a) (OfConfig b) = true
+same_place (OfAlert a v) (OfAlert b w) = eq_by_cmp label_set_cmp a b
+same_place (OfSilence a v) (OfSilence b w) = eq_by_cmp nat_cmp a b
+same_place (OfMember a v) (OfMember b w) = eq_by_cmp route_labels_cmp (member_on_route a) (member_on_route b)
+same_place (OfTimer a v) (OfTimer b w) = eq_by_cmp route_labels_cmp a b
+same_place (OfLog a v) (OfLog b w) = eq_by_cmp log_key_cmp a b
+same_place (OfNotes a) (OfNotes b) = true
+same_place _ _ = false
+
+-- whether a record has an entry for the place
+unfoldable pub has_entry : List Change → Change → Bool
+has_entry entries place = list_any (same_place place) entries
+
+-- the entry is of another place than the notifications
+abbrev pub IsNoNotification : Change → Type 0
+IsNoNotification (OfNotes count) = ⊥
+IsNoNotification _ = Unit {0}
+
+-- the entry is of the notifications, made when there were at most n
+abbrev pub IsNotesWithin : ℕ → Change → Type 0
+IsNotesWithin n (OfNotes count) = count ≤ n
+IsNotesWithin n _ = ⊥
+
+-- the record has an entry for the notifications, made when there were at most n
+unfoldable pub NotesEntered : List Change → ℕ → Type 0
+NotesEntered [] n = ⊥
+NotesEntered (first ∷ rest) n = IsNotesWithin n first ⊎ NotesEntered rest n
+
+-- the state before the records, the oldest first, given the state after them
+unfoldable pub before_all : List (List Change) → State → State
+before_all [] s = s
+before_all (first ∷ rest) s = put_back first (before_all rest s)
+
+-- the states before each of the records
+unfoldable pub befores : List (List Change) → State → List State
+befores [] s = []
+befores (first ∷ rest) s = before_all (first ∷ rest) s ∷ befores rest s

@@ -1,0 +1,26 @@
+-- Numbers that tables spread the state's keys out by. Nothing but the speed of look-ups depends on
+-- which ones they are.
+use Rattle.std.specs.Prelude.{ℕ, ◌+◌, ◌-◌, ◌*◌, ◌/◌, ◌%◌, ◌^◌, length, slice_get, unwrap_or}
+use Rattle.amr_labels.specs.Labels.{Text}
+use Rattle.amr_labels.specs.Spread.{label_set_spread}
+use Rattle.amr_config.specs.Paths.{path_spread}
+use Rattle.amr_engine.specs.declared.state.notification.LogKey.{LogKey}
+
+-- the byte at a place, or 0 where there is none
+unfoldable pub byte_at : Text → ℕ → ℕ
+byte_at text place = unwrap_or (slice_get text place) 0
+
+-- by the length of a text, the two bytes in its middle, and its last byte
+unfoldable pub text_sample : Text → ℕ
+text_sample text =
+    let middle = length text / 2 in
+    let first = (length text * 31 % 2 ^ 64 + byte_at text middle) % 2 ^ 64 in
+    let second = (first * 31 % 2 ^ 64 + byte_at text (middle + 1)) % 2 ^ 64 in
+    (second * 31 % 2 ^ 64 + byte_at text (length text - 1)) % 2 ^ 64
+
+-- by the route and the integration, and by the group labels
+unfoldable pub log_key_spread : LogKey → ℕ
+log_key_spread key =
+    let integration = ((key.place + length key.kind * 256 % 2 ^ 64) % 2 ^ 64 + text_sample key.receiver) % 2 ^ 64 in
+    let route = (path_spread key.path + integration) % 2 ^ 64 in
+    (route * 0x9e3779b97f4a7c15 % 2 ^ 64 + label_set_spread key.group) % 2 ^ 64

@@ -1,0 +1,134 @@
+-- What the tables and the journal of a store mean as a state with its records.
+use Rattle.std.specs.Prelude.{◌≡◌, ◌≤◌, ◌++◌, ◌||◌, ◌∷◌, [], ℕ, Bool, false, List, Some, IsTrue, length, if◌then◌else◌}
+use Rattle.std.specs.List.{AllByRecursion, flat_map}
+use Rattle.std.specs.Ordering.{nat_cmp}
+use Rattle.amr_labels.specs.Labels.{LabelSet, label_set_cmp}
+use Rattle.amr_time.specs.Time.{latest_read}
+use Rattle.amr_tables.specs.Numbered.{shown, has_place, number_of, is_entered}
+use Rattle.amr_tables.specs.Records.{Records}
+use Rattle.amr_engine.specs.declared.state.route_labels.RouteLabels.{RouteLabels}
+use Rattle.amr_engine.specs.declared.state.notification.LogKey.{LogKey}
+use Rattle.amr_engine.specs.declared.state.change.Change.{Change}
+use Rattle.amr_engine.specs.declared.state.change.Change.TheVariants.{OfMoment, OfConfig, OfAlert, OfSilence, OfMember, OfTimer, OfLog, OfNotes}
+use Rattle.amr_engine.specs.declared.state.tables.Tables.{Tables}
+use Rattle.amr_engine.specs.State.State.{State, member_on_route, route_labels_cmp, log_key_cmp}
+use Rattle.amr_engine.specs.State.Records.{present, same_place, has_entry, NotesEntered}
+use Rattle.amr_engine.specs.State.Fitting.{Fits, since_config}
+use Rattle.amr_engine.specs.State.Kept.{Kept}
+use Rattle.amr_engine.specs.declared.state.store.Store.TheInside.{Inside}
+
+-- the state that the tables show
+abbrev pub shown_by : Tables → State
+shown_by tables = record {
+  moment = tables.moment;
+  config = tables.roster.config;
+  alerts = shown label_set_cmp tables.timetable.alerts;
+  silences = shown nat_cmp tables.silences;
+  placements = shown route_labels_cmp tables.roster.placements;
+  timers = shown route_labels_cmp tables.timetable.timers;
+  log = shown log_key_cmp tables.log;
+  notes = tables.notes.items;
+}
+
+abbrev pub state_of : Inside → State
+state_of store = shown_by store.tables
+
+-- the state and the records
+abbrev pub kept_of : Inside → Kept
+kept_of store = record {
+  state = state_of store;
+  current = store.journal.current;
+  records = store.journal.closed;
+  room = store.journal.record_room;
+}
+
+-- an entry can be put back: its place exists, and so does that of a member's group
+abbrev pub IsSound : Tables → Change → Type 0
+IsSound tables (OfMoment moment) = moment ≤ latest_read
+IsSound tables (OfConfig config) = Unit {0}
+IsSound tables (OfAlert labels alert) = IsTrue (has_place label_set_cmp tables.timetable.alerts labels)
+IsSound tables (OfSilence id silence) = IsTrue (has_place nat_cmp tables.silences id)
+IsSound tables (OfMember member alert) = IsTrue (has_place route_labels_cmp tables.roster.placements (member_on_route member)) × IsTrue (has_place route_labels_cmp tables.roster.groups member.group)
+IsSound tables (OfTimer group timer) = IsTrue (has_place route_labels_cmp tables.timetable.timers group)
+IsSound tables (OfLog key entry) = IsTrue (has_place log_key_cmp tables.log key)
+IsSound tables (OfNotes count) = Unit {0}
+
+abbrev pub AreSound : Tables → List Change → Type 0
+AreSound tables = AllByRecursion (IsSound tables)
+
+-- whether the entry's place is marked: the open record has an entry for it since the last change of
+-- the configuration
+abbrev pub is_marked_at : Tables → Change → Bool
+is_marked_at tables (OfMoment moment) = tables.is_moment_entered
+is_marked_at tables (OfConfig config) = false
+is_marked_at tables (OfAlert labels alert) = is_entered label_set_cmp tables.timetable.alerts labels
+is_marked_at tables (OfSilence id silence) = is_entered nat_cmp tables.silences id
+is_marked_at tables (OfMember member alert) = is_entered route_labels_cmp tables.roster.placements (member_on_route member)
+is_marked_at tables (OfTimer group timer) = is_entered route_labels_cmp tables.timetable.timers group
+is_marked_at tables (OfLog key entry) = is_entered log_key_cmp tables.log key
+is_marked_at tables (OfNotes count) = tables.are_notes_entered
+
+-- the number is that of the change's place, and a member's group has a number; the clock, the
+-- configuration and the notifications are in no table
+abbrev pub IsPlaceOf : Tables → Change → ℕ → Type 0
+IsPlaceOf tables (OfAlert labels alert) n = number_of label_set_cmp tables.timetable.alerts labels ≡ Some n
+IsPlaceOf tables (OfSilence id silence) n = number_of nat_cmp tables.silences id ≡ Some n
+IsPlaceOf tables (OfMember member alert) n = (number_of route_labels_cmp tables.roster.placements (member_on_route member) ≡ Some n) × IsTrue (has_place route_labels_cmp tables.roster.groups member.group)
+IsPlaceOf tables (OfTimer group timer) n = number_of route_labels_cmp tables.timetable.timers group ≡ Some n
+IsPlaceOf tables (OfLog key entry) n = number_of log_key_cmp tables.log key ≡ Some n
+IsPlaceOf tables _ n = Unit {0}
+
+-- no mark is new
+abbrev pub NoNewMark : Tables → Tables → Change → Type 0
+NoNewMark a b place = IsTrue (is_marked_at b place) → IsTrue (is_marked_at a place)
+
+-- no mark is new but that at an entry's place
+abbrev pub NewMarkAt : Change → Tables → Tables → Change → Type 0
+NewMarkAt e a b place = IsTrue (is_marked_at b place) → IsTrue (same_place place e || is_marked_at a place)
+
+-- no place is marked
+abbrev pub IsUnmarked : Tables → Type 0
+IsUnmarked tables = (place : Change) → is_marked_at tables place ≡ false
+
+-- the second tables have all places of the first
+pub record MorePlaces (a b : Tables) : Type 0 where
+  pub alerts : (k : LabelSet) → IsTrue (has_place label_set_cmp a.timetable.alerts k) → IsTrue (has_place label_set_cmp b.timetable.alerts k)
+  pub silences : (k : ℕ) → IsTrue (has_place nat_cmp a.silences k) → IsTrue (has_place nat_cmp b.silences k)
+  pub placements : (k : RouteLabels) → IsTrue (has_place route_labels_cmp a.roster.placements k) → IsTrue (has_place route_labels_cmp b.roster.placements k)
+  pub groups : (k : RouteLabels) → IsTrue (has_place route_labels_cmp a.roster.groups k) → IsTrue (has_place route_labels_cmp b.roster.groups k)
+  pub timers : (k : RouteLabels) → IsTrue (has_place route_labels_cmp a.timetable.timers k) → IsTrue (has_place route_labels_cmp b.timetable.timers k)
+  pub log : (k : LogKey) → IsTrue (has_place log_key_cmp a.log k) → IsTrue (has_place log_key_cmp b.log k)
+
+-- both tables have the same values
+pub record SameValues (a b : Tables) : Type 0 where
+  pub moment : b.moment ≡ a.moment
+  pub config : b.roster.config ≡ a.roster.config
+  pub alerts : shown label_set_cmp b.timetable.alerts ≡ shown label_set_cmp a.timetable.alerts
+  pub silences : shown nat_cmp b.silences ≡ shown nat_cmp a.silences
+  pub placements : shown route_labels_cmp b.roster.placements ≡ shown route_labels_cmp a.roster.placements
+  pub timers : shown route_labels_cmp b.timetable.timers ≡ shown route_labels_cmp a.timetable.timers
+  pub log : shown log_key_cmp b.log ≡ shown log_key_cmp a.log
+  pub notes : b.notes.items ≡ a.notes.items
+
+-- The open record has an entry more, which leads back from the change, unless the place is marked.
+-- No other place gets a mark.
+pub record IsEntered (a : Tables) (journal : Records Change) (change : Change) (b : Tables) (written : Records Change) : Type 0 where
+  pub current : written.current ≡ (if is_marked_at a change then journal.current else journal.current ++ present (shown_by a) change ∷ [])
+  pub closed : written.closed ≡ journal.closed
+  pub room : written.record_room ≡ journal.record_room
+  pub marks : (place : Change) → NewMarkAt (present (shown_by a) change) a b place
+
+-- the entries of all records, the oldest first
+abbrev pub entries_of : Inside → List Change
+entries_of store = flat_map (λ closed. closed) store.journal.closed ++ store.journal.current
+
+-- Every record can be undone, each member goes back into its group under the configuration of that
+-- time, and each marked place has an entry in the open record since its last change of the
+-- configuration.
+pub record IsKept (store : Inside) : Type 0 where
+  pub moment : store.tables.moment ≤ latest_read
+  pub current : AreSound store.tables store.journal.current
+  pub closed : AllByRecursion (AreSound store.tables) store.journal.closed
+  pub marked : (place : Change) → IsTrue (is_marked_at store.tables place) → IsTrue (has_entry (since_config store.journal.current) place)
+  pub notes : IsTrue store.tables.are_notes_entered → NotesEntered store.journal.current (length store.tables.notes.items)
+  pub fits : Fits (entries_of store) (state_of store)

@@ -1,0 +1,85 @@
+-- The stored alerts and the group timers, with the moments of their pending timers by number.
+use Rattle.std.specs.Prelude.{◌≡◌, ◌<◌, ℕ, false, IsTrue, List, length, Option, Some, None, is_some, option_map, nat_lt, if◌then◌else◌}
+use Rattle.std.specs.Option.{option_and_then}
+use Rattle.std.specs.declared.cmp.Ordering.{Ordering}
+use Rattle.std.specs.Ordering.{is_gt}
+use Rattle.amr_labels.specs.Labels.{LabelSet, label_set_cmp}
+use Rattle.amr_labels.specs.Map.{get}
+use Rattle.amr_time.specs.Time.{Moment}
+use Rattle.amr_rules.specs.declared.alert.Alert.{Alert}
+use Rattle.amr_tables.specs.Numbered.{Numbered, shown, has_place, number_of, rank_of, IsNumber}
+use Rattle.amr_tables.specs.Earliest.{Earliest, moment_at, IsTournament}
+use Rattle.amr_tables.specs.Members.{has}
+use Rattle.amr_engine.specs.declared.state.notification.GroupTimer.{GroupTimer}
+use Rattle.amr_engine.specs.declared.state.route_labels.RouteLabels.{RouteLabels}
+use Rattle.amr_engine.specs.declared.state.due.Due.{Due}
+use Rattle.amr_engine.specs.declared.state.due.Kind.{Kind}
+use Rattle.amr_engine.specs.declared.state.due.Kind.TheVariants.{AlertRemoval, GroupRemoval, GroupFlush}
+use Rattle.amr_engine.specs.declared.state.timetable.Pending.{Pending}
+use Rattle.amr_engine.specs.State.State.{route_labels_cmp}
+use Rattle.amr_engine.specs.State.Dues.{due_cmp, alert_removal_at, group_removal_at}
+
+pub record Timed : Type 0 where
+  pub alerts : Numbered LabelSet Alert
+  pub timers : Numbered RouteLabels GroupTimer
+
+-- when an alert is removed
+abbrev pub alert_moment : Option Alert → Option Moment
+alert_moment = option_map alert_removal_at
+
+-- when a group is flushed
+abbrev pub flush_moment : Option GroupTimer → Option Moment
+flush_moment = option_map (λ timer. timer.next_flush)
+
+-- when a group is removed
+abbrev pub removal_moment : Option GroupTimer → Option Moment
+removal_moment = option_and_then group_removal_at
+
+-- when the group's timer of a kind is due
+abbrev pub group_moment : Kind → Option GroupTimer → Option Moment
+group_moment AlertRemoval timer = None
+group_moment GroupRemoval timer = removal_moment timer
+group_moment GroupFlush timer = flush_moment timer
+
+module _ {K V : Type 0} (R : K → K → Ordering) where
+  -- the key of each value has a number, and no other key has the same
+  pub record AreNumbered (t : Numbered K V) : Type 0 where
+    pub placed : (key : K) → IsTrue (is_some (get (shown R t) key)) → IsTrue (has_place R t key)
+    pub apart : (a b : K) (n : ℕ) → number_of R t a ≡ Some n → number_of R t b ≡ Some n → a ≡ b
+
+  -- The moment of each key's number is that of the key's value. A number that no key has has no
+  -- moment.
+  pub record IsScheduled (moment_of : Option V → Option Moment) (t : Numbered K V) (moments : Earliest) : Type 0 where
+    pub timed : (key : K) (n : ℕ) → number_of R t key ≡ Some n → moment_at moments n ≡ moment_of (get (shown R t) key)
+    pub named : (n : ℕ) (moment : Moment) → moment_at moments n ≡ Some moment → IsNumber R t n
+    pub room : (key : K) (n : ℕ) → number_of R t key ≡ Some n → n < length moments.moments
+    pub tournament : IsTournament (rank_of R t) moments
+
+-- The moments are those of the alerts and timers, and of several at one moment the names decide.
+pub record IsTimed (alerts : Numbered LabelSet Alert) (timers : Numbered RouteLabels GroupTimer) (alert_removals group_removals flushes : Earliest) : Type 0 where
+  pub alerts_numbered : AreNumbered label_set_cmp alerts
+  pub timers_numbered : AreNumbered route_labels_cmp timers
+  pub alerts_removed : IsScheduled label_set_cmp alert_moment alerts alert_removals
+  pub groups_removed : IsScheduled route_labels_cmp removal_moment timers group_removals
+  pub groups_flushed : IsScheduled route_labels_cmp flush_moment timers flushes
+
+-- ---- the first timer
+
+-- the timer that a reference to its labels stands for
+abbrev pub due_of : Pending → Due
+due_of pending = record { moment = pending.moment; kind = pending.kind; route = pending.route; labels = pending.labels.now }
+
+-- the earlier of two timers; of two at one moment, the first
+abbrev pub earlier : Option Due → Option Due → Option Due
+earlier None b = b
+earlier (Some a) None = Some a
+earlier (Some a) (Some b) = if nat_lt b.moment a.moment then Some b else Some a
+
+-- the timer is one of these kinds in the list, and none of these kinds is before it; without a
+-- timer, the list has none of these kinds
+abbrev pub IsFirstAmong : (Kind → Type 0) → List Due → Option Due → Type 0
+IsFirstAmong kinds dues None = (other : Due) → kinds other.kind → has due_cmp dues other ≡ false
+IsFirstAmong kinds dues (Some due) = kinds due.kind × (IsTrue (has due_cmp dues due) × ((other : Due) → kinds other.kind → IsTrue (has due_cmp dues other) → is_gt (due_cmp due other) ≡ false))
+
+abbrev pub IsFirstOfKind : Kind → List Due → Option Due → Type 0
+IsFirstOfKind kind = IsFirstAmong (λ other. other ≡ kind)

@@ -1,0 +1,14 @@
+//! The tables of the stored alerts and of the silences, with what is remembered of label sets: the
+//! inhibition rules whose sources they can be, and when the silences that match one are active. The
+//! state has one of each.
+
+mod alert_table;
+mod known_periods;
+mod label_values;
+mod rule_source;
+mod silence_change;
+mod silence_table;
+mod value_marks;
+
+pub use alert_table::AlertTable;
+pub use silence_table::SilenceTable;

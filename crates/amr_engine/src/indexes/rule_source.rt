@@ -1,0 +1,390 @@
+//! The label sets that can be the sources of inhibition rules. `alert_table.rt` keeps them, so that
+//! inhibition looks only at the alerts that match a rule's source matchers and agree with the
+//! target on the labels in `equal`. Which of them mutes the target is decided in `amr_rules`.
+ghost use Rattle.std.specs.Prelude.{◌≡◌, ◌<◌, ◌+◌, ◌++◌, ◌∷◌, ◌↔◌, [], length, IsTrue, IfOk, IfSome, OnOk, OnErr};
+ghost use Rattle.std.specs.Option.{option_copied};
+ghost use Rattle.amr_engine.specs.Indexes.RuleSources.{ListsSide, ListsAgreeing, IsSideOf, IsPut, IsListedToo, ListsSame};
+
+use crate::indexes::label_values::LabelValues;
+use amr_config::stated::InhibitRule;
+use amr_labels::matcher::{Answers, Matchers};
+use amr_labels::{LabelMap, Labels, Text};
+use amr_tables::Keyed;
+use std::alloc::{AllocError, Global};
+use std::collections::BTreeMap;
+use std::marker::Model;
+
+/// How many label sets all sides list together before no more are learned. The next event forgets
+/// them. A list counts as `LIST` label sets more, and a side as `SIDE`, by the memory that they take.
+const MOST_LISTED: usize = 10_000_000;
+
+const LIST: usize = 10;
+
+const SIDE: usize = 25;
+
+/// The source side of an inhibition rule: its source matchers, and the names in `equal`.
+#[derive(PartialEq, Eq, PartialOrd, Ord, Drop)]
+pub(crate) struct SourceSide {
+    pub source: Matchers,
+    pub equal: Vec<Text>,
+}
+
+/// What is known of a side: of the first `seen` label sets, those that match it, under their values
+/// of the labels in `equal`.
+#[derive(Drop)]
+pub(crate) struct KnownSide {
+    pub side: SourceSide,
+    pub seen: usize,
+    pub sources: Keyed<LabelValues, LabelMap<()>>,
+    /// How many label sets are listed.
+    pub listed: usize,
+}
+
+/// A side that was learned: the number of its `KnownSide`, and how many label sets had come then.
+#[derive(Clone, Copy)]
+struct LearnedSide {
+    number: usize,
+    seen: usize,
+}
+
+/// Label sets in the order in which they came, with the source sides that are known of them. A side
+/// is learned when it is first asked for, and takes in the label sets that came since when it is
+/// learned again. Contracts see the label sets.
+#[derive(Drop)]
+pub(crate) struct RuleSources {
+    alloc: Global,
+    answers: Answers,
+    arrived: Vec<Labels>,
+    numbers: BTreeMap<SourceSide, usize>,
+    sides: Vec<KnownSide>,
+    /// The side of each rule that was learned in this event, by the rule's place in the
+    /// configuration. It saves look-ups, and no answer depends on it.
+    learned: Vec<Option<LearnedSide>>,
+    /// How many label sets the sides list, with what lists and sides count as.
+    listed: usize,
+}
+
+impl Model for RuleSources {
+    ghost use Rattle.std.specs.Prelude.{List};
+    ghost use Rattle.std.specs.List.{All};
+    ghost use Rattle.std.specs.Coded.{codes};
+    ghost use Rattle.amr_labels.specs.Map as map;
+    ghost use Rattle.amr_labels.specs.Labels.{LabelSet};
+    ghost use Rattle.amr_engine.specs.Indexes.RuleSources.{ListsSide};
+
+    ghost Value = { List LabelSet };
+
+    ghost coded = { Prim.hlevel (codes, map.code) };
+
+    ghost view = { λ s. s.arrived.items };
+
+    ghost invariant = { λ s. All (ListsSide s.arrived.items) s.sides.items };
+}
+
+impl RuleSources {
+    /// Starts without label sets and without sides.
+    pub(crate) fn new(alloc: Global) -> RuleSources
+        ensures { result ≡ [] }
+    {
+        RuleSources {
+            alloc,
+            answers: Answers::new(alloc),
+            arrived: Vec::new(alloc),
+            numbers: BTreeMap::new(alloc),
+            sides: Vec::new(alloc),
+            learned: Vec::new(alloc),
+            listed: 0,
+        }
+    }
+
+    /// Adds a label set. No side has it before it is learned again.
+    pub(crate) fn add(&mut self, labels: Labels) -> Result<(), AllocError>
+        ensures ok { OnOk result (self.new ≡ self.old ++ labels ∷ []) }
+        ensures err { OnErr result (self.new ≡ self.old) }
+    {
+        self.arrived.push(labels)?;
+        Ok(())
+    }
+
+    /// Returns the label sets in the order in which they came.
+    pub(crate) fn arrived(&self) -> &[Labels]
+        ensures { result.now ≡ self.now }
+    {
+        self.arrived.as_slice()
+    }
+
+    /// Returns the label sets that match a rule's source matchers and agree with a target on the
+    /// labels in `equal`; if none does, the second option may be `None`. Returns `None` if the
+    /// rule's side isn't known, or not of all label sets.
+    pub(crate) fn agreeing(
+        &self,
+        place: usize,
+        rule: &InhibitRule,
+        target: &Labels,
+    ) -> Result<Option<Option<&LabelMap<()>>>, AllocError>
+        ensures { IfOk result (λ known. IfSome known (λ found.
+            ListsAgreeing rule.now target.now self.now (option_copied found))) }
+    {
+        let side = self.known(place, rule)?;
+        let Some(known) = side else {
+            return Ok(None);
+        };
+        if known.seen < self.arrived.len() {
+            return Ok(None);
+        }
+        if known.sources.next_number() == 0 {
+            return Ok(Some(None));
+        }
+        let values = LabelValues::of(self.alloc, rule.equal.as_slice(), target)?;
+        Ok(Some(known.sources.get(&values)))
+    }
+
+    /// Takes in all label sets at the source side of the rule at a place of the configuration, so
+    /// that `agreeing` answers for it. It learns nothing if the sides list many label sets by now,
+    /// and forgets them all if there is no room.
+    pub(crate) fn learn(&mut self, place: usize, rule: &InhibitRule)
+        ensures { self.new ≡ self.old }
+    {
+        if self.has_learned(place) || self.listed >= MOST_LISTED {
+            return;
+        }
+        if self.learn_side(place, rule).is_err() {
+            self.forget_sides();
+        }
+    }
+
+    /// Forgets which rules were learned, since other rules may be at their places from now on. If
+    /// the sides list too many label sets, it forgets them too.
+    pub(crate) fn forget_places(&mut self)
+        ensures { self.new ≡ self.old }
+    {
+        self.learned.clear();
+        if self.listed >= MOST_LISTED {
+            self.forget_sides();
+        }
+    }
+
+    /// Forgets all sides.
+    fn forget_sides(&mut self)
+        ensures { self.new ≡ self.old }
+    {
+        self.numbers.clear();
+        self.sides.clear();
+        self.learned.clear();
+        self.listed = 0;
+    }
+
+    /// Takes in all label sets at the source side of the rule at a place, and notes that it did.
+    fn learn_side(&mut self, place: usize, rule: &InhibitRule) -> Result<(), AllocError>
+        ensures { self.new ≡ self.old }
+    {
+        let number = self.number_of(rule)?;
+        self.see_all(number)?;
+        self.note_learned(place, number)
+    }
+
+    /// Returns whether the rule at a place was learned, and no label set came since.
+    fn has_learned(&self, place: usize) -> bool {
+        match self.learned.get(place) {
+            Some(Some(learned)) => learned.seen == self.arrived.len(),
+            _ => false,
+        }
+    }
+
+    /// Notes that the side with this number is that of the rule at a place, and is learned.
+    fn note_learned(&mut self, place: usize, number: usize) -> Result<(), AllocError>
+        ensures { self.new ≡ self.old }
+    {
+        if self.learned.len() <= place {
+            self.learned.resize(place.saturating_add(1), None)?;
+        }
+        let seen = self.arrived.len();
+        if let Some(learned) = self.learned.get_mut(place) {
+            *learned = Some(LearnedSide { number, seen });
+        }
+        Ok(())
+    }
+
+    /// Takes in all label sets at the side with this number.
+    fn see_all(&mut self, number: usize) -> Result<(), AllocError>
+        ensures { self.new ≡ self.old }
+    {
+        if number < self.sides.len() {
+            let more = see_all(
+                self.alloc,
+                &mut self.answers,
+                &mut self.sides[number],
+                self.arrived.as_slice(),
+            )?;
+            self.listed = self.listed.saturating_add(more);
+        }
+        Ok(())
+    }
+
+    /// Returns what is known of the side of the rule at a place. If the rule was learned in this
+    /// event, its side isn't looked for.
+    fn known(&self, place: usize, rule: &InhibitRule) -> Result<Option<&KnownSide>, AllocError>
+        ensures side { IfOk result (λ found. IfSome found (λ known.
+            IsSideOf known.now.side rule.now)) }
+        ensures lists { IfOk result (λ found. IfSome found (λ known.
+            ListsSide self.now known.now)) }
+    {
+        if let Some(Some(learned)) = self.learned.get(place) {
+            return Ok(self.known_at(learned.number, rule));
+        }
+        let side = side_of(self.alloc, rule)?;
+        match self.numbers.get(&side) {
+            None => Ok(None),
+            Some(number) => Ok(self.known_at(*number, rule)),
+        }
+    }
+
+    /// Returns what is known of the side with a number, if it is the rule's.
+    fn known_at(&self, number: usize, rule: &InhibitRule) -> Option<&KnownSide>
+        ensures side { IfSome result (λ known. IsSideOf known.now.side rule.now) }
+        ensures lists { IfSome result (λ known. ListsSide self.now known.now) }
+    {
+        if number >= self.sides.len() {
+            return None;
+        }
+        let known = &self.sides[number];
+        if is_side_of(&known.side, rule) {
+            Some(known)
+        } else {
+            None
+        }
+    }
+
+    /// Returns the number of a rule's side. It is added if it isn't known.
+    fn number_of(&mut self, rule: &InhibitRule) -> Result<usize, AllocError>
+        ensures { self.new ≡ self.old }
+    {
+        let side = side_of(self.alloc, rule)?;
+        match self.numbers.get(&side) {
+            Some(number) => Ok(*number),
+            None => self.add_side(side, rule),
+        }
+    }
+
+    /// Adds a rule's side, of which nothing is known yet, and returns its number.
+    fn add_side(&mut self, side: SourceSide, rule: &InhibitRule) -> Result<usize, AllocError>
+        ensures { self.new ≡ self.old }
+    {
+        let number = self.sides.len();
+        let known = KnownSide {
+            side: side_of(self.alloc, rule)?,
+            seen: 0,
+            sources: Keyed::new(self.alloc),
+            listed: 0,
+        };
+        self.listed = self.listed.saturating_add(SIDE);
+        self.sides.push(known)?;
+        self.numbers.insert(side, number)?;
+        Ok(number)
+    }
+}
+
+/// Returns whether a side is the source side of a rule.
+fn is_side_of(side: &SourceSide, rule: &InhibitRule) -> bool
+    ensures { IsTrue result ↔ IsSideOf side.now rule.now }
+{
+    side.source == rule.source && side.equal.as_slice() == rule.equal.as_slice()
+}
+
+/// Returns the source side of a rule.
+fn side_of(alloc: Global, rule: &InhibitRule) -> Result<SourceSide, AllocError>
+    ensures source { IfOk result (λ side. side.source ≡ rule.now.source) }
+    ensures equal { IfOk result (λ side. side.equal.items ≡ rule.now.equal) }
+{
+    let mut equal = Vec::new(alloc);
+    for name in rule.equal.as_slice() {
+        equal.push(name.clone()?)?;
+    }
+    Ok(SourceSide {
+        source: rule.source.clone()?,
+        equal,
+    })
+}
+
+/// Takes in at a side those of the label sets that it hasn't seen. Returns how much more it lists
+/// then. If memory runs out, it has seen some of them.
+fn see_all(
+    alloc: Global,
+    answers: &mut Answers,
+    known: &mut KnownSide,
+    arrived: &[Labels],
+) -> Result<usize, AllocError>
+    requires { ListsSide arrived.now known.old }
+    ensures { ListsSide arrived.now known.new }
+{
+    let before = size_of(known);
+    while known.seen < arrived.len() {
+        see_next(alloc, answers, known, arrived)?;
+    }
+    Ok(size_of(known).saturating_sub(before))
+}
+
+/// Returns how many label sets a side lists, with what its lists count as.
+fn size_of(known: &KnownSide) -> usize {
+    let lists = known.sources.next_number().saturating_mul(LIST);
+    known.listed.saturating_add(lists)
+}
+
+/// Takes in at a side the first of the label sets that it hasn't seen.
+fn see_next(
+    alloc: Global,
+    answers: &mut Answers,
+    known: &mut KnownSide,
+    arrived: &[Labels],
+) -> Result<(), AllocError>
+    requires lists { ListsSide arrived.now known.old }
+    requires left { known.old.seen < length arrived.now }
+    ensures lists { ListsSide arrived.now known.new }
+    ensures seen { OnOk result (known.new.seen ≡ known.old.seen + 1) }
+{
+    let number = known.seen;
+    see(alloc, answers, known, &arrived[number])?;
+    known.seen += 1;
+    Ok(())
+}
+
+/// Lists a label set at a side if it matches the side.
+fn see(
+    alloc: Global,
+    answers: &mut Answers,
+    known: &mut KnownSide,
+    labels: &Labels,
+) -> Result<(), AllocError>
+    ensures side { known.new.side ≡ known.old.side }
+    ensures seen { known.new.seen ≡ known.old.seen }
+    ensures listed { OnOk result (IsPut labels.now known.old known.new) }
+    ensures err { OnErr result (ListsSame known.old.sources known.new.sources) }
+{
+    if !known.side.source.matches_all(answers, labels)? {
+        return Ok(());
+    }
+    let values = LabelValues::of(alloc, known.side.equal.as_slice(), labels)?;
+    list_under(alloc, &mut known.sources, &values, labels)?;
+    known.listed = known.listed.saturating_add(1);
+    Ok(())
+}
+
+/// Lists a label set under values, too.
+fn list_under(
+    alloc: Global,
+    sources: &mut Keyed<LabelValues, LabelMap<()>>,
+    values: &LabelValues,
+    labels: &Labels,
+) -> Result<(), AllocError>
+    ensures ok { OnOk result (IsListedToo values.now labels.now sources.old sources.new) }
+    ensures err { OnErr result (ListsSame sources.old sources.new) }
+{
+    let labels = labels.clone()?;
+    sources.make_place(values.clone()?)?;
+    let mut listed = sources
+        .displace(values, None)
+        .unwrap_or(LabelMap::new(alloc));
+    let inserted = listed.insert(labels, ());
+    drop(sources.displace(values, Some(listed)));
+    inserted
+}

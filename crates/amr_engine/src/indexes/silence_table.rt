@@ -1,0 +1,497 @@
+//! The silences by id, with what is known of the label sets that flushes asked about: the periods
+//! of the silences that match them. `store.rt` changes the table and asks it which silence mutes.
+ghost use Rattle.std.specs.Prelude.{◌≡◌, ◌<◌, ◌≤◌, ℕ, List, [], Some, is_some, OnOk, IfOk, IfSome};
+ghost use Rattle.std.specs.Ordering.{nat_cmp};
+ghost use Rattle.amr_labels.specs.Map as map;
+ghost use Rattle.amr_rules.specs.Muting.{is_silenced, silencer_of};
+ghost use Rattle.amr_rules.specs.SilencePeriods.{silence_periods, silence_rows, silenced_in, unexpired};
+ghost use Rattle.amr_rules.specs.Silences.{Silences};
+ghost use Rattle.amr_tables.specs.Numbered.{shown, number_of, is_entered, Enters, KeepsPlaces, SamePlaces, SameEntered, NoneEntered};
+
+use crate::indexes::known_periods::KnownPeriods;
+use crate::indexes::silence_change::SilenceChange;
+use crate::indexes::value_marks::value_marks;
+use amr_events::posts::SilenceId;
+use amr_labels::matcher::Answers;
+use amr_labels::{Labels, Listing};
+use amr_rules::{
+    Silence, SilencePeriod, SilenceRow, periods_at, silence_periods, silence_rows, silenced_by,
+    silenced_in, unexpired,
+};
+use amr_tables::Keyed;
+use amr_time::Moment;
+use std::alloc::{AllocError, Global};
+use std::marker::Model;
+
+/// How many label sets the silences are asked for at once at most. It bounds the memory that the
+/// answers take.
+const MOST_AT_ONCE: usize = 1024;
+
+/// How many label sets the silences are asked for at once at least. For fewer, remembered answers
+/// are faster than preparing the search of each pattern.
+const FEWEST_AT_ONCE: usize = 4;
+
+/// How many label sets have to have arrived, at least, for the silences to be asked ahead for them.
+/// If alerts come one by one, most values are known, and their answers are remembered.
+const FEWEST_AHEAD: usize = 64;
+
+/// How many changes of silences are kept at most. When one more comes, all that is known of label
+/// sets is forgotten.
+const MOST_CHANGES: usize = 1000;
+
+/// The silences by id. It remembers of label sets when silences that match them are active, and
+/// keeps which silences changed since.
+#[derive(Drop)]
+pub struct SilenceTable {
+    alloc: Global,
+    silences: Keyed<SilenceId, Silence>,
+    /// What the patterns of the silences' matchers answered.
+    answers: Answers,
+    /// What is known of label sets, in the order in which they were asked about first.
+    known: Vec<KnownPeriods>,
+    /// Their places in that list.
+    places: Keyed<Labels, usize>,
+    /// The changes of silences since the table began to remember, the latest last.
+    changes: Vec<SilenceChange>,
+    /// The number of label sets, in the order of arrival, that the silences were asked ahead for.
+    asked_ahead: usize,
+    /// The silences that are left to ask, if they were listed since the last change.
+    unexpired: Option<Unexpired>,
+}
+
+/// The silences that aren't expired at a moment. Those that are expired then don't mute later, and
+/// mostly they are many more.
+#[derive(Drop)]
+pub(crate) struct Unexpired {
+    pub(crate) from: Moment,
+    pub(crate) listed: Vec<(SilenceId, Silence)>,
+}
+
+ghost use Rattle.amr_engine.specs.Indexes.SilencesKnown.{IsKnown, AreKnown, AreNoted, AreUnexpired, SameOthers, change_of, changed_ids};
+
+impl Model for SilenceTable {
+    ghost use Rattle.std.specs.Prelude.{ℕ};
+    ghost use Rattle.std.specs.Coded.{codes};
+    ghost use Rattle.amr_labels.specs.Map as map;
+    ghost use Rattle.amr_rules.specs.declared.silence.Silence.{Silence};
+    ghost use Rattle.std.specs.Ordering.{nat_cmp};
+    ghost use Rattle.amr_tables.specs.Numbered.{Numbered, shown};
+    ghost use Rattle.amr_engine.specs.Indexes.SilencesKnown.{AreKnown, AreNoted, AreUnexpired, changed_ids};
+
+    ghost Value = { Numbered ℕ Silence };
+
+    ghost coded = { Prim.hlevel (codes, map.code) };
+
+    ghost view = { λ t. t.silences };
+
+    ghost invariant = { λ t.
+        AreKnown (shown nat_cmp t.silences) (changed_ids t.changes.items) t.known.items
+        × AreUnexpired (shown nat_cmp t.silences) t.unexpired
+        × AreNoted (shown nat_cmp t.silences) t.changes.items };
+}
+
+impl SilenceTable {
+    /// Builds a table without silences.
+    pub fn new(alloc: Global) -> SilenceTable
+        ensures shown { shown nat_cmp result ≡ map.empty }
+        ensures entered { NoneEntered nat_cmp result }
+    {
+        SilenceTable {
+            alloc,
+            silences: Keyed::new(alloc),
+            answers: Answers::new(alloc),
+            known: Vec::new(alloc),
+            places: Keyed::new(alloc),
+            changes: Vec::new(alloc),
+            asked_ahead: 0,
+            unexpired: None,
+        }
+    }
+
+    /// Returns the silences by id.
+    pub fn silences(&self) -> &Keyed<SilenceId, Silence>
+        ensures { result.now ≡ self.now }
+    {
+        &self.silences
+    }
+
+    /// Returns the least id of a silence that mutes labels at a moment, or `None` if no silence
+    /// does. It asks the silences' matchers only for labels of which it knows nothing.
+    pub fn silenced_by(&self, at: Moment, labels: &Labels) -> Result<Option<SilenceId>, AllocError>
+        ensures named { IfOk result (λ found. found
+            ≡ silencer_of at labels.now (shown nat_cmp self.now)) }
+        ensures exactly { IfOk result (λ found. is_silenced (shown nat_cmp self.now) at labels.now
+            ≡ is_some found) }
+    {
+        match self.periods(at, labels) {
+            Some(periods) => Ok(silenced_in(at, periods)),
+            None => silenced_by(self.alloc, &self.silences, at, labels),
+        }
+    }
+
+    /// Works out when silences that match these label sets are active from a moment on, and
+    /// remembers it. Skips label sets that are known, and does nothing if no silence is stored. If
+    /// some are unknown and many arrived, it first asks for those that arrived, which the next
+    /// flushes most likely meet: the search of each pattern is then prepared once for all. If there
+    /// is no room, it forgets what it knows of label sets.
+    pub fn learn(&mut self, at: Moment, label_sets: &[Labels], arrived: &[Labels])
+        ensures { self.new ≡ self.old }
+    {
+        if self.learn_unknown(at, label_sets, arrived).is_err() {
+            self.forget();
+        }
+    }
+
+    /// Forgets what it knows of label sets.
+    fn forget(&mut self)
+        ensures { self.new ≡ self.old }
+    {
+        forget(
+            self.alloc,
+            &mut self.known,
+            &mut self.places,
+            &mut self.changes,
+            &mut self.asked_ahead,
+        );
+    }
+
+    /// Works out when silences that match those of these label sets are active of which nothing is
+    /// known, and remembers it. It may do so for others that arrived.
+    fn learn_unknown(
+        &mut self,
+        at: Moment,
+        label_sets: &[Labels],
+        arrived: &[Labels],
+    ) -> Result<(), AllocError>
+        ensures { self.new ≡ self.old }
+    {
+        if self.silences.values().next().is_none() {
+            return Ok(());
+        }
+        let unknown = self.unknown(at, label_sets)?;
+        let ahead = arrived.len().saturating_sub(self.asked_ahead);
+        if unknown.is_empty() || ahead < FEWEST_AHEAD {
+            return self.learn_all(at, unknown.as_slice());
+        }
+        self.ask_ahead(at, arrived)?;
+        let unknown = self.unknown(at, unknown.as_slice())?;
+        self.learn_all(at, unknown.as_slice())
+    }
+
+    /// Works out the same for the next label sets that arrived.
+    fn ask_ahead(&mut self, at: Moment, arrived: &[Labels]) -> Result<(), AllocError>
+        ensures { self.new ≡ self.old }
+    {
+        let start = self.asked_ahead;
+        let end = arrived.len().min(start.saturating_add(MOST_AT_ONCE));
+        if end <= start {
+            return Ok(());
+        }
+        self.asked_ahead = end;
+        let unknown = self.unknown(at, &arrived[start..end])?;
+        self.learn_all(at, unknown.as_slice())
+    }
+
+    /// Works out when silences that match these label sets are active, and remembers it.
+    fn learn_all(&mut self, at: Moment, label_sets: &[Labels]) -> Result<(), AllocError>
+        ensures { self.new ≡ self.old }
+    {
+        for some in label_sets.chunks(MOST_AT_ONCE) {
+            self.learn_some(at, some)?;
+        }
+        Ok(())
+    }
+
+    /// Returns those of the label sets of which nothing is known at a moment.
+    fn unknown(&mut self, at: Moment, label_sets: &[Labels]) -> Result<Vec<Labels>, AllocError>
+        ensures { self.new ≡ self.old }
+    {
+        let mut unknown = Vec::new(self.alloc);
+        for labels in label_sets {
+            if !self.is_known(at, labels)? {
+                unknown.push(labels.clone()?)?;
+            }
+        }
+        Ok(unknown)
+    }
+
+    /// Returns whether it is known of labels, from a moment on, when silences that match them are
+    /// active. It first asks the silences that changed since that was learned.
+    fn is_known(&mut self, at: Moment, labels: &Labels) -> Result<bool, AllocError>
+        ensures { self.new ≡ self.old }
+    {
+        let place = match self.places.get(labels) {
+            Some(place) if *place < self.known.len() => *place,
+            _ => return Ok(false),
+        };
+        let known = &mut self.known[place];
+        if at < known.from {
+            return Ok(false);
+        }
+        known.catch_up(
+            self.alloc,
+            &mut self.answers,
+            &self.silences,
+            self.changes.as_slice(),
+            at,
+        )?;
+        Ok(true)
+    }
+
+    /// Works out when silences that match these label sets are active, and remembers it. It asks
+    /// only silences that aren't expired, and keeps the list of them until a silence changes.
+    fn learn_some(&mut self, at: Moment, label_sets: &[Labels]) -> Result<(), AllocError>
+        ensures { self.new ≡ self.old }
+    {
+        let kept = self.unexpired_at(at)?;
+        let learned = self.learn_from(at, label_sets, kept.listed.as_slice(), kept.from);
+        self.unexpired = Some(kept);
+        learned
+    }
+
+    /// Takes the list of the silences that aren't expired at a moment or weren't before. It makes a
+    /// new list if there is none.
+    fn unexpired_at(&mut self, at: Moment) -> Result<Unexpired, AllocError>
+        ensures same { self.new ≡ self.old }
+        ensures before { IfOk result (λ kept. kept.from ≤ at) }
+        ensures listed { IfOk result (λ kept. kept.listed.items
+            ≡ unexpired kept.from (shown nat_cmp self.old)) }
+    {
+        match self.unexpired.take() {
+            Some(kept) if kept.from <= at => Ok(kept),
+            _ => Ok(Unexpired {
+                from: at,
+                listed: unexpired(self.alloc, &self.silences, at)?,
+            }),
+        }
+    }
+
+    /// Works out when those of these silences that match the label sets are active, and remembers
+    /// it. No other silence is unexpired.
+    fn learn_from(
+        &mut self,
+        at: Moment,
+        label_sets: &[Labels],
+        listed: &[(SilenceId, Silence)],
+        from: Moment,
+    ) -> Result<(), AllocError>
+        requires before { from ≤ at }
+        requires listed { listed.now ≡ unexpired from (shown nat_cmp self.old) }
+        ensures { self.new ≡ self.old }
+    {
+        if label_sets.len() < FEWEST_AT_ONCE {
+            return self.learn_one_by_one(at, label_sets, listed, from);
+        }
+        let rows = silence_rows(self.alloc, listed, at, label_sets)?;
+        self.learn_rows(at, label_sets, rows.as_slice())
+    }
+
+    /// Remembers the silences that rows list for each of these label sets.
+    fn learn_rows(
+        &mut self,
+        at: Moment,
+        label_sets: &[Labels],
+        rows: &[SilenceRow],
+    ) -> Result<(), AllocError>
+        requires { rows.now ≡ silence_rows at label_sets.now (shown nat_cmp self.old) }
+        ensures { self.new ≡ self.old }
+    {
+        for (place, labels) in label_sets.iter().enumerate() {
+            let periods = periods_at(self.alloc, rows, place)?;
+            self.remember(at, labels, periods)?;
+        }
+        Ok(())
+    }
+
+    /// Asks these silences for each of these label sets, and remembers the answers of patterns. No
+    /// other silence is unexpired.
+    fn learn_one_by_one(
+        &mut self,
+        at: Moment,
+        label_sets: &[Labels],
+        listed: &[(SilenceId, Silence)],
+        from: Moment,
+    ) -> Result<(), AllocError>
+        requires before { from ≤ at }
+        requires listed { listed.now ≡ unexpired from (shown nat_cmp self.old) }
+        ensures { self.new ≡ self.old }
+    {
+        for labels in label_sets {
+            let periods = silence_periods(self.alloc, &mut self.answers, listed, at, labels)?;
+            self.remember(at, labels, periods)?;
+        }
+        Ok(())
+    }
+
+    /// Remembers when the silences that match labels are active from a moment on.
+    fn remember(
+        &mut self,
+        at: Moment,
+        labels: &Labels,
+        periods: Listing<SilencePeriod>,
+    ) -> Result<(), AllocError>
+        requires { periods ≡ silence_periods at labels.now (shown nat_cmp self.old) }
+        ensures { self.new ≡ self.old }
+    {
+        let known = KnownPeriods {
+            labels: labels.clone()?,
+            marks: value_marks(labels),
+            from: at,
+            seen: self.changes.as_slice().len(),
+            periods,
+        };
+        keep(&mut self.known, &mut self.places, known)
+    }
+
+    /// Returns what is known of labels, if it reaches back to a moment and no silence changed
+    /// since: when the silences that match them are active.
+    fn periods(&self, at: Moment, labels: &Labels) -> Option<&[SilencePeriod]>
+        ensures { IfSome result (λ periods. silenced_in at periods.now
+            ≡ silencer_of at labels.now (shown nat_cmp self.now)) }
+    {
+        let place = *self.places.get(labels)?;
+        if place >= self.known.len() {
+            return None;
+        }
+        let known = &self.known[place];
+        if at < known.from || known.seen != self.changes.len() || known.labels != *labels {
+            return None;
+        }
+        Some(known.periods.as_slice())
+    }
+
+    /// Clears the marks of all places, so that the open record takes their next change again. It
+    /// takes no memory.
+    pub fn clear_entered(&mut self)
+        ensures entered { NoneEntered nat_cmp self.new }
+        ensures shown { shown nat_cmp self.new ≡ shown nat_cmp self.old }
+        ensures places { SamePlaces nat_cmp self.old self.new }
+        ensures keys { self.new.numbers ≡ self.old.numbers }
+    {
+        self.silences.clear_entered();
+    }
+
+    /// Returns the number of a silence's place. Makes the place if there is none, and room to note
+    /// its next change.
+    pub fn place(&mut self, id: &SilenceId) -> Result<usize, AllocError>
+        ensures number { IfOk result (λ number. number_of nat_cmp self.new id.now ≡ Some number) }
+        ensures shown { shown nat_cmp self.new ≡ shown nat_cmp self.old }
+        ensures entered { SameEntered nat_cmp self.old self.new }
+        ensures places { KeepsPlaces nat_cmp self.old self.new }
+    {
+        // Room for this change and for its undoing. Without room everything known is forgotten.
+        drop(self.changes.reserve(2));
+        self.silences.make_place(*id)?;
+        match self.silences.number_of(id) {
+            Some(number) => Ok(number),
+            None => unreachable!(),
+        }
+    }
+
+    /// Sets or removes the silence with this id, given the number of its place, and marks the place
+    /// as entered. Returns the former silence, and whether the place was marked before. It takes no
+    /// memory.
+    pub fn exchange_at(
+        &mut self,
+        id: &SilenceId,
+        number: usize,
+        silence: Option<Silence>,
+    ) -> (Option<Silence>, bool)
+        requires { number_of nat_cmp self.old id.now ≡ Some number }
+        ensures answer { result.0 ≡ map.get (shown nat_cmp self.old) id.now }
+        ensures was_entered { result.1 ≡ is_entered nat_cmp self.old id.now }
+        ensures shown { shown nat_cmp self.new ≡ map.set (shown nat_cmp self.old) id.now silence }
+        ensures places { SamePlaces nat_cmp self.old self.new }
+        ensures entered { Enters nat_cmp self.old self.new id.now }
+    {
+        self.unexpired = None;
+        let noted = SilenceChange::new(id, silence.as_ref());
+        let asked = &mut self.asked_ahead;
+        note_change(
+            self.alloc,
+            &mut self.known,
+            &mut self.places,
+            &mut self.changes,
+            asked,
+            noted,
+        );
+        self.silences.exchange_at(number, silence)
+    }
+}
+
+/// Notes that a silence changes. Forgets all that is known of label sets if there have
+/// been many changes, or if there is no room for one more. It takes no memory.
+fn note_change(
+    alloc: Global,
+    known: &mut Vec<KnownPeriods>,
+    places: &mut Keyed<Labels, usize>,
+    changes: &mut Vec<SilenceChange>,
+    asked_ahead: &mut usize,
+    noted: SilenceChange,
+)
+    ensures known { (before after : Silences) → SameOthers noted.id before after
+        → AreKnown before (changed_ids changes.old.items) known.old.items
+        → AreKnown after (changed_ids changes.new.items) known.new.items }
+    ensures noted { (before after : Silences) → SameOthers noted.id before after
+        → noted ≡ change_of noted.id (map.get after noted.id)
+        → AreNoted before changes.old.items → AreNoted after changes.new.items }
+{
+    let count = changes.len();
+    if count < MOST_CHANGES && count < changes.capacity() {
+        changes.push_reserved(noted);
+    } else {
+        forget(alloc, known, places, changes, asked_ahead);
+    }
+}
+
+/// Forgets all that is known of label sets.
+fn forget(
+    alloc: Global,
+    known: &mut Vec<KnownPeriods>,
+    places: &mut Keyed<Labels, usize>,
+    changes: &mut Vec<SilenceChange>,
+    asked_ahead: &mut usize,
+)
+    ensures known { known.new.items ≡ [] }
+    ensures changes { changes.new.items ≡ [] }
+{
+    known.clear();
+    *places = Keyed::new(alloc);
+    changes.clear();
+    *asked_ahead = 0;
+}
+
+/// Keeps what is known of a label set in place of what was known of it before.
+fn keep(
+    known: &mut Vec<KnownPeriods>,
+    places: &mut Keyed<Labels, usize>,
+    one: KnownPeriods,
+) -> Result<(), AllocError>
+    ensures { (silences : Silences) (changes : List ℕ) → IsKnown silences changes one
+        → AreKnown silences changes known.old.items → AreKnown silences changes known.new.items }
+{
+    match places.get(&one.labels).copied() {
+        Some(place) if place < known.len() => {
+            known[place] = one;
+            Ok(())
+        }
+        _ => add(known, places, one),
+    }
+}
+
+/// Adds what is known of a label set.
+fn add(
+    known: &mut Vec<KnownPeriods>,
+    places: &mut Keyed<Labels, usize>,
+    one: KnownPeriods,
+) -> Result<(), AllocError>
+    ensures { (silences : Silences) (changes : List ℕ) → IsKnown silences changes one
+        → AreKnown silences changes known.old.items → AreKnown silences changes known.new.items }
+{
+    let place = known.len();
+    let labels = one.labels.clone()?;
+    known.push(one)?;
+    places.make_place(labels.clone()?)?;
+    places.displace(&labels, Some(place));
+    Ok(())
+}

@@ -1,0 +1,27 @@
+//! The state of the replayed Alertmanager: stored alerts, groups and their members, silences, the
+//! notification log and the notifications, with the journal that undoes events. The engine changes
+//! it through `Store` and lists it through `views`. No rule about what an event does is here.
+
+mod change;
+mod due;
+mod logging;
+mod members;
+mod membership;
+mod notification;
+mod placing;
+mod roster;
+mod route_labels;
+mod store;
+mod tables;
+mod timetable;
+pub mod views;
+
+pub use change::Change;
+pub use due::{Due, Kind};
+pub use members::Member;
+pub use membership::Membership;
+pub use notification::{FiringAlert, GroupTimer, LogKey, Notification, ResolvedAlert};
+pub use placing::{group_key, place};
+pub use route_labels::RouteLabels;
+pub use store::Store;
+pub use views::Group;

@@ -1,0 +1,52 @@
+//! Pending timers: when a stored alert or an empty group is removed and when a group is flushed,
+//! and how a timer is named. `moves.rt` of the engine fires them; nothing is changed here.
+ghost use Rattle.std.specs.Prelude.{◌≡◌, ◌≤◌, ℕ, IfSome};
+ghost use Rattle.amr_time.specs.Time.{latest_read};
+ghost use Rattle.amr_engine.specs.State.Dues.{alert_removal_at, group_removal_at};
+
+use crate::state::notification::GroupTimer;
+use amr_labels::Labels;
+use amr_rules::Alert;
+use amr_time::{Moment, Span, next_multiple};
+
+/// The kinds of timers, in the order in which those of one moment fire.
+#[derive(Clone, Copy)]
+pub enum Kind {
+    AlertRemoval,
+    GroupRemoval,
+    GroupFlush,
+}
+
+/// A pending timer.
+#[derive(Drop)]
+pub struct Due {
+    /// When it fires, in nanoseconds since 1970.
+    pub moment: u128,
+    /// What it does when it fires.
+    pub kind: Kind,
+    /// The route of the group, by its number in preorder; 0 for the removal of an alert.
+    pub route: usize,
+    /// The labels of the alert, or the group labels.
+    pub labels: Labels,
+}
+
+/// Returns when a stored alert is removed, in nanoseconds since 1970: at the first multiple of 30
+/// minutes, the interval of Alertmanager's alert garbage collection, that is after its last post
+/// and not before its end.
+pub(crate) fn alert_removal(alert: &Alert) -> u128
+    ensures { result ≡ alert_removal_at alert.now }
+{
+    let end = alert.ends_at.nanoseconds().saturating_sub(1);
+    let after = Moment::from_nanoseconds(alert.last_post.nanoseconds().max(end));
+    next_multiple(after, Span::from_minutes(30))
+}
+
+/// Returns when an empty group is removed, in nanoseconds since 1970: at the first multiple of 30
+/// seconds, the interval of the dispatcher's maintenance, after it became empty. Returns `None` if
+/// the group has members.
+pub(crate) fn group_removal(timer: &GroupTimer) -> Option<u128>
+    ensures { result ≡ group_removal_at timer.now }
+{
+    let since = timer.empty_since?;
+    Some(next_multiple(since, Span::from_seconds(30)))
+}

@@ -1,0 +1,135 @@
+//! Inserts alerts into their groups, as Alertmanager's dispatcher does: an alert goes to one group
+//! on each route that takes it. A post and a change of the configuration call `place`. It sets
+//! group timers, but flushes nothing.
+ghost use Rattle.std.specs.Prelude.{◌≡◌, ◌+◌, ◌*◌, ◌≤◌, Some, length, true, OnOk, IfOk, nat_lt};
+ghost use Rattle.amr_config.specs.Routing.{chosen};
+ghost use Rattle.amr_config.specs.Groups.{group_at};
+ghost use Rattle.amr_labels.specs.Map as map;
+ghost use Rattle.amr_time.specs.Time.{latest_read};
+ghost use Rattle.amr_engine.specs.State.State.{on_route, group_key, timer_with, place_on, place};
+ghost use Rattle.amr_engine.specs.State.Kept.{GrownBy, undone};
+
+use crate::state::change::Change;
+use crate::state::membership::Membership;
+use crate::state::notification::GroupTimer;
+use crate::state::route_labels::RouteLabels;
+use crate::state::store::Store;
+use amr_config::{Config, RouteGroup};
+use amr_labels::Labels;
+use amr_rules::Alert;
+use amr_time::{Moment, Span};
+use std::alloc::{AllocError, Global};
+
+/// Inserts an alert into its group on each route that takes it.
+pub fn place(store: &mut Store, labels: &Labels, alert: &Alert) -> Result<(), AllocError>
+    ensures ok { OnOk result (store.new.state ≡ place store.old.state (labels.now, alert.now)) }
+    ensures kept { undone store.new ≡ undone store.old }
+    ensures grown { GrownBy (2 * length (chosen store.old.state.config labels.now))
+        store.old store.new }
+{
+    let groups = store.groups_of(labels)?;
+    for group in groups.get().as_slice() {
+        place_on(store, group, labels, alert)?;
+    }
+    Ok(())
+}
+
+/// Returns whether a group timer stays as it was. `before` is `None` if there was none.
+fn stays(before: &Option<GroupTimer>, after: &GroupTimer) -> bool
+    ensures { result ≡ true → before.now ≡ Some after.now }
+{
+    match before {
+        None => false,
+        Some(before) => {
+            before.next_flush.nanoseconds() == after.next_flush.nanoseconds()
+                && before.flushed == after.flushed
+                && before.empty_since == after.empty_since
+        }
+    }
+}
+
+/// Sets a group timer that is `before` now. Does nothing if both are equal, as when an alert is
+/// posted again whose group has it already.
+fn change_timer(
+    store: &mut Store,
+    group: RouteLabels,
+    before: Option<GroupTimer>,
+    after: GroupTimer,
+) -> Result<(), AllocError>
+    requires { before ≡ map.get store.old.state.timers group }
+    ensures ok { OnOk result (store.new.state
+        ≡ record store.old.state { timers = map.insert store.old.state.timers group after }) }
+    ensures kept { undone store.new ≡ undone store.old }
+    ensures grown { GrownBy 1 store.old store.new }
+{
+    if stays(&before, &after) {
+        return Ok(());
+    }
+    store.change(Change::OfTimer(group, Some(after)))
+}
+
+/// Inserts an alert into a group, and sets the group timer.
+fn place_on(
+    store: &mut Store,
+    group: &RouteGroup,
+    labels: &Labels,
+    alert: &Alert,
+) -> Result<(), AllocError>
+    requires { group.now ≡ group_at store.old.state.config labels.now group.now.route }
+    ensures ok { OnOk result (store.new.state
+        ≡ place_on labels.now alert.now store.old.state group.now.route) }
+    ensures kept { undone store.new ≡ undone store.old }
+    ensures grown { GrownBy 2 store.old store.new }
+{
+    let route = group.route;
+    let group = RouteLabels {
+        route,
+        labels: group.labels.clone()?,
+    };
+    let wait = store.config().group_wait(route);
+    let before = store.timers().get(&group).copied();
+    let after = timer_with(store.moment(), wait, alert, before);
+    let member = Membership::new(&group, labels)?;
+    store.change(Change::OfMember(member, Some(alert.clone()?)))?;
+    change_timer(store, group, before, after)
+}
+
+/// Returns the group of an alert on a route.
+pub fn group_key(
+    alloc: Global,
+    config: &Config,
+    route: usize,
+    labels: &Labels,
+) -> Result<RouteLabels, AllocError>
+    ensures { IfOk result (λ group. group ≡ group_key config.now (on_route route labels.now)) }
+{
+    let labels = config.group_of(alloc, route, labels)?;
+    Ok(RouteLabels { route, labels })
+}
+
+/// Returns the group timer after an alert is inserted. A new group is flushed first after
+/// `group_wait`. If the alert's own wait is over, a group that was never flushed is flushed now, as
+/// in Alertmanager's dispatcher.
+fn timer_with(now: Moment, wait: Span, alert: &Alert, timer: Option<GroupTimer>) -> GroupTimer
+    requires { now ≤ latest_read }
+    ensures { result ≡ timer_with now wait alert.now timer }
+{
+    let is_over = has_waited(alert.starts_at, wait, now);
+    let (flush, flushed) = match timer {
+        None => (now.plus(wait), false),
+        Some(timer) => (timer.next_flush, timer.flushed),
+    };
+    let next_flush = if !flushed && is_over { now } else { flush };
+    GroupTimer {
+        next_flush,
+        flushed,
+        empty_since: None,
+    }
+}
+
+/// Returns whether `group_wait`, counted from the alert's start, is over before now.
+fn has_waited(starts_at: Moment, wait: Span, now: Moment) -> bool
+    ensures { result ≡ nat_lt (starts_at + wait) now }
+{
+    starts_at.nanoseconds() + (wait.nanoseconds() as u128) < now.nanoseconds()
+}

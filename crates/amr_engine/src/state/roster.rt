@@ -1,0 +1,368 @@
+//! The configuration in force with the members of all groups, and which member is in which group.
+//! `Store` changes it. The group of a member depends on the configuration, so both are kept
+//! together.
+ghost use Rattle.std.specs.Prelude.{◌≡◌, ◌<◌, ◌+◌, ◌++◌, [], IsTrue, Some, None, map, option_map, OnOk, IfOk};
+ghost use Rattle.amr_labels.specs.Map as map;
+ghost use Rattle.amr_config.specs.Groups.{groups_of};
+ghost use Rattle.amr_config.specs.Stated.RuleMatches.{rule_matches};
+ghost use Rattle.amr_tables.specs.Numbered.{shown, has_place, number_of, next_number, IsMarkOf, IsNumbering, IsSetAt, IsValueOf, KeepsPlaces, SamePlaces, EntersAt, SameEntered, NoneEntered};
+ghost use Rattle.std.specs.List.{All, filter_map, cons_option};
+ghost use Rattle.amr_engine.specs.State.State.{member_on_route, route_labels_cmp, group_key, members_among};
+ghost use Rattle.amr_engine.specs.State.Rostered.{labels_of_members, labels_of_numbered, numbered_labels, with_alert, IsNumbered};
+
+use crate::state::change::BoxedRouter;
+use crate::state::members::Member;
+use crate::state::membership::Membership;
+use crate::state::route_labels::RouteLabels;
+use amr_config::stated::RuleMatch;
+use amr_config::{Config, RouteGroup, Router};
+use amr_labels::{Labels, Listing, Shared};
+use amr_rules::Alert;
+use amr_tables::{Grouped, Keyed};
+use std::alloc::{AllocError, Global};
+use std::marker::Model;
+
+/// The configuration in force and the members of all groups. Every change of a member puts its
+/// number into the number of its group, or takes it out.
+#[derive(Drop)]
+pub(crate) struct Roster {
+    alloc: Global,
+    config: Router,
+    placements: Keyed<RouteLabels, Alert>,
+    /// The numbers of the groups that ever had a member. No value is kept of them.
+    groups: Keyed<RouteLabels, ()>,
+    /// The group of each member, by their numbers.
+    members: Grouped,
+}
+
+impl Model for Roster {
+    ghost use Rattle.std.specs.Coded.{codes};
+    ghost use Rattle.amr_labels.specs.Map as map;
+    ghost use Rattle.amr_engine.specs.State.Rostered.{Rostered, IsGrouped};
+
+    ghost Value = { Rostered };
+
+    ghost coded = { Prim.hlevel (codes, map.code) };
+
+    ghost view = { λ r. record { config = r.config; placements = r.placements; groups = r.groups } };
+
+    ghost invariant = { λ r. IsGrouped r.config r.placements r.groups r.members };
+}
+
+impl Roster {
+    /// Builds a roster without members.
+    pub(crate) fn new(alloc: Global, config: Config) -> Roster
+        ensures config { result.config ≡ config }
+        ensures shown { shown route_labels_cmp result.placements ≡ map.empty }
+        ensures entered { NoneEntered route_labels_cmp result.placements }
+    {
+        Roster {
+            alloc,
+            config: Router::new(alloc, config),
+            placements: Keyed::new(alloc),
+            groups: Keyed::new(alloc),
+            members: Grouped::new(alloc),
+        }
+    }
+
+    /// Returns the configuration in force.
+    pub(crate) fn config(&self) -> &Config
+        ensures { result.now ≡ self.now.config }
+    {
+        self.config.config()
+    }
+
+    /// Returns the group of this label set on each route that takes it, by route.
+    pub(crate) fn groups_of(
+        &mut self,
+        labels: &Labels,
+    ) -> Result<Shared<Listing<RouteGroup>>, AllocError>
+        ensures groups { IfOk result (λ groups. groups ≡ groups_of self.old.config labels.now) }
+        ensures same { self.new ≡ self.old }
+    {
+        self.config.groups_of(labels)
+    }
+
+    /// Returns which sides of the configuration's inhibition rules this label set is on.
+    pub(crate) fn rule_matches(
+        &self,
+        labels: &Labels,
+    ) -> Result<Shared<Listing<RuleMatch>>, AllocError>
+        ensures { IfOk result (λ found. found ≡ rule_matches labels.now self.now.config.rules) }
+    {
+        self.config.rule_matches(labels)
+    }
+
+    /// Returns the members of all groups, by route and labels.
+    pub(crate) fn placements(&self) -> &Keyed<RouteLabels, Alert>
+        ensures { result.now ≡ self.now.placements }
+    {
+        &self.placements
+    }
+
+    /// Returns the members of a group, by labels. Its time doesn't grow with the number of members
+    /// of other groups.
+    pub(crate) fn members_of(&self, group: &RouteLabels) -> Result<Vec<Member>, AllocError>
+        ensures { IfOk result (λ found. found.items
+            ≡ members_among self.now.config (shown route_labels_cmp self.now.placements)
+            group.now) }
+    {
+        let members = self.numbered_members(group)?;
+        with_alerts(
+            self.alloc,
+            &self.placements,
+            group.route,
+            members.as_slice(),
+        )
+    }
+
+    /// Returns the label sets of the members of a group, in order. It looks up no alert.
+    pub(crate) fn member_labels_of(
+        &self,
+        group: &RouteLabels,
+    ) -> Result<Listing<Labels>, AllocError>
+        ensures { IfOk result (λ found. found ≡ labels_of_members
+            (members_among self.now.config (shown route_labels_cmp self.now.placements)
+            group.now)) }
+    {
+        let members = self.numbered_members(group)?;
+        labels_of(self.alloc, members.as_slice())
+    }
+
+    /// Returns the label sets of the members of a group, in order, with the numbers of their places.
+    fn numbered_members(&self, group: &RouteLabels) -> Result<Vec<(&Labels, usize)>, AllocError>
+        ensures labels { IfOk result (λ found. labels_of_numbered found.items
+            ≡ labels_of_members (members_among self.now.config
+            (shown route_labels_cmp self.now.placements) group.now)) }
+        ensures numbers { IfOk result (λ found.
+            All (IsNumbered self.now.placements group.now.route)
+            (map numbered_labels found.items)) }
+    {
+        let mut found = Vec::new(self.alloc);
+        let Some(number) = self.groups.number_of(group) else {
+            return Ok(found);
+        };
+        let members = self.members.numbers_of(number)?;
+        for &member in members.as_slice() {
+            let Some(route_labels) = self.placements.key_at(member) else {
+                unreachable!()
+            };
+            found.push((&route_labels.labels, member))?;
+        }
+        found.sort()?;
+        Ok(found)
+    }
+
+    /// Clears the marks of all places, so that the open record takes their next change again. It
+    /// takes no memory.
+    pub(crate) fn clear_entered(&mut self)
+        ensures shown { shown route_labels_cmp self.new.placements
+            ≡ shown route_labels_cmp self.old.placements }
+        ensures places { SamePlaces route_labels_cmp self.old.placements self.new.placements }
+        ensures entered { NoneEntered route_labels_cmp self.new.placements }
+        ensures groups { self.new.groups ≡ self.old.groups }
+        ensures config { self.new.config ≡ self.old.config }
+    {
+        self.placements.clear_entered();
+    }
+
+    /// Returns the number of a member's place. Makes the place if there is none, and gives the
+    /// member's group a number. A group with this member has one.
+    pub(crate) fn place_member(&mut self, member: &Membership) -> Result<usize, AllocError>
+        requires { member.now.group ≡ group_key self.old.config (member_on_route member.now) }
+        ensures number { IfOk result (λ number. number_of route_labels_cmp self.new.placements
+            (member_on_route member.now) ≡ Some number) }
+        ensures known { OnOk result
+            (IsTrue (has_place route_labels_cmp self.new.groups member.now.group)) }
+        ensures shown { shown route_labels_cmp self.new.placements
+            ≡ shown route_labels_cmp self.old.placements }
+        ensures entered { SameEntered route_labels_cmp self.old.placements self.new.placements }
+        ensures places { KeepsPlaces route_labels_cmp self.old.placements self.new.placements }
+        ensures groups { KeepsPlaces route_labels_cmp self.old.groups self.new.groups }
+        ensures config { self.new.config ≡ self.old.config }
+    {
+        let (number, alert) = self.placements.look_up_number(&member.member);
+        if let (Some(number), Some(_)) = (number, alert) {
+            return Ok(number);
+        }
+        self.place_group(&member.group)?;
+        match number {
+            Some(number) => Ok(number),
+            None => self.add_member(&member.member),
+        }
+    }
+
+    /// Sets or removes a member of its group, given the number of its place, and marks the place as
+    /// entered. Returns the former alert, and whether the place was marked before. A member that stays
+    /// in its group keeps its links there. It takes no memory.
+    pub(crate) fn displace_member(
+        &mut self,
+        number: usize,
+        member: &Membership,
+        alert: Option<Alert>,
+    ) -> (Option<Alert>, bool)
+        requires place { number_of route_labels_cmp self.old.placements
+            (member_on_route member.now) ≡ Some number }
+        requires known { IsTrue (has_place route_labels_cmp self.old.groups member.now.group) }
+        requires group { member.now.group ≡ group_key self.old.config (member_on_route member.now) }
+        ensures answer { IsValueOf route_labels_cmp self.old.placements number result.0 }
+        ensures was_entered { IsMarkOf route_labels_cmp self.old.placements number result.1 }
+        ensures shown { IsSetAt route_labels_cmp self.old.placements number alert
+            self.new.placements }
+        ensures places { SamePlaces route_labels_cmp self.old.placements self.new.placements }
+        ensures entered { EntersAt route_labels_cmp self.old.placements number
+            self.new.placements }
+        ensures groups { self.new.groups ≡ self.old.groups }
+        ensures config { self.new.config ≡ self.old.config }
+    {
+        if self.placements.at(number).is_some() == alert.is_some() {
+            return self.placements.exchange_at(number, alert);
+        }
+        let Some(group) = self.groups.number_of(&member.group) else {
+            unreachable!()
+        };
+        let in_group = if_member(&alert, group);
+        let was = self.placements.exchange_at(number, alert);
+        self.members.set(number, in_group);
+        was
+    }
+
+    /// Replaces the configuration, while no group has members, and returns the one before. The new
+    /// one takes over what patterns answered. It takes no memory.
+    pub(crate) fn replace_config(&mut self, mut config: BoxedRouter) -> BoxedRouter
+        requires { shown route_labels_cmp self.old.placements ≡ map.empty }
+        ensures before { result ≡ self.old.config }
+        ensures config { self.new.config ≡ config }
+        ensures placements { self.new.placements ≡ self.old.placements }
+        ensures groups { self.new.groups ≡ self.old.groups }
+    {
+        config.swap(&mut self.config);
+        config
+    }
+
+    /// Returns the number of a group. Gives it one if it has none.
+    fn place_group(&mut self, group: &RouteLabels) -> Result<usize, AllocError>
+        ensures number { IfOk result (λ number.
+            number_of route_labels_cmp self.new.groups group.now ≡ Some number) }
+        ensures groups { KeepsPlaces route_labels_cmp self.old.groups self.new.groups }
+        ensures placements { self.new.placements ≡ self.old.placements }
+        ensures config { self.new.config ≡ self.old.config }
+    {
+        match self.groups.number_of(group) {
+            Some(number) => Ok(number),
+            None => self.add_group(group),
+        }
+    }
+
+    /// Gives a number to a group that has none, with room for its members.
+    fn add_group(&mut self, group: &RouteLabels) -> Result<usize, AllocError>
+        requires { number_of route_labels_cmp self.old.groups group.now ≡ None }
+        ensures number { IfOk result (λ number.
+            number_of route_labels_cmp self.new.groups group.now ≡ Some number) }
+        ensures groups { KeepsPlaces route_labels_cmp self.old.groups self.new.groups }
+        ensures placements { self.new.placements ≡ self.old.placements }
+        ensures config { self.new.config ≡ self.old.config }
+    {
+        let key = group.clone()?;
+        let count = count_with_next(&self.groups)?;
+        self.members.reserve_groups(count)?;
+        self.groups.make_place(key)?;
+        match self.groups.number_of(group) {
+            Some(number) => Ok(number),
+            None => unreachable!(),
+        }
+    }
+
+    /// Makes a place for a member that has none, with room for its group. Returns its number.
+    fn add_member(&mut self, route_labels: &RouteLabels) -> Result<usize, AllocError>
+        requires { number_of route_labels_cmp self.old.placements route_labels.now ≡ None }
+        ensures number { IfOk result (λ number.
+            number_of route_labels_cmp self.new.placements route_labels.now ≡ Some number) }
+        ensures shown { shown route_labels_cmp self.new.placements
+            ≡ shown route_labels_cmp self.old.placements }
+        ensures entered { SameEntered route_labels_cmp self.old.placements self.new.placements }
+        ensures places { KeepsPlaces route_labels_cmp self.old.placements self.new.placements }
+        ensures groups { self.new.groups ≡ self.old.groups }
+        ensures config { self.new.config ≡ self.old.config }
+    {
+        let key = route_labels.clone()?;
+        let count = count_with_next(&self.placements)?;
+        self.members.reserve_numbers(count)?;
+        self.placements.make_place(key)?;
+        match self.placements.number_of(route_labels) {
+            Some(number) => Ok(number),
+            None => unreachable!(),
+        }
+    }
+}
+
+/// Returns the number of the group, if there is an alert to be its member.
+fn if_member(alert: &Option<Alert>, group: usize) -> Option<usize>
+    ensures { result ≡ option_map (λ _. group) alert.now }
+{
+    match alert {
+        None => None,
+        Some(_) => Some(group),
+    }
+}
+
+/// Returns how many keys a table has when the next one has come.
+fn count_with_next<V: Drop>(table: &Keyed<RouteLabels, V>) -> Result<usize, AllocError>
+    ensures count { IfOk result (λ count. count ≡ next_number table.now + 1) }
+    ensures numbering { IsNumbering route_labels_cmp table.now }
+{
+    match table.next_number().checked_add(1) {
+        Some(count) => Ok(count),
+        None => Err(AllocError),
+    }
+}
+
+/// Returns copies of the labels of members.
+fn labels_of(alloc: Global, members: &[(&Labels, usize)]) -> Result<Listing<Labels>, AllocError>
+    ensures { IfOk result (λ found. found ≡ labels_of_numbered members.now) }
+{
+    let mut found = Listing::new(alloc);
+    for &(labels, _) in members {
+        found.push(labels.clone()?)?;
+    }
+    Ok(found)
+}
+
+/// Returns copies of the labels and alerts of members on a route, given with the numbers of their
+/// places.
+fn with_alerts(
+    alloc: Global,
+    placements: &Keyed<RouteLabels, Alert>,
+    route: usize,
+    members: &[(&Labels, usize)],
+) -> Result<Vec<Member>, AllocError>
+    requires { All (IsNumbered placements.now route) (map numbered_labels members.now) }
+    ensures { IfOk result (λ found. found.items
+        ≡ filter_map (with_alert (shown route_labels_cmp placements.now) route)
+        (labels_of_numbered members.now)) }
+{
+    let mut found = Vec::new(alloc);
+    for &(labels, number) in members {
+        push_member(&mut found, placements, route, labels, number)?;
+    }
+    Ok(found)
+}
+
+/// Appends a copy of a member's labels and alert, if it has an alert. It finds the alert by the
+/// number of its place, and compares no keys.
+fn push_member(
+    found: &mut Vec<Member>,
+    placements: &Keyed<RouteLabels, Alert>,
+    route: usize,
+    labels: &Labels,
+    number: usize,
+) -> Result<(), AllocError>
+    requires { IsNumbered placements.now route (labels.now, number) }
+    ensures { OnOk result (found.new.items ≡ found.old.items ++
+        cons_option (with_alert (shown route_labels_cmp placements.now) route labels.now) []) }
+{
+    if let Some(alert) = placements.at(number) {
+        found.push((labels.clone()?, alert.clone()?))?;
+    }
+    Ok(())
+}

@@ -1,0 +1,572 @@
+//! The state of the replayed instance and its journal. The engine changes the state only through
+//! `Store`, which enters for each change the one that leads back into the open record, so that an
+//! event can be undone. It decides nothing about alerts, groups or silences, but it asks the dedup check of
+//! `amr_rules` whether an entry of the notification log is due, since it finds the former entry.
+ghost use Rattle.std.specs.Prelude.{◌≡◌, ◌≤◌, ◌<◌, ◌+◌, ◌++◌, ◌∷◌, ◌==◌, [], ℕ, Option, Some, None, length, OnOk, IfOk, IfSome};
+ghost use Rattle.std.specs.Prelude.{if◌then◌else◌, is_some, option_map, slice_get};
+ghost use Rattle.std.specs.Ordering.{nat_cmp};
+ghost use Rattle.amr_labels.specs.Labels.{label_set_cmp};
+ghost use Rattle.amr_config.specs.Groups.{groups_of};
+ghost use Rattle.amr_config.specs.Stated.RuleMatches.{rule_matches};
+ghost use Rattle.amr_labels.specs.Map as map;
+ghost use Rattle.amr_labels.specs.Map.{len};
+ghost use Rattle.amr_tables.specs.Numbered.{shown};
+ghost use Rattle.amr_time.specs.Time.{latest_read};
+ghost use Rattle.amr_rules.specs.Muting.{is_silenced, silencer_of};
+ghost use Rattle.amr_engine.specs.State.State.{start, members, group_key, timers_after_flush, route_labels_cmp, log_key_cmp};
+ghost use Rattle.amr_engine.specs.State.Dues.{next_due};
+ghost use Rattle.amr_engine.specs.State.Logged.{is_due};
+ghost use Rattle.amr_engine.specs.State.Kept.{GrownBy, undone};
+ghost use Rattle.amr_engine.specs.State.Rostered.{labels_of_members};
+ghost use Rattle.amr_engine.specs.State.Records.{changed};
+ghost use Rattle.amr_engine.specs.State.Fitting.{FitsOne, IsAllowed};
+ghost use Rattle.amr_engine.specs.State.Stored.{shown_by, IsEntered, IsPlaceOf, MorePlaces, NoNewMark, SameValues};
+
+use crate::indexes::{AlertTable, SilenceTable};
+use crate::state::change::{BoxedRouter, Change};
+use crate::state::due::Due;
+use crate::state::logging::is_due;
+use crate::state::members::Member;
+use crate::state::membership::Membership;
+use crate::state::notification::{GroupTimer, LogKey, Notification};
+use crate::state::placing::group_key;
+use crate::state::roster::Roster;
+use crate::state::route_labels::RouteLabels;
+use crate::state::tables::Tables;
+use crate::state::timetable::Timetable;
+use amr_config::stated::RuleMatch;
+use amr_config::{Config, RouteGroup};
+use amr_events::posts::SilenceId;
+use amr_labels::{Labels, Listing, Shared};
+use amr_rules::{Alert, LogEntry, Silence};
+use amr_tables::{Journal, Keyed};
+use amr_time::{Moment, Span};
+use std::alloc::{AllocError, Global};
+use std::marker::Model;
+
+/// The state of the replayed instance. Each change enters the one that leads back into the open
+/// record of the journal, so that the event can be undone without taking memory. A record has one
+/// entry for each place: a later change there displaces a value that the same event made. After a
+/// change of the configuration, places are entered again, so that each member is put back under the
+/// configuration that gave it its group.
+#[derive(Drop)]
+pub struct Store {
+    alloc: Global,
+    tables: Tables,
+    journal: Journal<Change>,
+}
+
+impl Model for Store {
+    ghost use Rattle.std.specs.Coded.{codes};
+    ghost use Rattle.amr_labels.specs.Map as map;
+    ghost use Rattle.amr_engine.specs.State.Kept.{Kept};
+    ghost use Rattle.amr_engine.specs.contracts.state.change.Change as change;
+
+    ghost Value = { Kept };
+
+    ghost coded = { Prim.hlevel (codes, map.code, change.the_row.coded) };
+
+    ghost use Rattle.amr_engine.specs.State.Stored.{kept_of, IsKept};
+
+    ghost view = { kept_of };
+
+    ghost invariant = { IsKept };
+}
+
+impl Store {
+    /// Builds the state before the first event, with an empty journal.
+    pub fn new(alloc: Global, config: Config) -> Store
+        ensures state { result.state ≡ start config }
+        ensures current { result.current ≡ [] }
+        ensures records { result.records ≡ [] }
+    {
+        Store {
+            alloc,
+            tables: Tables {
+                moment: Moment::START,
+                timetable: Timetable::new(alloc),
+                silences: SilenceTable::new(alloc),
+                roster: Roster::new(alloc, config),
+                log: Keyed::new(alloc),
+                notes: Vec::new(alloc),
+                is_moment_entered: false,
+                are_notes_entered: false,
+            },
+            journal: Journal::new(alloc),
+        }
+    }
+
+    // ---- the journal
+
+    /// Makes room in the journal for one more record.
+    pub fn begin(&mut self) -> Result<(), AllocError>
+        ensures room { OnOk result (0 < self.new.room) }
+        ensures state { self.new.state ≡ self.old.state }
+        ensures current { self.new.current ≡ self.old.current }
+        ensures records { self.new.records ≡ self.old.records }
+    {
+        self.journal.reserve(0)
+    }
+
+    /// Closes the open record at the end of an event. It takes no memory.
+    pub fn close(&mut self)
+        requires { 0 < self.old.room }
+        ensures state { self.new.state ≡ self.old.state }
+        ensures current { self.new.current ≡ [] }
+        ensures records { self.new.records ≡ self.old.records ++ self.old.current ∷ [] }
+    {
+        self.journal.close();
+        self.tables.clear_entered();
+    }
+
+    /// Opens the last record again, to undo its event.
+    pub fn reopen(&mut self)
+        requires some { 0 < length self.old.records }
+        requires empty { self.old.current ≡ [] }
+        ensures state { self.new.state ≡ self.old.state }
+        ensures records { self.old.records ≡ self.new.records ++ self.new.current ∷ [] }
+    {
+        self.journal.reopen();
+        self.tables.clear_entered();
+    }
+
+    /// Undoes the last entry of the open record. It takes no memory.
+    pub fn undo_entry(&mut self)
+        requires { 0 < length self.old.current }
+        ensures kept { undone self.new ≡ undone self.old }
+        ensures shorter { length self.new.current + 1 ≡ length self.old.current }
+    {
+        let back = self.journal.pop();
+        let number = self.tables.find(&back);
+        drop(self.tables.displace(number, back));
+        self.tables.clear_entered();
+    }
+
+    /// Undoes all entries of the open record. It takes no memory.
+    pub fn undo_open(&mut self)
+        ensures { self.new ≡ undone self.old }
+    {
+        while !self.is_current_empty() {
+            self.undo_entry();
+        }
+    }
+
+    /// Drops all records, so that no event can be undone.
+    pub fn forget(&mut self)
+        ensures state { self.new.state ≡ self.old.state }
+        ensures current { self.new.current ≡ self.old.current }
+        ensures records { self.new.records ≡ [] }
+    {
+        self.journal.forget();
+    }
+
+    /// Drops the notifications so far. No record may be left, since undoing one would need them.
+    pub fn drop_notifications(&mut self)
+        requires current { self.old.current ≡ [] }
+        requires records { self.old.records ≡ [] }
+        ensures state { self.new.state ≡ record self.old.state { notes = [] } }
+        ensures current { self.new.current ≡ [] }
+        ensures records { self.new.records ≡ [] }
+    {
+        self.tables.notes.clear();
+    }
+
+    /// Returns the number of closed records.
+    pub fn records(&self) -> usize
+        ensures { result ≡ length self.now.records }
+    {
+        self.journal.len()
+    }
+
+    /// Returns the number of entries of the record number `index`, from 0.
+    pub fn record_len(&self, index: usize) -> usize
+        requires { index < length self.now.records }
+        ensures { option_map length (slice_get self.now.records index) ≡ Some result }
+    {
+        self.journal.record_len(index)
+    }
+
+    // ---- the state
+
+    /// Returns the allocator.
+    pub fn alloc(&self) -> Global {
+        self.alloc
+    }
+
+    /// Returns the moment of the clock, which is that of the last accepted event.
+    pub fn moment(&self) -> Moment
+        ensures value { result ≡ self.now.state.moment }
+        ensures bound { self.now.state.moment ≤ latest_read }
+    {
+        self.tables.moment
+    }
+
+    /// Returns the configuration in force.
+    pub fn config(&self) -> &Config
+        ensures { result.now ≡ self.now.state.config }
+    {
+        self.tables.roster.config()
+    }
+
+    /// Returns the stored alerts, by labels.
+    pub fn alerts(&self) -> &AlertTable
+        ensures { shown label_set_cmp result.now ≡ self.now.state.alerts }
+    {
+        self.tables.timetable.alerts()
+    }
+
+    /// Returns the silences, by id.
+    pub fn silences(&self) -> &Keyed<SilenceId, Silence>
+        ensures { shown nat_cmp result.now ≡ self.now.state.silences }
+    {
+        self.tables.silences.silences()
+    }
+
+    /// Returns the least id of a silence that mutes labels at a moment, or `None` if no silence
+    /// does.
+    pub fn silenced_by(&self, at: Moment, labels: &Labels) -> Result<Option<SilenceId>, AllocError>
+        ensures named { IfOk result (λ found. found
+            ≡ silencer_of at labels.now self.now.state.silences) }
+        ensures exactly { IfOk result (λ found. is_silenced self.now.state.silences at labels.now
+            ≡ is_some found) }
+    {
+        self.tables.silences.silenced_by(at, labels)
+    }
+
+    /// Works out when silences that match these label sets are active, so that `silenced_by`
+    /// needn't ask their matchers at this moment or later. It does so once for each label set until
+    /// a silence changes. It may do so for others that have a place, too.
+    pub fn learn_silences(&mut self, at: Moment, label_sets: &[Labels]) -> Result<(), AllocError>
+        ensures same { self.new ≡ self.old }
+    {
+        let arrived = self.tables.timetable.alerts().arrived();
+        self.tables.silences.learn(at, label_sets, arrived);
+        Ok(())
+    }
+
+    /// Works out which label sets can be sources of the inhibition rules that have a label set as a
+    /// target, given which sides of each rule it is on, so that inhibition needn't look for them
+    /// among all stored alerts. It asks the source matchers of such a rule once for each label set.
+    pub fn learn_sources(&mut self, matched: &[RuleMatch]) -> Result<(), AllocError>
+        ensures same { self.new ≡ self.old }
+    {
+        self.tables
+            .timetable
+            .learn_sources(self.tables.roster.config().rules(), matched)
+    }
+
+    /// Returns the members of all groups, by route and labels.
+    pub(crate) fn placements(&self) -> &Keyed<RouteLabels, Alert>
+        ensures { shown route_labels_cmp result.now ≡ self.now.state.placements }
+    {
+        self.tables.roster.placements()
+    }
+
+    /// Returns the members of a group, by labels.
+    #[tactic(auto, unfolding(crate::specs::State::State::members))]
+    pub fn members_of(&self, group: &RouteLabels) -> Result<Vec<Member>, AllocError>
+        ensures { IfOk result (λ found. found.items ≡ members self.now.state group.now) }
+    {
+        self.tables.roster.members_of(group)
+    }
+
+    /// Returns the label sets of the members of a group, in order. It is faster than `members_of`.
+    #[tactic(auto, unfolding(crate::specs::State::State::members))]
+    pub(crate) fn member_labels_of(
+        &self,
+        group: &RouteLabels,
+    ) -> Result<Listing<Labels>, AllocError>
+        ensures { IfOk result (λ found. found
+            ≡ labels_of_members (members self.now.state group.now)) }
+    {
+        self.tables.roster.member_labels_of(group)
+    }
+
+    /// Returns the group timers, by group.
+    pub fn timers(&self) -> &Keyed<RouteLabels, GroupTimer>
+        ensures { shown route_labels_cmp result.now ≡ self.now.state.timers }
+    {
+        self.tables.timetable.timers()
+    }
+
+    /// Returns the notification log.
+    pub fn log(&self) -> &Keyed<LogKey, LogEntry>
+        ensures { shown log_key_cmp result.now ≡ self.now.state.log }
+    {
+        &self.tables.log
+    }
+
+    /// Returns the first pending timer at or before a moment, or `None` if no timer is pending then.
+    #[tactic(auto, unfolding(crate::specs::State::Dues::next_due, crate::specs::State::Dues::dues))]
+    pub fn next_due(&self, at: Moment) -> Result<Option<Due>, AllocError>
+        ensures due { IfOk result (λ due. due ≡ next_due at self.now.state) }
+        ensures within { IfOk result (λ due. IfSome due (λ d. d.moment ≤ at)) }
+    {
+        self.tables.timetable.next_due(at)
+    }
+
+    /// Returns all notifications so far, in order.
+    pub fn notes(&self) -> &[Shared<Notification>]
+        ensures { result.now ≡ self.now.state.notes }
+    {
+        self.tables.notes.as_slice()
+    }
+
+    /// Returns the group of this label set on each route that takes it, by route. It computes them
+    /// once for each label set and configuration.
+    pub fn groups_of(&mut self, labels: &Labels) -> Result<Shared<Listing<RouteGroup>>, AllocError>
+        ensures groups { IfOk result (λ groups. groups
+            ≡ groups_of self.old.state.config labels.now) }
+        ensures same { self.new ≡ self.old }
+    {
+        self.tables.roster.groups_of(labels)
+    }
+
+    /// Returns which sides of the configuration's inhibition rules these labels are on. It asks no
+    /// matcher if the groups of these labels were computed under this configuration.
+    pub fn rule_matches(&self, labels: &Labels) -> Result<Shared<Listing<RuleMatch>>, AllocError>
+        ensures { IfOk result (λ found. found
+            ≡ rule_matches labels.now self.now.state.config.rules) }
+    {
+        self.tables.roster.rule_matches(labels)
+    }
+
+    // ---- changes
+
+    /// Makes a change, and enters the one that leads back into the open record, unless the record
+    /// has one of its place.
+    pub fn change(&mut self, change: Change) -> Result<(), AllocError>
+        requires { IsAllowed self.old.state change }
+        ensures ok { OnOk result (self.new.state ≡ changed self.old.state change) }
+        ensures kept { undone self.new ≡ undone self.old }
+        ensures grown { GrownBy 1 self.old self.new }
+    {
+        let number = make_room(&mut self.tables, &mut self.journal, &change)?;
+        enter(&mut self.tables, &mut self.journal, number, change);
+        Ok(())
+    }
+
+    /// Sets the next flush of a group and marks the group as flushed. Does nothing if there is no
+    /// such group. It looks for the group once.
+    pub fn reset_timer(&mut self, group: &RouteLabels, next: Moment) -> Result<(), AllocError>
+        ensures ok { OnOk result (self.new.state
+            ≡ record self.old.state
+            { timers = timers_after_flush next group.now self.old.state.timers }) }
+        ensures kept { undone self.new ≡ undone self.old }
+        ensures grown { GrownBy 1 self.old self.new }
+    {
+        let (number, former) = self.tables.timetable.timers().look_up_number(group);
+        let (Some(number), Some(former)) = (number, former.copied()) else {
+            return Ok(());
+        };
+        let timer = GroupTimer {
+            next_flush: next,
+            flushed: true,
+            ..former
+        };
+        let change = Change::OfTimer(group.clone()?, Some(timer));
+        self.journal.reserve_entry()?;
+        enter(&mut self.tables, &mut self.journal, number, change);
+        Ok(())
+    }
+
+    /// Sets an entry of the notification log if the dedup check says that it is due. Returns whether
+    /// it is. It looks for a former entry once.
+    pub fn write_log_if_due(
+        &mut self,
+        key: &LogKey,
+        entry: LogEntry,
+        send_resolved: bool,
+        repeat_interval: Span,
+    ) -> Result<bool, AllocError>
+        ensures due { IfOk result (λ due. due
+            ≡ is_due (map.get self.old.state.log key.now) entry send_resolved repeat_interval) }
+        ensures ok { IfOk result (λ due. self.new.state ≡ (if due
+            then record self.old.state { log = map.insert self.old.state.log key.now entry }
+            else self.old.state)) }
+        ensures kept { undone self.new ≡ undone self.old }
+        ensures grown { GrownBy 1 self.old self.new }
+    {
+        let (number, former) = self.tables.log.look_up_number(key);
+        if !is_due(former, &entry, send_resolved, repeat_interval) {
+            return Ok(false);
+        }
+        let change = Change::OfLog(key.clone()?, Some(entry));
+        let Some(number) = number else {
+            self.change(change)?;
+            return Ok(true);
+        };
+        self.journal.reserve_entry()?;
+        enter(&mut self.tables, &mut self.journal, number, change);
+        Ok(true)
+    }
+
+    /// Appends a notification.
+    pub fn append_notification(&mut self, notification: Notification) -> Result<(), AllocError>
+        ensures ok { OnOk result (self.new.state
+            ≡ record self.old.state { notes = self.old.state.notes ++ notification ∷ [] }) }
+        ensures kept { undone self.new ≡ undone self.old }
+        ensures grown { GrownBy 1 self.old self.new }
+    {
+        let notification = Shared::new(self.alloc, notification)?;
+        self.tables.notes.reserve(1)?;
+        if !self.tables.are_notes_entered {
+            self.journal.reserve_entry()?;
+            self.journal.push(Change::OfNotes(self.tables.notes.len()));
+            self.tables.are_notes_entered = true;
+        }
+        self.tables.notes.push_reserved(notification);
+        Ok(())
+    }
+
+    /// Replaces the configuration, and removes all groups and their members.
+    pub fn replace_config(&mut self, config: Config) -> Result<(), AllocError>
+        ensures ok { OnOk result (self.new.state
+            ≡ record self.old.state
+            { config = config; placements = map.empty; timers = map.empty }) }
+        ensures kept { undone self.new ≡ undone self.old }
+        ensures grown { GrownBy (1 + len self.old.state.timers + len self.old.state.placements)
+            self.old self.new }
+    {
+        self.clear_placements()?;
+        self.clear_timers()?;
+        self.change_config(config)
+    }
+
+    // ---- shared by the changes
+
+    /// Returns whether the open record is empty.
+    fn is_current_empty(&self) -> bool
+        ensures { result ≡ (length self.now.current == 0) }
+    {
+        self.journal.is_current_empty()
+    }
+
+    /// Returns the group of a label set on a route. It makes no labels anew if the route takes the
+    /// label set, whose groups are remembered then.
+    fn group_on(&mut self, route_labels: &RouteLabels) -> Result<RouteLabels, AllocError>
+        ensures group { IfOk result (λ group. group
+            ≡ group_key self.old.state.config route_labels.now) }
+        ensures same { self.new ≡ self.old }
+    {
+        let route = route_labels.route;
+        let groups = self.groups_of(&route_labels.labels)?;
+        match group_among(groups.get().as_slice(), route) {
+            Some(group) => Ok(RouteLabels {
+                route,
+                labels: group.labels.clone()?,
+            }),
+            None => group_key(self.alloc, self.config(), route, &route_labels.labels),
+        }
+    }
+
+    /// Removes all members of all groups.
+    fn clear_placements(&mut self) -> Result<(), AllocError>
+        ensures ok { OnOk result (self.new.state
+            ≡ record self.old.state { placements = map.empty }) }
+        ensures kept { undone self.new ≡ undone self.old }
+        ensures grown { GrownBy (len self.old.state.placements) self.old self.new }
+    {
+        let placed_keys = keys_of(self.alloc, self.tables.roster.placements())?;
+        for route_labels in &placed_keys {
+            let group = self.group_on(route_labels)?;
+            let member = route_labels.clone()?;
+            self.change(Change::OfMember(Membership { group, member }, None))?;
+        }
+        Ok(())
+    }
+
+    /// Removes all groups with their timers.
+    fn clear_timers(&mut self) -> Result<(), AllocError>
+        ensures ok { OnOk result (self.new.state ≡ record self.old.state { timers = map.empty }) }
+        ensures kept { undone self.new ≡ undone self.old }
+        ensures grown { GrownBy (len self.old.state.timers) self.old self.new }
+    {
+        let groups = keys_of(self.alloc, self.tables.timetable.timers())?;
+        for group in &groups {
+            self.change(Change::OfTimer(group.clone()?, None))?;
+        }
+        Ok(())
+    }
+
+    /// Replaces the configuration while no group has members. It clears the marks of all places, so
+    /// that later changes are entered again.
+    fn change_config(&mut self, config: Config) -> Result<(), AllocError>
+        requires { self.old.state.placements ≡ map.empty }
+        ensures ok { OnOk result (self.new.state ≡ record self.old.state { config = config }) }
+        ensures kept { undone self.new ≡ undone self.old }
+        ensures grown { GrownBy 1 self.old self.new }
+    {
+        self.journal.reserve_entry()?;
+        let config = BoxedRouter::new(self.alloc, config)?;
+        let (back, _) = self.tables.displace(0, Change::OfConfig(config));
+        self.journal.push(back);
+        self.tables.clear_entered();
+        Ok(())
+    }
+}
+
+/// Returns the number of a change's place. Makes the place if there is none, and room for an entry
+/// in the open record.
+fn make_room(
+    tables: &mut Tables,
+    journal: &mut Journal<Change>,
+    change: &Change,
+) -> Result<usize, AllocError>
+    requires { FitsOne (shown_by tables.old) change.now }
+    ensures number { IfOk result (λ number. IsPlaceOf tables.new change.now number) }
+    ensures room { OnOk result (0 < journal.new.entry_room) }
+    ensures values { SameValues tables.old tables.new }
+    ensures places { MorePlaces tables.old tables.new }
+    ensures marks { (place : Change) → NoNewMark tables.old tables.new place }
+    ensures closed { journal.new.closed ≡ journal.old.closed }
+    ensures current { journal.new.current ≡ journal.old.current }
+    ensures records { journal.new.record_room ≡ journal.old.record_room }
+{
+    let number = tables.place(change)?;
+    journal.reserve_entry()?;
+    Ok(number)
+}
+
+/// Makes a change, given the number of its place, and enters the one that leads back into the open
+/// record, unless the place is marked. It takes no memory.
+fn enter(tables: &mut Tables, journal: &mut Journal<Change>, number: usize, change: Change)
+    requires room { 0 < journal.old.entry_room }
+    requires number { IsPlaceOf tables.old change number }
+    requires fits { FitsOne (shown_by tables.old) change }
+    ensures state { shown_by tables.new ≡ changed (shown_by tables.old) change }
+    ensures places { MorePlaces tables.old tables.new }
+    ensures entered { IsEntered tables.old journal.old change tables.new journal.new }
+{
+    let (back, was_marked) = tables.displace(number, change);
+    if !was_marked {
+        journal.push(back);
+    }
+}
+
+/// Returns the keys of a table that have a value.
+fn keys_of<V: Drop>(
+    alloc: Global,
+    table: &Keyed<RouteLabels, V>,
+) -> Result<Vec<RouteLabels>, AllocError>
+    ensures { IfOk result (λ found. found.items ≡ map.keys (shown route_labels_cmp table.now)) }
+{
+    let mut found = Vec::new(alloc);
+    let sorted = table.sorted(alloc)?;
+    for &(route_labels, _) in sorted.as_slice() {
+        found.push(route_labels.clone()?)?;
+    }
+    Ok(found)
+}
+
+/// Returns the group on a route, given groups in the order of their routes.
+fn group_among(groups: &[RouteGroup], route: usize) -> Option<&RouteGroup>
+    ensures { IfSome result (λ group. (group.now.route ≡ route)
+        × (n : ℕ) × (slice_get groups.now n ≡ Some group.now)) }
+{
+    let at = groups.partition_point(|group| group.route < route);
+    match groups.get(at) {
+        Some(group) if group.route == route => Some(group),
+        _ => None,
+    }
+}

@@ -1,0 +1,162 @@
+//! The representation of the state: the clock, the tables and the notifications, with the marks of
+//! what the open record has entries for. `Store` owns it; `displace` is the one way to change it.
+ghost use Rattle.std.specs.Prelude.{◌≡◌, Some, IsTrue, IfOk};
+ghost use Rattle.amr_tables.specs.Numbered.{shown, has_place, number_of, KeepsPlaces, SameEntered};
+ghost use Rattle.amr_engine.specs.State.State.{log_key_cmp};
+ghost use Rattle.amr_engine.specs.State.Records.{changed, present};
+ghost use Rattle.amr_engine.specs.State.Fitting.{FitsOne};
+ghost use Rattle.amr_engine.specs.State.Stored.{shown_by, SameValues, MorePlaces, IsSound, IsPlaceOf, IsUnmarked, NoNewMark, NewMarkAt, is_marked_at};
+
+use crate::indexes::SilenceTable;
+use crate::state::change::Change;
+use crate::state::notification::{LogKey, Notification};
+use crate::state::roster::Roster;
+use crate::state::timetable::Timetable;
+use amr_labels::Shared;
+use amr_rules::LogEntry;
+use amr_tables::{Key, Keyed};
+use amr_time::Moment;
+use std::alloc::AllocError;
+use std::mem;
+
+/// The clock, the tables and the notifications. Each table marks the places that the open record
+/// has an entry for. The clock and the notifications are in no table, so their marks are here. The
+/// configuration has no mark: each change of it is entered.
+#[derive(Drop)]
+pub(crate) struct Tables {
+    pub(crate) moment: Moment,
+    pub(crate) timetable: Timetable,
+    pub(crate) silences: SilenceTable,
+    pub(crate) roster: Roster,
+    pub(crate) log: Keyed<LogKey, LogEntry>,
+    pub(crate) notes: Vec<Shared<Notification>>,
+    pub(crate) is_moment_entered: bool,
+    pub(crate) are_notes_entered: bool,
+}
+
+impl Tables {
+    /// Returns the number of a change's place. Makes the place if there is none.
+    pub(crate) fn place(&mut self, change: &Change) -> Result<usize, AllocError>
+        requires { FitsOne (shown_by self.old) change.now }
+        ensures number { IfOk result (λ number. IsPlaceOf self.new change.now number) }
+        ensures values { SameValues self.old self.new }
+        ensures places { MorePlaces self.old self.new }
+        ensures marks { (place : Change) → NoNewMark self.old self.new place }
+    {
+        match change {
+            Change::OfAlert(labels, _) => self.timetable.place_alert(labels),
+            Change::OfSilence(id, _) => self.silences.place(id),
+            Change::OfMember(member, _) => self.roster.place_member(member),
+            Change::OfTimer(group, _) => self.timetable.place_timer(group),
+            Change::OfLog(key, _) => place_log(&mut self.log, key),
+            Change::OfMoment(_) | Change::OfConfig(_) | Change::OfNotes(_) => Ok(0),
+        }
+    }
+
+    /// Returns the number of a change's place, which there is.
+    pub(crate) fn find(&self, change: &Change) -> usize
+        requires { IsSound self.now change.now }
+        ensures { IsPlaceOf self.now change.now result }
+    {
+        match change {
+            Change::OfAlert(labels, _) => number_in(self.timetable.alerts().by_number(), labels),
+            Change::OfSilence(id, _) => number_in(self.silences.silences(), id),
+            Change::OfMember(member, _) => number_in(self.roster.placements(), &member.member),
+            Change::OfTimer(group, _) => number_in(self.timetable.timers(), group),
+            Change::OfLog(key, _) => number_in(&self.log, key),
+            Change::OfMoment(_) | Change::OfConfig(_) | Change::OfNotes(_) => 0,
+        }
+    }
+
+    /// Makes a change, given the number of its place, and marks the place. Returns the change that
+    /// leads back, and whether the place was marked before. It takes no memory.
+    pub(crate) fn displace(&mut self, number: usize, change: Change) -> (Change, bool)
+        requires number { IsPlaceOf self.old change number }
+        requires fits { FitsOne (shown_by self.old) change }
+        ensures state { shown_by self.new ≡ changed (shown_by self.old) change }
+        ensures back { result.0 ≡ present (shown_by self.old) change }
+        ensures was_marked { result.1 ≡ is_marked_at self.old change }
+        ensures places { MorePlaces self.old self.new }
+        ensures marks { (place : Change)
+            → NewMarkAt (present (shown_by self.old) change) self.old self.new place }
+    {
+        match change {
+            Change::OfMoment(at) => {
+                let was = mem::replace(&mut self.moment, at);
+                let was_marked = mem::replace(&mut self.is_moment_entered, true);
+                (Change::OfMoment(was), was_marked)
+            }
+            Change::OfConfig(config) => {
+                let was = self.roster.replace_config(config);
+                (Change::OfConfig(was), false)
+            }
+            Change::OfAlert(labels, alert) => {
+                let (was, was_marked) = self.timetable.displace_alert(number, alert);
+                (Change::OfAlert(labels, was), was_marked)
+            }
+            Change::OfSilence(id, silence) => {
+                let (was, was_marked) = self.silences.exchange_at(&id, number, silence);
+                (Change::OfSilence(id, was), was_marked)
+            }
+            Change::OfMember(member, alert) => {
+                let (was, was_marked) = self.roster.displace_member(number, &member, alert);
+                (Change::OfMember(member, was), was_marked)
+            }
+            Change::OfTimer(group, timer) => {
+                let (was, was_marked) = self.timetable.displace_timer(number, timer);
+                (Change::OfTimer(group, was), was_marked)
+            }
+            Change::OfLog(key, entry) => {
+                let (was, was_marked) = self.log.exchange_at(number, entry);
+                (Change::OfLog(key, was), was_marked)
+            }
+            Change::OfNotes(count) => {
+                let was = self.notes.len();
+                self.notes.truncate(count);
+                let was_marked = mem::replace(&mut self.are_notes_entered, true);
+                (Change::OfNotes(was), was_marked)
+            }
+        }
+    }
+
+    /// Clears the marks of all places, so that the open record takes their next change again. It
+    /// takes no memory.
+    pub(crate) fn clear_entered(&mut self)
+        ensures values { SameValues self.old self.new }
+        ensures places { MorePlaces self.old self.new }
+        ensures marks { IsUnmarked self.new }
+    {
+        self.timetable.clear_entered();
+        self.silences.clear_entered();
+        self.roster.clear_entered();
+        self.log.clear_entered();
+        self.is_moment_entered = false;
+        self.are_notes_entered = false;
+    }
+}
+
+/// Returns the number of the place of a key of the notification log. Makes the place if there is
+/// none.
+fn place_log(log: &mut Keyed<LogKey, LogEntry>, key: &LogKey) -> Result<usize, AllocError>
+    ensures number { IfOk result (λ number. number_of log_key_cmp log.new key.now ≡ Some number) }
+    ensures shown { shown log_key_cmp log.new ≡ shown log_key_cmp log.old }
+    ensures entered { SameEntered log_key_cmp log.old log.new }
+    ensures places { KeepsPlaces log_key_cmp log.old log.new }
+{
+    if let Some(number) = log.number_of(key) {
+        return Ok(number);
+    }
+    log.make_place(key.clone()?)?;
+    Ok(number_in(log, key))
+}
+
+/// Returns the number of a key that has a place.
+fn number_in<K: Key + Drop, V: Drop>(table: &Keyed<K, V>, key: &K) -> usize
+    requires { IsTrue (has_place K.cmp table.now key.now) }
+    ensures { number_of K.cmp table.now key.now ≡ Some result }
+{
+    match table.number_of(key) {
+        Some(number) => number,
+        None => unreachable!(),
+    }
+}

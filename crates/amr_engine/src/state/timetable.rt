@@ -1,0 +1,394 @@
+//! The stored alerts and the group timers, with the moments at which each alert is removed, and each
+//! group flushed or removed. `Store` changes alerts and timers here, and the moments follow. Nothing
+//! is fired here.
+ghost use Rattle.std.specs.Prelude.{◌≡◌, ◌≢◌, ◌<◌, ◌≤◌, ℕ, length, option_map, None, Some, OnOk, IfOk};
+ghost use Rattle.amr_tables.specs.Earliest.{moment_at, IsTournament};
+ghost use Rattle.amr_labels.specs.Labels.{label_set_cmp};
+ghost use Rattle.amr_labels.specs.Map as map;
+ghost use Rattle.amr_tables.specs.Numbered.{shown, number_of, EntersAt, KeepsPlaces, SamePlaces, SameEntered, NoneEntered, IsMarkOf, IsNumber, IsNumbering, IsSetAt, IsValueOf, next_number, rank_of};
+ghost use Rattle.amr_engine.specs.State.State.{route_labels_cmp};
+ghost use Rattle.amr_engine.specs.State.Dues.{dues_of, least_due, due_by};
+ghost use Rattle.amr_engine.specs.declared.state.due.Kind.TheVariants.{AlertRemoval};
+ghost use Rattle.amr_engine.specs.State.Timed.{AreNumbered, IsScheduled, IsFirstOfKind, alert_moment, flush_moment, removal_moment, group_moment, due_of, earlier};
+
+use crate::indexes::AlertTable;
+use crate::state::due::{Due, Kind, alert_removal, group_removal};
+use crate::state::notification::GroupTimer;
+use crate::state::route_labels::RouteLabels;
+use amr_config::stated::{InhibitRule, RuleMatch};
+use amr_labels::Labels;
+use amr_rules::Alert;
+use amr_tables::{Earliest, Key, Keyed};
+use amr_time::Moment;
+use std::alloc::{AllocError, Global};
+use std::marker::Model;
+
+/// The stored alerts and the group timers. Every change of them updates the moments, which go by the
+/// numbers of the label sets and groups.
+#[derive(Drop)]
+pub(crate) struct Timetable {
+    alerts: AlertTable,
+    timers: Keyed<RouteLabels, GroupTimer>,
+    /// When each alert is removed.
+    alert_removals: Earliest,
+    /// When each group without members is removed.
+    group_removals: Earliest,
+    /// When each group is flushed.
+    flushes: Earliest,
+}
+
+impl Model for Timetable {
+    ghost use Rattle.std.specs.Coded.{codes};
+    ghost use Rattle.amr_labels.specs.Map as map;
+    ghost use Rattle.amr_engine.specs.State.Timed.{Timed, IsTimed};
+
+    ghost Value = { Timed };
+
+    ghost coded = { Prim.hlevel (codes, map.code) };
+
+    ghost view = { λ t. record { alerts = t.alerts; timers = t.timers } };
+
+    ghost invariant = { λ t. IsTimed t.alerts t.timers t.alert_removals t.group_removals t.flushes };
+}
+
+impl Timetable {
+    /// Builds a timetable without alerts and groups.
+    pub(crate) fn new(alloc: Global) -> Timetable
+        ensures alerts { shown label_set_cmp result.alerts ≡ map.empty }
+        ensures timers { shown route_labels_cmp result.timers ≡ map.empty }
+        ensures alerts_entered { NoneEntered label_set_cmp result.alerts }
+        ensures timers_entered { NoneEntered route_labels_cmp result.timers }
+    {
+        Timetable {
+            alerts: AlertTable::new(alloc),
+            timers: Keyed::new(alloc),
+            alert_removals: Earliest::new(alloc),
+            group_removals: Earliest::new(alloc),
+            flushes: Earliest::new(alloc),
+        }
+    }
+
+    /// Returns the stored alerts, by labels.
+    pub(crate) fn alerts(&self) -> &AlertTable
+        ensures { result.now ≡ self.now.alerts }
+    {
+        &self.alerts
+    }
+
+    /// Returns the group timers, by group.
+    pub(crate) fn timers(&self) -> &Keyed<RouteLabels, GroupTimer>
+        ensures { result.now ≡ self.now.timers }
+    {
+        &self.timers
+    }
+
+    /// Returns the first pending timer at or before a moment, or `None` if no timer is pending then.
+    pub(crate) fn next_due(&self, at: Moment) -> Result<Option<Due>, AllocError>
+        ensures { IfOk result (λ due. due ≡ due_by at (least_due
+            (dues_of (shown label_set_cmp self.now.alerts)
+            (shown route_labels_cmp self.now.timers)))) }
+    {
+        let alert = first_alert(&self.alerts, &self.alert_removals);
+        let removal = first_group(&self.timers, &self.group_removals, Kind::GroupRemoval);
+        let flush = first_group(&self.timers, &self.flushes, Kind::GroupFlush);
+        if_due(at, earlier(alert, earlier(removal, flush)))
+    }
+
+    /// Works out which label sets can be sources of those rules that have a label set as a target,
+    /// given which sides of each rule it is on. Skips a rule that is known.
+    pub(crate) fn learn_sources(
+        &mut self,
+        rules: &[InhibitRule],
+        matched: &[RuleMatch],
+    ) -> Result<(), AllocError>
+        ensures { self.new ≡ self.old }
+    {
+        learn_sides(&mut self.alerts, rules, matched)
+    }
+
+    /// Clears the marks of all places, so that the open record takes their next change again. It
+    /// takes no memory.
+    pub(crate) fn clear_entered(&mut self)
+        ensures alerts { shown label_set_cmp self.new.alerts ≡ shown label_set_cmp self.old.alerts }
+        ensures timers { shown route_labels_cmp self.new.timers
+            ≡ shown route_labels_cmp self.old.timers }
+        ensures alert_places { SamePlaces label_set_cmp self.old.alerts self.new.alerts }
+        ensures timer_places { SamePlaces route_labels_cmp self.old.timers self.new.timers }
+        ensures alerts_entered { NoneEntered label_set_cmp self.new.alerts }
+        ensures timers_entered { NoneEntered route_labels_cmp self.new.timers }
+    {
+        self.alerts.clear_entered();
+        self.timers.clear_entered();
+    }
+
+    /// Sets or removes the alert of the label set with a number, and marks its place as entered.
+    /// Returns the former alert, and whether the place was marked before. It takes no memory.
+    pub(crate) fn displace_alert(
+        &mut self,
+        number: usize,
+        alert: Option<Alert>,
+    ) -> (Option<Alert>, bool)
+        requires { IsNumber label_set_cmp self.old.alerts number }
+        ensures answer { IsValueOf label_set_cmp self.old.alerts number result.0 }
+        ensures was_entered { IsMarkOf label_set_cmp self.old.alerts number result.1 }
+        ensures shown { IsSetAt label_set_cmp self.old.alerts number alert self.new.alerts }
+        ensures places { SamePlaces label_set_cmp self.old.alerts self.new.alerts }
+        ensures entered { EntersAt label_set_cmp self.old.alerts number self.new.alerts }
+        ensures timers { self.new.timers ≡ self.old.timers }
+    {
+        let moment = alert_moment(&alert);
+        let was = self.alerts.exchange_at(number, alert);
+        self.alert_removals
+            .set(self.alerts.by_number(), number, moment);
+        was
+    }
+
+    /// Sets or removes the timer of the group with a number, and marks its place as entered. Returns
+    /// the former timer, and whether the place was marked before. It takes no memory.
+    pub(crate) fn displace_timer(
+        &mut self,
+        number: usize,
+        timer: Option<GroupTimer>,
+    ) -> (Option<GroupTimer>, bool)
+        requires { IsNumber route_labels_cmp self.old.timers number }
+        ensures answer { IsValueOf route_labels_cmp self.old.timers number result.0 }
+        ensures was_entered { IsMarkOf route_labels_cmp self.old.timers number result.1 }
+        ensures shown { IsSetAt route_labels_cmp self.old.timers number timer self.new.timers }
+        ensures places { SamePlaces route_labels_cmp self.old.timers self.new.timers }
+        ensures entered { EntersAt route_labels_cmp self.old.timers number self.new.timers }
+        ensures alerts { self.new.alerts ≡ self.old.alerts }
+    {
+        let flush = flush_moment(&timer);
+        let removal = removal_moment(&timer);
+        // The prover needs to see the type of moments here.
+        let _start = Moment::START;
+        let was = self.timers.exchange_at(number, timer);
+        self.flushes.set(&self.timers, number, flush);
+        self.group_removals.set(&self.timers, number, removal);
+        was
+    }
+
+    /// Returns the number of a label set's place. Makes the place if there is none.
+    pub(crate) fn place_alert(&mut self, labels: &Labels) -> Result<usize, AllocError>
+        ensures number { IfOk result (λ number.
+            number_of label_set_cmp self.new.alerts labels.now ≡ Some number) }
+        ensures shown { shown label_set_cmp self.new.alerts
+            ≡ shown label_set_cmp self.old.alerts }
+        ensures entered { SameEntered label_set_cmp self.old.alerts self.new.alerts }
+        ensures places { KeepsPlaces label_set_cmp self.old.alerts self.new.alerts }
+        ensures timers { self.new.timers ≡ self.old.timers }
+    {
+        match self.alerts.by_number().number_of(labels) {
+            Some(number) => Ok(number),
+            None => self.add_alert(labels),
+        }
+    }
+
+    /// Makes a place for a label set that has none, with room for its moment. Returns its number.
+    fn add_alert(&mut self, labels: &Labels) -> Result<usize, AllocError>
+        requires { number_of label_set_cmp self.old.alerts labels.now ≡ None }
+        ensures number { IfOk result (λ number.
+            number_of label_set_cmp self.new.alerts labels.now ≡ Some number) }
+        ensures shown { shown label_set_cmp self.new.alerts
+            ≡ shown label_set_cmp self.old.alerts }
+        ensures entered { SameEntered label_set_cmp self.old.alerts self.new.alerts }
+        ensures places { KeepsPlaces label_set_cmp self.old.alerts self.new.alerts }
+        ensures timers { self.new.timers ≡ self.old.timers }
+    {
+        make_room(&mut self.alert_removals, self.alerts.by_number())?;
+        self.alerts.make_place(labels)?;
+        match self.alerts.by_number().number_of(labels) {
+            Some(number) => Ok(number),
+            None => unreachable!(),
+        }
+    }
+
+    /// Returns the number of a group's place. Makes the place if there is none.
+    pub(crate) fn place_timer(&mut self, group: &RouteLabels) -> Result<usize, AllocError>
+        ensures number { IfOk result (λ number.
+            number_of route_labels_cmp self.new.timers group.now ≡ Some number) }
+        ensures shown { shown route_labels_cmp self.new.timers
+            ≡ shown route_labels_cmp self.old.timers }
+        ensures entered { SameEntered route_labels_cmp self.old.timers self.new.timers }
+        ensures places { KeepsPlaces route_labels_cmp self.old.timers self.new.timers }
+        ensures alerts { self.new.alerts ≡ self.old.alerts }
+    {
+        match self.timers.number_of(group) {
+            Some(number) => Ok(number),
+            None => self.add_timer(group),
+        }
+    }
+
+    /// Makes a place for a group that has none, with room for its moments. Returns its number.
+    fn add_timer(&mut self, group: &RouteLabels) -> Result<usize, AllocError>
+        requires { number_of route_labels_cmp self.old.timers group.now ≡ None }
+        ensures number { IfOk result (λ number.
+            number_of route_labels_cmp self.new.timers group.now ≡ Some number) }
+        ensures shown { shown route_labels_cmp self.new.timers
+            ≡ shown route_labels_cmp self.old.timers }
+        ensures entered { SameEntered route_labels_cmp self.old.timers self.new.timers }
+        ensures places { KeepsPlaces route_labels_cmp self.old.timers self.new.timers }
+        ensures alerts { self.new.alerts ≡ self.old.alerts }
+    {
+        let key = group.clone()?;
+        make_room(&mut self.flushes, &self.timers)?;
+        make_room(&mut self.group_removals, &self.timers)?;
+        self.timers.make_place(key)?;
+        match self.timers.number_of(group) {
+            Some(number) => Ok(number),
+            None => unreachable!(),
+        }
+    }
+}
+
+/// Makes room for the moment of the number that the next new key of a table gets.
+fn make_room<K: Key + Drop, V: Drop>(
+    moments: &mut Earliest,
+    table: &Keyed<K, V>,
+) -> Result<(), AllocError>
+    requires { IsTournament (rank_of K.cmp table.now) moments.old }
+    ensures room { OnOk result (next_number table.now < length moments.new.moments) }
+    ensures more { length moments.old.moments ≤ length moments.new.moments }
+    ensures same { (n : ℕ) → moment_at moments.new n ≡ moment_at moments.old n }
+    ensures kept { IsTournament (rank_of K.cmp table.now) moments.new }
+    ensures numbering { IsNumbering K.cmp table.now }
+{
+    match table.next_number().checked_add(1) {
+        Some(count) => moments.reserve(table, count),
+        None => Err(AllocError),
+    }
+}
+
+/// A pending timer that borrows its labels.
+#[derive(Clone, Copy)]
+struct Pending<'a> {
+    moment: u128,
+    kind: Kind,
+    route: usize,
+    labels: &'a Labels,
+}
+
+/// Copies a timer, with its labels, if it is pending at or before a moment.
+fn if_due(at: Moment, first: Option<Pending<'_>>) -> Result<Option<Due>, AllocError>
+    ensures { IfOk result (λ due. due ≡ due_by at (option_map due_of first.entry)) }
+{
+    match first {
+        None => Ok(None),
+        Some(first) => {
+            if first.moment <= at.nanoseconds() {
+                let labels = first.labels.clone()?;
+                Ok(Some(Due {
+                    moment: first.moment,
+                    kind: first.kind,
+                    route: first.route,
+                    labels,
+                }))
+            } else {
+                Ok(None)
+            }
+        }
+    }
+}
+
+/// Returns the first removal of an alert, given the moments of all.
+fn first_alert<'a>(alerts: &'a AlertTable, removals: &Earliest) -> Option<Pending<'a>>
+    requires numbered { AreNumbered label_set_cmp alerts.now }
+    requires scheduled { IsScheduled label_set_cmp alert_moment alerts.now removals.now }
+    ensures { (timers : map.Map route_labels_cmp GroupTimer) → IsFirstOfKind AlertRemoval
+        (dues_of (shown label_set_cmp alerts.now) timers) (option_map due_of result) }
+{
+    let number = removals.first()?;
+    let moment = removals.at(number)?;
+    let labels = alerts.by_number().key_at(number)?;
+    Some(Pending {
+        moment,
+        kind: Kind::AlertRemoval,
+        route: 0,
+        labels,
+    })
+}
+
+/// Returns the first timer of a kind of groups, given the moments of all.
+fn first_group<'a>(
+    timers: &'a Keyed<RouteLabels, GroupTimer>,
+    moments: &Earliest,
+    kind: Kind,
+) -> Option<Pending<'a>>
+    requires group { kind ≢ AlertRemoval }
+    requires numbered { AreNumbered route_labels_cmp timers.now }
+    requires scheduled { IsScheduled route_labels_cmp (group_moment kind) timers.now moments.now }
+    ensures { (alerts : map.Map label_set_cmp Alert) → IsFirstOfKind kind
+        (dues_of alerts (shown route_labels_cmp timers.now)) (option_map due_of result) }
+{
+    let number = moments.first()?;
+    let moment = moments.at(number)?;
+    let group = timers.key_at(number)?;
+    Some(Pending {
+        moment,
+        kind,
+        route: group.route,
+        labels: &group.labels,
+    })
+}
+
+/// Returns the earlier of two timers. If both are of one moment, that is the first.
+fn earlier<'a>(a: Option<Pending<'a>>, b: Option<Pending<'a>>) -> Option<Pending<'a>>
+    ensures { option_map due_of result
+        ≡ earlier (option_map due_of a.entry) (option_map due_of b.entry) }
+{
+    match (a, b) {
+        (Some(x), Some(y)) => { if y.moment < x.moment { b } else { a } }
+        (None, _) => b,
+        (_, None) => a,
+    }
+}
+
+/// Works out which label sets can be sources of those rules that have a label set as a target,
+/// given which sides of each rule it is on.
+fn learn_sides(
+    alerts: &mut AlertTable,
+    rules: &[InhibitRule],
+    matched: &[RuleMatch],
+) -> Result<(), AllocError>
+    ensures { alerts.new ≡ alerts.old }
+{
+    for (place, rule) in rules.iter().enumerate() {
+        match matched.get(place) {
+            Some(side) if side.is_target => alerts.learn_side(place, rule),
+            _ => {}
+        }
+    }
+    Ok(())
+}
+
+/// Returns when an alert is removed, in nanoseconds since 1970, or `None` without an alert.
+fn alert_moment(alert: &Option<Alert>) -> Option<u128>
+    ensures { result ≡ alert_moment alert.now }
+{
+    match alert {
+        None => None,
+        Some(alert) => Some(alert_removal(alert)),
+    }
+}
+
+/// Returns when a group with this timer is flushed, in nanoseconds since 1970, or `None` without a
+/// timer.
+fn flush_moment(timer: &Option<GroupTimer>) -> Option<u128>
+    ensures { result ≡ flush_moment timer.now }
+{
+    match timer {
+        None => None,
+        Some(timer) => Some(timer.next_flush.nanoseconds()),
+    }
+}
+
+/// Returns when a group with this timer is removed, in nanoseconds since 1970, or `None` without a
+/// timer or while the group has members.
+fn removal_moment(timer: &Option<GroupTimer>) -> Option<u128>
+    ensures { result ≡ removal_moment timer.now }
+{
+    match timer {
+        None => None,
+        Some(timer) => group_removal(timer),
+    }
+}

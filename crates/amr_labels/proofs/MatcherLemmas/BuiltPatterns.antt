@@ -1,0 +1,26 @@
+-- The patterns that were built, with one more, and with none when memory runs out.
+use Rattle.std.proofs.Common.{◌≡◌, cond, Some, refl, sym, ◌∙◌, ap}
+use Rattle.std.specs.declared.cmp.Ordering.TheVariants.{Less, Equal, Greater}
+use Rattle.std.specs.Ordering.{is_eq}
+use Rattle.std.specs.Cmp.Lexicographic.{nat_list_cmp_total}
+use Rattle.std.specs.BTreeMap.{BTreeMap, insert_entry}
+use Rattle.std.specs.FinMap.{find}
+use Rattle.std.specs.FinMap.Entries.{find-put}
+use Rattle.amr_labels.specs.Labels.{Text, text_cmp, text_cmp-IsAntisymmetric}
+use Rattle.amr_labels.proofs.Trees.{put_is}
+use Rattle.amr_labels.specs.Matcher.Patterns.{AreUnderTheirTexts}
+
+same_of_some : {X : Type 0} (x y : X) → Some x ≡ Some y → x ≡ y
+same_of_some x y e = cc
+
+pub one_more : (built more : BTreeMap Text Text) (text pattern : Text) → AreUnderTheirTexts built → pattern ≡ text → more.entries ≡ insert_entry text_cmp built.entries text pattern → AreUnderTheirTexts more
+one_more built more text pattern are is entries other known at =
+    let there = find-put text_cmp nat_list_cmp_total other text pattern built.entries in
+    elim (text_cmp other text) as (λ o. text_cmp other text ≡ o → cond (is_eq o) (Some pattern) (find text_cmp other built.entries) ≡ Some known → known ≡ other) [
+      | Less ↦ λ tie at. are other known at
+      | Equal ↦ λ tie at. sym (same_of_some pattern known at) ∙ is ∙ sym (text_cmp-IsAntisymmetric other text tie)
+      | Greater ↦ λ tie at. are other known at
+    ] refl (sym there ∙ ap (find text_cmp other) (sym (put_is text_cmp built.entries text pattern) ∙ sym entries) ∙ at)
+
+pub as_before : (built same : BTreeMap Text Text) → AreUnderTheirTexts built → same.entries ≡ built.entries → AreUnderTheirTexts same
+as_before built same are entries text pattern at = are text pattern (ap (find text_cmp text) (sym entries) ∙ at)

@@ -1,0 +1,120 @@
+-- From each state some text leads to an end, so what the machine has read is the beginning of a
+-- matcher text; if it stops, no text goes on from there.
+use Rattle.std.proofs.Common.{◌≡◌, ℕ, ◌+◌, ◌<◌, List, [], ◌∷◌, ◌++◌, length, take, drop, get_or, Bool, true, false, Option, Some, None, refl, sym, ap, subst, ◌∙◌}
+use Rattle.std.specs.Prelude.{IsSome, encode_utf8_all, option_and_then}
+use Rattle.std.proofs.lemmas.Bool.{false≢true}
+use Rattle.std.proofs.lemmas.List.{at_drop_more, append-nil, take-append-drop}
+use Rattle.amr_labels.specs.declared.matcher.Operator.{Operator}
+use Rattle.amr_labels.specs.declared.matcher.matcher_steps.Place.{Place}
+use Rattle.amr_labels.specs.declared.matcher.matcher_steps.Place.TheVariants.{Start, Opened, NameLiteral, NameOpened, NameQuoted, NameEscape, AfterName, AfterBang, AfterEquals, ValueStart, ValueLiteral, ValueQuoted, ValueEscape, AfterValue, AfterComma, Closed}
+use Rattle.amr_labels.specs.Labels.{Text}
+use Rattle.amr_labels.specs.Matcher.Matchers.{Matcher}
+use Rattle.amr_labels.specs.Matcher.MatcherText.{Begins, IsLongest}
+use Rattle.amr_labels.specs.Matcher.MatcherReading.{Reading, kind_of, begins_matcher, after_name, ends_value, begins_value, in_name, in_value, after_bang, after_equals, at_start, after_braces, step_from, with_part, next, run, start, ending, ended, matchers_of_chars}
+use Rattle.amr_labels.proofs.MatcherLemmas.MatcherRuns.{run-append, run-none, run_more}
+use Rattle.amr_labels.proofs.MatcherLemmas.MatcherSpelled.{spelled_are_read}
+use Rattle.amr_labels.proofs.MatcherLemmas.MatcherRead.{chars_are_spelled}
+
+abbrev closing : Bool → List ℕ
+closing true = 125 ∷ []
+closing false = []
+
+-- what takes a reading to an end
+abbrev completion : Bool → Place → List ℕ
+completion b Start = []
+completion b Opened = 125 ∷ []
+completion b NameLiteral = 61 ∷ closing b
+completion b NameOpened = 97 ∷ 34 ∷ 61 ∷ closing b
+completion b NameQuoted = 34 ∷ 61 ∷ closing b
+completion b NameEscape = 34 ∷ 34 ∷ 61 ∷ closing b
+completion b AfterName = 61 ∷ closing b
+completion b AfterBang = 61 ∷ closing b
+completion b AfterEquals = closing b
+completion b ValueStart = closing b
+completion b ValueLiteral = closing b
+completion b ValueQuoted = 34 ∷ closing b
+completion b ValueEscape = 34 ∷ 34 ∷ closing b
+completion b AfterValue = closing b
+completion b AfterComma = closing b
+completion b Closed = []
+
+ends : (b : Bool) (place : Place) (name : Text) (operator : Operator) (value : Text) (matchers : List Matcher) →
+    IsSome (option_and_then ended (run (Some (record { braced = b; place = place; name = name; operator = operator; value = value; matchers = matchers })) (completion b place)))
+unfolding kind_of begins_matcher after_name ends_value begins_value in_name in_value after_bang after_equals at_start after_braces step_from with_part ending
+ends true Start n o v m = refl
+ends true Opened n o v m = refl
+ends true NameLiteral n o v m = refl
+ends true NameOpened n o v m = refl
+ends true NameQuoted n o v m = refl
+ends true NameEscape n o v m = refl
+ends true AfterName n o v m = refl
+ends true AfterBang n o v m = refl
+ends true AfterEquals n o v m = refl
+ends true ValueStart n o v m = refl
+ends true ValueLiteral n o v m = refl
+ends true ValueQuoted n o v m = refl
+ends true ValueEscape n o v m = refl
+ends true AfterValue n o v m = refl
+ends true AfterComma n o v m = refl
+ends true Closed n o v m = refl
+ends false Start n o v m = refl
+ends false Opened n o v m = refl
+ends false NameLiteral n o v m = refl
+ends false NameOpened n o v m = refl
+ends false NameQuoted n o v m = refl
+ends false NameEscape n o v m = refl
+ends false AfterName n o v m = refl
+ends false AfterBang n o v m = refl
+ends false AfterEquals n o v m = refl
+ends false ValueStart n o v m = refl
+ends false ValueLiteral n o v m = refl
+ends false ValueQuoted n o v m = refl
+ends false ValueEscape n o v m = refl
+ends false AfterValue n o v m = refl
+ends false AfterComma n o v m = refl
+ends false Closed n o v m = refl
+
+some_of : {X : Type 0} (o : Option X) → IsSome o → (x : X) × (o ≡ Some x)
+some_of None h = absurd (false≢true h)
+some_of (Some x) h = (x, refl)
+
+begun : (front : List ℕ) (r : Reading) → run (Some start) front ≡ Some r → Begins front
+begun front r h =
+    let rest = completion r.braced r.place in
+    let some : IsSome (matchers_of_chars (front ++ rest)) =
+    subst (λ o. IsSome (option_and_then ended o)) (sym (run-append (Some start) front rest ∙ ap (λ o. run o rest) h)) (ends r.braced r.place r.name r.operator r.value r.matchers) in
+    let found = some_of (matchers_of_chars (front ++ rest)) some in
+    (rest, found.0, chars_are_spelled (front ++ rest) found.0 found.1)
+
+-- if the machine stops, no text goes on
+gone : (cs rest : List ℕ) → run (Some start) cs ≡ None → matchers_of_chars (cs ++ rest) ≡ None
+gone cs rest h = ap (option_and_then ended) (run-append (Some start) cs rest ∙ ap (λ o. run o rest) h ∙ run-none rest)
+
+none_begins : (front : List ℕ) → run (Some start) front ≡ None → Begins front → ⊥
+none_begins front h b =
+    let e : ◌≡◌ {A = Option (List Matcher)} None (Some b.1) = sym (gone front b.0 h) ∙ spelled_are_read (front ++ b.0) b.1 b.2 in
+    cc
+
+-- the machine stops at the character c
+pub stops : (cs : List ℕ) (n c at : ℕ) (r : Reading) → n < length cs → c ≡ get_or cs n c → run (Some start) (take n cs) ≡ Some r → next r c ≡ None → at ≡ length (encode_utf8_all (take n cs)) → (matchers_of_chars cs ≡ None) × IsLongest cs at
+stops cs n c at r lt is h halts len =
+    let stopped : run (Some start) (take (n + 1) cs) ≡ None = run_more cs n c r lt is h ∙ halts in
+    let parts : cs ≡ take n cs ++ (c ∷ drop (n + 1) cs) = sym (take-append-drop n cs) ∙ ap (λ t. take n cs ++ t) (at_drop_more (λ ys. ys) cs n c lt ∙ ap (λ x. x ∷ drop (n + 1) cs) (sym is)) in
+    let next_stopped : run (Some start) (take n cs ++ c ∷ []) ≡ None = run-append (Some start) (take n cs) (c ∷ []) ∙ ap (λ o. run o (c ∷ [])) h ∙ halts in (
+      ap matchers_of_chars (sym (take-append-drop (n + 1) cs)) ∙ gone (take (n + 1) cs) (drop (n + 1) cs) stopped,
+      (
+        take n cs,
+        c ∷ drop (n + 1) cs,
+        parts,
+        len,
+        begun (take n cs) r h,
+        λ d more e b. let same : c ≡ d = cc in none_begins (take n cs ++ d ∷ []) (subst (λ x. run (Some start) (take n cs ++ x ∷ []) ≡ None) same next_stopped) b,
+      ),
+    )
+
+-- the text ends in a state in which it can't
+pub cut_short : (cs : List ℕ) (r : Reading) (at : ℕ) → run (Some start) cs ≡ Some r → ended r ≡ None → at ≡ length (encode_utf8_all cs) → (matchers_of_chars cs ≡ None) × IsLongest cs at
+cut_short cs r at h open_end len = (
+  ap (option_and_then ended) h ∙ open_end,
+  (cs, [], sym (append-nil cs), len, begun cs r h, λ d more e b. absurd cc),
+)

@@ -1,0 +1,86 @@
+-- What the kinds of characters mean.
+use Rattle.std.proofs.Common.{◌≡◌, ℕ, Bool, true, false, not, ◌||◌, ◌&&◌, ◌==◌, if◌then◌else◌, refl, sym, ap, ◌∙◌}
+use Rattle.std.specs.Char.{is_whitespace}
+use Rattle.std.proofs.lemmas.Bool.{eqb-true, false≢true, and_parts}
+use Rattle.amr_labels.specs.declared.matcher.matcher_steps.Kind.{Kind}
+use Rattle.amr_labels.specs.declared.matcher.matcher_steps.Kind.TheVariants.{Blank, Opening, Closing, Bang, Equals, Tilde, Comma, Quote, Reserved, Plain}
+use Rattle.amr_labels.specs.Matcher.MatcherText.{is_mark, is_literal}
+use Rattle.amr_labels.specs.Matcher.MatcherReading.{mark_kind, kind_of}
+
+-- what a kind says of its characters
+abbrev pub Means : Kind → ℕ → Type 0
+Means Blank c = is_whitespace c ≡ true
+Means Opening c = c ≡ 123
+Means Closing c = c ≡ 125
+Means Bang c = c ≡ 33
+Means Equals c = c ≡ 61
+Means Tilde c = c ≡ 126
+Means Comma c = c ≡ 44
+Means Quote c = c ≡ 34
+Means Reserved c = Unit {0}
+Means Plain c = is_literal c ≡ true
+
+chosen : (P : Kind → Type 0) (b : Bool) (x y : Kind) → (b ≡ true → P x) → (b ≡ false → P y) → P (if b then x else y)
+chosen P true x y f g = f refl
+chosen P false x y f g = g refl
+
+or_false : (x y : Bool) → (x || y) ≡ false → (x ≡ false) × (y ≡ false)
+or_false true y h = absurd (false≢true (sym h))
+or_false false y h = (refl, h)
+
+-- not a mark and not white space
+unmarked : (w a b c d e f g h i j : Bool) → w ≡ false → a ≡ false → b ≡ false → c ≡ false → d ≡ false → e ≡ false → f ≡ false → h ≡ false → (g || i || j) ≡ false →
+    (not w && not (a || b || c || d || e || f || g || h || i || j)) ≡ true
+unmarked w a b c d e f g h i j pw pa pb pc pd pe pf ph pr =
+    let r1 = or_false (g || i) j pr in
+    let r2 = or_false g i r1.0 in
+    rw (pw, pa, pb, pc, pd, pe, pf, r2.0, ph, r2.1, r1.1) refl
+
+mark_means : (c : ℕ) → is_whitespace c ≡ false → Means (mark_kind c) c
+mark_means c w =
+    chosen (λ k. Means k c) (c == 123) Opening _ (eqb-true c 123) (λ e1.
+    chosen (λ k. Means k c) (c == 125) Closing _ (eqb-true c 125) (λ e2.
+    chosen (λ k. Means k c) (c == 33) Bang _ (eqb-true c 33) (λ e3.
+    chosen (λ k. Means k c) (c == 61) Equals _ (eqb-true c 61) (λ e4.
+    chosen (λ k. Means k c) (c == 126) Tilde _ (eqb-true c 126) (λ e5.
+    chosen (λ k. Means k c) (c == 44) Comma _ (eqb-true c 44) (λ e6.
+    chosen (λ k. Means k c) (c == 34) Quote _ (eqb-true c 34) (λ e7.
+    chosen (λ k. Means k c) ((c == 92) || (c == 39) || (c == 96)) Reserved Plain (λ _. tt) (λ e8.
+    unmarked (is_whitespace c) (c == 123) (c == 125) (c == 33) (c == 61) (c == 126) (c == 44) (c == 92) (c == 34) (c == 39) (c == 96) w e1 e2 e3 e4 e5 e6 e7 e8))))))))
+
+means_of : (c : ℕ) → Means (kind_of c) c
+unfolding kind_of
+means_of c = chosen (λ k. Means k c) (is_whitespace c) Blank (mark_kind c) (λ e. e) (mark_means c)
+
+pub means : (c : ℕ) (k : Kind) → kind_of c ≡ k → Means k c
+means c k e = rw e at (means_of c)
+
+pub kind_of_blank : (c : ℕ) → is_whitespace c ≡ true → kind_of c ≡ Blank
+unfolding kind_of
+kind_of_blank c h = ap (λ b. if b then Blank else mark_kind c) h
+
+not_true : (b : Bool) → not b ≡ true → b ≡ false
+not_true true h = absurd (false≢true h)
+not_true false h = refl
+
+plain : (a b c d e f g h i j : Bool) → (a || b || c || d || e || f || g || h || i || j) ≡ false →
+    (if a then Opening else (if b then Closing else (if c then Bang else (if d then Equals else (if e then Tilde else (if f then Comma else (if h then Quote
+    else (if g || i || j then Reserved else Plain)))))))) ≡ Plain
+plain true b c d e f g h i j p = absurd (false≢true (sym p))
+plain false true c d e f g h i j p = absurd (false≢true (sym p))
+plain false false true d e f g h i j p = absurd (false≢true (sym p))
+plain false false false true e f g h i j p = absurd (false≢true (sym p))
+plain false false false false true f g h i j p = absurd (false≢true (sym p))
+plain false false false false false true g h i j p = absurd (false≢true (sym p))
+plain false false false false false false true h i j p = absurd (false≢true (sym p))
+plain false false false false false false false true i j p = absurd (false≢true (sym p))
+plain false false false false false false false false true j p = absurd (false≢true (sym p))
+plain false false false false false false false false false true p = absurd (false≢true (sym p))
+plain false false false false false false false false false false p = refl
+
+pub kind_of_literal : (c : ℕ) → is_literal c ≡ true → kind_of c ≡ Plain
+unfolding kind_of
+kind_of_literal c h =
+    let parts = and_parts (not (is_whitespace c)) (not (is_mark c)) h in
+    ap (λ b. if b then Blank else mark_kind c) (not_true (is_whitespace c) parts.0)
+    ∙ plain (c == 123) (c == 125) (c == 33) (c == 61) (c == 126) (c == 44) (c == 92) (c == 34) (c == 39) (c == 96) (not_true (is_mark c) parts.1)

@@ -1,0 +1,508 @@
+-- What is read is spelled: what may follow in each state of the machine, in the terms of the
+-- grammar.
+use Rattle.std.proofs.Common.{◌≡◌, ℕ, List, [], ◌∷◌, ◌++◌, Bool, true, false, not, Option, Some, None, if◌then◌else◌, refl, sym, ap, subst, ◌∙◌, append_assoc, ◌==◌, ◌⊎◌, inl, inr}
+use Rattle.std.specs.Prelude.{encode_utf8, encode_utf8_all, option_and_then, chars}
+use Rattle.std.specs.List.{list_all}
+use Rattle.std.specs.Char.{is_whitespace}
+use Rattle.std.proofs.lemmas.Bool.{and_from, false≢true, true≢false, eqb-true}
+use Rattle.std.proofs.lemmas.List.{append-nil}
+use Rattle.amr_labels.specs.declared.matcher.Operator.{Operator}
+use Rattle.amr_labels.specs.declared.matcher.Operator.TheVariants.{Equal, NotEqual, Matches, NotMatches}
+use Rattle.amr_labels.specs.declared.matcher.matcher_steps.Kind.{Kind}
+use Rattle.amr_labels.specs.declared.matcher.matcher_steps.Kind.TheVariants.{Blank, Opening, Closing, Bang, Equals, Tilde, Comma, Quote, Plain}
+use Rattle.amr_labels.specs.declared.matcher.matcher_steps.Place.{Place}
+use Rattle.amr_labels.specs.declared.matcher.matcher_steps.Place.TheVariants.{Start, Opened, NameLiteral, NameOpened, NameQuoted, NameEscape, AfterName, AfterBang, AfterEquals, ValueStart, ValueLiteral, ValueQuoted, ValueEscape, AfterValue, AfterComma, Closed}
+use Rattle.amr_labels.specs.declared.matcher.matcher_steps.Part.TheVariants.{Nothing, Name, NameEscaped, Value, ValueEscaped}
+use Rattle.amr_labels.specs.declared.matcher.matcher_steps.Step.{Step}
+use Rattle.amr_labels.specs.Labels.{Text}
+use Rattle.amr_labels.specs.Matcher.Matchers.{Matcher}
+use Rattle.amr_labels.specs.Matcher.MatcherText.{is_literal, is_refused, escaped, Piece, Character, Escape, is_piece, pieces_text, pieces_value, Term, Literal, Quoted, term_text, term_value, is_term, is_name, operator_text, is_blank, Written, written_text, written_matcher, Listed, Alone, Last, Then, listed_text, listed_matchers, IsListed, Bare, Braced, Spells}
+use Rattle.amr_labels.specs.Matcher.MatcherReading.{Reading, kind_of, begins_matcher, after_name, ends_value, begins_value, in_name, in_value, after_bang, after_equals, at_start, after_braces, in_quotes, step_from, with_part, run, ending, ended, matchers_of_chars, matchers_of, go}
+use Rattle.amr_labels.specs.Matcher.MatcherLaws.{ReadIsSpelled}
+use Rattle.amr_labels.proofs.MatcherLemmas.MatcherRuns.{run-none}
+use Rattle.amr_labels.proofs.MatcherLemmas.MatcherKinds.{means}
+use Rattle.amr_labels.proofs.MatcherLemmas.MatcherSpelled.{reading, moved, grouped, pieces_encoded}
+
+-- from a reading, and from a step, the characters lead to an end with these matchers
+abbrev Accepts : Reading → List ℕ → List Matcher → Type 0
+Accepts r cs out = option_and_then ended (run (Some r) cs) ≡ Some out
+
+abbrev Taken : Reading → Option Step → List ℕ → List Matcher → Type 0
+Taken r step cs out = option_and_then ended (run (moved r step) cs) ≡ Some out
+
+refused : (r : Reading) (cs : List ℕ) (out : List Matcher) → Taken r None cs out → ⊥
+refused r cs out h =
+    let e : ◌≡◌ {A = Option (List Matcher)} None (Some out) = sym (ap (option_and_then ended) (run-none cs)) ∙ h in
+    cc
+
+cons_same : (c d : ℕ) (cs ds : List ℕ) → c ≡ d → cs ≡ ds → c ∷ cs ≡ d ∷ ds
+cons_same c d cs ds e f = λ i. e i ∷ f i
+
+abbrev with_matcher : List Matcher → Text → Operator → Text → List Matcher
+with_matcher ms n o v = ms ++ record { name = n; operator = o; value = v } ∷ []
+
+-- what follows a list of matchers: the end, or the closing brace
+abbrev Back : Bool → List ℕ → Type 0
+Back false back = back ≡ []
+Back true back = (space : List ℕ) × (back ≡ 125 ∷ space) × (is_blank space ≡ true)
+
+-- a comma and more matchers, or nothing
+abbrev more_text : Option Listed → List ℕ
+more_text None = []
+more_text (Some l) = 44 ∷ listed_text l
+
+abbrev more_matchers : Option Listed → List Matcher
+more_matchers None = []
+more_matchers (Some l) = listed_matchers l
+
+abbrev IsMore : Option Listed → Type 0
+IsMore None = Unit {0}
+IsMore (Some l) = IsListed l
+
+abbrev FollowsListed : Bool → List Matcher → List ℕ → List Matcher → Type 0
+FollowsListed b ms cs out = (l : Listed) × (back : List ℕ) × IsListed l × (cs ≡ listed_text l ++ back) × Back b back × (out ≡ ms ++ listed_matchers l)
+
+abbrev FollowsValue : Bool → List Matcher → List ℕ → List Matcher → Type 0
+FollowsValue b ms cs out =
+    (space : List ℕ) × (more : Option Listed) × (back : List ℕ) × (is_blank space ≡ true) × IsMore more × (cs ≡ space ++ (more_text more ++ back)) × Back b back × (out ≡ ms ++ more_matchers more)
+
+abbrev InValue : Bool → Text → Operator → Text → List Matcher → List ℕ → List Matcher → Type 0
+InValue b n o v ms cs out =
+    (literal : List ℕ) × (rest : List ℕ) × (list_all is_literal literal ≡ true) × (cs ≡ literal ++ rest) × FollowsValue b (with_matcher ms n o (v ++ encode_utf8_all literal)) rest out
+
+abbrev InValueQuotes : Bool → Text → Operator → Text → List Matcher → List ℕ → List Matcher → Type 0
+InValueQuotes b n o v ms cs out =
+    (ps : List Piece) × (rest : List ℕ) × (list_all is_piece ps ≡ true) × (cs ≡ pieces_text ps ++ (34 ∷ rest)) × FollowsValue b (with_matcher ms n o (v ++ encode_utf8_all (pieces_value ps))) rest out
+
+abbrev FollowsOperator : Bool → Text → Operator → Text → List Matcher → List ℕ → List Matcher → Type 0
+FollowsOperator b n o v ms cs out =
+    (space : List ℕ) × (value : Term) × (rest : List ℕ) × (is_blank space ≡ true) × (is_term value ≡ true) × (cs ≡ space ++ (term_text value ++ rest)) × FollowsValue b (with_matcher ms n o (v ++ encode_utf8_all (term_value value))) rest out
+
+abbrev FollowsName : Bool → Text → Text → List Matcher → List ℕ → List Matcher → Type 0
+FollowsName b n v ms cs out =
+    (space : List ℕ) × (operator : Operator) × (rest : List ℕ) × (is_blank space ≡ true) × (cs ≡ space ++ (operator_text operator ++ rest)) × FollowsOperator b n operator v ms rest out
+
+abbrev InName : Bool → Text → Text → List Matcher → List ℕ → List Matcher → Type 0
+InName b n v ms cs out =
+    (literal : List ℕ) × (rest : List ℕ) × (list_all is_literal literal ≡ true) × (cs ≡ literal ++ rest) × FollowsName b (n ++ encode_utf8_all literal) v ms rest out
+
+abbrev InNameQuotes : Bool → Text → Text → List Matcher → List ℕ → List Matcher → Type 0
+InNameQuotes b n v ms cs out =
+    (ps : List Piece) × (rest : List ℕ) × (list_all is_piece ps ≡ true) × (cs ≡ pieces_text ps ++ (34 ∷ rest)) × FollowsName b (n ++ encode_utf8_all (pieces_value ps)) v ms rest out
+
+abbrev FirstInNameQuotes : Bool → Text → Text → List Matcher → List ℕ → List Matcher → Type 0
+FirstInNameQuotes b n v ms cs out =
+    (piece : Piece) × (ps : List Piece) × (rest : List ℕ) × (list_all is_piece (piece ∷ ps) ≡ true) × (cs ≡ pieces_text (piece ∷ ps) ++ (34 ∷ rest)) × FollowsName b (n ++ encode_utf8_all (pieces_value (piece ∷ ps))) v ms rest out
+
+abbrev FollowsBackslash : (ℕ → List ℕ → Type 0) → List ℕ → Type 0
+FollowsBackslash P cs = (c : ℕ) × (rest : List ℕ) × (cs ≡ c ∷ rest) × (is_refused c ≡ false) × P c rest
+
+abbrev FollowsEither : ℕ → (List ℕ → Type 0) → ℕ → (List ℕ → Type 0) → List ℕ → Type 0
+FollowsEither c P d Q cs = ((rest : List ℕ) × (cs ≡ c ∷ rest) × P rest) ⊎ ((rest : List ℕ) × (cs ≡ d ∷ rest) × Q rest)
+
+abbrev FollowsBraces : List Matcher → List ℕ → List Matcher → Type 0
+FollowsBraces ms cs out =
+    (before : List ℕ) × (l : Listed) × (after : List ℕ) × (is_blank before ≡ true) × IsListed l × (is_blank after ≡ true) × (cs ≡ before ++ (123 ∷ (listed_text l ++ (125 ∷ after)))) × (out ≡ ms ++ listed_matchers l)
+
+-- what follows in a state
+abbrev Follows : Bool → Place → Text → Operator → Text → List Matcher → List ℕ → List Matcher → Type 0
+Follows b Start n o v ms cs out = b ≡ false → n ≡ [] → v ≡ [] → FollowsListed false ms cs out ⊎ FollowsBraces ms cs out
+Follows b Opened n o v ms cs out = b ≡ true → n ≡ [] → v ≡ [] → FollowsListed true ms cs out
+Follows b NameLiteral n o v ms cs out = InName b n v ms cs out
+Follows b NameOpened n o v ms cs out = FirstInNameQuotes b n v ms cs out
+Follows b NameQuoted n o v ms cs out = InNameQuotes b n v ms cs out
+Follows b NameEscape n o v ms cs out = FollowsBackslash (λ c rest. InNameQuotes b (n ++ encode_utf8_all (escaped c)) v ms rest out) cs
+Follows b AfterName n o v ms cs out = FollowsName b n v ms cs out
+Follows b AfterBang n o v ms cs out = FollowsEither 61 (λ rest. FollowsOperator b n NotEqual v ms rest out) 126 (λ rest. FollowsOperator b n NotMatches v ms rest out) cs
+Follows b AfterEquals n o v ms cs out = ((rest : List ℕ) × (cs ≡ 126 ∷ rest) × FollowsOperator b n Matches v ms rest out) ⊎ FollowsOperator b n o v ms cs out
+Follows b ValueStart n o v ms cs out = FollowsOperator b n o v ms cs out
+Follows b ValueLiteral n o v ms cs out = InValue b n o v ms cs out
+Follows b ValueQuoted n o v ms cs out = InValueQuotes b n o v ms cs out
+Follows b ValueEscape n o v ms cs out = FollowsBackslash (λ c rest. InValueQuotes b n o (v ++ encode_utf8_all (escaped c)) ms rest out) cs
+Follows b AfterValue n o v ms cs out = FollowsValue b (with_matcher ms n o v) cs out
+Follows b AfterComma n o v ms cs out = n ≡ [] → v ≡ [] → FollowsListed b ms cs out
+Follows b Closed n o v ms cs out = (is_blank cs ≡ true) × (out ≡ ms)
+
+-- this is true of these characters in each state
+abbrev Known : List ℕ → Type 0
+Known cs = (b : Bool) (p : Place) (n : Text) (o : Operator) (v : Text) (ms out : List Matcher) → Accepts (reading b p n o v ms) cs out → Follows b p n o v ms cs out
+
+-- more white space
+spaced : (c : ℕ) (space : List ℕ) → is_whitespace c ≡ true → is_blank space ≡ true → is_blank (c ∷ space) ≡ true
+spaced c space h w = and_from (is_whitespace c) (list_all is_whitespace space) h w
+
+spaced_value : (b : Bool) (ms : List Matcher) (c : ℕ) (cs : List ℕ) (out : List Matcher) → is_whitespace c ≡ true → FollowsValue b ms cs out → FollowsValue b ms (c ∷ cs) out
+spaced_value b ms c cs out h f = (c ∷ f.0, f.1, f.2, spaced c f.0 h f.3, f.4, ap (λ t. c ∷ t) f.5, f.6, f.7)
+
+spaced_listed : (b : Bool) (ms : List Matcher) (c : ℕ) (cs : List ℕ) (out : List Matcher) → is_whitespace c ≡ true → FollowsListed b ms cs out → FollowsListed b ms (c ∷ cs) out
+spaced_listed b ms c cs out h (Alone space, back, is, e, end, same) = (Alone (c ∷ space), back, spaced c space h is, ap (λ t. c ∷ t) e, end, same)
+spaced_listed b ms c cs out h (Last w, back, is, e, end, same) =
+    (Last (record w { before = c ∷ w.before }), back, (spaced c w.before h is.0, is.1, is.2, is.3, is.4, is.5), ap (λ t. c ∷ t) e, end, same)
+spaced_listed b ms c cs out h (Then w l, back, is, e, end, same) =
+    (Then (record w { before = c ∷ w.before }) l, back, ((spaced c w.before h is.0.0, is.0.1, is.0.2, is.0.3, is.0.4, is.0.5), is.1), ap (λ t. c ∷ t) e, end, same)
+
+-- a name and what follows it are a matcher and what follows it
+assembled : (b : Bool) (ms : List Matcher) (name : Term) (cs rest : List ℕ) (out : List Matcher) → is_name name ≡ true → cs ≡ term_text name ++ rest →
+    FollowsName b (encode_utf8_all (term_value name)) [] ms rest out → FollowsListed b ms cs out
+assembled b ms name cs rest out is e (s1, operator, r2, b1, e2, (s2, value, r3, b2, t, e3, (s3, None, back, b3, m, e4, end, same))) =
+    let w : Written = record { before = []; name = name; after_name = s1; operator = operator; before_value = s2; value = value; after = s3 } in (
+      Last w,
+      back,
+      (refl, is, b1, b2, t, b3),
+      e ∙ ap (λ x. term_text name ++ x) (e2 ∙ ap (λ x. s1 ++ (operator_text operator ++ x)) (e3 ∙ ap (λ x. s2 ++ (term_text value ++ x)) e4))
+          ∙ sym (grouped [] (term_text name) s1 (operator_text operator) s2 (term_text value) s3 back),
+      end,
+      same ∙ append-nil (ms ++ written_matcher w ∷ []),
+    )
+assembled b ms name cs rest out is e (s1, operator, r2, b1, e2, (s2, value, r3, b2, t, e3, (s3, Some l, back, b3, m, e4, end, same))) =
+    let w : Written = record { before = []; name = name; after_name = s1; operator = operator; before_value = s2; value = value; after = s3 } in (
+      Then w l,
+      back,
+      ((refl, is, b1, b2, t, b3), m),
+      e ∙ ap (λ x. term_text name ++ x) (e2 ∙ ap (λ x. s1 ++ (operator_text operator ++ x)) (e3 ∙ ap (λ x. s2 ++ (term_text value ++ x)) e4))
+          ∙ sym (grouped [] (term_text name) s1 (operator_text operator) s2 (term_text value) s3 (44 ∷ (listed_text l ++ back)))
+          ∙ sym (append_assoc (written_text w) (44 ∷ listed_text l) back),
+      end,
+      same ∙ append_assoc ms (written_matcher w ∷ []) (listed_matchers l),
+    )
+
+-- where a matcher may begin
+begun : (b : Bool) (here : Place) (o : Operator) (ms : List Matcher) (c : ℕ) (cs : List ℕ) (out : List Matcher) (k : Kind) → Known cs → kind_of c ≡ k →
+    Taken (reading b here [] o [] ms) (begins_matcher b here c k) cs out →
+    ((is_whitespace c ≡ true) × Accepts (reading b here [] o [] ms) cs out) ⊎ FollowsListed b ms (c ∷ cs) out
+unfolding begins_matcher with_part
+begun b here o ms c cs out Blank known e h = inl (means c Blank e, h)
+begun b here o ms c cs out Quote known e h =
+    let f = known b NameOpened [] o [] ms out h in
+    inr (assembled b ms (Quoted (f.0 ∷ f.1)) (c ∷ cs) f.2 out f.3
+    (cons_same c 34 cs _ (means c Quote e) (f.4 ∙ sym (append_assoc (pieces_text (f.0 ∷ f.1)) (34 ∷ []) f.2))) f.5)
+begun true here o ms c cs out Closing known e h =
+    let f = known true Closed [] o [] ms out h in
+    inr (Alone [], c ∷ cs, refl, refl, (cs, cons_same c 125 cs cs (means c Closing e) refl, f.0), f.1 ∙ sym (append-nil ms))
+begun false here o ms c cs out Closing known e h = absurd (refused (reading false here [] o [] ms) cs out h)
+begun b here o ms c cs out Plain known e h =
+    let f = known b NameLiteral (encode_utf8 c) o [] ms out h in
+    inr (assembled b ms (Literal (c ∷ f.0)) (c ∷ cs) f.1 out (and_from (is_literal c) (list_all is_literal f.0) (means c Plain e) f.2) (ap (λ t. c ∷ t) f.3) f.4)
+begun b here o ms c cs out _ known e h = absurd (refused (reading b here [] o [] ms) cs out h)
+
+from_start : (b : Bool) (o : Operator) (ms : List Matcher) (c : ℕ) (cs : List ℕ) (out : List Matcher) (k : Kind) → Known cs → kind_of c ≡ k → b ≡ false →
+    Taken (reading b Start [] o [] ms) (at_start c k) cs out → FollowsListed false ms (c ∷ cs) out ⊎ FollowsBraces ms (c ∷ cs) out
+unfolding at_start with_part
+from_start true o ms c cs out k known e f h = absurd (true≢false f)
+from_start false o ms c cs out Opening known e f h =
+    let g = known true Opened [] o [] ms out h refl refl refl in
+    inr ([], g.0, g.4.0, refl, g.2, g.4.2, cons_same c 123 cs _ (means c Opening e) (g.3 ∙ ap (λ t. listed_text g.0 ++ t) g.4.1), g.5)
+from_start false o ms c cs out k known e f h =
+    elim (begun false Start o ms c cs out k known e h) [
+      | inr g ↦ inl g
+      | inl g ↦ elim (known false Start [] o [] ms out g.1 refl refl refl) [
+        | inl l ↦ inl (spaced_listed false ms c cs out g.0 l)
+        | inr l ↦ inr (c ∷ l.0, l.1, l.2, spaced c l.0 g.0 l.3, l.4, l.5, ap (λ t. c ∷ t) l.6, l.7)
+      ]
+    ]
+
+from_opened : (b : Bool) (o : Operator) (ms : List Matcher) (c : ℕ) (cs : List ℕ) (out : List Matcher) (k : Kind) → Known cs → kind_of c ≡ k → b ≡ true →
+    Taken (reading b Opened [] o [] ms) (begins_matcher true Opened c k) cs out → FollowsListed true ms (c ∷ cs) out
+from_opened false o ms c cs out k known e f h = absurd (false≢true f)
+from_opened true o ms c cs out k known e f h =
+    elim (begun true Opened o ms c cs out k known e h) [
+      | inr g ↦ g
+      | inl g ↦ spaced_listed true ms c cs out g.0 (known true Opened [] o [] ms out g.1 refl refl refl)
+    ]
+
+from_comma : (b : Bool) (o : Operator) (ms : List Matcher) (c : ℕ) (cs : List ℕ) (out : List Matcher) (k : Kind) → Known cs → kind_of c ≡ k →
+    Taken (reading b AfterComma [] o [] ms) (begins_matcher b AfterComma c k) cs out → FollowsListed b ms (c ∷ cs) out
+from_comma b o ms c cs out k known e h =
+    elim (begun b AfterComma o ms c cs out k known e h) [
+      | inr g ↦ g
+      | inl g ↦ spaced_listed b ms c cs out g.0 (known b AfterComma [] o [] ms out g.1 refl refl)
+    ]
+
+-- where a value ends
+value_ended : (b : Bool) (here space : Place) (n : Text) (o : Operator) (v : Text) (ms : List Matcher) (c : ℕ) (cs : List ℕ) (out : List Matcher) (k : Kind) → Known cs → kind_of c ≡ k →
+    Taken (reading b here n o v ms) (ends_value b space k) cs out →
+    ((is_whitespace c ≡ true) × Accepts (reading b space n o v ms) cs out) ⊎ FollowsValue b (with_matcher ms n o v) (c ∷ cs) out
+unfolding ends_value with_part
+value_ended b here space n o v ms c cs out Blank known e h = inl (means c Blank e, h)
+value_ended b here space n o v ms c cs out Comma known e h =
+    let f = known b AfterComma [] o [] (with_matcher ms n o v) out h refl refl in
+    inr ([], Some f.0, f.1, refl, f.2, cons_same c 44 cs _ (means c Comma e) f.3, f.4, f.5)
+value_ended true here space n o v ms c cs out Closing known e h =
+    let f = known true Closed [] o [] (with_matcher ms n o v) out h in
+    inr ([], None, c ∷ cs, refl, tt, refl, (cs, cons_same c 125 cs cs (means c Closing e) refl, f.0), f.1 ∙ sym (append-nil (with_matcher ms n o v)))
+value_ended false here space n o v ms c cs out Closing known e h = absurd (refused (reading false here n o v ms) cs out h)
+value_ended b here space n o v ms c cs out _ known e h = absurd (refused (reading b here n o v ms) cs out h)
+
+after_value : (b : Bool) (here : Place) (n : Text) (o : Operator) (v : Text) (ms : List Matcher) (c : ℕ) (cs : List ℕ) (out : List Matcher) (k : Kind) → Known cs → kind_of c ≡ k →
+    Taken (reading b here n o v ms) (ends_value b AfterValue k) cs out → FollowsValue b (with_matcher ms n o v) (c ∷ cs) out
+after_value b here n o v ms c cs out k known e h =
+    elim (value_ended b here AfterValue n o v ms c cs out k known e h) [
+      | inr g ↦ g
+      | inl g ↦ spaced_value b (with_matcher ms n o v) c cs out g.0 (known b AfterValue n o v ms out g.1)
+    ]
+
+same_value : (b : Bool) (n : Text) (o : Operator) (v w : Text) (ms : List Matcher) (cs : List ℕ) (out : List Matcher) → v ≡ w → FollowsValue b (with_matcher ms n o v) cs out → FollowsValue b (with_matcher ms n o w) cs out
+same_value b n o v w ms cs out e f = subst (λ t. FollowsValue b (with_matcher ms n o t) cs out) e f
+
+in_literal_value : (b : Bool) (n : Text) (o : Operator) (v : Text) (ms : List Matcher) (c : ℕ) (cs : List ℕ) (out : List Matcher) (k : Kind) → Known cs → kind_of c ≡ k →
+    Taken (reading b ValueLiteral n o v ms) (in_value b c k) cs out → InValue b n o v ms (c ∷ cs) out
+unfolding in_value with_part
+in_literal_value b n o v ms c cs out Plain known e h =
+    let f = known b ValueLiteral n o (v ++ encode_utf8 c) ms out h in (
+      c ∷ f.0,
+      f.1,
+      and_from (is_literal c) (list_all is_literal f.0) (means c Plain e) f.2,
+      ap (λ t. c ∷ t) f.3,
+      same_value b n o _ _ ms f.1 out (append_assoc v (encode_utf8 c) (encode_utf8_all f.0)) f.4,
+    )
+in_literal_value b n o v ms c cs out k known e h =
+    ([], c ∷ cs, refl, refl, same_value b n o _ _ ms (c ∷ cs) out (sym (append-nil v)) (after_value b ValueLiteral n o v ms c cs out k known e h))
+
+-- where a value may begin
+value_begun : (b : Bool) (here : Place) (n : Text) (o : Operator) (v : Text) (ms : List Matcher) (c : ℕ) (cs : List ℕ) (out : List Matcher) (k : Kind) → Known cs → kind_of c ≡ k →
+    Taken (reading b here n o v ms) (begins_value b c k) cs out → FollowsOperator b n o v ms (c ∷ cs) out
+unfolding begins_value with_part
+value_begun b here n o v ms c cs out Quote known e h =
+    let f = known b ValueQuoted n o v ms out h in
+    ([], Quoted f.0, f.1, refl, f.2, cons_same c 34 cs _ (means c Quote e) (f.3 ∙ sym (append_assoc (pieces_text f.0) (34 ∷ []) f.1)), f.4)
+value_begun b here n o v ms c cs out Plain known e h =
+    let f = known b ValueLiteral n o (v ++ encode_utf8 c) ms out h in (
+      [],
+      Literal (c ∷ f.0),
+      f.1,
+      refl,
+      and_from (is_literal c) (list_all is_literal f.0) (means c Plain e) f.2,
+      ap (λ t. c ∷ t) f.3,
+      same_value b n o _ _ ms f.1 out (append_assoc v (encode_utf8 c) (encode_utf8_all f.0)) f.4,
+    )
+value_begun b here n o v ms c cs out k known e h =
+    elim (value_ended b here ValueStart n o v ms c cs out k known e h) [
+      | inr g ↦ ([], Literal [], c ∷ cs, refl, refl, refl, same_value b n o _ _ ms (c ∷ cs) out (sym (append-nil v)) g)
+      | inl g ↦
+          let f = known b ValueStart n o v ms out g.1 in
+          (c ∷ f.0, f.1, f.2, spaced c f.0 g.0 f.3, f.4, ap (λ t. c ∷ t) f.5, f.6)
+    ]
+
+equals_read : (b : Bool) (n : Text) (o : Operator) (v : Text) (ms : List Matcher) (c : ℕ) (cs : List ℕ) (out : List Matcher) (k : Kind) → Known cs → kind_of c ≡ k →
+    Taken (reading b AfterEquals n o v ms) (after_equals b c k) cs out → Follows b AfterEquals n o v ms (c ∷ cs) out
+unfolding after_equals with_part
+equals_read b n o v ms c cs out Tilde known e h = inl (cs, cons_same c 126 cs cs (means c Tilde e) refl, known b ValueStart n Matches v ms out h)
+equals_read b n o v ms c cs out k known e h = inr (value_begun b AfterEquals n o v ms c cs out k known e h)
+
+bang_read : (b : Bool) (n : Text) (o : Operator) (v : Text) (ms : List Matcher) (c : ℕ) (cs : List ℕ) (out : List Matcher) (k : Kind) → Known cs → kind_of c ≡ k →
+    Taken (reading b AfterBang n o v ms) (after_bang k) cs out → Follows b AfterBang n o v ms (c ∷ cs) out
+unfolding after_bang with_part
+bang_read b n o v ms c cs out Equals known e h = inl (cs, cons_same c 61 cs cs (means c Equals e) refl, known b ValueStart n NotEqual v ms out h)
+bang_read b n o v ms c cs out Tilde known e h = inr (cs, cons_same c 126 cs cs (means c Tilde e) refl, known b ValueStart n NotMatches v ms out h)
+bang_read b n o v ms c cs out _ known e h = absurd (refused (reading b AfterBang n o v ms) cs out h)
+
+-- after a name
+name_ended : (b : Bool) (here : Place) (n : Text) (o : Operator) (v : Text) (ms : List Matcher) (c : ℕ) (cs : List ℕ) (out : List Matcher) (k : Kind) → Known cs → kind_of c ≡ k →
+    Taken (reading b here n o v ms) (after_name k) cs out → FollowsName b n v ms (c ∷ cs) out
+unfolding after_name with_part
+name_ended b here n o v ms c cs out Blank known e h =
+    let f = known b AfterName n o v ms out h in
+    (c ∷ f.0, f.1, f.2, spaced c f.0 (means c Blank e) f.3, ap (λ t. c ∷ t) f.4, f.5)
+name_ended b here n o v ms c cs out Equals known e h =
+    elim (known b AfterEquals n Equal v ms out h) [
+      | inl f ↦ ([], Matches, f.0, refl, cons_same c 61 cs _ (means c Equals e) f.1, f.2)
+      | inr f ↦ ([], Equal, cs, refl, cons_same c 61 cs _ (means c Equals e) refl, f)
+    ]
+name_ended b here n o v ms c cs out Bang known e h =
+    elim (known b AfterBang n o v ms out h) [
+      | inl f ↦ ([], NotEqual, f.0, refl, cons_same c 33 cs _ (means c Bang e) f.1, f.2)
+      | inr f ↦ ([], NotMatches, f.0, refl, cons_same c 33 cs _ (means c Bang e) f.1, f.2)
+    ]
+name_ended b here n o v ms c cs out _ known e h = absurd (refused (reading b here n o v ms) cs out h)
+
+same_name : (b : Bool) (n m v : Text) (ms : List Matcher) (cs : List ℕ) (out : List Matcher) → n ≡ m → FollowsName b n v ms cs out → FollowsName b m v ms cs out
+same_name b n m v ms cs out e f = subst (λ t. FollowsName b t v ms cs out) e f
+
+in_literal_name : (b : Bool) (n : Text) (o : Operator) (v : Text) (ms : List Matcher) (c : ℕ) (cs : List ℕ) (out : List Matcher) (k : Kind) → Known cs → kind_of c ≡ k →
+    Taken (reading b NameLiteral n o v ms) (in_name c k) cs out → InName b n v ms (c ∷ cs) out
+unfolding in_name with_part
+in_literal_name b n o v ms c cs out Plain known e h =
+    let f = known b NameLiteral (n ++ encode_utf8 c) o v ms out h in (
+      c ∷ f.0,
+      f.1,
+      and_from (is_literal c) (list_all is_literal f.0) (means c Plain e) f.2,
+      ap (λ t. c ∷ t) f.3,
+      same_name b _ _ v ms f.1 out (append_assoc n (encode_utf8 c) (encode_utf8_all f.0)) f.4,
+    )
+in_literal_name b n o v ms c cs out k known e h =
+    ([], c ∷ cs, refl, refl, same_name b _ _ v ms (c ∷ cs) out (sym (append-nil n)) (name_ended b NameLiteral n o v ms c cs out k known e h))
+
+-- in quotes: a quote, a backslash, or a character that stands for itself
+data Inside (ended escape plain : Type 0) (c : ℕ) : Type 0 where
+  AtQuote : c ≡ 34 → ended → Inside ended escape plain c
+  AtBackslash : c ≡ 92 → escape → Inside ended escape plain c
+  AtCharacter : is_piece (Character c) ≡ true → plain → Inside ended escape plain c
+
+inside : (r : Reading) (ended_step plain_step : Option Step) (escape : Place) (c : ℕ) (cs : List ℕ) (out : List Matcher) (q s : Bool) → (c == 34) ≡ q → (c == 92) ≡ s →
+    Taken r (if q then ended_step else (if s then go escape Nothing else plain_step)) cs out →
+    Inside (Taken r ended_step cs out) (Taken r (go escape Nothing) cs out) (Taken r plain_step cs out) c
+inside r ended_step plain_step escape c cs out true s e f h = AtQuote (eqb-true c 34 e) h
+inside r ended_step plain_step escape c cs out false true e f h = AtBackslash (eqb-true c 92 f) h
+inside r ended_step plain_step escape c cs out false false e f h = AtCharacter (rw (e, f) refl) h
+
+-- a piece in front
+escape_first : (c d : ℕ) (cs rest : List ℕ) (ps : List Piece) (more : List ℕ) → c ≡ 92 → cs ≡ d ∷ rest → rest ≡ pieces_text ps ++ (34 ∷ more) → c ∷ cs ≡ pieces_text (Escape d ∷ ps) ++ (34 ∷ more)
+escape_first c d cs rest ps more e f g = cons_same c 92 cs _ e (f ∙ ap (λ t. d ∷ t) g)
+
+escape_good : (d : ℕ) (ps : List Piece) → is_refused d ≡ false → list_all is_piece ps ≡ true → list_all is_piece (Escape d ∷ ps) ≡ true
+escape_good d ps e h = and_from (not (is_refused d)) (list_all is_piece ps) (ap not e) h
+
+in_quoted_name : (b : Bool) (n : Text) (o : Operator) (v : Text) (ms : List Matcher) (c : ℕ) (cs : List ℕ) (out : List Matcher) → Known cs →
+    Taken (reading b NameQuoted n o v ms) (in_quotes (go AfterName Nothing) NameEscape (go NameQuoted (Name c)) c) cs out → InNameQuotes b n v ms (c ∷ cs) out
+unfolding with_part
+in_quoted_name b n o v ms c cs out known h =
+    elim (inside (reading b NameQuoted n o v ms) (go AfterName Nothing) (go NameQuoted (Name c)) NameEscape c cs out (c == 34) (c == 92) refl refl h) [
+      | AtQuote e g ↦ ([], cs, refl, cons_same c 34 cs cs e refl, same_name b _ _ v ms cs out (sym (append-nil n)) (known b AfterName n o v ms out g))
+      | AtBackslash e g ↦
+          let f = known b NameEscape n o v ms out g in (
+            Escape f.0 ∷ f.4.0,
+            f.4.1,
+            escape_good f.0 f.4.0 f.3 f.4.2,
+            escape_first c f.0 cs f.1 f.4.0 f.4.1 e f.2 f.4.3,
+            same_name b _ _ v ms f.4.1 out (pieces_encoded n (Escape f.0) f.4.0) f.4.4,
+          )
+      | AtCharacter e g ↦
+          let f = known b NameQuoted (n ++ encode_utf8 c) o v ms out g in (
+            Character c ∷ f.0,
+            f.1,
+            and_from (is_piece (Character c)) (list_all is_piece f.0) e f.2,
+            ap (λ t. c ∷ t) f.3,
+            same_name b _ _ v ms f.1 out (append_assoc n (encode_utf8 c) (encode_utf8_all (pieces_value f.0))) f.4,
+          )
+    ]
+
+first_in_quoted_name : (b : Bool) (n : Text) (o : Operator) (v : Text) (ms : List Matcher) (c : ℕ) (cs : List ℕ) (out : List Matcher) → Known cs →
+    Taken (reading b NameOpened n o v ms) (in_quotes None NameEscape (go NameQuoted (Name c)) c) cs out → FirstInNameQuotes b n v ms (c ∷ cs) out
+unfolding with_part
+first_in_quoted_name b n o v ms c cs out known h =
+    elim (inside (reading b NameOpened n o v ms) None (go NameQuoted (Name c)) NameEscape c cs out (c == 34) (c == 92) refl refl h) [
+      | AtQuote e g ↦ absurd (refused (reading b NameOpened n o v ms) cs out g)
+      | AtBackslash e g ↦
+          let f = known b NameEscape n o v ms out g in (
+            Escape f.0,
+            f.4.0,
+            f.4.1,
+            escape_good f.0 f.4.0 f.3 f.4.2,
+            escape_first c f.0 cs f.1 f.4.0 f.4.1 e f.2 f.4.3,
+            same_name b _ _ v ms f.4.1 out (pieces_encoded n (Escape f.0) f.4.0) f.4.4,
+          )
+      | AtCharacter e g ↦
+          let f = known b NameQuoted (n ++ encode_utf8 c) o v ms out g in (
+            Character c,
+            f.0,
+            f.1,
+            and_from (is_piece (Character c)) (list_all is_piece f.0) e f.2,
+            ap (λ t. c ∷ t) f.3,
+            same_name b _ _ v ms f.1 out (append_assoc n (encode_utf8 c) (encode_utf8_all (pieces_value f.0))) f.4,
+          )
+    ]
+
+in_quoted_value : (b : Bool) (n : Text) (o : Operator) (v : Text) (ms : List Matcher) (c : ℕ) (cs : List ℕ) (out : List Matcher) → Known cs →
+    Taken (reading b ValueQuoted n o v ms) (in_quotes (go AfterValue Nothing) ValueEscape (go ValueQuoted (Value c)) c) cs out → InValueQuotes b n o v ms (c ∷ cs) out
+unfolding with_part
+in_quoted_value b n o v ms c cs out known h =
+    elim (inside (reading b ValueQuoted n o v ms) (go AfterValue Nothing) (go ValueQuoted (Value c)) ValueEscape c cs out (c == 34) (c == 92) refl refl h) [
+      | AtQuote e g ↦ ([], cs, refl, cons_same c 34 cs cs e refl, same_value b n o _ _ ms cs out (sym (append-nil v)) (known b AfterValue n o v ms out g))
+      | AtBackslash e g ↦
+          let f = known b ValueEscape n o v ms out g in (
+            Escape f.0 ∷ f.4.0,
+            f.4.1,
+            escape_good f.0 f.4.0 f.3 f.4.2,
+            escape_first c f.0 cs f.1 f.4.0 f.4.1 e f.2 f.4.3,
+            same_value b n o _ _ ms f.4.1 out (pieces_encoded v (Escape f.0) f.4.0) f.4.4,
+          )
+      | AtCharacter e g ↦
+          let f = known b ValueQuoted n o (v ++ encode_utf8 c) ms out g in (
+            Character c ∷ f.0,
+            f.1,
+            and_from (is_piece (Character c)) (list_all is_piece f.0) e f.2,
+            ap (λ t. c ∷ t) f.3,
+            same_value b n o _ _ ms f.1 out (append_assoc v (encode_utf8 c) (encode_utf8_all (pieces_value f.0))) f.4,
+          )
+    ]
+
+escaped_name : (b : Bool) (n : Text) (o : Operator) (v : Text) (ms : List Matcher) (c : ℕ) (cs : List ℕ) (out : List Matcher) (q : Bool) → Known cs → is_refused c ≡ q →
+    Taken (reading b NameEscape n o v ms) (if q then None else go NameQuoted (NameEscaped c)) cs out → Follows b NameEscape n o v ms (c ∷ cs) out
+unfolding with_part
+escaped_name b n o v ms c cs out true known e h = absurd (refused (reading b NameEscape n o v ms) cs out h)
+escaped_name b n o v ms c cs out false known e h = (c, cs, refl, e, known b NameQuoted (n ++ encode_utf8_all (escaped c)) o v ms out h)
+
+escaped_value : (b : Bool) (n : Text) (o : Operator) (v : Text) (ms : List Matcher) (c : ℕ) (cs : List ℕ) (out : List Matcher) (q : Bool) → Known cs → is_refused c ≡ q →
+    Taken (reading b ValueEscape n o v ms) (if q then None else go ValueQuoted (ValueEscaped c)) cs out → Follows b ValueEscape n o v ms (c ∷ cs) out
+unfolding with_part
+escaped_value b n o v ms c cs out true known e h = absurd (refused (reading b ValueEscape n o v ms) cs out h)
+escaped_value b n o v ms c cs out false known e h = (c, cs, refl, e, known b ValueQuoted n o (v ++ encode_utf8_all (escaped c)) ms out h)
+
+from_closed : (b : Bool) (n : Text) (o : Operator) (v : Text) (ms : List Matcher) (c : ℕ) (cs : List ℕ) (out : List Matcher) (k : Kind) → Known cs → kind_of c ≡ k →
+    Taken (reading b Closed n o v ms) (after_braces k) cs out → Follows b Closed n o v ms (c ∷ cs) out
+unfolding after_braces with_part
+from_closed b n o v ms c cs out Blank known e h =
+    let f = known b Closed n o v ms out h in
+    (spaced c cs (means c Blank e) f.0, f.1)
+from_closed b n o v ms c cs out _ known e h = absurd (refused (reading b Closed n o v ms) cs out h)
+
+none_is_not : (out : List Matcher) → ◌≡◌ {A = Option (List Matcher)} None (Some out) → ⊥
+none_is_not out e = cc
+
+same_end : (ms out : List Matcher) → ◌≡◌ {A = Option (List Matcher)} (Some ms) (Some out) → out ≡ ms
+same_end ms out e = cc
+
+-- at the end of the text
+at_end : Known []
+unfolding ending with_part
+at_end b Start n o v ms out h = λ f g k. inl (Alone [], [], refl, refl, refl, same_end ms out h ∙ sym (append-nil ms))
+at_end b Closed n o v ms out h = (refl, same_end ms out h)
+at_end false AfterComma n o v ms out h = λ g k. (Alone [], [], refl, refl, refl, same_end ms out h ∙ sym (append-nil ms))
+at_end false AfterEquals n o v ms out h =
+    inr ([], Literal [], [], refl, refl, refl, same_value false n o _ _ ms [] out (sym (append-nil v)) ([], None, [], refl, tt, refl, refl, same_end (with_matcher ms n o v) out h ∙ sym (append-nil (with_matcher ms n o v))))
+at_end false ValueStart n o v ms out h =
+    ([], Literal [], [], refl, refl, refl, same_value false n o _ _ ms [] out (sym (append-nil v)) ([], None, [], refl, tt, refl, refl, same_end (with_matcher ms n o v) out h ∙ sym (append-nil (with_matcher ms n o v))))
+at_end false ValueLiteral n o v ms out h =
+    ([], [], refl, refl, same_value false n o _ _ ms [] out (sym (append-nil v)) ([], None, [], refl, tt, refl, refl, same_end (with_matcher ms n o v) out h ∙ sym (append-nil (with_matcher ms n o v))))
+at_end false AfterValue n o v ms out h = ([], None, [], refl, tt, refl, refl, same_end (with_matcher ms n o v) out h ∙ sym (append-nil (with_matcher ms n o v)))
+at_end b _ n o v ms out h = absurd (none_is_not out h)
+
+cleared : (P : Text → Text → Type 0) (n v : Text) → n ≡ [] → v ≡ [] → P n v → P [] []
+cleared P n v e f h = subst (P []) f (subst (λ t. P t v) e h)
+
+one_more : (c : ℕ) (cs : List ℕ) → Known cs → Known (c ∷ cs)
+unfolding step_from
+one_more c cs known b Start n o v ms out h = λ f g k.
+    from_start b o ms c cs out (kind_of c) known refl f (cleared (λ x y. Taken (reading b Start x o y ms) (at_start c (kind_of c)) cs out) n v g k h)
+one_more c cs known b Opened n o v ms out h = λ f g k.
+    from_opened b o ms c cs out (kind_of c) known refl f (cleared (λ x y. Taken (reading b Opened x o y ms) (begins_matcher true Opened c (kind_of c)) cs out) n v g k h)
+one_more c cs known b NameLiteral n o v ms out h = in_literal_name b n o v ms c cs out (kind_of c) known refl h
+one_more c cs known b NameOpened n o v ms out h = first_in_quoted_name b n o v ms c cs out known h
+one_more c cs known b NameQuoted n o v ms out h = in_quoted_name b n o v ms c cs out known h
+one_more c cs known b NameEscape n o v ms out h = escaped_name b n o v ms c cs out (is_refused c) known refl h
+one_more c cs known b AfterName n o v ms out h = name_ended b AfterName n o v ms c cs out (kind_of c) known refl h
+one_more c cs known b AfterBang n o v ms out h = bang_read b n o v ms c cs out (kind_of c) known refl h
+one_more c cs known b AfterEquals n o v ms out h = equals_read b n o v ms c cs out (kind_of c) known refl h
+one_more c cs known b ValueStart n o v ms out h = value_begun b ValueStart n o v ms c cs out (kind_of c) known refl h
+one_more c cs known b ValueLiteral n o v ms out h = in_literal_value b n o v ms c cs out (kind_of c) known refl h
+one_more c cs known b ValueQuoted n o v ms out h = in_quoted_value b n o v ms c cs out known h
+one_more c cs known b ValueEscape n o v ms out h = escaped_value b n o v ms c cs out (is_refused c) known refl h
+one_more c cs known b AfterValue n o v ms out h = after_value b AfterValue n o v ms c cs out (kind_of c) known refl h
+one_more c cs known b AfterComma n o v ms out h = λ g k.
+    from_comma b o ms c cs out (kind_of c) known refl (cleared (λ x y. Taken (reading b AfterComma x o y ms) (begins_matcher b AfterComma c (kind_of c)) cs out) n v g k h)
+one_more c cs known b Closed n o v ms out h = from_closed b n o v ms c cs out (kind_of c) known refl h
+
+followed : (cs : List ℕ) → Known cs
+followed [] = at_end
+followed (c ∷ cs) = one_more c cs (followed cs)
+
+spelled : (cs : List ℕ) (out : List Matcher) → FollowsListed false [] cs out ⊎ FollowsBraces [] cs out → Spells cs out
+spelled cs out (inl f) = (Bare f.0, f.2, f.3 ∙ ap (λ t. listed_text f.0 ++ t) f.4 ∙ append-nil (listed_text f.0), f.5)
+spelled cs out (inr f) = (Braced f.0 f.1 f.2, (f.3, f.4, f.5), f.6, f.7)
+
+pub chars_are_spelled : (cs : List ℕ) (ms : List Matcher) → matchers_of_chars cs ≡ Some ms → Spells cs ms
+chars_are_spelled cs ms h = spelled cs ms (followed cs false Start [] Equal [] [] ms h refl refl refl)
+
+pub read_is_spelled : ReadIsSpelled
+unfolding matchers_of
+read_is_spelled text ms h = chars_are_spelled (chars text) ms h

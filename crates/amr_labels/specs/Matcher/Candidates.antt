@@ -1,0 +1,32 @@
+-- Label sets of which a list of matchers is asked one matcher after the other.
+use Rattle.std.specs.Prelude.{Bool, ◌&&◌, not, List, [], ◌∷◌, map, if◌then◌else◌}
+use Rattle.std.specs.Ordering.{eq_by_cmp}
+use Rattle.amr_labels.specs.Labels.{LabelSet, Text, text_cmp, value_of}
+use Rattle.amr_labels.specs.Matcher.Patterns.{pattern_matches}
+use Rattle.amr_labels.specs.Matcher.Matchers.{Matcher, holds, all_hold}
+
+-- the marks of label sets, where those alone stay marked that pass the test too
+abbrev pub marked : (LabelSet → Bool) → List LabelSet → List Bool → List Bool
+marked test (labels ∷ label_sets) (mark ∷ marks) = (mark && test labels) ∷ marked test label_sets marks
+marked test [] marks = marks
+marked test (labels ∷ label_sets) [] = []
+
+-- one more matcher is asked
+abbrev pub kept_by : Matcher → List LabelSet → List Bool → List Bool
+kept_by matcher = marked (holds matcher)
+
+-- the label with this name is compared too
+abbrev pub kept_where : (Text → Bool) → Text → List LabelSet → List Bool → List Bool
+kept_where test name = marked (λ labels. test (value_of labels name))
+
+-- whether a pattern matches a value, or whether it doesn't
+abbrev pub found_or_not : Bool → Text → Text → Bool
+found_or_not negated pattern value = if negated then not (pattern_matches pattern value) else pattern_matches pattern value
+
+-- whether a matcher's own value equals a value, or whether it doesn't
+abbrev pub equal_or_not : Bool → Text → Text → Bool
+equal_or_not negated own value = if negated then not (eq_by_cmp text_cmp value own) else eq_by_cmp text_cmp value own
+
+-- for each label set whether all matchers match it
+abbrev pub matches_each : List Matcher → List LabelSet → List Bool
+matches_each matchers label_sets = map (all_hold matchers) label_sets

@@ -1,0 +1,32 @@
+//! Label matchers, lists of them, and reading them from texts. Routes, inhibition rules and
+//! silences have matchers. A pattern is built once, when its matcher is read.
+
+mod answers;
+mod candidates;
+mod comparison;
+pub mod laws;
+mod matcher;
+mod matcher_reader;
+mod matcher_steps;
+mod matchers;
+mod parse;
+mod pattern;
+mod patterns;
+mod search;
+mod ungrouped;
+
+pub use answers::Answers;
+pub use matcher::Matcher;
+pub use matchers::Matchers;
+pub use parse::ParseError;
+pub use pattern::{MatcherError, Pattern};
+pub use patterns::Patterns;
+
+/// How a matcher compares a label's value with its own.
+#[derive(Clone, Copy, PartialEq, Eq)]
+pub enum Operator {
+    Equal,
+    NotEqual,
+    Matches,
+    NotMatches,
+}

@@ -1,0 +1,36 @@
+//! Asking a list of matchers for many label sets at once, one matcher after the other. Each label
+//! set has a mark, which it loses at the first matcher that doesn't match it. Flushes with several
+//! new members ask silences like this.
+ghost use Rattle.std.specs.Prelude.{◌≡◌, IfOk};
+ghost use Rattle.std.specs.List.{list_any};
+ghost use Rattle.amr_labels.specs.Matcher.Candidates.{matches_each};
+
+use crate::Labels;
+use crate::matcher::matcher::Matcher;
+use std::alloc::{AllocError, Global};
+
+/// Returns for each label set whether all matchers match it. It asks no more once a matcher before
+/// matched none of them.
+pub(crate) fn match_each(
+    alloc: Global,
+    matchers: &[Matcher],
+    label_sets: &[Labels],
+) -> Result<Vec<bool>, AllocError>
+    ensures { IfOk result (λ found. found.items ≡ matches_each matchers.now label_sets.now) }
+{
+    let mut marks = vec![in alloc; true; label_sets.len()]?;
+    for matcher in matchers {
+        if !is_any_left(marks.as_slice()) {
+            return Ok(marks);
+        }
+        matcher.keep(alloc, label_sets, marks.as_mut_slice())?;
+    }
+    Ok(marks)
+}
+
+/// Returns whether a label set is still marked.
+fn is_any_left(marks: &[bool]) -> bool
+    ensures { result ≡ list_any (λ mark. mark) marks.now }
+{
+    marks.iter().any(|mark| *mark)
+}

@@ -1,0 +1,144 @@
+//! Lists of matchers, shared by their clones, since routes and silences are cloned often.
+ghost use Rattle.std.specs.Prelude.{◌≡◌, ◌==◌, [], length, IfOk};
+ghost use Rattle.std.proofs.Common.{rules};
+ghost use Rattle.std.specs.Cmp.{partial_order_from_own_ties};
+ghost use Rattle.std.specs.Cmp.Rules.{comparing};
+ghost use Rattle.std.specs.Cmp.Lexicographic.{slice_cmp, lists_total};
+ghost use Rattle.std.specs.Ordering.{as_partial_cmp, eq_by_cmp};
+ghost use Rattle.amr_labels.specs.Matcher.Candidates.{matches_each};
+ghost use Rattle.amr_labels.specs.Matcher.Matchers.{all_hold, matcher_cmp, matcher_cmp_total};
+
+use crate::matcher::answers::Answers;
+use crate::matcher::candidates::match_each;
+use crate::matcher::matcher::Matcher;
+use crate::{Exact, Labels};
+use std::alloc::{AllocError, Global};
+use std::cmp::Ordering;
+use std::marker::Model;
+use std::rc::Rc;
+
+/// A list of matchers. Contracts see the list. Clones share it.
+#[derive(Drop)]
+pub struct Matchers {
+    shared: Rc<Vec<Matcher>>,
+}
+
+impl Model for Matchers {
+    ghost use Rattle.std.specs.Prelude.{List};
+    ghost use Rattle.amr_labels.specs.Matcher.Matchers as matchers;
+
+    ghost Value = { List matchers.Matcher };
+
+    ghost view = { λ a. a.shared.value.items };
+}
+
+impl Matchers {
+    /// Returns an empty list.
+    pub fn none(alloc: Global) -> Result<Matchers, AllocError>
+        ensures { IfOk result (λ matchers. matchers ≡ []) }
+    {
+        Matchers::from_vec(alloc, Vec::new(alloc))
+    }
+
+    /// Returns the list of these matchers.
+    pub fn from_vec(alloc: Global, matchers: Vec<Matcher>) -> Result<Matchers, AllocError>
+        ensures { IfOk result (λ made. made ≡ matchers.items) }
+    {
+        Ok(Matchers {
+            shared: Rc::new(alloc, matchers)?,
+        })
+    }
+
+    /// Returns the matchers as a slice.
+    pub fn as_slice(&self) -> &[Matcher]
+        ensures { result.now ≡ self.now }
+    {
+        self.shared.as_slice()
+    }
+
+    /// Returns the number of matchers.
+    pub fn len(&self) -> usize
+        ensures { result ≡ length self.now }
+    {
+        self.shared.len()
+    }
+
+    /// Returns whether there is no matcher.
+    pub fn is_empty(&self) -> bool
+        ensures { result ≡ (length self.now == 0) }
+    {
+        self.shared.is_empty()
+    }
+
+    /// Returns whether all matchers match the labels. An empty list always does. It asks their
+    /// patterns through the remembered answers.
+    pub fn matches_all(&self, answers: &mut Answers, labels: &Labels) -> Result<bool, AllocError>
+        ensures { IfOk result (λ hold. hold ≡ all_hold self.now labels.now) }
+    {
+        for matcher in self.as_slice() {
+            if !matcher.holds(answers, labels)? {
+                return Ok(false);
+            }
+        }
+        Ok(true)
+    }
+
+    /// Returns for each label set whether all matchers match it.
+    pub fn match_each(&self, alloc: Global, label_sets: &[Labels]) -> Result<Vec<bool>, AllocError>
+        ensures { IfOk result (λ found. found.items ≡ matches_each self.now label_sets.now) }
+    {
+        match_each(alloc, self.as_slice(), label_sets)
+    }
+}
+
+impl Clone for Matchers {
+    ghost is_clone = { λ a b. b ≡ a };
+
+    fn clone(&self) -> Result<Matchers, AllocError> {
+        Ok(Matchers {
+            shared: self.shared.clone()?,
+        })
+    }
+}
+
+impl Exact for Matchers {
+    ghost exact = { λ x y same. same };
+}
+
+impl PartialEq for Matchers {
+    ghost eq = { eq_by_cmp (slice_cmp matcher_cmp) };
+
+    ghost laws = { Prim.search (comparing, rules, lists_total matcher_cmp_total) };
+
+    fn eq(&self, other: &Matchers) -> bool {
+        self.cmp(other) == Ordering::Equal
+    }
+}
+
+impl Eq for Matchers {
+    ghost laws = { Prim.search (comparing, rules, lists_total matcher_cmp_total) };
+}
+
+impl Ord for Matchers {
+    ghost cmp = { slice_cmp matcher_cmp };
+
+    ghost total = { lists_total matcher_cmp_total };
+
+    ghost matches_partial_cmp = { Prim.search (comparing, rules) };
+
+    ghost matches_eq = { Prim.search (comparing, rules) };
+
+    fn cmp(&self, other: &Matchers) -> Ordering {
+        self.as_slice().cmp(other.as_slice())
+    }
+}
+
+impl PartialOrd for Matchers {
+    ghost partial_cmp = { as_partial_cmp (slice_cmp matcher_cmp) };
+
+    ghost laws = { partial_order_from_own_ties (Prim.search (comparing, rules, lists_total matcher_cmp_total)) (Prim.search (comparing, rules)) };
+
+    fn partial_cmp(&self, other: &Matchers) -> Option<Ordering> {
+        Some(self.cmp(other))
+    }
+}

@@ -1,0 +1,176 @@
+//! Patterns that have to match a whole value. `regex` builds and runs them; a pattern that it
+//! refuses makes no matcher.
+ghost use Rattle.std.specs.Prelude.{◌≡◌, ◌≤◌, ◌^◌, length, IfOk, IfSome, IfNone, IsErrOf, OnOk};
+ghost use Rattle.amr_labels.specs.Matcher.Candidates.{kept_where, found_or_not};
+ghost use Rattle.amr_labels.specs.Matcher.Patterns.{pattern_matches, MayRefuse};
+ghost use Rattle.amr_labels.specs.Matcher.Searches.{IsFoundAs, search_pattern};
+ghost use Rattle.amr_labels.specs.declared.matcher.pattern.MatcherError.TheVariants.{BadPattern};
+
+use crate::matcher::search::{Built, Search};
+use crate::{Labels, Text, spread_of};
+use regex::{Error, RegexBuilder};
+use std::alloc::{AllocError, AllocFailed, Global};
+use std::marker::Model;
+use std::{error, fmt};
+
+/// Why a matcher wasn't made.
+#[derive(Debug, Drop)]
+pub enum MatcherError {
+    /// An allocation failed.
+    Memory,
+    /// `regex` refuses the value as a pattern.
+    BadPattern,
+}
+
+impl fmt::Display for MatcherError {
+    fn fmt<W: fmt::Write>(&self, f: &mut fmt::Formatter<W>) -> fmt::Result {
+        f.write_str(match self {
+            MatcherError::Memory => "out of memory",
+            MatcherError::BadPattern => "the pattern is refused",
+        })
+    }
+}
+
+impl error::Error for MatcherError {}
+
+impl From<AllocError> for MatcherError {
+    ghost use Rattle.std.specs.Prelude.{◌≡◌};
+    ghost use Rattle.amr_labels.specs.declared.matcher.pattern.MatcherError.TheVariants.{Memory};
+
+    ghost from_gives = { λ _ e. e ≡ Memory };
+
+    fn from(_error: AllocError) -> MatcherError {
+        MatcherError::Memory
+    }
+}
+
+impl<T: Drop> From<AllocFailed<T>> for MatcherError {
+    ghost use Rattle.std.specs.Prelude.{◌≡◌};
+    ghost use Rattle.amr_labels.specs.declared.matcher.pattern.MatcherError.TheVariants.{Memory};
+
+    ghost from_gives = { λ _ e. e ≡ Memory };
+
+    fn from(_error: AllocFailed<T>) -> MatcherError {
+        MatcherError::Memory
+    }
+}
+
+/// A pattern that was built. Contracts see its text.
+#[derive(Drop)]
+pub struct Pattern {
+    text: Text,
+    built: Built,
+    /// A number made of the text, by which remembered answers are spread out. Contracts don't see
+    /// it.
+    spread: usize,
+}
+
+impl Model for Pattern {
+    ghost use Rattle.std.specs.Prelude.{List, ℕ};
+    ghost use Rattle.amr_labels.specs.Matcher.Searches.{IsFoundAs, built_pattern};
+
+    ghost Value = { List ℕ };
+
+    ghost view = { λ pattern. pattern.text };
+
+    ghost invariant = { λ pattern. IsFoundAs (built_pattern pattern.built) pattern.text };
+}
+
+impl Pattern {
+    /// Builds the pattern of a text, anchored at both ends as Alertmanager does, or returns `None` if
+    /// it would take more than about `most` bytes.
+    pub(crate) fn within(
+        alloc: Global,
+        text: &Text,
+        most: usize,
+    ) -> Result<Option<Pattern>, MatcherError>
+        requires { most ≤ 2 ^ 34 }
+        ensures read { IfOk result (λ built. IfSome built (λ pattern. pattern ≡ text.now)) }
+        ensures large { IfOk result (λ built. IfNone built (MayRefuse text.now)) }
+        ensures refused { IsErrOf result BadPattern → MayRefuse text.now }
+    {
+        let bare = text.as_str();
+        let anchored = format!(in alloc; "^(?:{bare})$")?;
+        let builder = RegexBuilder::new(anchored.as_str()).size_limit(most);
+        match builder.build(alloc) {
+            Ok(regex) => Ok(Some(Pattern {
+                text: text.clone()?,
+                built: Built::new(alloc, regex, most)?,
+                spread: spread_of(text.as_str()),
+            })),
+            Err(Error::CompiledTooBig) => Ok(None),
+            Err(Error::OutOfMemory) => Err(MatcherError::Memory),
+            Err(_) => Err(MatcherError::BadPattern),
+        }
+    }
+
+    /// Returns the text of the pattern.
+    pub fn text(&self) -> &Text
+        ensures { result.now ≡ self.now }
+    {
+        &self.text
+    }
+
+    /// Returns a number made of the text.
+    pub(crate) fn spread(&self) -> usize {
+        self.spread
+    }
+
+    /// Unmarks the label sets whose value of the label with this name the pattern doesn't match, or
+    /// matches if `negated`. One search serves all of them, because it takes longer to prepare a
+    /// search than to run it.
+    pub(crate) fn keep(
+        &self,
+        alloc: Global,
+        name: &str,
+        negated: bool,
+        label_sets: &[Labels],
+        marks: &mut [bool],
+    ) -> Result<(), AllocError>
+        requires { length marks.old ≡ length label_sets.now }
+        ensures { OnOk result (marks.new
+            ≡ kept_where (found_or_not negated self.now) name.now label_sets.now marks.old) }
+    {
+        let mut search = self.built.search(alloc)?;
+        self.ask_each(&mut search, name, negated, label_sets, marks);
+        Ok(())
+    }
+
+    /// Unmarks the same label sets. It searches in the values of those alone that are marked.
+    fn ask_each(
+        &self,
+        search: &mut Search<'_>,
+        name: &str,
+        negated: bool,
+        label_sets: &[Labels],
+        marks: &mut [bool],
+    )
+        requires search { IsFoundAs (search_pattern search.old) self.now }
+        requires marks { length marks.old ≡ length label_sets.now }
+        ensures { marks.new
+            ≡ kept_where (found_or_not negated self.now) name.now label_sets.now marks.old }
+    {
+        for (place, labels) in label_sets.iter().enumerate() {
+            marks[place] = marks[place] && self.passes(search, negated, labels.value_of(name));
+        }
+    }
+
+    /// Returns whether the pattern matches the whole value, or whether it doesn't if `negated`.
+    #[tactic(auto, unfolding(crate::specs::Matcher::Searches::IsFoundAs))]
+    fn passes(&self, search: &mut Search<'_>, negated: bool, value: &str) -> bool
+        requires { IsFoundAs (search_pattern search.old) self.now }
+        ensures found { result ≡ found_or_not negated self.now value.now }
+        ensures same { search_pattern search.new ≡ search_pattern search.old }
+    {
+        let found = search.is_match(value);
+        if negated { !found } else { found }
+    }
+
+    /// Returns whether the pattern matches the whole value.
+    pub fn matches(&self, alloc: Global, value: &str) -> Result<bool, AllocError>
+        ensures { IfOk result (λ found. found ≡ pattern_matches self.now value.now) }
+    {
+        let mut search = self.built.search(alloc)?;
+        Ok(search.is_match(value))
+    }
+}

@@ -1,2 +1,0 @@
-pub mod LinesLemmas
-pub mod CommandLinesLemmas

@@ -1,8 +1,0 @@
-use Rattle.std.proofs.Common.{subst}
-use Rattle.amr_lines.specs.Lines.Outlet.{WritesText}
-use Rattle.amr_lines.proofs.LinesLemmas.LineParts.{cursor_line-parts}
-use Rattle.amr_lines.specs.declared.lines.word.Word.TheVariants.{Back}
-use Rattle.amr_lines.proofs.lines.last_lines.write_back.Goals as goal
-
-pub returns-clause-written : goal.returns-clause-written
-returns-clause-written g c = subst (WritesText _ _ c.write_parts.result) (rw (c.as_bytes.ensures.value, c.format.ensures.text) (cursor_line-parts Back c.args.cursor)) c.write_parts.ensures.written

@@ -1,5 +1,0 @@
-use Rattle.amr_lines.proofs.LinesLemmas.Plain.{own_escape}
-use Rattle.amr_lines.proofs.lines.plain.needs_no_escape.Goals as goal
-
-pub returns : goal.returns
-returns c = own_escape c.are_plain.result c.args.text.now c.are_plain.ensures

@@ -1,5 +1,0 @@
-use Rattle.amr_loading.proofs.Integrations.{walked_in_order}
-use Rattle.amr_loading.proofs.laws.integrations_are_in_order.Goals as goal
-
-pub returns : goal.returns
-returns c = walked_in_order

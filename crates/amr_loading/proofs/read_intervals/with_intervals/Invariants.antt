@@ -1,9 +1,0 @@
-use Rattle.std.proofs.Common.{◌≡◌, drop, Some}
-use Rattle.serde_json.specs.View.{view, items_view}
-use Rattle.amr_loading.specs.Paths.{place_path}
-use Rattle.amr_loading.specs.Readings.{items_in_turn}
-use Rattle.amr_loading.specs.ReadIntervals.{interval_into, intervals_from}
-use Rattle.amr_loading.proofs.read_intervals.with_intervals.Given as goal
-
-abbrev pub invariant-loop-index : goal.invariant-loop-index
-invariant-loop-index l = items_in_turn (interval_into (place_path l.place)) l.index (items_view (drop l.index l.items)) l.known.intervals ≡ intervals_from (place_path l.place) (Some (view l.value)) l.fn.intervals

@@ -1,9 +1,0 @@
-use Rattle.serde_json.specs.View.{view, members_view}
-use Rattle.amr_loading.specs.Paths.{place_path}
-use Rattle.amr_loading.specs.Readings.{members_in_turn}
-use Rattle.amr_loading.specs.ReadMatchers.{matcher_into, members_into}
-use Rattle.amr_loading.proofs.Turns.{Ends}
-use Rattle.amr_loading.proofs.read_matchers.add_members.Given as goal
-
-abbrev pub invariant-loop-key : goal.invariant-loop-key
-invariant-loop-key l = Ends (members_in_turn (matcher_into l.operator (place_path l.place)) (members_view l.key-iterator) l.matchers.items) (members_into l.operator (place_path l.place) (view l.value) l.fn.matchers.items)

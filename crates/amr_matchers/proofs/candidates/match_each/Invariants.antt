@@ -1,9 +1,0 @@
--- the matchers that are left leave the same marks as all matchers
-use Rattle.std.proofs.Common.{◌≡◌, fold, length, drop}
-use Rattle.amr_matchers.specs.Candidates.{kept_by, matches_each}
-use Rattle.amr_matchers.proofs.candidates.match_each.Given as goal
-
-abbrev pub invariant-loop-matcher : goal.invariant-loop-matcher
-invariant-loop-matcher l =
-    (length l.marks.items ≡ length l.label_sets)
-    × fold (λ marks matcher. kept_by matcher l.label_sets marks) l.marks.items (drop l.matcher-index l.matchers) ≡ matches_each l.matchers l.label_sets

@@ -1,6 +1,0 @@
-use Rattle.std.proofs.Common.{◌≡◌, take}
-use Rattle.amr_matchers.specs.Candidates.{kept_where, equal_or_not}
-use Rattle.amr_matchers.proofs.comparison.keep_equal.Given as goal
-
-abbrev pub invariant-loop-place : goal.invariant-loop-place
-invariant-loop-place l = l.marks ≡ kept_where (equal_or_not l.negated l.own) l.name (take l.place l.label_sets) l.initial.marks
