@@ -1,6 +1,6 @@
 //! What a configuration states: its routes, receivers, inhibition rules and time intervals, in the
-//! shapes of Alertmanager's configuration reference. `amr_loading` reads them from JSON, and
-//! `amr_config` resolves what routes inherit.
+//! shapes of Alertmanager's configuration reference. `read` reads them from JSON, and
+//! `Config` resolves what routes inherit.
 
 mod interval;
 mod receiver;

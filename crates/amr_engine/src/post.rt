@@ -1,5 +1,5 @@
 //! A post of alerts: sorting out the valid ones before the moves of the event, and storing them
-//! after. Merging is decided by `amr_rules`, grouping by `amr_state`.
+//! after. Merging is decided by `amr_rules`, grouping by `state`.
 ghost use Rattle.std.specs.Prelude.{◌≡◌, ◌+◌, ◌<◌, OnOk, IfOk};
 ghost use Rattle.std.specs.List.{fold, filter_map};
 ghost use Rattle.amr_labels.specs.Map as map;

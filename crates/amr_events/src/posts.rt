@@ -1,6 +1,5 @@
 //! What a script posts, as values: alerts, silences and their ids, and the reasons that refuse an
-//! event. `amr_events` reads them from lines, `amr_rules` decides about them, and neither knows the
-//! other.
+//! event. They are read from lines, and `amr_rules` decides about them.
 
 mod posted_alert;
 mod posted_labels;

@@ -64,7 +64,7 @@ fn silences_labels(
 /// Returns what inhibits labels at a moment: the index of the first rule that does, from 0, and the
 /// least label set of a stored alert by which it does. Returns `None` if nothing inhibits them
 /// (`inhibit_rules` of Alertmanager's configuration). `matched` says which sides of each rule the
-/// labels are on (`rule_matches` of `amr_stated`), so no matcher is asked for them.
+/// labels are on (`rule_matches` of `amr_config`), so no matcher is asked for them.
 pub fn inhibited_by<A: AlertStore>(
     alloc: Global,
     rules: &[InhibitRule],

@@ -1,5 +1,5 @@
 //! Reading the fields of time intervals (`times`, `weekdays`, `days_of_month`, `months` and `years`
-//! of Alertmanager's configuration), from texts and numbers. `amr_loading` calls these.
+//! of Alertmanager's configuration), from texts and numbers. `amr_config` calls these.
 ghost use Rattle.std.specs.Prelude.{◌≡◌, ◌+◌, ◌≤◌, IfSome, length};
 ghost use Rattle.std.specs.List.{list_all, position};
 ghost use Rattle.std.specs.Str.{str_eq_ignore_ascii_case};

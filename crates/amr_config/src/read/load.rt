@@ -1,5 +1,5 @@
 //! Loading a configuration from its JSON value: `walk` parses it, `refusal` validates it, and
-//! `amr_config` resolves the settings of its routes.
+//! `Config` resolves the settings of its routes.
 ghost use Rattle.serde_json.specs.View.{view};
 ghost use Rattle.amr_config.specs.Read.Answers.{Answers};
 ghost use Rattle.amr_config.specs.Read.Reading.{ConfigIs};

@@ -1,6 +1,6 @@
 //! Reads the routing tree into a list of routes in preorder. `read.rt` calls `read_routes`, and
 //! callers of `walk` call `is_too_deep` before. A route has only what it states itself;
-//! `amr_config` resolves what it inherits.
+//! `Config` resolves what it inherits.
 ghost use Rattle.std.specs.Prelude.{◌≡◌, IfOk};
 ghost use Rattle.serde_json.specs.View.{view, items_view};
 ghost use Rattle.amr_config.specs.Read.Paths.{place_path, under};

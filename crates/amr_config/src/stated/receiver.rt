@@ -1,4 +1,4 @@
-//! Receivers and their integrations. `amr_loading` reads them, and a flush notifies
+//! Receivers and their integrations. `read` reads them, and a flush notifies
 //! integrations.
 ghost use Rattle.std.specs.Prelude.{◌≡◌};
 

@@ -1,4 +1,4 @@
-//! A route with what it states itself. `amr_config` resolves what it inherits.
+//! A route with what it states itself. `Config` resolves what it inherits.
 ghost use Rattle.std.specs.Prelude.{◌≡◌};
 
 use amr_labels::matcher::Matchers;

@@ -1,5 +1,5 @@
-//! A configuration as its file states it. `amr_loading` reads and validates it, and `amr_config`
-//! resolves the settings of its routes.
+//! A configuration as its file states it. `read` reads and validates it, and `Config` resolves the
+//! settings of its routes.
 
 use crate::stated::interval::NamedInterval;
 use crate::stated::receiver::Receiver;

@@ -1,4 +1,4 @@
-//! Reading a list of matchers from a text. `amr_loading` calls `Patterns::matchers_of` for
+//! Reading a list of matchers from a text. `amr_config` calls `Patterns::matchers_of` for
 //! `matchers` in a configuration.
 ghost use Rattle.std.specs.Prelude.{◌≡◌, Some, IfOk, IfErr, IsErrOf, chars};
 ghost use Rattle.amr_labels.specs.declared.matcher.pattern.MatcherError.TheVariants.{BadPattern as RefusedPattern};
