@@ -1,5 +1,5 @@
 //! Readers for the members and items of a JSON value, one for each shape. A member that is `null`
-//! counts as absent. The other files of this crate call them.
+//! counts as absent. The other files of `read` call them.
 #![tactic(auto, unfolding(crate::specs::Read::Readings::next))]
 
 ghost use Rattle.std.specs.Prelude.{◌≡◌, ℕ, Bool, List, option_map};
