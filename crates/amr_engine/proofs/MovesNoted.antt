@@ -63,6 +63,11 @@ pub known_move : (moves : List Bool) (made : ℕ) (start s : State) (at : Moment
 known_move moves made start s at due here known next quiet =
     subst (λ (x : State). IsQuietMove x) (sym here) (quiet_move moves made start known quiet) due (next_is_first at s due next)
 
+-- a change that may lack the memory was made, or nothing was changed
+pub noted_or_not : {E : Type 0} (r : Result (Unit {0}) E) (A B : Type 0) → OnOk r A → OnErr r B → A ⊎ B
+noted_or_not (Ok done) A B made same = inl made
+noted_or_not (Err e) A B made same = inr same
+
 -- one more move is noted after it was made, or forgotten
 pub note_move : (moves after : List Bool) (made : ℕ) (quiet : Bool) (start s : State) (at : Moment) (due : Due) → s ≡ moved_times made start → AreQuietMoves moves start → Some due ≡ next_due at s
     → (quiet ≡ true → OnlySets s due) → (after ≡ noted made quiet moves) ⊎ (after ≡ moves) → AreQuietMoves after start

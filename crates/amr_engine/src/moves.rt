@@ -22,9 +22,8 @@ pub(crate) const MOST_MOVES: usize = 1_000_000;
 
 /// Makes every move due at or before a moment, and returns how many there were. Returns `None` if
 /// there are more than `MOST_MOVES`, which it may find out before it makes so many; the caller then
-/// undoes those that were made. Moves that
-/// `quiet_moves` knows to set a group timer alone do just that, and it learns of the others whether
-/// they do.
+/// undoes those that were made. Moves that `quiet_moves` knows to set a group timer alone do just
+/// that, and it learns of the others whether they do.
 pub(crate) fn advance(
     store: &mut Store,
     quiet_groups: &mut QuietGroups,
@@ -50,7 +49,8 @@ pub(crate) fn advance(
             None => return Ok(Some(made)),
             Some(due) => {
                 let is_quiet = make(store, quiet_groups, due, quiet_moves.is_quiet(made))?;
-                quiet_moves.note(made, is_quiet);
+                // (without memory for it, neither this move nor those after it are noted)
+                let _forgotten = quiet_moves.note(made, is_quiet);
             }
         }
     }

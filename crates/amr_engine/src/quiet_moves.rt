@@ -1,10 +1,10 @@
 //! Which of the moves from a state only set a group timer. The moves up to a moment are the first
 //! of those up to a later one, whatever the event is. So a session notes them at each place of its
 //! cursor, and makes them faster if it passes an event again or tries another one there.
-ghost use Rattle.std.specs.Prelude.{◌≡◌, ◌⊎◌, false, [], ◌∷◌, ◌++◌, length, get_or};
+ghost use Rattle.std.specs.Prelude.{◌≡◌, false, [], ◌∷◌, ◌++◌, length, get_or, OnOk, OnErr};
 ghost use Rattle.amr_engine.specs.QuietMoves.{noted};
 
-use std::alloc::Global;
+use std::alloc::{AllocError, Global};
 use std::marker::Model;
 
 /// The most moves that are noted from a state. Those after them are worked out again, so that what
@@ -51,13 +51,14 @@ impl QuietMoves {
     }
 
     /// Notes of the next move whether it only sets a group timer, unless it was noted before or
-    /// `MOST_NOTED` moves come before it. Without room it notes neither this move nor those after
-    /// it, which only costs time later.
-    pub(crate) fn note(&mut self, made: usize, quiet: bool)
-        ensures { (self.new ≡ noted made quiet self.old) ⊎ (self.new ≡ self.old) }
+    /// `MOST_NOTED` moves come before it.
+    pub(crate) fn note(&mut self, made: usize, quiet: bool) -> Result<(), AllocError>
+        ensures ok { OnOk result (self.new ≡ noted made quiet self.old) }
+        ensures err { OnErr result (self.new ≡ self.old) }
     {
         if made == self.moves.len() && made < MOST_NOTED {
-            let _forgotten = self.moves.push(quiet);
+            self.moves.push(quiet)?;
         }
+        Ok(())
     }
 }

@@ -11,11 +11,11 @@ use Rattle.std.specs.FinMap.{find, put, is_sorted, IsAntisymmetric}
 use Rattle.std.specs.FinMap.Entries.{below_all, by_order, find-put, is_sorted-put, find_tied, length-put}
 use Rattle.std.proofs.lemmas.Bool.{true≢false}
 use Rattle.amr_labels.proofs.Sorted.{both, first, second, less}
-use Rattle.amr_labels.specs.Map.{Map, from_sorted, entries, get, empty, same_map, same_entries_map, entries-from_sorted, get-entries, get-set}
+use Rattle.amr_labels.specs.Map.{from_sorted, entries, get, empty, same_map, same_entries_map, entries-from_sorted, get-entries, get-set}
 use Rattle.amr_labels.specs.Map as map
 use Rattle.amr_tables.specs.Places.{value_at}
 use Rattle.amr_tables.specs.Marked.{is_marked}
-use Rattle.amr_tables.specs.Numbered.{Numbered, entry_at, has_place, is_entered, shown, IsNumbering, HasPlaces, GrowsBy, places_for}
+use Rattle.amr_tables.specs.Numbered.{Numbered, entry_at, has_place, is_entered, shown, IsNumbering}
 
 either_way : {A : Type 0} (b : Bool) (x : A) → x ≡ cond b x x
 either_way true x = refl
@@ -82,30 +82,6 @@ module _ {K V : Type 0} (R : K → K → Ordering) where
   pub shown-none : (cells : List (Option V)) (marks : List Bool) → shown R (record { numbers = []; cells = cells; marks = marks }) ≡ empty
   unfolding shown entries empty
   shown-none cells marks = same_entries_map _ _ (entries-from_sorted R [] tt)
-
--- ---- how many keys there are
-
-length-filter_map-le : {A B : Type 0} (f : A → Option B) (xs : List A) → length (filter_map f xs) ≤ length xs
-length-filter_map-le f [] = omega arith
-length-filter_map-le {B = B} f (x ∷ xs) =
-    let rest = length-filter_map-le f xs in
-    elim (f x) as (λ (o : Option B). length (cons_option o (filter_map f xs)) ≤ suc (length xs)) [ None ↦ omega (arith, rest) | Some y ↦ omega (arith, rest) ]
-
-module _ {K V : Type 0} (R : K → K → Ordering) where
-  pub enough_places : (t : Numbered K V) → IsNumbering R t → HasPlaces R t
-  enough_places t is = subst (λ (es : List (K × V)). length es ≤ length t.numbers) (sym (entries-shown R t is)) (length-filter_map-le (entry_at t.cells) t.numbers)
-
-  pub enough_none : (cells : List (Option V)) (marks : List Bool) → HasPlaces R (record { numbers = []; cells = cells; marks = marks })
-  unfolding entries empty
-  enough_none cells marks = subst (λ (m : Map R V). length (entries m) ≤ 0) (sym (shown-none R cells marks)) (omega arith)
-
-  -- a key that has no place gets one
-  pub grown_by_one : IsTotalOrder R → (t u : Numbered K V) (k : K) (n : ℕ) → IsNumbering R t → find R k t.numbers ≡ None → u.numbers ≡ put R k n t.numbers → GrowsBy R (places_for R t k) t u
-  unfolding has_place
-  grown_by_one o t u k n is none added =
-      let len : length u.numbers ≡ length t.numbers + 1 = ap length added ∙ length-put R o k n t.numbers is.sorted ∙ ap (λ (x : Option ℕ). cond (is_some x) (length t.numbers) (length t.numbers + 1)) none in
-      let one : places_for R t k ≡ 1 = ap (λ (x : Option ℕ). cond (is_some x) 0 1) none in
-      (omega (arith, len), omega (arith, len, one))
 
 -- ---- a value at another place
 

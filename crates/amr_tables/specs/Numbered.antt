@@ -1,5 +1,5 @@
 -- Tables of values by key, in which each key has a number.
-use Rattle.std.specs.Prelude.{◌≡◌, ◌==◌, ℕ, suc, Bool, false, List, [], ◌∷◌, Option, None, Some, if◌then◌else◌, is_some, ◌||◌, option_map, ◌<◌, ◌≤◌, ◌+◌, T, IsTrue, length, refl}
+use Rattle.std.specs.Prelude.{◌≡◌, ◌==◌, ℕ, suc, Bool, false, List, [], ◌∷◌, Option, None, Some, if◌then◌else◌, is_some, ◌||◌, option_map, ◌<◌, ◌≤◌, T, IsTrue, length, refl}
 use Rattle.std.specs.Option.{option_map_or, option_cmp}
 use Rattle.std.specs.List.{filter_map}
 use Rattle.std.specs.declared.cmp.Ordering.{Ordering}
@@ -7,7 +7,7 @@ use Rattle.std.specs.Ordering.{eq_by_cmp}
 use Rattle.std.specs.FinMap.{find, put, is_sorted}
 use Rattle.std.specs.Borrow.{Bor}
 use Rattle.std.specs.Coded.{Coded, code_by, coded×, coded_ℕ, coded_bool, coded_list, coded_option}
-use Rattle.amr_labels.specs.Map.{Map, from_sorted, get, set, len}
+use Rattle.amr_labels.specs.Map.{Map, from_sorted, get, set}
 use Rattle.amr_tables.specs.Places.{value_at}
 use Rattle.amr_tables.specs.Marked.{is_marked}
 
@@ -131,18 +131,6 @@ module _ {K V : Type 0} where
     -- the place of the key with this number is marked, and so is each that was marked before
     abbrev pub EntersAt : Numbered K V → ℕ → Numbered K V → Type 0
     EntersAt old n changed = (key : K) → number_of old key ≡ Some n → Enters old changed key
-
-    -- at most n keys are added, and none is lost
-    abbrev pub GrowsBy : ℕ → Numbered K V → Numbered K V → Type 0
-    GrowsBy n old changed = (length old.numbers ≤ length changed.numbers) × (length changed.numbers ≤ length old.numbers + n)
-
-    -- the number of places that a change of the key's value makes
-    abbrev pub places_for : Numbered K V → K → ℕ
-    places_for t key = if has_place t key then 0 else 1
-
-    -- there are at least as many keys as values
-    abbrev pub HasPlaces : Numbered K V → Type 0
-    HasPlaces t = len (shown t) ≤ length t.numbers
 
     -- The keys rise strictly, each number has a place, no two keys share a number, and only places
     -- are marked.

@@ -1,13 +1,13 @@
 //! Values by key. Each key has a number, and its value is at the place with that number, so that a
 //! value can be swapped without memory. The state keeps alerts, silences, members, timers and the
 //! notification log in such tables.
-ghost use Rattle.std.specs.Prelude.{◌≡◌, [], IsTrue, Option, is_some, false, OnOk, OnErr, IfOk, IfErr, ◌<◌, map};
+ghost use Rattle.std.specs.Prelude.{◌≡◌, [], IsTrue, Option, is_some, false, OnOk, OnErr, IfOk, ◌<◌, map};
 ghost use Rattle.std.specs.Map.Iter.{deref_pair};
 ghost use Rattle.std.specs.Option.{option_copied};
 ghost use Rattle.std.specs.FinMap.{IsAntisymmetric};
 ghost use Rattle.amr_labels.specs.Map as map;
 ghost use Rattle.amr_tables.specs.Places.{value_at, present};
-ghost use Rattle.amr_tables.specs.Numbered.{shown, has_place, next_number, number_of, KeepsPlaces, GetsPlace, GetsNumber, IsValueOf, IsNumber, IsMarkOf, IsSetAt, EntersAt, SamePlaces, SameEntered, NoneEntered, GrowsBy, HasPlaces, places_for, IsNumbering, key_at};
+ghost use Rattle.amr_tables.specs.Numbered.{shown, has_place, next_number, number_of, KeepsPlaces, GetsPlace, GetsNumber, IsValueOf, IsNumber, IsMarkOf, IsSetAt, EntersAt, SamePlaces, SameEntered, NoneEntered, IsNumbering, key_at};
 
 use crate::marks::Marks;
 use crate::numbers::Numbers;
@@ -62,7 +62,6 @@ impl<K: Key + Drop, V: Drop> Keyed<K, V> {
         ensures shown { shown K.cmp result ≡ map.empty }
         ensures entered { NoneEntered K.cmp result }
         ensures keys { result.numbers ≡ [] }
-        ensures enough { HasPlaces K.cmp result }
     {
         Keyed {
             numbers: Numbers::new(alloc),
@@ -164,7 +163,6 @@ impl<K: Key + Drop, V: Drop> Keyed<K, V> {
         ensures places { KeepsPlaces K.cmp self.old self.new }
         ensures shown { shown K.cmp self.new ≡ shown K.cmp self.old }
         ensures entered { SameEntered K.cmp self.old self.new }
-        ensures keys { GrowsBy K.cmp (places_for K.cmp self.old key) self.old self.new }
         ensures no_other { OnOk result (GetsPlace K.cmp self.old self.new key) }
         ensures numbers { IsTrue (has_place K.cmp self.old key)
             → self.new.numbers ≡ self.old.numbers }
@@ -192,7 +190,6 @@ impl<K: Key + Drop, V: Drop> Keyed<K, V> {
         ensures places { SamePlaces K.cmp self.old self.new }
         ensures entered { SameEntered K.cmp self.old self.new }
         ensures keys { self.new.numbers ≡ self.old.numbers }
-        ensures enough { HasPlaces K.cmp self.new }
     {
         match self.numbers.get(key) {
             Some(number) => self.slots.displace(number, value),
@@ -211,7 +208,6 @@ impl<K: Key + Drop, V: Drop> Keyed<K, V> {
         ensures places { SamePlaces K.cmp self.old self.new }
         ensures entered { EntersAt K.cmp self.old number self.new }
         ensures keys { self.new.numbers ≡ self.old.numbers }
-        ensures enough { HasPlaces K.cmp self.new }
     {
         let was_entered = self.entered.is_marked(number);
         self.entered.mark(number);
@@ -227,7 +223,6 @@ impl<K: Key + Drop, V: Drop> Keyed<K, V> {
         ensures places { SamePlaces K.cmp self.old self.new }
         ensures entered { SameEntered K.cmp self.old self.new }
         ensures keys { self.new.numbers ≡ self.old.numbers }
-        ensures enough { HasPlaces K.cmp self.new }
     {
         self.slots.displace(number, value)
     }

@@ -419,8 +419,8 @@ impl SilenceTable {
     }
 }
 
-/// Notes that a silence changes. Forgets all that is known of label sets if there have
-/// been many changes, or if there is no room for one more. It takes no memory.
+/// Notes that a silence changes. Forgets all that is known of label sets if there have been many
+/// changes, or if there is no room for one more. It takes no memory.
 fn note_change(
     alloc: Global,
     known: &mut Vec<KnownPeriods>,

@@ -1,7 +1,8 @@
 //! The state of the replayed instance and its journal. The engine changes the state only through
 //! `Store`, which enters for each change the one that leads back into the open record, so that an
-//! event can be undone. It decides nothing about alerts, groups or silences, but it asks the dedup check of
-//! `amr_rules` whether an entry of the notification log is due, since it finds the former entry.
+//! event can be undone. It decides nothing about alerts, groups or silences, but it asks the dedup
+//! check of `amr_rules` whether an entry of the notification log is due, since it finds the former
+//! entry.
 ghost use Rattle.std.specs.Prelude.{◌≡◌, ◌≤◌, ◌<◌, ◌+◌, ◌++◌, ◌∷◌, ◌==◌, [], ℕ, Option, Some, None, length, OnOk, IfOk, IfSome};
 ghost use Rattle.std.specs.Prelude.{if◌then◌else◌, is_some, option_map, slice_get};
 ghost use Rattle.std.specs.Ordering.{nat_cmp};

@@ -1,10 +1,10 @@
 //! The representation of the state: the clock, the tables and the notifications, with the marks of
 //! what the open record has entries for. `Store` owns it; `displace` is the one way to change it.
-ghost use Rattle.std.specs.Prelude.{◌≡◌, Some, IsTrue, IfOk};
+ghost use Rattle.std.specs.Prelude.{◌≡◌, Some, IsTrue, IfOk, not};
 ghost use Rattle.amr_tables.specs.Numbered.{shown, has_place, number_of, KeepsPlaces, SameEntered};
 ghost use Rattle.amr_engine.specs.State.State.{log_key_cmp};
 ghost use Rattle.amr_engine.specs.State.Records.{changed, present};
-ghost use Rattle.amr_engine.specs.State.Fitting.{FitsOne};
+ghost use Rattle.amr_engine.specs.State.Fitting.{FitsOne, is_config};
 ghost use Rattle.amr_engine.specs.State.Stored.{shown_by, SameValues, MorePlaces, IsSound, IsPlaceOf, IsUnmarked, NoNewMark, NewMarkAt, is_marked_at};
 
 use crate::indexes::SilenceTable;
@@ -69,13 +69,15 @@ impl Tables {
     }
 
     /// Makes a change, given the number of its place, and marks the place. Returns the change that
-    /// leads back, and whether the place was marked before. It takes no memory.
+    /// leads back, and whether the place was marked before. The configuration has no mark. It takes
+    /// no memory.
     pub(crate) fn displace(&mut self, number: usize, change: Change) -> (Change, bool)
         requires number { IsPlaceOf self.old change number }
         requires fits { FitsOne (shown_by self.old) change }
         ensures state { shown_by self.new ≡ changed (shown_by self.old) change }
         ensures back { result.0 ≡ present (shown_by self.old) change }
         ensures was_marked { result.1 ≡ is_marked_at self.old change }
+        ensures marked { is_marked_at self.new change ≡ not (is_config change) }
         ensures places { MorePlaces self.old self.new }
         ensures marks { (place : Change)
             → NewMarkAt (present (shown_by self.old) change) self.old self.new place }

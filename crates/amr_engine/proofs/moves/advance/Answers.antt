@@ -4,7 +4,7 @@ use Rattle.amr_engine.specs.Moves.{advance, counted_run}
 use Rattle.amr_engine.specs.Weight.{first_weight}
 use Rattle.amr_engine.proofs.Growing.{none_spent, spent}
 use Rattle.amr_engine.proofs.Cascade.{plus_moves, stops, is_over, goes_on, begins, no_value, some_value, limit_is}
-use Rattle.amr_engine.proofs.MovesNoted.{known_move, note_move, one_more}
+use Rattle.amr_engine.proofs.MovesNoted.{known_move, note_move, noted_or_not, one_more}
 use Rattle.amr_engine.proofs.moves.advance.Goals as goal
 
 -- too many moves are found to be due
@@ -48,7 +48,7 @@ loop-made-preserved c =
       memory = made.memory;
       here = one_more c.loop-made.made c.args.store.now.state c.loop-made.store.state c.make.new.store.state c.args.at c.in-Some.due c.loop-made.invariant.here next made.ok;
       quiet = note_move c.loop-made.quiet_moves c.note.new.self c.loop-made.made c.in_ok-is_quiet-in-Some.is_quiet c.args.store.now.state c.loop-made.store.state c.args.at c.in-Some.due
-          c.loop-made.invariant.here c.loop-made.invariant.quiet next made.quiet c.note.ensures;
+          c.loop-made.invariant.here c.loop-made.invariant.quiet next made.quiet (noted_or_not c.in-Some._forgotten _ _ c.note.ensures.ok c.note.ensures.err);
     }
 
 pub returns-then-is_some-clause-ok : goal.returns-then-is_some-clause-ok

@@ -5,7 +5,7 @@ use Rattle.std.proofs.lemmas.Bool.Decides.{nat_tests}
 use Rattle.amr_labels.specs.Map as map
 use Rattle.amr_tables.specs.Places.{value_at}
 use Rattle.amr_tables.specs.Numbered.{IsNumbering, shown, has_place, is_entered}
-use Rattle.amr_tables.proofs.Numbering.{get-shown, displaced_is, length-slice_set, shown-displaced, enough_places}
+use Rattle.amr_tables.proofs.Numbering.{get-shown, displaced_is, length-slice_set, shown-displaced}
 use Rattle.amr_tables.proofs.keyed.Keyed.displace.Goals as goal
 
 pub displace-requires : goal.displace-requires
@@ -57,6 +57,3 @@ invariant_of-self g c =
           (displaced_is g.met.K.Ord.total (record { numbers = t.numbers.list; cells = t.slots; marks = t.entered }) c.in-Some.number c.args.value c.self.invariant.0),
       c.self.invariant.1 ∙ sym (ap length c.displace.ensures.table ∙ length-slice_set t.slots c.in-Some.number c.args.value),
     )
-
-pub returns-clause-enough : goal.returns-clause-enough
-returns-clause-enough g c = enough_places g.K.Ord.cmp _ (invariant_of-self g c).0

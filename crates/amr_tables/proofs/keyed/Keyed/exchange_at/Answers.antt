@@ -8,7 +8,7 @@ use Rattle.amr_labels.specs.Map as map
 use Rattle.amr_tables.specs.Places.{value_at}
 use Rattle.amr_tables.specs.Marked.{is_marked}
 use Rattle.amr_tables.specs.Numbered.{IsNumbering, shown, number_of, has_place, is_entered}
-use Rattle.amr_tables.proofs.Numbering.{get-shown, displaced_is, length-slice_set, shown-displaced, enough_places, marked_is, entered-marked}
+use Rattle.amr_tables.proofs.Numbering.{get-shown, displaced_is, length-slice_set, shown-displaced, marked_is, entered-marked}
 use Rattle.amr_tables.proofs.keyed.Keyed.exchange_at.Goals as goal
 
 pub is_marked-was_entered-requires : goal.is_marked-was_entered-requires
@@ -89,6 +89,3 @@ invariant_of-self g c =
           (marked_is g.met.K.Ord.total (record { numbers = t.numbers.list; cells = t.slots; marks = t.entered }) c.args.number (c.self.invariant.0.within key c.args.number at) c.self.invariant.0))),
       c.self.invariant.1 ∙ sym (ap length c.displace.ensures.table ∙ length-slice_set t.slots c.args.number c.args.value),
     )
-
-pub returns-clause-enough : goal.returns-clause-enough
-returns-clause-enough g c = enough_places g.K.Ord.cmp _ (invariant_of-self g c).0

@@ -4,8 +4,8 @@ use Rattle.std.specs.Ordering.{eq_by_cmp}
 use Rattle.std.specs.FinMap.{find, put}
 use Rattle.std.specs.FinMap.Entries.{find-put}
 use Rattle.std.proofs.lemmas.Bool.Decides.{nat_tests}
-use Rattle.amr_tables.specs.Numbered.{Numbered, shown, has_place, is_entered, number_of, SamePlaces, GrowsBy, places_for}
-use Rattle.amr_tables.proofs.Numbering.{HasRoom, grown_table, added_table, length-added, none_of, grown_by_one, placed_again, placed-added}
+use Rattle.amr_tables.specs.Numbered.{Numbered, shown, has_place, is_entered, number_of, SamePlaces}
+use Rattle.amr_tables.proofs.Numbering.{HasRoom, grown_table, added_table, length-added, none_of, placed_again, placed-added}
 use Rattle.amr_tables.proofs.keyed.Keyed.make_place.Goals as goal
 
 pub returns-then-contains_key-clause-made : goal.returns-then-contains_key-clause-made
@@ -193,15 +193,6 @@ returns-clause-places g c =
     let is : c.insert.new.self.list ≡ put R c.args.key (length t.cells) t.numbers = c.insert.ensures ∙ ap (λ (es : List (g.row.K.Denot × ℕ)). put R c.args.key (length es) es) c.reserve.ensures.list ∙ ap (λ n. put R c.args.key n t.numbers) c.self.invariant.1 in
     let added = added_table R g.met.K.Ord.total t c.args.key c.reserve.new.self.list c.insert.new.self.list c.make_place.new.self c.add_place.new.self room none lt is in
     λ other p. added.0.placed other (subst (λ v. IsTrue (has_place R v other)) (sym c.self.view_is) p)
-
-pub returns-clause-keys : goal.returns-clause-keys
-returns-clause-keys g c =
-    let R = g.K.Ord.cmp in
-    let t : Numbered g.row.K.Denot g.row.V.Denot = record { numbers = c.self.inside.numbers.list; cells = c.self.inside.slots; marks = c.self.inside.entered } in
-    let u : Numbered g.row.K.Denot g.row.V.Denot = record { numbers = c.insert.new.self.list; cells = c.make_place.new.self; marks = c.add_place.new.self } in
-    let none : find R c.args.key t.numbers ≡ None = none_of _ (sym c.contains_key.ensures ∙ c.if-contains_key.false) in
-    let is : c.insert.new.self.list ≡ put R c.args.key (length t.numbers) t.numbers = c.insert.ensures ∙ ap (λ (es : List (g.row.K.Denot × ℕ)). put R c.args.key (length es) es) c.reserve.ensures.list in
-    subst (λ v. GrowsBy R (places_for R v c.args.key) v u) c.self.view_is (grown_by_one R g.met.K.Ord.total t u c.args.key (length t.numbers) c.self.invariant.0 none is)
 
 pub returns-then-contains_key-clause-no_other : goal.returns-then-contains_key-clause-no_other
 unfolding has_place

@@ -1,6 +1,6 @@
-use Rattle.std.proofs.Common.{sym, ap, subst, ◌∙◌}
-use Rattle.amr_tables.specs.Numbered.{shown, is_entered, HasPlaces}
-use Rattle.amr_tables.proofs.Numbering.{shown-none, enough_none}
+use Rattle.std.proofs.Common.{ap, ◌∙◌}
+use Rattle.amr_tables.specs.Numbered.{shown, is_entered}
+use Rattle.amr_tables.proofs.Numbering.{shown-none}
 use Rattle.amr_tables.proofs.keyed.Keyed.new.Goals as goal
 
 pub returns-clause-shown : goal.returns-clause-shown
@@ -11,7 +11,3 @@ pub returns-clause-entered : goal.returns-clause-entered
 unfolding is_entered
 returns-clause-entered g c = λ key.
     ap (λ n. is_entered g.K.Ord.cmp (record { numbers = n; cells = c.new-2.result; marks = c.new-3.result }) key) c.new.ensures
-
-pub returns-clause-enough : goal.returns-clause-enough
-returns-clause-enough g c =
-    subst (λ n. HasPlaces g.K.Ord.cmp (record { numbers = n; cells = c.new-2.result; marks = c.new-3.result })) (sym c.new.ensures) (enough_none g.K.Ord.cmp _ _)

@@ -1,5 +1,14 @@
-use Rattle.std.proofs.Common.{subst}
-use Rattle.amr_engine.specs.State.Stored.{IsPlaceOf}
+use Rattle.std.proofs.Common.{◌≡◌, ℕ, true, Some, subst, sym, ap, ◌∙◌, not}
+use Rattle.std.specs.Prelude.{◌||◌}
+use Rattle.std.specs.declared.cmp.Ordering.{Ordering}
+use Rattle.std.specs.Ordering.{is_eq}
+use Rattle.std.specs.Cmp.{IsTotalOrder, tied_itself}
+use Rattle.amr_labels.specs.Labels.{label_set_cmp, label_set_cmp_total}
+use Rattle.amr_tables.specs.Numbered.{Numbered, number_of, is_entered, EntersAt}
+use Rattle.amr_engine.specs.declared.state.tables.Tables.{Tables}
+use Rattle.amr_engine.specs.State.State.{member_on_route, route_labels_cmp, route_labels_cmp_total, log_key_cmp, log_key_cmp_total}
+use Rattle.amr_engine.specs.State.Fitting.{is_config}
+use Rattle.amr_engine.specs.State.Stored.{IsPlaceOf, is_marked_at}
 use Rattle.amr_engine.proofs.state.tables.Tables.displace.Goals as goal
 
 pub displace_alert-was-requires : goal.displace_alert-was-requires
@@ -10,3 +19,35 @@ displace_timer-was-requires c = (c.in-OfTimer.group, subst (λ e. IsPlaceOf c.ar
 
 pub exchange_at-was-requires-in-OfLog : goal.exchange_at-was-requires-in-OfLog
 exchange_at-was-requires-in-OfLog c = (c.in-OfLog.key, subst (λ e. IsPlaceOf c.args.self.now e c.args.number) c.in-OfLog.is c.requires.number)
+
+-- the place of a key whose number was entered is marked
+marked_now : {K V : Type 0} (R : K → K → Ordering) → IsTotalOrder R → (old changed : Numbered K V) (n : ℕ) (key : K) → EntersAt R old n changed → number_of R old key ≡ Some n → is_entered R changed key ≡ true
+marked_now R o old changed n key enters at = enters key at key ∙ ap (λ r. is_eq r || is_entered R old key) (tied_itself o key)
+
+pub returns-in-OfAlert-clause-marked : goal.returns-in-OfAlert-clause-marked
+returns-in-OfAlert-clause-marked c =
+    let after : Tables = record c.args.self.now { timetable = c.displace_alert-was.new.self } in
+    subst (λ e. is_marked_at after e ≡ not (is_config e)) (sym c.in-OfAlert.is)
+    (marked_now label_set_cmp label_set_cmp_total c.args.self.now.timetable.alerts c.displace_alert-was.new.self.alerts c.args.number c.in-OfAlert.labels c.displace_alert-was.ensures.entered
+    (subst (λ e. IsPlaceOf c.args.self.now e c.args.number) c.in-OfAlert.is c.requires.number))
+
+pub returns-in-OfMember-clause-marked : goal.returns-in-OfMember-clause-marked
+returns-in-OfMember-clause-marked c =
+    let after : Tables = record c.args.self.now { roster = c.displace_member-was.new.self } in
+    subst (λ e. is_marked_at after e ≡ not (is_config e)) (sym c.in-OfMember.is)
+    (marked_now route_labels_cmp route_labels_cmp_total c.args.self.now.roster.placements c.displace_member-was.new.self.placements c.args.number (member_on_route c.in-OfMember.member) c.displace_member-was.ensures.entered
+    (subst (λ e. IsPlaceOf c.args.self.now e c.args.number) c.in-OfMember.is c.requires.number).0)
+
+pub returns-in-OfTimer-clause-marked : goal.returns-in-OfTimer-clause-marked
+returns-in-OfTimer-clause-marked c =
+    let after : Tables = record c.args.self.now { timetable = c.displace_timer-was.new.self } in
+    subst (λ e. is_marked_at after e ≡ not (is_config e)) (sym c.in-OfTimer.is)
+    (marked_now route_labels_cmp route_labels_cmp_total c.args.self.now.timetable.timers c.displace_timer-was.new.self.timers c.args.number c.in-OfTimer.group c.displace_timer-was.ensures.entered
+    (subst (λ e. IsPlaceOf c.args.self.now e c.args.number) c.in-OfTimer.is c.requires.number))
+
+pub returns-in-OfLog-clause-marked : goal.returns-in-OfLog-clause-marked
+returns-in-OfLog-clause-marked c =
+    let after : Tables = record c.args.self.now { log = c.exchange_at-was-in-OfLog.new.self } in
+    subst (λ e. is_marked_at after e ≡ not (is_config e)) (sym c.in-OfLog.is)
+    (marked_now log_key_cmp log_key_cmp_total c.args.self.now.log c.exchange_at-was-in-OfLog.new.self c.args.number c.in-OfLog.key c.exchange_at-was-in-OfLog.ensures.entered
+    (subst (λ e. IsPlaceOf c.args.self.now e c.args.number) c.in-OfLog.is c.requires.number))
