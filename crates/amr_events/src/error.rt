@@ -5,31 +5,19 @@ ghost use Rattle.amr_events.specs.Faults.{name_of_fault};
 
 use amr_time::BadTime;
 use std::alloc::{AllocError, AllocFailed};
-use std::error::Error;
-use std::fmt;
+use thiserror::Error;
 
 /// The first fault of a script. Lines are counted from 1, blank ones too.
-#[derive(Clone, Copy, Debug, PartialEq, Eq)]
+#[derive(Clone, Copy, Debug, PartialEq, Eq, Error)]
 pub enum Fault {
-    /// The line isn't an event.
+    #[error("line {line} isn't an event")]
     BadLine { line: u64 },
     /// The line has more than 1,048,576 bytes before its end.
+    #[error("line {line} is too long")]
     LineTooLong { line: u64 },
-    /// There is an event after 1,000,000 others.
+    #[error("there are more than 1,000,000 events")]
     TooManyEvents,
 }
-
-impl fmt::Display for Fault {
-    fn fmt<W: fmt::Write>(&self, f: &mut fmt::Formatter<W>) -> fmt::Result {
-        match self {
-            Fault::BadLine { line } => write!(f, "line {line} isn't an event"),
-            Fault::LineTooLong { line } => write!(f, "line {line} is too long"),
-            Fault::TooManyEvents => f.write_str("there are more than 1,000,000 events"),
-        }
-    }
-}
-
-impl Error for Fault {}
 
 impl Fault {
     /// Returns the number and the name that are printed.
@@ -45,23 +33,13 @@ impl Fault {
 }
 
 /// Why a script isn't read.
-#[derive(Debug, Drop)]
+#[derive(Debug, Drop, Error)]
 pub enum ScriptError {
-    /// An allocation failed.
+    #[error("out of memory")]
     Memory,
+    #[error("{0}")]
     Refused(Fault),
 }
-
-impl fmt::Display for ScriptError {
-    fn fmt<W: fmt::Write>(&self, f: &mut fmt::Formatter<W>) -> fmt::Result {
-        match self {
-            ScriptError::Memory => f.write_str("out of memory"),
-            ScriptError::Refused(fault) => write!(f, "{fault}"),
-        }
-    }
-}
-
-impl Error for ScriptError {}
 
 impl From<AllocError> for ScriptError {
     ghost use Rattle.std.specs.Prelude.{◌≡◌};
@@ -86,24 +64,13 @@ impl<T: Drop> From<AllocFailed<T>> for ScriptError {
 }
 
 /// Why a line, or a value in it, isn't read.
-#[derive(Debug, Drop)]
+#[derive(Debug, Drop, Error)]
 pub enum LineError {
-    /// An allocation failed.
+    #[error("out of memory")]
     Memory,
-    /// The text doesn't have the shape that is wanted.
+    #[error("the text doesn't have the shape that is wanted")]
     Faulty,
 }
-
-impl fmt::Display for LineError {
-    fn fmt<W: fmt::Write>(&self, f: &mut fmt::Formatter<W>) -> fmt::Result {
-        f.write_str(match self {
-            LineError::Memory => "out of memory",
-            LineError::Faulty => "the text doesn't have the shape that is wanted",
-        })
-    }
-}
-
-impl Error for LineError {}
 
 impl From<AllocError> for LineError {
     ghost use Rattle.std.specs.Prelude.{◌≡◌};

@@ -21,44 +21,24 @@ use amr_events::{Script, Version};
 use amr_labels::Labels;
 use amr_time::Moment;
 use std::alloc::{AllocError, Global};
-use std::error::Error;
-use std::fmt;
 use std::marker::Model;
+use thiserror::Error;
 
 /// Why a call changed nothing.
-#[derive(Clone, Copy, Debug, PartialEq, Eq)]
+#[derive(Clone, Copy, Debug, PartialEq, Eq, Error)]
 pub enum SessionError {
-    /// An allocation failed.
+    #[error("out of memory")]
     Memory,
-    /// The cursor is at the end of the script.
+    #[error("the cursor is at the end of the script")]
     AtEnd,
-    /// The script has fewer events than that.
+    #[error("the script has fewer events")]
     OutOfRange,
 }
 
-impl fmt::Display for SessionError {
-    fn fmt<W: fmt::Write>(&self, f: &mut fmt::Formatter<W>) -> fmt::Result {
-        f.write_str(match self {
-            SessionError::Memory => "out of memory",
-            SessionError::AtEnd => "the cursor is at the end of the script",
-            SessionError::OutOfRange => "the script has fewer events",
-        })
-    }
-}
-
-impl Error for SessionError {}
-
 /// The cursor is at the start of the script, so there is no event to undo.
-#[derive(Clone, Copy, Debug, PartialEq, Eq)]
+#[derive(Clone, Copy, Debug, PartialEq, Eq, Error)]
+#[error("the cursor is at the start of the script")]
 pub struct AtStart;
-
-impl fmt::Display for AtStart {
-    fn fmt<W: fmt::Write>(&self, f: &mut fmt::Formatter<W>) -> fmt::Result {
-        f.write_str("the cursor is at the start of the script")
-    }
-}
-
-impl Error for AtStart {}
 
 impl From<AllocError> for SessionError {
     ghost use Rattle.std.specs.Prelude.{◌≡◌};

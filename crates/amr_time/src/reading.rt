@@ -10,20 +10,12 @@ ghost use Rattle.amr_time.specs.MomentRead.{mark_at, two_at, four_at, day_at, in
 use crate::digits::{capped, digit_count, is_digit};
 use crate::moments::Moment;
 use jiff_core::civil::Date;
-use std::error::Error;
-use std::fmt;
+use thiserror::Error;
 
 /// The text isn't a moment.
-#[derive(Clone, Copy, Debug, PartialEq, Eq)]
+#[derive(Clone, Copy, Debug, PartialEq, Eq, Error)]
+#[error("the text isn't a moment of RFC 3339")]
 pub struct BadTime;
-
-impl fmt::Display for BadTime {
-    fn fmt<W: fmt::Write>(&self, f: &mut fmt::Formatter<W>) -> fmt::Result {
-        f.write_str("the text isn't a moment of RFC 3339")
-    }
-}
-
-impl Error for BadTime {}
 
 /// Reads a moment: a date and a time of day as in RFC 3339, in the years 1970 to 8999, with at most
 /// nine digits of a fraction.

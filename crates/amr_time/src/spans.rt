@@ -7,9 +7,8 @@ ghost use Rattle.amr_time.specs.SpanText.{IsSpanText};
 ghost use Rattle.amr_time.specs.SpanRead.{word_of, parts_at, span_of, SameOrTooLong};
 
 use crate::digits::{capped, digit_count, is_digit};
-use std::error::Error;
-use std::fmt;
 use std::marker::Model;
+use thiserror::Error;
 
 /// A duration in whole nanoseconds, at most ten years of 365 days.
 #[derive(Clone, Copy, PartialEq, Eq, PartialOrd, Ord)]
@@ -108,16 +107,9 @@ impl Span {
 }
 
 /// The text isn't a duration.
-#[derive(Clone, Copy, Debug, PartialEq, Eq)]
+#[derive(Clone, Copy, Debug, PartialEq, Eq, Error)]
+#[error("the text isn't a duration")]
 pub struct BadDuration;
-
-impl fmt::Display for BadDuration {
-    fn fmt<W: fmt::Write>(&self, f: &mut fmt::Formatter<W>) -> fmt::Result {
-        f.write_str("the text isn't a duration")
-    }
-}
-
-impl Error for BadDuration {}
 
 /// A unit of duration: its letters, and its length in nanoseconds.
 #[derive(Clone, Copy)]

@@ -12,35 +12,21 @@ use crate::matcher::matchers::Matchers;
 use crate::matcher::pattern::MatcherError;
 use crate::matcher::patterns::Patterns;
 use std::alloc::{AllocError, AllocFailed, Global};
-use std::error::Error;
-use std::fmt;
+use thiserror::Error;
 
 /// Why a text isn't a list of matchers.
-#[derive(Debug, Drop)]
+#[derive(Debug, Drop, Error)]
 pub enum ParseError {
-    /// An allocation failed.
+    #[error("out of memory")]
     Memory,
     /// The text isn't a matcher text. `at` is the byte offset of the first character that no valid
     /// matcher list could have there.
+    #[error("no list of matchers continues at byte {at} as the text does")]
     BadMatcher { at: usize },
     /// `regex` refuses the value of a `=~` or `!~` as a pattern.
+    #[error("a pattern is refused")]
     BadPattern,
 }
-
-impl fmt::Display for ParseError {
-    fn fmt<W: fmt::Write>(&self, f: &mut fmt::Formatter<W>) -> fmt::Result {
-        match self {
-            ParseError::Memory => f.write_str("out of memory"),
-            ParseError::BadMatcher { at } => write!(
-                f,
-                "no list of matchers continues at byte {at} as the text does"
-            ),
-            ParseError::BadPattern => f.write_str("a pattern is refused"),
-        }
-    }
-}
-
-impl Error for ParseError {}
 
 impl From<AllocError> for ParseError {
     ghost use Rattle.std.specs.Prelude.{◌≡◌};

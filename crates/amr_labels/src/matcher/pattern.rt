@@ -8,30 +8,20 @@ ghost use Rattle.amr_labels.specs.declared.matcher.pattern.MatcherError.TheVaria
 
 use crate::matcher::search::{Built, Search};
 use crate::{Labels, Text, spread_of};
-use regex::{Error, RegexBuilder};
+use regex::RegexBuilder;
 use std::alloc::{AllocError, AllocFailed, Global};
 use std::marker::Model;
-use std::{error, fmt};
+use thiserror::Error;
 
 /// Why a matcher wasn't made.
-#[derive(Debug, Drop)]
+#[derive(Debug, Drop, Error)]
 pub enum MatcherError {
-    /// An allocation failed.
+    #[error("out of memory")]
     Memory,
     /// `regex` refuses the value as a pattern.
+    #[error("the pattern is refused")]
     BadPattern,
 }
-
-impl fmt::Display for MatcherError {
-    fn fmt<W: fmt::Write>(&self, f: &mut fmt::Formatter<W>) -> fmt::Result {
-        f.write_str(match self {
-            MatcherError::Memory => "out of memory",
-            MatcherError::BadPattern => "the pattern is refused",
-        })
-    }
-}
-
-impl error::Error for MatcherError {}
 
 impl From<AllocError> for MatcherError {
     ghost use Rattle.std.specs.Prelude.{◌≡◌};
@@ -98,8 +88,8 @@ impl Pattern {
                 built: Built::new(alloc, regex, most)?,
                 spread: spread_of(text.as_str()),
             })),
-            Err(Error::CompiledTooBig) => Ok(None),
-            Err(Error::OutOfMemory) => Err(MatcherError::Memory),
+            Err(regex::Error::CompiledTooBig) => Ok(None),
+            Err(regex::Error::OutOfMemory) => Err(MatcherError::Memory),
             Err(_) => Err(MatcherError::BadPattern),
         }
     }

@@ -13,9 +13,8 @@ use amr_events::{LineError, ScriptError, Version, read_event, read_labels};
 use amr_labels::Labels;
 use amr_time::{Moment, read_moment};
 use std::alloc::Global;
-use std::error::Error;
-use std::fmt;
 use std::str::from_utf8;
+use thiserror::Error;
 
 /// A command that moves the cursor.
 #[derive(Drop)]
@@ -107,18 +106,11 @@ pub enum ParsedLine {
 }
 
 /// Memory ran out for the argument of this word.
-#[derive(Clone, Copy, Debug, PartialEq, Eq)]
+#[derive(Clone, Copy, Debug, PartialEq, Eq, Error)]
+#[error("memory ran out for the word's argument")]
 pub struct Unread {
     pub word: Word,
 }
-
-impl fmt::Display for Unread {
-    fn fmt<W: fmt::Write>(&self, f: &mut fmt::Formatter<W>) -> fmt::Result {
-        f.write_str("memory ran out for the word's argument")
-    }
-}
-
-impl Error for Unread {}
 
 /// The words that are commands.
 const KNOWN_WORDS: [Word; 12] = [

@@ -14,30 +14,20 @@ use crate::commands::input::take_bytes;
 use crate::lines::{Inlet, Outlet, WriteFailed};
 use amr_replay::Session;
 use std::alloc::Global;
-use std::error::Error;
-use std::fmt;
 use std::io::{Read, Write};
+use thiserror::Error;
 
 /// How many bytes are asked for at once.
 const CHUNK: usize = 4096;
 
 /// Which end failed.
-#[derive(Clone, Copy, Debug, PartialEq, Eq)]
+#[derive(Clone, Copy, Debug, PartialEq, Eq, Error)]
 pub enum ConversationError {
+    #[error("cannot read commands")]
     Reading,
+    #[error("cannot write")]
     Writing,
 }
-
-impl fmt::Display for ConversationError {
-    fn fmt<W: fmt::Write>(&self, f: &mut fmt::Formatter<W>) -> fmt::Result {
-        f.write_str(match self {
-            ConversationError::Reading => "cannot read commands",
-            ConversationError::Writing => "cannot write",
-        })
-    }
-}
-
-impl Error for ConversationError {}
 
 /// Whether there may be more to read.
 #[derive(Clone, Copy, Debug, PartialEq, Eq)]

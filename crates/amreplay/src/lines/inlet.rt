@@ -5,9 +5,8 @@ ghost use Rattle.std.specs.Io.{ReadsAtMost};
 ghost use Rattle.std.specs.Io.KnownBytes.{ReadConsumes};
 ghost use Rattle.amreplay.specs.Lines.Inlet.{CountsCall};
 
-use std::error::Error;
-use std::fmt;
 use std::io::Read;
+use thiserror::Error;
 
 /// The number of the read that isn't made any more, 2^40. It bounds the reads, so that reading
 /// always ends.
@@ -15,16 +14,9 @@ const LAST_CALL: u64 = 1_099_511_627_776;
 
 /// Reading ended before the end of the bytes: the reader failed, or it was called as often as it
 /// may be.
-#[derive(Clone, Copy, Debug, PartialEq, Eq)]
+#[derive(Clone, Copy, Debug, PartialEq, Eq, Error)]
+#[error("reading ended before the end of the bytes")]
 pub struct ReadFailed;
-
-impl fmt::Display for ReadFailed {
-    fn fmt<W: fmt::Write>(&self, f: &mut fmt::Formatter<W>) -> fmt::Result {
-        f.write_str("reading ended before the end of the bytes")
-    }
-}
-
-impl Error for ReadFailed {}
 
 /// A reader, the number of calls, and whether one failed.
 #[derive(Drop)]

@@ -6,21 +6,13 @@ ghost use Rattle.std.specs.Io.KnownBytes.{WriteAppends, Keeps};
 ghost use Rattle.std.specs.Io.{WritesAtMost};
 ghost use Rattle.amreplay.specs.Lines.Outlet.{WritesText, FailsAt};
 
-use std::error::Error;
-use std::fmt;
 use std::io::Write;
+use thiserror::Error;
 
 /// The writer failed after a prefix of the text.
-#[derive(Clone, Copy, Debug, PartialEq, Eq)]
+#[derive(Clone, Copy, Debug, PartialEq, Eq, Error)]
+#[error("writing failed")]
 pub struct WriteFailed;
-
-impl fmt::Display for WriteFailed {
-    fn fmt<W: fmt::Write>(&self, f: &mut fmt::Formatter<W>) -> fmt::Result {
-        f.write_str("writing failed")
-    }
-}
-
-impl Error for WriteFailed {}
 
 /// A writer, and whether it failed.
 #[derive(Drop)]

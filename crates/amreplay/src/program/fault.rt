@@ -10,42 +10,32 @@ use amr_config::read::{ConfigError, Refusal};
 use amr_events::{Fault as ScriptFault, ScriptError};
 use itoa::Buffer;
 use std::alloc::AllocError;
-use std::error::Error;
-use std::fmt;
 use std::io::Write;
+use thiserror::Error;
 
 /// A reason to stop the program.
-#[derive(Debug, Drop)]
+#[derive(Debug, Drop, Error)]
 pub enum Fault {
     /// The configuration is refused.
+    #[error("config: {0}")]
     Config(Refusal),
     /// The script is refused.
+    #[error("script: {0}")]
     Script(ScriptFault),
+    #[error("cannot read config")]
     CannotReadConfig,
+    #[error("cannot read script")]
     CannotReadScript,
+    #[error("cannot read commands")]
     CannotReadCommands,
+    #[error("cannot write")]
     CannotWrite,
+    #[error("out of memory")]
     Memory,
     /// The arguments aren't a command line of the program.
+    #[error("usage")]
     Usage,
 }
-
-impl fmt::Display for Fault {
-    fn fmt<W: fmt::Write>(&self, f: &mut fmt::Formatter<W>) -> fmt::Result {
-        match self {
-            Fault::Config(refusal) => write!(f, "config: {refusal}"),
-            Fault::Script(fault) => write!(f, "script: {fault}"),
-            Fault::CannotReadConfig => f.write_str("cannot read config"),
-            Fault::CannotReadScript => f.write_str("cannot read script"),
-            Fault::CannotReadCommands => f.write_str("cannot read commands"),
-            Fault::CannotWrite => f.write_str("cannot write"),
-            Fault::Memory => f.write_str("out of memory"),
-            Fault::Usage => f.write_str("usage"),
-        }
-    }
-}
-
-impl Error for Fault {}
 
 impl From<AllocError> for Fault {
     ghost use Rattle.std.specs.Prelude.{◌≡◌};

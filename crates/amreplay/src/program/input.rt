@@ -9,9 +9,8 @@ ghost use Rattle.amr_events.specs.Scripts.{is_space as is_space_byte, longest_li
 use crate::lines::{Inlet, ReadFailed};
 use crate::program::load::LONGEST_CONFIG;
 use std::alloc::{AllocError, Global};
-use std::error::Error;
-use std::fmt;
 use std::io::Read;
+use thiserror::Error;
 
 /// How many bytes are asked for at once.
 const CHUNK: usize = 8192;
@@ -23,22 +22,13 @@ const LONGEST_LINE: usize = 1_048_576;
 const MOST_FULL_LINES: usize = 1_000_001;
 
 /// Why a file couldn't be read.
-#[derive(Clone, Copy, Debug, PartialEq, Eq)]
+#[derive(Clone, Copy, Debug, PartialEq, Eq, Error)]
 pub enum InputError {
+    #[error("out of memory")]
     Memory,
+    #[error("cannot read")]
     CannotRead,
 }
-
-impl fmt::Display for InputError {
-    fn fmt<W: fmt::Write>(&self, f: &mut fmt::Formatter<W>) -> fmt::Result {
-        f.write_str(match self {
-            InputError::Memory => "out of memory",
-            InputError::CannotRead => "cannot read",
-        })
-    }
-}
-
-impl Error for InputError {}
 
 impl From<AllocError> for InputError {
     ghost use Rattle.std.specs.Prelude.{◌≡◌};

@@ -16,28 +16,18 @@ use amr_engine::{Engine, Outcome};
 use amr_events::Script;
 use amr_events::actions::Event;
 use std::alloc::{AllocError, Global};
-use std::error::Error;
-use std::fmt;
 use std::io::Write;
 use std::mem::forget;
+use thiserror::Error;
 
 /// Why a run ended before its last line.
-#[derive(Debug, Drop)]
+#[derive(Debug, Drop, Error)]
 pub enum RunError {
+    #[error("out of memory")]
     Memory,
+    #[error("cannot write")]
     CannotWrite,
 }
-
-impl fmt::Display for RunError {
-    fn fmt<W: fmt::Write>(&self, f: &mut fmt::Formatter<W>) -> fmt::Result {
-        f.write_str(match self {
-            RunError::Memory => "out of memory",
-            RunError::CannotWrite => "cannot write",
-        })
-    }
-}
-
-impl Error for RunError {}
 
 impl From<AllocError> for RunError {
     ghost use Rattle.std.specs.Prelude.{◌≡◌};
