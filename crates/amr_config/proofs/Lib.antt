@@ -11,5 +11,5 @@ pub mod Remembered
 pub mod RuleNames
 pub mod Settling
 pub mod Sorting
-pub mod Spreads
+pub mod PathHashes
 pub mod ReadLemmas

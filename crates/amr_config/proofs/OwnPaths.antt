@@ -20,7 +20,7 @@ use Rattle.std.proofs.lemmas.Option.{slice_get-get_or}
 use Rattle.amr_labels.specs.Matcher.Matchers.{Matcher, matcher_cmp, matcher_cmp_total, matcher_cmp-IsAntisymmetric}
 use Rattle.amr_config.specs.declared.stated.route.Route.{Route}
 use Rattle.amr_config.specs.Stated.Config.{Config}
-use Rattle.amr_config.specs.Paths.{Path, path_spread, IsFirst, IsFirstLike, AreFirsts, AreOwn, AreFirstPlaces, IsAlone, AreAlone}
+use Rattle.amr_config.specs.Paths.{Path, path_hash, IsFirst, IsFirstLike, AreFirsts, AreOwn, AreFirstPlaces, IsAlone, AreAlone}
 use Rattle.amr_config.specs.Routing.{parent_of, line_within, line_of, path_of, sorted_matchers}
 use Rattle.amr_config.specs.declared.settings.Settings.{Settings}
 use Rattle.amr_config.specs.Settled.{settings_of, settled, AreParentsFirst}
@@ -112,7 +112,7 @@ module _ (config : Config) where
   -- a key that a path may have
   pub record IsSound (key : PathKey) : Type 0 where
     pub first : IfSome key.1.0 (IsFirst config)
-    pub spread : key.0 ≡ path_spread (path_of_key key)
+    pub hash_value : key.0 ≡ path_hash (path_of_key key)
 
   -- the key is that of route n
   pub record IsKeyOf (n : ℕ) (key : PathKey) : Type 0 where
@@ -153,8 +153,8 @@ module _ (config : Config) where
   same_key p q sound_p sound_q same =
       let parts = same_from_push (option_map_or (path_of config) p.1.0 []) (option_map_or (path_of config) q.1.0 []) p.1.1 q.1.1 same in
       let fronts = same_above p.1.0 q.1.0 sound_p.first sound_q.first parts.0 in
-      let spreads = sound_p.spread ∙ ap path_spread same ∙ sym sound_q.spread in
-      λ i. (spreads i, (fronts i, parts.1 i))
+      let hashes = sound_p.hash_value ∙ ap path_hash same ∙ sym sound_q.hash_value in
+      λ i. (hashes i, (fronts i, parts.1 i))
 
   pub firsts_more : (limit : ℕ) (firsts : List ℕ) (first : ℕ) → AreFirsts config limit firsts → IsFirstLike config limit first → AreFirsts config (limit + 1) (firsts ++ first ∷ [])
   firsts_more limit firsts first are is = record {
@@ -168,10 +168,10 @@ module _ (config : Config) where
 
   module _ (parents : AreParentsFirst config) (limit : ℕ) (route : Route) (here : slice_get config.routes limit ≡ Some route) (firsts : List ℕ) (are : AreFirsts config limit firsts) where
     abbrev key_under : Option ℕ → PathKey
-    key_under parent = (path_spread (path_of config limit), (option_and_then (slice_get firsts) parent, sorted_matchers route.matchers))
+    key_under parent = (path_hash (path_of config limit), (option_and_then (slice_get firsts) parent, sorted_matchers route.matchers))
 
-    is_key_at : (key : PathKey) → IfSome key.1.0 (IsFirst config) → key.0 ≡ path_spread (path_of config limit) → path_of_key key ≡ path_of config limit → IsKeyOf limit key
-    is_key_at key first spread path = record { sound = record { first = first; spread = spread ∙ ap path_spread (sym path) }; path = path }
+    is_key_at : (key : PathKey) → IfSome key.1.0 (IsFirst config) → key.0 ≡ path_hash (path_of config limit) → path_of_key key ≡ path_of config limit → IsKeyOf limit key
+    is_key_at key first hash_value path = record { sound = record { first = first; hash_value = hash_value ∙ ap path_hash (sym path) }; path = path }
 
     is_key_under : (parent : Option ℕ) → parent_of config limit ≡ parent → IsKeyOf limit (key_under parent)
     is_key_under None e = is_key_at (key_under None) tt refl (sym (path_root config parents limit route here e))
@@ -179,16 +179,16 @@ module _ (config : Config) where
         let less = parents limit parent e in
         let its = are.each parent less in
         let found = slice_get-get_or firsts parent 0 (omega (arith, less, are.all)) in
-        subst (λ (o : Option ℕ). IsKeyOf limit (path_spread (path_of config limit), (o, sorted_matchers route.matchers))) (sym found)
-        (is_key_at (path_spread (path_of config limit), (Some (get_or firsts parent 0), sorted_matchers route.matchers)) its.is_first refl
+        subst (λ (o : Option ℕ). IsKeyOf limit (path_hash (path_of config limit), (o, sorted_matchers route.matchers))) (sym found)
+        (is_key_at (path_hash (path_of config limit), (Some (get_or firsts parent 0), sorted_matchers route.matchers)) its.is_first refl
         (ap (λ (p : Path). p ++ sorted_matchers route.matchers ∷ []) its.same ∙ sym (path_child config parents limit route here parent e)))
 
-    pub is_key : (path : Path) (key : PathKey) → path ≡ path_of config limit → key ≡ (path_spread path, (option_and_then (slice_get firsts) route.parent, own_of path)) → IsKeyOf limit key
+    pub is_key : (path : Path) (key : PathKey) → path ≡ path_of config limit → key ≡ (path_hash path, (option_and_then (slice_get firsts) route.parent, own_of path)) → IsKeyOf limit key
     is_key path key same e =
         let under = is_key_under route.parent (ap (λ o. option_map_or (λ (r : Route). r.parent) o None) here) in
         let own : own_of path ≡ sorted_matchers route.matchers =
         ap own_of (same ∙ sym under.path) ∙ own_of_push (option_map_or (path_of config) (key_under route.parent).1.0 []) (sorted_matchers route.matchers) in
-        subst (IsKeyOf limit) (sym (e ∙ (λ i. (path_spread (same i), (option_and_then (slice_get firsts) route.parent, own i))))) under
+        subst (IsKeyOf limit) (sym (e ∙ (λ i. (path_hash (same i), (option_and_then (slice_get firsts) route.parent, own i))))) under
 
   module _ (limit : ℕ) (key : PathKey) (is : IsKeyOf limit key) (known : List (PathKey × ℕ)) (are : AreKnown limit known) where
     first_by : (found : Option ℕ) (first : ℕ) → IsAnswered limit key found → first ≡ unwrap_or found limit → IsFirstLike config limit first

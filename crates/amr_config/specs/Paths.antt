@@ -4,7 +4,7 @@ use Rattle.std.specs.Bool.{Decides}
 use Rattle.std.specs.declared.cmp.Ordering.{Ordering}
 use Rattle.std.specs.Cmp.{IsTotalOrder}
 use Rattle.std.specs.Cmp.Lexicographic.{slice_cmp, lists_total}
-use Rattle.amr_labels.specs.Spread.{text_spread}
+use Rattle.amr_labels.specs.Hashes.{text_fnv_hash}
 use Rattle.amr_labels.specs.Matcher.Matchers.{Matcher, matcher_cmp, matcher_cmp_total}
 use Rattle.amr_config.specs.Stated.Config.{Config}
 use Rattle.amr_config.specs.Routing.{path_of}
@@ -20,19 +20,19 @@ path_cmp a b = slice_cmp (slice_cmp matcher_cmp) a b
 pub path_cmp_total : IsTotalOrder path_cmp
 path_cmp_total = lists_total (lists_total matcher_cmp_total)
 
--- ---- numbers that tables spread paths by: only the speed of look-ups depends on them
+-- ---- hashes of paths: only the speed of look-ups depends on them
 
 -- the number with one more matcher
-abbrev pub spread_with : ℕ → Matcher → ℕ
-spread_with spread matcher = ((spread * 31 % 2 ^ 64 + text_spread matcher.name) % 2 ^ 64 * 31 % 2 ^ 64 + text_spread matcher.value) % 2 ^ 64
+abbrev pub hash_with : ℕ → Matcher → ℕ
+hash_with hash_value matcher = ((hash_value * 31 % 2 ^ 64 + text_fnv_hash matcher.name) % 2 ^ 64 * 31 % 2 ^ 64 + text_fnv_hash matcher.value) % 2 ^ 64
 
 -- that of a path below one with this number
-abbrev pub spread_below : ℕ → List Matcher → ℕ
-spread_below above own = fold spread_with ((above * 31 % 2 ^ 64 + 1) % 2 ^ 64) own
+abbrev pub hash_below : ℕ → List Matcher → ℕ
+hash_below above own = fold hash_with ((above * 31 % 2 ^ 64 + 1) % 2 ^ 64) own
 
 -- from the root down
-unfoldable pub path_spread : Path → ℕ
-path_spread path = fold spread_below 0 path
+unfoldable pub path_hash : Path → ℕ
+path_hash path = fold hash_below 0 path
 
 -- ---- paths of one route alone
 

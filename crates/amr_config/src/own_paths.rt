@@ -3,7 +3,7 @@
 //! routes share with their parent is then never compared, and the time is about linear in the size
 //! of the configuration, whatever the parents' matchers.
 ghost use Rattle.std.specs.Prelude.{◌≡◌, ◌-◌, [], length, IfOk, option_and_then, slice_get, unwrap_or};
-ghost use Rattle.amr_config.specs.Paths.{AreFirsts, AreFirstPlaces, AreAlone, AreOwn, path_spread};
+ghost use Rattle.amr_config.specs.Paths.{AreFirsts, AreFirstPlaces, AreAlone, AreOwn, path_hash};
 ghost use Rattle.amr_config.specs.Settled.{stated_config, settled, AreParentsFirst};
 
 use crate::route_path::RoutePath;
@@ -62,11 +62,11 @@ fn path_key(
     first_above: Option<usize>,
 ) -> Result<PathKey, AllocError>
     ensures { IfOk result (λ key. key ≡ (
-      path_spread path.now,
+      path_hash path.now,
       (first_above, unwrap_or (slice_get path.now (length path.now - 1)) []),
     )) }
 {
-    Ok((path.spread(), (first_above, own_matchers(alloc, path)?)))
+    Ok((path.hash_value(), (first_above, own_matchers(alloc, path)?)))
 }
 
 /// Returns the matchers of the route of a path, which are the last of the path.

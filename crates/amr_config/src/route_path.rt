@@ -1,14 +1,14 @@
 //! The paths of routes, which are part of the notification log's keys. Few log keys differ only in
-//! the path, so paths are compared by their matchers, and spread out by a number made of these.
+//! the path, so paths are compared by their matchers, and have a hash of these.
 ghost use Rattle.std.specs.Prelude.{◌≡◌, [], ◌∷◌, ◌++◌, IfOk};
 ghost use Rattle.std.proofs.Common.{rules};
 ghost use Rattle.std.specs.Cmp.{partial_order_from_own_ties};
 ghost use Rattle.std.specs.Cmp.Rules.{comparing};
 ghost use Rattle.std.specs.Ordering.{as_partial_cmp, eq_by_cmp};
-ghost use Rattle.amr_config.specs.Paths.{path_cmp, path_cmp_total, path_spread, spread_below, spread_with};
+ghost use Rattle.amr_config.specs.Paths.{path_cmp, path_cmp_total, path_hash, hash_below, hash_with};
 
 use amr_labels::matcher::{Matcher, Matchers};
-use amr_labels::{Exact, Listing, Shared, spread_of};
+use amr_labels::{Exact, Listing, Shared, fnv_hash};
 use std::alloc::{AllocError, Global};
 use std::cmp::Ordering;
 use std::marker::Model;
@@ -17,50 +17,56 @@ use std::marker::Model;
 /// them.
 #[derive(Drop)]
 pub struct RoutePath {
-    shared: Shared<SpreadPath>,
+    shared: Shared<HashedPath>,
 }
 
 /// A path with a number. Contracts see the path.
 #[derive(Drop)]
-struct SpreadPath {
+struct HashedPath {
     matchers: Listing<Matchers>,
-    /// A number made of the matchers, by which tables spread paths out.
-    spread: usize,
+    /// A hash of the matchers.
+    hash_value: usize,
 }
 
-impl Model for SpreadPath {
+impl Model for HashedPath {
     ghost use Rattle.std.specs.Prelude.{◌≡◌, List};
     ghost use Rattle.amr_labels.specs.Matcher.Matchers.{Matcher};
-    ghost use Rattle.amr_config.specs.Paths.{path_spread};
+    ghost use Rattle.amr_config.specs.Paths.{path_hash};
 
     ghost Value = { List (List Matcher) };
 
     ghost view = { λ path. path.matchers };
 
-    ghost invariant = { λ path. path.spread ≡ path_spread path.matchers };
+    ghost invariant = { λ path. path.hash_value ≡ path_hash path.matchers };
 }
 
-impl SpreadPath {
+impl HashedPath {
     /// Makes the path of a root route with these matchers.
-    #[tactic(auto, unfolding(crate::specs::Paths::path_spread))]
-    fn root(alloc: Global, own: Matchers) -> Result<SpreadPath, AllocError>
+    #[tactic(auto, unfolding(crate::specs::Paths::path_hash))]
+    fn root(alloc: Global, own: Matchers) -> Result<HashedPath, AllocError>
         ensures { IfOk result (λ path. path ≡ own ∷ []) }
     {
-        let spread = spread_below(0, own.as_slice());
+        let hash_value = hash_below(0, own.as_slice());
         let mut matchers = Listing::new(alloc);
         matchers.push(own)?;
-        Ok(SpreadPath { matchers, spread })
+        Ok(HashedPath {
+            matchers,
+            hash_value,
+        })
     }
 
     /// Makes the path of a route with these matchers, below the route of this path.
-    #[tactic(auto, using(crate::proofs::Spreads::spread_more))]
-    fn below(&self, own: Matchers) -> Result<SpreadPath, AllocError>
+    #[tactic(auto, using(crate::proofs::PathHashes::hash_more))]
+    fn below(&self, own: Matchers) -> Result<HashedPath, AllocError>
         ensures { IfOk result (λ path. path ≡ self.now ++ own ∷ []) }
     {
-        let spread = spread_below(self.spread, own.as_slice());
+        let hash_value = hash_below(self.hash_value, own.as_slice());
         let mut matchers = self.matchers.clone()?;
         matchers.push(own)?;
-        Ok(SpreadPath { matchers, spread })
+        Ok(HashedPath {
+            matchers,
+            hash_value,
+        })
     }
 
     /// Returns the path.
@@ -71,33 +77,33 @@ impl SpreadPath {
     }
 
     /// Returns a number made of the path.
-    fn spread(&self) -> usize
-        ensures { result ≡ path_spread self.now }
+    fn hash_value(&self) -> usize
+        ensures { result ≡ path_hash self.now }
     {
-        self.spread
+        self.hash_value
     }
 }
 
 /// Returns the number of a path, given that of the path above and the route's own matchers.
-fn spread_below(above: usize, own: &[Matcher]) -> usize
-    ensures { result ≡ spread_below above own.now }
+fn hash_below(above: usize, own: &[Matcher]) -> usize
+    ensures { result ≡ hash_below above own.now }
 {
-    let mut spread = above.wrapping_mul(31).wrapping_add(1);
+    let mut hash_value = above.wrapping_mul(31).wrapping_add(1);
     for matcher in own {
-        spread = spread_with(spread, matcher);
+        hash_value = hash_with(hash_value, matcher);
     }
-    spread
+    hash_value
 }
 
 /// Returns the number with one more matcher, whose operator doesn't count.
-fn spread_with(spread: usize, matcher: &Matcher) -> usize
-    ensures { result ≡ spread_with spread matcher.now }
+fn hash_with(hash_value: usize, matcher: &Matcher) -> usize
+    ensures { result ≡ hash_with hash_value matcher.now }
 {
-    spread
+    hash_value
         .wrapping_mul(31)
-        .wrapping_add(spread_of(matcher.name().as_str()))
+        .wrapping_add(fnv_hash(matcher.name().as_str()))
         .wrapping_mul(31)
-        .wrapping_add(spread_of(matcher.value().as_str()))
+        .wrapping_add(fnv_hash(matcher.value().as_str()))
 }
 
 impl Model for RoutePath {
@@ -114,7 +120,7 @@ impl RoutePath {
     pub fn root(alloc: Global, own: Matchers) -> Result<RoutePath, AllocError>
         ensures { IfOk result (λ path. path ≡ own ∷ []) }
     {
-        let path = SpreadPath::root(alloc, own)?;
+        let path = HashedPath::root(alloc, own)?;
         Ok(RoutePath {
             shared: Shared::new(alloc, path)?,
         })
@@ -137,11 +143,11 @@ impl RoutePath {
         self.shared.get().matchers()
     }
 
-    /// Returns a number made of the path, by which tables spread paths out.
-    pub fn spread(&self) -> usize
-        ensures { result ≡ path_spread self.now }
+    /// Returns a hash of the path.
+    pub fn hash_value(&self) -> usize
+        ensures { result ≡ path_hash self.now }
     {
-        self.shared.get().spread()
+        self.shared.get().hash_value()
     }
 }
 

@@ -19,7 +19,7 @@ use Rattle.amr_rules.specs.Alerts.{completed}
 use Rattle.amr_rules.specs.Silences.{Silences, after_post, after_expiry, expired}
 use Rattle.amr_rules.specs.Silencing.{with_decision}
 use Rattle.amr_engine.specs.State.State.{State}
-use Rattle.amr_engine.specs.declared.post.Sifted.{Sifted}
+use Rattle.amr_engine.specs.declared.post.Validated.{Validated}
 use Rattle.amr_engine.specs.declared.prepare.Prepared.TheVariants as prepared
 use Rattle.amr_engine.specs.Events.{after_act, at_moment, on_ok, put, put_all, valid_alerts, skipped_from, with_silences, with_config}
 use Rattle.amr_engine.specs.Prepared.{DoesAsPrepared, Stays}
@@ -53,16 +53,16 @@ same_valid s next at timeout posted valid stays same is =
     (λ i. filter_map (completed (stays.moment i) (stays.config i).resolve_timeout) posted) ∙ ap (λ (t : Span). filter_map (completed at t) posted) (sym same) ∙ sym is
 
 -- some alert of a post is valid
-pub some_valid : (s : State) (at : Moment) (timeout : Span) (posted : List PostedAlert) (sifted : Sifted) → timeout ≡ s.config.resolve_timeout
-    → sifted.valid.items ≡ filter_map (completed at timeout) posted → sifted.skipped ≡ skipped_from 1 at timeout posted → (length sifted.valid.items == 0) ≡ false
-    → DoesAsPrepared s at (Act.Post posted) (prepared.Put sifted)
+pub some_valid : (s : State) (at : Moment) (timeout : Span) (posted : List PostedAlert) (validated : Validated) → timeout ≡ s.config.resolve_timeout
+    → validated.valid.items ≡ filter_map (completed at timeout) posted → validated.skipped ≡ skipped_from 1 at timeout posted → (length validated.valid.items == 0) ≡ false
+    → DoesAsPrepared s at (Act.Post posted) (prepared.Put validated)
 unfolding after_act
-some_valid s at timeout posted sifted same is left some = record {
+some_valid s at timeout posted validated same is left some = record {
   does = λ next stays.
-      ap (put_all next) (same_valid s next at timeout posted sifted.valid.items stays same is)
-      ∙ put_some next sifted.valid.items some;
+      ap (put_all next) (same_valid s next at timeout posted validated.valid.items stays same is)
+      ∙ put_some next validated.valid.items some;
   skips = left ∙ ap (λ (t : Span). skipped_from 1 at t posted) same;
-  light = λ next after stays. omega (arith, ap (alerts_weight next.config) (same_valid s next at timeout posted sifted.valid.items stays same is));
+  light = λ next after stays. omega (arith, ap (alerts_weight next.config) (same_valid s next at timeout posted validated.valid.items stays same is));
 }
 
 -- there is a reason against a silence

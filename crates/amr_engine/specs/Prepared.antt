@@ -15,7 +15,7 @@ use Rattle.amr_engine.specs.Events.{after_act, at_moment, put, with_silences, wi
 
 -- the state after a prepared action
 abbrev pub performed : prepare.Prepared → State → State
-performed (Put sifted) s = fold put s sifted.valid.items
+performed (Put validated) s = fold put s validated.valid.items
 performed (Silence id new_id silence_update) s = with_silences s (update_stored id new_id silence_update s.silences)
 performed (Expire id ended) s = with_silences s (insert s.silences id ended)
 performed (Reload config) s = with_config s config
@@ -23,7 +23,7 @@ performed Tick s = s
 
 -- the positions of the alerts that a prepared action skips
 abbrev pub skipped_by : prepare.Prepared → List ℕ
-skipped_by (Put sifted) = sifted.skipped
+skipped_by (Put validated) = validated.skipped
 skipped_by (Silence id new_id silence_update) = []
 skipped_by (Expire id ended) = []
 skipped_by (Reload config) = []
@@ -32,7 +32,7 @@ skipped_by Tick = []
 -- how many entries a prepared action adds to the open record at most, given the states before and
 -- after it
 abbrev pub entries_of : prepare.Prepared → State → State → ℕ
-entries_of (Put sifted) before after = alerts_weight before.config sifted.valid.items
+entries_of (Put validated) before after = alerts_weight before.config validated.valid.items
 entries_of (Silence id new_id silence_update) before after = 2
 entries_of (Expire id ended) before after = 1
 entries_of (Reload config) before after = reload_entries before after

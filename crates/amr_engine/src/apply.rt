@@ -155,9 +155,9 @@ fn change(store: &mut Store, prepared: Prepared) -> Result<Listing<usize>, Alloc
         store.old store.new) }
 {
     match prepared {
-        Prepared::Put(sifted) => {
-            put_all(store, sifted.valid.as_slice())?;
-            return Ok(sifted.skipped);
+        Prepared::Put(validated) => {
+            put_all(store, validated.valid.as_slice())?;
+            return Ok(validated.skipped);
         }
         Prepared::Silence {
             id,

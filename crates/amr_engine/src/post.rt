@@ -18,23 +18,23 @@ use std::alloc::{AllocError, Global};
 
 /// The valid alerts of a post, and the positions of the others, from 1.
 #[derive(Drop)]
-pub(crate) struct Sifted {
+pub(crate) struct Validated {
     pub(crate) valid: Vec<(Labels, Alert)>,
     pub(crate) skipped: Listing<usize>,
 }
 
 /// Splits the alerts of a post into those that are valid at a moment and the positions of the
 /// others.
-pub(crate) fn sift(
+pub(crate) fn validate(
     alloc: Global,
     now: Moment,
     timeout: Span,
     posted: &[PostedAlert],
-) -> Result<Sifted, AllocError>
+) -> Result<Validated, AllocError>
     requires { now + timeout < before_year_10000 }
-    ensures valid { IfOk result (λ sifted. sifted.valid.items
+    ensures valid { IfOk result (λ validated. validated.valid.items
         ≡ filter_map (completed now timeout) posted.now) }
-    ensures skipped { IfOk result (λ sifted. sifted.skipped
+    ensures skipped { IfOk result (λ validated. validated.skipped
         ≡ skipped_from 1 now timeout posted.now) }
 {
     let mut valid = Vec::new(alloc);
@@ -45,7 +45,7 @@ pub(crate) fn sift(
             None => skipped.push(index + 1)?,
         }
     }
-    Ok(Sifted { valid, skipped })
+    Ok(Validated { valid, skipped })
 }
 
 /// Returns the alert to store: the new alert, merged with the stored alert of the same labels if

@@ -5,7 +5,7 @@ ghost use Rattle.amr_time.specs.Time.{latest_read};
 ghost use Rattle.amr_events.specs.Actions.Acts.{act_of, by_number};
 ghost use Rattle.amr_events.specs.Actions.Events.{Act as act};
 
-use crate::post::{Sifted, sift};
+use crate::post::{Validated, validate};
 use crate::state::Store;
 use amr_config::Config;
 use amr_events::actions::Act;
@@ -18,7 +18,7 @@ use std::alloc::AllocError;
 #[derive(Drop)]
 pub(crate) enum Prepared {
     /// Stores the valid alerts of a post.
-    Put(Sifted),
+    Put(Validated),
     /// Stores what was decided of a post of a silence.
     Silence {
         id: Option<SilenceId>,
@@ -69,12 +69,12 @@ fn prepare_post(
         (λ prepared. IsPrepared store.now.state at (act.Post posted.now) prepared) }
 {
     let timeout = store.config().resolve_timeout();
-    let sifted = sift(store.alloc(), at, timeout, posted)?;
-    let valid = sifted.valid.as_slice();
+    let validated = validate(store.alloc(), at, timeout, posted)?;
+    let valid = validated.valid.as_slice();
     if valid.is_empty() {
         return Ok(Err(Reason::BadAlert));
     }
-    Ok(Ok(Prepared::Put(sifted)))
+    Ok(Ok(Prepared::Put(validated)))
 }
 
 /// Prepares a post of a silence.

@@ -228,7 +228,7 @@ impl QuietGroups {
     {
         match prepared {
             Prepared::Tick => {}
-            Prepared::Put(sifted) => self.forget_joined(store, sifted.valid.as_slice()),
+            Prepared::Put(validated) => self.forget_joined(store, validated.valid.as_slice()),
             Prepared::Reload(_) => self.clear(),
             Prepared::Silence { .. } => self.forget_muting(),
             Prepared::Expire { .. } => self.forget_muting(),

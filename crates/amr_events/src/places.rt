@@ -7,10 +7,10 @@ use std::mem;
 /// At how many places next to each other a value may be.
 const PLACES_OF_A_VALUE: usize = 4;
 
-/// What a number can be made of, by which values are spread over places.
-pub(crate) trait Spread {
-    /// Returns the number. It is the same for equal values.
-    fn spread(&self) -> usize;
+/// A value with a hash, which says at which places it may be.
+pub(crate) trait HashValue {
+    /// Returns the hash. It is the same for equal values.
+    fn hash_value(&self) -> usize;
 }
 
 /// Values at places. The number of places is zero or a power of two.
@@ -22,7 +22,7 @@ pub(crate) struct Places<T> {
     added: usize,
 }
 
-impl<T: Spread + Drop> Places<T> {
+impl<T: HashValue + Drop> Places<T> {
     /// Returns no places.
     pub(crate) fn new(alloc: Global) -> Places<T> {
         Places {
@@ -34,8 +34,8 @@ impl<T: Spread + Drop> Places<T> {
 
     /// Returns the places at which values of a number are. Other values may be there too, so
     /// whoever uses them compares them.
-    pub(crate) fn near(&self, spread: usize) -> &[Option<T>] {
-        let start = self.start(spread);
+    pub(crate) fn near(&self, hash_value: usize) -> &[Option<T>] {
+        let start = self.start(hash_value);
         let end = start
             .saturating_add(PLACES_OF_A_VALUE)
             .min(self.places.len());
@@ -71,7 +71,7 @@ impl<T: Spread + Drop> Places<T> {
 
     /// Puts a value at the first free place of its number, or else at the first one.
     fn put(&mut self, value: T) {
-        let start = self.start(value.spread());
+        let start = self.start(value.hash_value());
         let free = self
             .near(start)
             .iter()
@@ -84,8 +84,8 @@ impl<T: Spread + Drop> Places<T> {
     }
 
     /// Returns the first place of a number.
-    fn start(&self, spread: usize) -> usize {
-        spread & self.places.len().wrapping_sub(1)
+    fn start(&self, hash_value: usize) -> usize {
+        hash_value & self.places.len().wrapping_sub(1)
     }
 }
 

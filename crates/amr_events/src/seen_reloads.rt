@@ -5,9 +5,9 @@ ghost use Rattle.std.specs.Coded.{codes};
 ghost use Rattle.amr_labels.specs.Map as map;
 ghost use Rattle.amr_events.specs.SeenReloads.{Spells};
 
-use crate::places::{Places, Spread};
+use crate::places::{HashValue, Places};
 use amr_config::Config;
-use amr_labels::spread_of;
+use amr_labels::fnv_hash;
 use std::alloc::{AllocError, Global};
 
 /// A configuration, and the JSON text of the value that it was read from.
@@ -18,9 +18,9 @@ struct SeenReload {
     ghost spelled: { Spells (string_bytes text) config } by { Prim.hlevel (codes, map.code) },
 }
 
-impl Spread for SeenReload {
-    fn spread(&self) -> usize {
-        spread_of(self.text.as_str())
+impl HashValue for SeenReload {
+    fn hash_value(&self) -> usize {
+        fnv_hash(self.text.as_str())
     }
 }
 
@@ -42,7 +42,7 @@ impl SeenReloads {
     pub(crate) fn get(&self, text: &str) -> Result<Option<Config>, AllocError>
         ensures { IfOk result (λ found. IfSome found (λ config. Spells text.now config)) }
     {
-        match config_among(self.seen.near(spread_of(text)), text) {
+        match config_among(self.seen.near(fnv_hash(text)), text) {
             Some(config) => Ok(Some(config.clone()?)),
             None => Ok(None),
         }

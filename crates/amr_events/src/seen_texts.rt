@@ -7,11 +7,11 @@ ghost use Rattle.std.specs.Prelude.{◌≡◌, true, reverse, IfOk, IfSome};
 ghost use Rattle.amr_labels.specs.Map as map;
 ghost use Rattle.amr_events.specs.Tokens.{spelled};
 
-use crate::places::{Places, Spread};
+use crate::places::{HashValue, Places};
 use crate::posts::PostedLabels;
 use crate::seen_reloads::SeenReloads;
 use amr_labels::matcher::Patterns;
-use amr_labels::{Text, TextMap, spread_of};
+use amr_labels::{Text, TextMap, fnv_hash};
 use std::alloc::{AllocError, Global};
 
 /// Texts, labels, patterns and configurations that were read before. Looking up a text or labels
@@ -53,7 +53,7 @@ impl SeenTexts {
     ) -> Result<PostedLabels, AllocError>
         ensures { IfOk result (λ labels. labels ≡ spelled stated.now) }
     {
-        if let Some(known) = labels_among(self.labels.near(spread_of_texts(stated)), stated) {
+        if let Some(known) = labels_among(self.labels.near(hash_of_texts(stated)), stated) {
             return Ok(known.clone()?);
         }
         let pairs = self.share_pairs(alloc, stated)?;
@@ -108,7 +108,7 @@ impl SeenTexts {
     fn share(&mut self, alloc: Global, text: &str) -> Result<Text, AllocError>
         ensures { IfOk result (λ shared. shared ≡ text.now) }
     {
-        if let Some(known) = text_among(self.texts.near(spread_of(text)), text) {
+        if let Some(known) = text_among(self.texts.near(fnv_hash(text)), text) {
             return Ok(known.clone()?);
         }
         let shared = Text::from_str(alloc, text)?;
@@ -117,35 +117,35 @@ impl SeenTexts {
     }
 }
 
-impl Spread for Text {
-    fn spread(&self) -> usize {
-        spread_of(self.as_str())
+impl HashValue for Text {
+    fn hash_value(&self) -> usize {
+        fnv_hash(self.as_str())
     }
 }
 
-impl Spread for PostedLabels {
-    fn spread(&self) -> usize {
-        let mut spread: usize = 0;
+impl HashValue for PostedLabels {
+    fn hash_value(&self) -> usize {
+        let mut hash_value: usize = 0;
         for (name, text) in self.pairs() {
-            spread = spread_after(spread, name.as_str(), text.as_str());
+            hash_value = hash_after(hash_value, name.as_str(), text.as_str());
         }
-        spread
+        hash_value
     }
 }
 
 /// Returns a number made of names and texts, as that of the labels with them.
-fn spread_of_texts(stated: &[(&str, &str)]) -> usize {
-    let mut spread: usize = 0;
+fn hash_of_texts(stated: &[(&str, &str)]) -> usize {
+    let mut hash_value: usize = 0;
     for (name, text) in stated {
-        spread = spread_after(spread, name, text);
+        hash_value = hash_after(hash_value, name, text);
     }
-    spread
+    hash_value
 }
 
 /// Returns the number of some names and texts, given that of all but the last.
-fn spread_after(spread: usize, name: &str, text: &str) -> usize {
-    let with_name = spread.rotate_left(5) ^ spread_of(name);
-    with_name.rotate_left(5) ^ spread_of(text)
+fn hash_after(hash_value: usize, name: &str, text: &str) -> usize {
+    let with_name = hash_value.rotate_left(5) ^ fnv_hash(name);
+    with_name.rotate_left(5) ^ fnv_hash(text)
 }
 
 /// Returns the text at one of these places.

@@ -5,7 +5,7 @@ ghost use Rattle.std.specs.Option.{option_copied};
 ghost use Rattle.std.specs.Ordering.{eq_by_cmp};
 ghost use Rattle.amr_labels.specs.Labels.{text_cmp, label_set_cmp};
 ghost use Rattle.amr_labels.specs.SortKey.{key_of_text, key_of_label, sort_key, has_zero, label_has_zero, has_zeros};
-ghost use Rattle.amr_labels.specs.Spread.{text_hash, label_set_spread};
+ghost use Rattle.amr_labels.specs.Hashes.{text_sip_hash, label_set_hash};
 ghost use Rattle.amr_labels.specs.Mark.{text_mark, headed};
 ghost use Rattle.amr_labels.specs.ObjectText.{plain_object};
 
@@ -28,8 +28,8 @@ pub(crate) struct KeyedTexts {
     /// A number made of the head of the sort key, or 0 if there is none. If two of them differ, the
     /// sort key with the lesser one is the lesser, so many comparisons don't need the keys.
     mark: u64,
-    /// A number made of the sort key, by which tables spread label sets out.
-    spread: usize,
+    /// A hash of the sort key.
+    hash_value: usize,
     /// All names and values as an object, or `None` if one of them can't stand between quotes as it
     /// is.
     printed: Option<String>,
@@ -41,7 +41,7 @@ impl Model for KeyedTexts {
     ghost use Rattle.amr_labels.specs.Map as map;
     ghost use Rattle.amr_labels.specs.Labels.{text_cmp};
     ghost use Rattle.amr_labels.specs.SortKey.{sort_key, has_zeros};
-    ghost use Rattle.amr_labels.specs.Spread.{label_set_spread};
+    ghost use Rattle.amr_labels.specs.Hashes.{label_set_hash};
     ghost use Rattle.amr_labels.specs.Mark.{text_mark};
     ghost use Rattle.amr_labels.specs.ObjectText.{are_plain, object_text};
 
@@ -54,7 +54,7 @@ impl Model for KeyedTexts {
     ghost invariant = { λ keyed. IfSome keyed.key (λ key.
         (string_bytes key ≡ sort_key (map.entries keyed.texts))
         × (has_zeros (map.entries keyed.texts) ≡ false))
-        × (keyed.spread ≡ label_set_spread keyed.texts)
+        × (keyed.hash_value ≡ label_set_hash keyed.texts)
         × IfSome keyed.printed (λ text. (string_bytes text ≡ object_text (map.entries keyed.texts))
         × (are_plain (map.entries keyed.texts) ≡ true))
         × IfNone keyed.printed (are_plain (map.entries keyed.texts) ≡ false)
@@ -63,12 +63,12 @@ impl Model for KeyedTexts {
 
 impl KeyedTexts {
     /// Works out the sort key of the texts, and their text as an object.
-    #[tactic(auto, unfolding(crate::specs::Spread::label_set_spread))]
+    #[tactic(auto, unfolding(crate::specs::Hashes::label_set_hash))]
     pub(crate) fn new(alloc: Global, texts: TextMap) -> Result<KeyedTexts, AllocError>
         ensures { IfOk result (λ keyed. keyed ≡ texts) }
     {
         let joined = joined(alloc, texts.entries())?;
-        let spread = hash_of(joined.as_str());
+        let hash_value = sip_hash(joined.as_str());
         let key = if has_zeros(texts.entries()) {
             None
         } else {
@@ -83,16 +83,16 @@ impl KeyedTexts {
             texts,
             key,
             mark,
-            spread,
+            hash_value,
             printed,
         })
     }
 
     /// Returns a number made of the texts.
-    pub(crate) fn spread(&self) -> usize
-        ensures { result ≡ label_set_spread self.now }
+    pub(crate) fn hash_value(&self) -> usize
+        ensures { result ≡ label_set_hash self.now }
     {
-        self.spread
+        self.hash_value
     }
 
     /// Returns the text of the names and values as an object, if they can stand between quotes as
@@ -138,9 +138,9 @@ impl KeyedTexts {
 
 /// Returns the hash of a text, SipHash-1-3 with both keys zero. Nobody knows how to write many texts
 /// with one hash but by trying.
-#[tactic(auto, unfolding(crate::specs::Spread::text_hash))]
-fn hash_of(text: &str) -> usize
-    ensures { result ≡ text_hash text.now }
+#[tactic(auto, unfolding(crate::specs::Hashes::text_sip_hash))]
+fn sip_hash(text: &str) -> usize
+    ensures { result ≡ text_sip_hash text.now }
 {
     let mut hasher = DefaultHasher::new();
     hasher.write(text.as_bytes());

@@ -8,7 +8,7 @@ ghost use Rattle.std.specs.Option.{option_copied};
 ghost use Rattle.std.specs.Ordering.{as_partial_cmp, eq_by_cmp};
 ghost use Rattle.amr_labels.specs.Map as map;
 ghost use Rattle.amr_labels.specs.Labels.{text_cmp, value_of, label_set_cmp, label_set_cmp_total, labels_of_pairs, IsLabelSet};
-ghost use Rattle.amr_labels.specs.Spread.{label_set_spread};
+ghost use Rattle.amr_labels.specs.Hashes.{label_set_hash};
 ghost use Rattle.amr_labels.specs.ObjectText.{plain_object};
 
 use crate::keyed_texts::KeyedTexts;
@@ -115,11 +115,11 @@ impl Labels {
         self.texts().is_empty()
     }
 
-    /// Returns a number made of the texts, by which tables spread label sets out.
-    pub fn spread(&self) -> usize
-        ensures { result ≡ label_set_spread self.now }
+    /// Returns the hash that the label set keeps.
+    pub fn hash_value(&self) -> usize
+        ensures { result ≡ label_set_hash self.now }
     {
-        self.shared.get().spread()
+        self.shared.get().hash_value()
     }
 
     /// Returns the text of the labels as an object, `{"name":"value"}`, in the order of the names.
@@ -192,13 +192,13 @@ impl Hash for Labels {
     ghost use Rattle.std.proofs.Common.{ap};
     ghost use Rattle.std.proofs.lemmas.Map.Views.{tells_apart};
     ghost use Rattle.amr_labels.specs.Labels.{label_set_cmp-IsAntisymmetric};
-    ghost use Rattle.amr_labels.specs.Spread.{label_set_spread};
+    ghost use Rattle.amr_labels.specs.Hashes.{label_set_hash};
 
-    ghost hash_input = { λ labels. fed.usize (label_set_spread labels) };
+    ghost hash_input = { λ labels. fed.usize (label_set_hash labels) };
 
-    ghost respects_eq = { λ x y h. ap (λ labels. fed.usize (label_set_spread labels)) (tells_apart label_set_cmp-IsAntisymmetric x y h) };
+    ghost respects_eq = { λ x y h. ap (λ labels. fed.usize (label_set_hash labels)) (tells_apart label_set_cmp-IsAntisymmetric x y h) };
 
     fn hash<H: Hasher>(&self, state: &mut H) {
-        state.write_usize(self.spread());
+        state.write_usize(self.hash_value());
     }
 }

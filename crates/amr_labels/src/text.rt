@@ -7,7 +7,7 @@ ghost use Rattle.std.specs.Cmp.Rules.{comparing};
 ghost use Rattle.std.specs.Ordering.{as_partial_cmp, nat_cmp, eq_by_cmp};
 ghost use Rattle.std.specs.Cmp.Lexicographic.{slice_cmp};
 ghost use Rattle.amr_labels.specs.Labels.{is_empty};
-ghost use Rattle.amr_labels.specs.Spread.{text_spread};
+ghost use Rattle.amr_labels.specs.Hashes.{text_fnv_hash};
 
 use std::alloc::{AllocError, Global};
 use std::cmp::Ordering;
@@ -125,15 +125,14 @@ impl fmt::Debug for Text {
     }
 }
 
-/// Returns a number made of the bytes of a text, by which tables spread keys out: the hash of
-/// Fowler, Noll and Vo (FNV-1a).
-#[tactic(auto, unfolding(crate::specs::Spread::text_spread))]
-pub fn spread_of(text: &str) -> usize
-    ensures { result ≡ text_spread text.now }
+/// Returns FNV-1a, the hash of Fowler, Noll and Vo, of the bytes of a text.
+#[tactic(auto, unfolding(crate::specs::Hashes::text_fnv_hash))]
+pub fn fnv_hash(text: &str) -> usize
+    ensures { result ≡ text_fnv_hash text.now }
 {
-    let mut spread: usize = 0xcbf2_9ce4_8422_2325;
+    let mut hash_value: usize = 0xcbf2_9ce4_8422_2325;
     for byte in text.as_bytes() {
-        spread = (spread ^ usize::from(*byte)).wrapping_mul(0x100_0000_01b3);
+        hash_value = (hash_value ^ usize::from(*byte)).wrapping_mul(0x100_0000_01b3);
     }
-    spread
+    hash_value
 }

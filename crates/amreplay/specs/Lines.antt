@@ -1,5 +1,5 @@
-pub mod Inlet
-pub mod Outlet
+pub mod CheckedReader
+pub mod CheckedWriter
 pub mod Printed
 pub mod LastLines
 pub mod Verdicts

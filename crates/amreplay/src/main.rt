@@ -9,7 +9,7 @@ mod commands;
 mod lines;
 mod program;
 
-use crate::lines::{Inlet, Outlet};
+use crate::lines::{CheckedReader, CheckedWriter};
 use crate::program::{
     Fault, Form, InputError, check_config, command_of, read_config_file, read_script_file,
     run_script, run_session, status_of, write_fault,
@@ -25,7 +25,7 @@ fn main(rt: HostRuntime) -> ExitCode {
         Ok(()) => ExitCode::SUCCESS,
         Err(fault) => {
             // A failure to report a fault can't be reported.
-            let _ = write_fault(&fault, &mut Outlet::new(rt.stderr()));
+            let _ = write_fault(&fault, &mut CheckedWriter::new(rt.stderr()));
             ExitCode::from(status_of(&fault))
         }
     }
@@ -45,21 +45,25 @@ fn start(rt: &HostRuntime) -> Result<(), Fault> {
 /// Reads a configuration file.
 fn config_bytes(rt: &HostRuntime, path: &str) -> Result<Vec<u8>, Fault> {
     let file = open_file(rt, path).map_err(|unread| fault_of(unread, Fault::CannotReadConfig))?;
-    let bytes = read_config_file(rt.alloc(), &mut Inlet::new(file));
+    let bytes = read_config_file(rt.alloc(), &mut CheckedReader::new(file));
     bytes.map_err(|unread| fault_of(unread, Fault::CannotReadConfig))
 }
 
 /// Reads a script file.
 fn script_bytes(rt: &HostRuntime, path: &str) -> Result<Vec<u8>, Fault> {
     let file = open_file(rt, path).map_err(|unread| fault_of(unread, Fault::CannotReadScript))?;
-    let bytes = read_script_file(rt.alloc(), &mut Inlet::new(file));
+    let bytes = read_script_file(rt.alloc(), &mut CheckedReader::new(file));
     bytes.map_err(|unread| fault_of(unread, Fault::CannotReadScript))
 }
 
 /// Checks the configuration in a file.
 fn check_file(rt: &HostRuntime, config: &str) -> Result<(), Fault> {
     let config = config_bytes(rt, config)?;
-    check_config(rt.alloc(), config.as_slice(), &mut Outlet::new(rt.stdout()))
+    check_config(
+        rt.alloc(),
+        config.as_slice(),
+        &mut CheckedWriter::new(rt.stdout()),
+    )
 }
 
 /// Runs the script in one file under the configuration in another.
@@ -69,7 +73,12 @@ fn run_files(rt: &HostRuntime, config: &str, script: &str) -> Result<(), Fault> 
     let Ok(out) = BufWriter::new(rt.alloc(), rt.stdout()) else {
         return Err(Fault::Memory);
     };
-    run_script(rt.alloc(), config.as_slice(), script, &mut Outlet::new(out))
+    run_script(
+        rt.alloc(),
+        config.as_slice(),
+        script,
+        &mut CheckedWriter::new(out),
+    )
 }
 
 /// Answers the commands on standard input, over a script and a configuration.
@@ -83,8 +92,8 @@ fn session_over(rt: &HostRuntime, config: &str, script: &str) -> Result<(), Faul
         rt.alloc(),
         config.as_slice(),
         script,
-        &mut Inlet::new(rt.stdin()),
-        &mut Outlet::new(out),
+        &mut CheckedReader::new(rt.stdin()),
+        &mut CheckedWriter::new(out),
     )
 }
 

@@ -5,7 +5,7 @@ use Rattle.std.specs.Cmp.{IsTotalOrder}
 use Rattle.std.specs.Cmp.Lexicographic.{slice_cmp, lists_total, nat_list_cmp_total}
 use Rattle.std.specs.FinMap.{IsAntisymmetric, slice_cmp-IsAntisymmetric}
 use Rattle.amr_labels.specs.Labels.{Text, text_cmp, text_cmp-IsAntisymmetric, LabelSet, value_of}
-use Rattle.amr_labels.specs.Spread.{text_spread}
+use Rattle.amr_labels.specs.Hashes.{text_fnv_hash}
 
 -- lists of values, in the order of the names that they are the values of
 abbrev pub values_cmp : List Text → List Text → Ordering
@@ -21,6 +21,6 @@ values_cmp-IsAntisymmetric = slice_cmp-IsAntisymmetric text_cmp-IsAntisymmetric
 abbrev pub label_values : List Text → LabelSet → List Text
 label_values names labels = map (value_of labels) names
 
--- A number that tables spread values out by. Nothing but the speed of look-ups depends on it.
-unfoldable pub values_spread : List Text → ℕ
-values_spread values = fold (λ spread text. (spread * 31 % 2 ^ 64 + text_spread text) % 2 ^ 64) 0 values
+-- A hash of a list of values. Nothing but the speed of look-ups depends on it.
+unfoldable pub values_hash : List Text → ℕ
+values_hash values = fold (λ hash_value text. (hash_value * 31 % 2 ^ 64 + text_fnv_hash text) % 2 ^ 64) 0 values

@@ -2,14 +2,14 @@
 use Rattle.std.specs.Prelude.{ℕ, ◌*◌, ◌/◌, ◌%◌, ◌^◌, List, fold, bit_or, if◌then◌else◌}
 use Rattle.amr_labels.specs.Map.{entries}
 use Rattle.amr_labels.specs.Labels.{Text, LabelSet, is_empty}
-use Rattle.amr_labels.specs.Spread.{text_spread}
+use Rattle.amr_labels.specs.Hashes.{text_fnv_hash}
 use Rattle.amr_labels.specs.declared.matcher.Operator.{Operator}
 use Rattle.amr_labels.specs.declared.matcher.Operator.TheVariants.{Equal, NotEqual, Matches, NotMatches}
 use Rattle.amr_labels.specs.Matcher.Matchers.{Matcher}
 
 -- two of 64 bits, or one
 abbrev pub value_mark : Text → ℕ
-value_mark value = bit_or (1 * 2 ^ (text_spread value % 64) % 2 ^ 64) (1 * 2 ^ (text_spread value / 64 % 64) % 2 ^ 64)
+value_mark value = bit_or (1 * 2 ^ (text_fnv_hash value % 64) % 2 ^ 64) (1 * 2 ^ (text_fnv_hash value / 64 % 64) % 2 ^ 64)
 
 -- the marks of the values of these labels, all together
 abbrev pub marks_among : List (Text × Text) → ℕ

@@ -7,9 +7,9 @@ ghost use Rattle.std.specs.Cmp.Rules.{comparing};
 ghost use Rattle.std.specs.Cmp.Lexicographic.{lists_total, nat_list_cmp_total};
 ghost use Rattle.std.specs.Ordering.{as_partial_cmp, eq_by_cmp};
 ghost use Rattle.amr_labels.specs.Labels.{value_of};
-ghost use Rattle.amr_engine.specs.Indexes.LabelValues.{values_cmp, values_cmp_total, values_cmp-IsAntisymmetric, label_values, values_spread};
+ghost use Rattle.amr_engine.specs.Indexes.LabelValues.{values_cmp, values_cmp_total, values_cmp-IsAntisymmetric, label_values, values_hash};
 
-use amr_labels::{Exact, Labels, Listing, Text, spread_of};
+use amr_labels::{Exact, Labels, Listing, Text, fnv_hash};
 use amr_tables::Key;
 use std::alloc::{AllocError, Global};
 use std::cmp::Ordering;
@@ -104,14 +104,14 @@ impl Hash for LabelValues {
     ghost use Rattle.std.specs.Hash as fed;
     ghost use Rattle.std.proofs.Common.{ap};
     ghost use Rattle.std.proofs.lemmas.Map.Views.{tells_apart};
-    ghost use Rattle.amr_engine.specs.Indexes.LabelValues.{values_cmp-IsAntisymmetric, values_spread};
+    ghost use Rattle.amr_engine.specs.Indexes.LabelValues.{values_cmp-IsAntisymmetric, values_hash};
 
-    ghost hash_input = { λ values. fed.usize (values_spread values) };
+    ghost hash_input = { λ values. fed.usize (values_hash values) };
 
-    ghost respects_eq = { λ x y h. ap (λ values. fed.usize (values_spread values)) (tells_apart values_cmp-IsAntisymmetric x y h) };
+    ghost respects_eq = { λ x y h. ap (λ values. fed.usize (values_hash values)) (tells_apart values_cmp-IsAntisymmetric x y h) };
 
     fn hash<H: Hasher>(&self, state: &mut H) {
-        state.write_usize(spread_of_texts(self.texts.as_slice()));
+        state.write_usize(hash_of_texts(self.texts.as_slice()));
     }
 }
 
@@ -129,16 +129,16 @@ fn label_value(alloc: Global, name: &Text, labels: &Labels) -> Result<Text, Allo
     }
 }
 
-/// Returns a number that spreads lists of values out.
-#[tactic(auto, unfolding(crate::specs::Indexes::LabelValues::values_spread))]
-fn spread_of_texts(texts: &[Text]) -> usize
-    ensures { result ≡ values_spread texts.now }
+/// Returns a hash of a list of values.
+#[tactic(auto, unfolding(crate::specs::Indexes::LabelValues::values_hash))]
+fn hash_of_texts(texts: &[Text]) -> usize
+    ensures { result ≡ values_hash texts.now }
 {
-    let mut spread: usize = 0;
+    let mut hash_value: usize = 0;
     for text in texts {
-        spread = spread
+        hash_value = hash_value
             .wrapping_mul(31)
-            .wrapping_add(spread_of(text.as_str()));
+            .wrapping_add(fnv_hash(text.as_str()));
     }
-    spread
+    hash_value
 }

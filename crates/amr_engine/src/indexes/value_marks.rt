@@ -5,7 +5,7 @@ ghost use Rattle.std.specs.Prelude.{◌≡◌};
 ghost use Rattle.amr_engine.specs.Indexes.ValueMarks.{value_mark, value_marks, required_mark, required_marks};
 
 use amr_labels::matcher::{Matcher, Operator};
-use amr_labels::{Labels, spread_of};
+use amr_labels::{Labels, fnv_hash};
 
 /// Returns the marks of the values of a label set.
 pub(crate) fn value_marks(labels: &Labels) -> u64
@@ -44,6 +44,6 @@ fn required_mark(matcher: &Matcher) -> u64
 fn value_mark(value: &str) -> u64
     ensures { result ≡ value_mark value.now }
 {
-    let spread = spread_of(value);
-    (1 << (spread % 64)) | (1 << (spread / 64 % 64))
+    let hash_value = fnv_hash(value);
+    (1 << (hash_value % 64)) | (1 << (hash_value / 64 % 64))
 }

@@ -4,7 +4,7 @@
 ghost use Rattle.std.specs.Prelude.{◌≡◌};
 ghost use Rattle.std.proofs.Common.{rules};
 ghost use Rattle.amr_engine.specs.State.State.{log_key_cmp_integration, log_key_cmp_group};
-ghost use Rattle.amr_engine.specs.State.Spread.{text_sample, byte_at, log_key_spread};
+ghost use Rattle.amr_engine.specs.State.Hashes.{text_sample, byte_at, log_key_hash};
 
 use amr_config::RoutePath;
 use amr_labels::{Exact, Labels, Listing, Text, TextMap};
@@ -146,32 +146,32 @@ impl Hash for LogKey {
     ghost use Rattle.std.proofs.Common.{ap};
     ghost use Rattle.std.proofs.lemmas.Map.Views.{tells_apart};
     ghost use Rattle.amr_engine.specs.State.State.{log_key_cmp-IsAntisymmetric};
-    ghost use Rattle.amr_engine.specs.State.Spread.{log_key_spread};
+    ghost use Rattle.amr_engine.specs.State.Hashes.{log_key_hash};
 
-    ghost hash_input = { λ key. fed.usize (log_key_spread key) };
+    ghost hash_input = { λ key. fed.usize (log_key_hash key) };
 
-    ghost respects_eq = { λ x y h. ap (λ key. fed.usize (log_key_spread key)) (tells_apart log_key_cmp-IsAntisymmetric x y h) };
+    ghost respects_eq = { λ x y h. ap (λ key. fed.usize (log_key_hash key)) (tells_apart log_key_cmp-IsAntisymmetric x y h) };
 
     fn hash<H: Hasher>(&self, state: &mut H) {
-        state.write_usize(self.spread());
+        state.write_usize(self.hash_value());
     }
 }
 
 impl LogKey {
     /// Returns a number made of all parts of the key, which it is hashed by.
-    #[tactic(auto, unfolding(crate::specs::State::Spread::log_key_spread))]
-    fn spread(&self) -> usize
-        ensures { result ≡ log_key_spread self.now }
+    #[tactic(auto, unfolding(crate::specs::State::Hashes::log_key_hash))]
+    fn hash_value(&self) -> usize
+        ensures { result ≡ log_key_hash self.now }
     {
         let integration = self
             .place
             .wrapping_add(self.kind.as_str().len().wrapping_mul(256))
             .wrapping_add(sample_of(self.receiver.as_str()));
         self.path
-            .spread()
+            .hash_value()
             .wrapping_add(integration)
             .wrapping_mul(0x9e37_79b9_7f4a_7c15)
-            .wrapping_add(self.group.spread())
+            .wrapping_add(self.group.hash_value())
     }
 }
 
@@ -181,9 +181,9 @@ impl Key for LogKey {
     ghost exact = { log_key_cmp-IsAntisymmetric };
 }
 
-/// Returns a number that spreads texts out, by their length, the two bytes in the middle, and the
-/// last byte. It reads less of a text than `spread_of`, and tells fewer texts apart.
-#[tactic(auto, unfolding(crate::specs::State::Spread::text_sample))]
+/// Returns a hash of the text's length, the two bytes in its middle, and its last byte. It reads
+/// less of a text than `fnv_hash`, and tells fewer texts apart.
+#[tactic(auto, unfolding(crate::specs::State::Hashes::text_sample))]
 fn sample_of(text: &str) -> usize
     ensures { result ≡ text_sample text.now }
 {
@@ -200,7 +200,7 @@ fn sample_of(text: &str) -> usize
 }
 
 /// Returns the byte at a place, or 0 where there is none.
-#[tactic(auto, unfolding(crate::specs::State::Spread::byte_at))]
+#[tactic(auto, unfolding(crate::specs::State::Hashes::byte_at))]
 fn byte_at(bytes: &[u8], place: usize) -> usize
     ensures { result ≡ byte_at bytes.now place }
 {

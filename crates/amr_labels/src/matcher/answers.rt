@@ -6,7 +6,7 @@ ghost use Rattle.amr_labels.specs.Matcher.Patterns.{pattern_matches};
 ghost use Rattle.amr_labels.specs.Matcher.Questions.{IsAnswer};
 
 use crate::matcher::pattern::Pattern;
-use crate::{Text, spread_of};
+use crate::{Text, fnv_hash};
 use std::alloc::{AllocError, Global};
 use std::collections::BTreeMap;
 use std::marker::Model;
@@ -205,7 +205,7 @@ impl Answer {
 
 /// Returns the place of the latest answer to a question.
 fn place_of(pattern: &Pattern, value: &str) -> usize {
-    pattern.spread().wrapping_add(spread_of(value)) % LATEST
+    pattern.hash_value().wrapping_add(fnv_hash(value)) % LATEST
 }
 
 /// Returns places without answers.

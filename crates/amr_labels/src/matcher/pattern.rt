@@ -7,7 +7,7 @@ ghost use Rattle.amr_labels.specs.Matcher.Searches.{IsFoundAs, search_pattern};
 ghost use Rattle.amr_labels.specs.declared.matcher.pattern.MatcherError.TheVariants.{BadPattern};
 
 use crate::matcher::search::{Built, Search};
-use crate::{Labels, Text, spread_of};
+use crate::{Labels, Text, fnv_hash};
 use regex::RegexBuilder;
 use std::alloc::{AllocError, AllocFailed, Global};
 use std::marker::Model;
@@ -50,9 +50,8 @@ impl<T: Drop> From<AllocFailed<T>> for MatcherError {
 pub struct Pattern {
     text: Text,
     built: Built,
-    /// A number made of the text, by which remembered answers are spread out. Contracts don't see
-    /// it.
-    spread: usize,
+    /// A hash of the text. Contracts don't see it.
+    hash_value: usize,
 }
 
 impl Model for Pattern {
@@ -86,7 +85,7 @@ impl Pattern {
             Ok(regex) => Ok(Some(Pattern {
                 text: text.clone()?,
                 built: Built::new(alloc, regex, most)?,
-                spread: spread_of(text.as_str()),
+                hash_value: fnv_hash(text.as_str()),
             })),
             Err(regex::Error::CompiledTooBig) => Ok(None),
             Err(regex::Error::OutOfMemory) => Err(MatcherError::Memory),
@@ -102,8 +101,8 @@ impl Pattern {
     }
 
     /// Returns a number made of the text.
-    pub(crate) fn spread(&self) -> usize {
-        self.spread
+    pub(crate) fn hash_value(&self) -> usize {
+        self.hash_value
     }
 
     /// Unmarks the label sets whose value of the label with this name the pattern doesn't match, or

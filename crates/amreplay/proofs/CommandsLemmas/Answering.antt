@@ -3,7 +3,7 @@ use Rattle.std.proofs.Common.{ℕ, ◌≤◌, length, sym, ap, subst, inl, inr, 
 use Rattle.std.proofs.lemmas.Result.{MatchResult-weaker}
 use Rattle.std.specs.Io.KnownBytes.{Appends}
 use Rattle.amr_labels.specs.Labels.{Text}
-use Rattle.amreplay.specs.Lines.Outlet.{AppendsBeginning, WritesText}
+use Rattle.amreplay.specs.Lines.CheckedWriter.{AppendsBeginning, WritesText}
 use Rattle.amreplay.specs.declared.lines.word.Word.{Word}
 use Rattle.amreplay.specs.CommandLines.Line.{longest}
 use Rattle.amreplay.specs.CommandLines.ParsedLine.{LineSays, FailsToRead, ReadingTakesMemory}

@@ -3,7 +3,7 @@ use Rattle.std.proofs.Common.{◌≡◌, ◌∷◌, ◌++◌, List, ℕ, ◌<◌
 use Rattle.std.proofs.lemmas.Grind.{common_steps, flat_map-append}
 use Rattle.std.specs.Io.KnownBytes.{Appends}
 use Rattle.std.proofs.KnownBytes.{Appends-trans}
-use Rattle.amreplay.specs.Lines.Outlet.{AppendsBeginning}
+use Rattle.amreplay.specs.Lines.CheckedWriter.{AppendsBeginning}
 
 -- a text was written, and then a prefix of the next
 pub AppendsBeginning-after : (a b c : Option (List ℕ)) (first second rest all : List ℕ)

@@ -13,7 +13,7 @@ use Rattle.amr_engine.specs.State.State.{State, start}
 use Rattle.amr_engine.specs.Events.{Outcome, outcome_of, after_event, after_events, run_of}
 use Rattle.amreplay.specs.Lines.Printed.{event_lines}
 use Rattle.amreplay.specs.Program.Runs.{lines_from, run_lines, LeavesAt, RunLeavesAt, RunLeaves}
-use Rattle.amreplay.specs.Lines.Outlet.{AppendsBeginning}
+use Rattle.amreplay.specs.Lines.CheckedWriter.{AppendsBeginning}
 use Rattle.amreplay.specs.declared.program.run.RunError.{RunError}
 use Rattle.amreplay.specs.declared.program.run.RunError.TheVariants.{Memory, CannotWrite}
 use Rattle.amreplay.proofs.LinesLemmas.Parts.{AppendsBeginning-after}

@@ -2,7 +2,7 @@
 use Rattle.std.specs.Prelude.{◌≡◌, ℕ, ◌+◌, ◌≤◌, Bool, true, List, [], ◌∷◌, ◌++◌, map, Option, Result, MatchResult, ◌⊎◌}
 use Rattle.std.specs.Io.KnownBytes.{Appends, Consumes, IsAtEnd}
 use Rattle.amr_labels.specs.Labels.{Text}
-use Rattle.amreplay.specs.Lines.Inlet.{most_calls, HasEnded}
+use Rattle.amreplay.specs.Lines.CheckedReader.{most_calls, HasEnded}
 use Rattle.amreplay.specs.declared.command_lines.line.Line.{Line}
 use Rattle.amreplay.specs.CommandLines.Line.{Holds}
 use Rattle.amreplay.specs.Commands.Lines.{Cuts}

@@ -2,7 +2,7 @@
 use Rattle.std.specs.Prelude.{◌≡◌, ℕ, ◌<◌, ◌≤◌, All, List, [], ◌∷◌, ◌++◌, length, map, flat_map, Option, Result, MatchResult, ⊤}
 use Rattle.std.specs.Io.KnownBytes.{Appends}
 use Rattle.amr_labels.specs.Labels.{Text}
-use Rattle.amreplay.specs.Lines.Outlet.{AppendsBeginning}
+use Rattle.amreplay.specs.Lines.CheckedWriter.{AppendsBeginning}
 use Rattle.amreplay.specs.declared.lines.word.Word.TheVariants as word
 use Rattle.amreplay.specs.declared.command_lines.command.ParsedLine.{ParsedLine}
 use Rattle.amreplay.specs.declared.command_lines.line.Line.{Line}

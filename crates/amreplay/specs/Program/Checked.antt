@@ -7,7 +7,7 @@ use Rattle.amr_config.specs.Stated.Config as config
 use Rattle.amreplay.specs.declared.program.fault.Fault.{Fault}
 use Rattle.amreplay.specs.declared.program.fault.Fault.TheVariants.{Config, Script, CannotReadConfig, CannotReadScript, CannotReadCommands, CannotWrite, Memory, Usage}
 use Rattle.amreplay.specs.Program.Files.{ConfigFileIs}
-use Rattle.amreplay.specs.Lines.Outlet.{AppendsBeginning}
+use Rattle.amreplay.specs.Lines.CheckedWriter.{AppendsBeginning}
 use Rattle.amreplay.specs.Lines.Printed.{object_of, number_data, data_line}
 
 -- the numbers of receivers, of routes with the root, and of inhibition rules

@@ -1,6 +1,6 @@
 -- Which faults say that a reader or a writer failed: those, and no others.
 use Rattle.std.specs.Prelude.{◌≡◌, ℕ, Bool, true, Result, MatchResult}
-use Rattle.amreplay.specs.Lines.Inlet.{HasEnded}
+use Rattle.amreplay.specs.Lines.CheckedReader.{HasEnded}
 use Rattle.amreplay.specs.declared.program.run.RunError.{RunError}
 use Rattle.amreplay.specs.declared.program.run.RunError.TheVariants as run_error
 use Rattle.amreplay.specs.declared.program.fault.Fault.{Fault}

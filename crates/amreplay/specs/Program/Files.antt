@@ -17,7 +17,7 @@ use Rattle.amr_events.specs.Scripts as scripts
 use Rattle.amr_replay.specs.Session.{View, at_cursor}
 use Rattle.amreplay.specs.declared.program.fault.Fault.{Fault}
 use Rattle.amreplay.specs.declared.program.fault.Fault.TheVariants.{Config, Script, CannotReadConfig, CannotReadScript, CannotReadCommands, CannotWrite, Memory, Usage}
-use Rattle.amreplay.specs.Lines.Outlet.{AppendsBeginning}
+use Rattle.amreplay.specs.Lines.CheckedWriter.{AppendsBeginning}
 use Rattle.amreplay.specs.Program.Runs.{run_lines}
 
 -- the value that bytes spell, if they are JSON in UTF-8

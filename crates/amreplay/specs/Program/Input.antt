@@ -1,6 +1,6 @@
 -- What is read of a file, and why a file couldn't be read.
 use Rattle.std.specs.Prelude.{◌≡◌, ◌⊎◌, ℕ, ◌+◌, ◌<◌, ◌==◌, ◌&&◌, List, fold, Bool, true, Option, Some, None, ⊤, if◌then◌else◌}
-use Rattle.amreplay.specs.Lines.Inlet.{HasEnded}
+use Rattle.amreplay.specs.Lines.CheckedReader.{HasEnded}
 use Rattle.amr_events.specs.Scripts.{is_space, longest_line}
 use Rattle.amreplay.specs.declared.program.input.LinesRead.{LinesRead}
 use Rattle.amreplay.specs.declared.program.input.InputError.{InputError}

@@ -8,7 +8,7 @@ use Rattle.amr_engine.specs.State.State.{State, start}
 use Rattle.amr_engine.specs.Events.{outcome_of, after_event}
 use Rattle.amreplay.specs.declared.program.run.RunError.{RunError}
 use Rattle.amreplay.specs.declared.program.run.RunError.TheVariants.{Memory, CannotWrite}
-use Rattle.amreplay.specs.Lines.Outlet.{AppendsBeginning}
+use Rattle.amreplay.specs.Lines.CheckedWriter.{AppendsBeginning}
 use Rattle.amreplay.specs.Lines.Printed.{event_lines}
 
 -- the lines of events, one after another from a state; the first has the number n

@@ -1,12 +1,12 @@
 //! What is written for a command line. Each answer is decided first and written after; a refusal, a
 //! step back and the answer to `cursor` are written without memory.
 ghost use Rattle.std.specs.Prelude.{◌≡◌};
-ghost use Rattle.amreplay.specs.Lines.Outlet.{WritesText, FailsAt};
+ghost use Rattle.amreplay.specs.Lines.CheckedWriter.{WritesText, FailsAt};
 ghost use Rattle.amreplay.specs.Commands.Answer.{answer_text};
 ghost use Rattle.amreplay.specs.Commands.Refusals.{refusal_number};
 
 use crate::lines::{
-    Outlet, Word, WriteFailed, write_back, write_backward_seek, write_place, write_refused,
+    CheckedWriter, Word, WriteFailed, write_back, write_backward_seek, write_place, write_refused,
     write_whole,
 };
 use amr_time::Moment;
@@ -68,7 +68,7 @@ pub(crate) enum Answer {
 
 /// Writes an answer; `cursor` is where the command has left the cursor.
 pub(crate) fn write_answer<W: Write>(
-    out: &mut Outlet<W>,
+    out: &mut CheckedWriter<W>,
     cursor: usize,
     answer: &Answer,
 ) -> Result<(), WriteFailed>

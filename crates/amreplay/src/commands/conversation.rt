@@ -2,8 +2,8 @@
 //! `program` calls `converse`. A test can call it with any bytes.
 ghost use Rattle.std.specs.Prelude.{◌≡◌, ℕ, ◌<◌, ◌≤◌, List, [], length, take, Option, MatchResult};
 ghost use Rattle.std.specs.Io.KnownBytes.{Consumes, Keeps, IsAtEnd};
-ghost use Rattle.amreplay.specs.Lines.Inlet.{CountsCall};
-ghost use Rattle.amreplay.specs.Lines.Outlet.{FailsAt};
+ghost use Rattle.amreplay.specs.Lines.CheckedReader.{CountsCall};
+ghost use Rattle.amreplay.specs.Lines.CheckedWriter.{FailsAt};
 ghost use Rattle.amreplay.specs.Commands.Replies.{incident_of};
 ghost use Rattle.amreplay.specs.Commands.Converse.{Converses, Turns, Printed, Stands, EndsBy, CountsTurn};
 ghost use Rattle.amreplay.specs.Commands.Talk.{StopsShort};
@@ -11,7 +11,7 @@ ghost use Rattle.amreplay.specs.Commands.Talk.{StopsShort};
 use crate::command_lines::Line;
 use crate::commands::dispatch::answer_line;
 use crate::commands::input::take_bytes;
-use crate::lines::{Inlet, Outlet, WriteFailed};
+use crate::lines::{CheckedReader, CheckedWriter, WriteFailed};
 use amr_replay::Session;
 use std::alloc::Global;
 use std::io::{Read, Write};
@@ -43,8 +43,8 @@ enum Turn {
 pub fn converse<R: Read, W: Write>(
     alloc: Global,
     session: &mut Session,
-    commands: &mut Inlet<R>,
-    out: &mut Outlet<W>,
+    commands: &mut CheckedReader<R>,
+    out: &mut CheckedWriter<W>,
 ) -> Result<(), ConversationError>
     requires { session.old.cursor ≡ 0 }
     ensures conversed { Converses (incident_of session.old) (R.remaining commands.old.reader)
@@ -70,8 +70,8 @@ fn take_turn<R: Read, W: Write>(
     session: &mut Session,
     line: &mut Line,
     chunk: &mut [u8],
-    commands: &mut Inlet<R>,
-    out: &mut Outlet<W>,
+    commands: &mut CheckedReader<R>,
+    out: &mut CheckedWriter<W>,
 ) -> Result<Turn, ConversationError>
     requires { 0 < length chunk.old }
     ensures kept { incident_of session.new ≡ incident_of session.old }
@@ -102,7 +102,7 @@ fn finish<W: Write>(
     alloc: Global,
     session: &mut Session,
     line: &Line,
-    out: &mut Outlet<W>,
+    out: &mut CheckedWriter<W>,
 ) -> Result<(), WriteFailed>
     ensures kept { incident_of session.new ≡ incident_of session.old }
     ensures printed { (start : Option (List ℕ)) (bytes : List ℕ)
@@ -117,7 +117,10 @@ fn finish<W: Write>(
 }
 
 /// Reads once.
-fn read_once<R: Read>(commands: &mut Inlet<R>, chunk: &mut [u8]) -> Result<usize, ConversationError>
+fn read_once<R: Read>(
+    commands: &mut CheckedReader<R>,
+    chunk: &mut [u8],
+) -> Result<usize, ConversationError>
     requires { 0 < length chunk.old }
     ensures read { MatchResult result
         (λ n. (n ≤ length chunk.new)

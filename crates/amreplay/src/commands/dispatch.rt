@@ -1,7 +1,7 @@
 //! Answering one command line: parsing it, executing the command, and writing the answer. The
 //! commands themselves are in `queries.rt` and `navigation.rt`.
 ghost use Rattle.std.specs.Prelude.{◌≡◌, ◌≤◌, List, ℕ, length};
-ghost use Rattle.amreplay.specs.Lines.Outlet.{FailsAt};
+ghost use Rattle.amreplay.specs.Lines.CheckedWriter.{FailsAt};
 ghost use Rattle.amreplay.specs.declared.command_lines.command.ParsedLine.TheVariants.{Asks};
 ghost use Rattle.amreplay.specs.CommandLines.Line.{longest, Holds};
 ghost use Rattle.amreplay.specs.Commands.Replies.{incident_of};
@@ -12,7 +12,7 @@ use crate::command_lines::{Command, Content, Line, ParsedLine};
 use crate::commands::answer::{Answer, Refusal, write_answer};
 use crate::commands::navigation::{move_cursor, trial};
 use crate::commands::queries::{list, place};
-use crate::lines::{Outlet, Word, WriteFailed, flush};
+use crate::lines::{CheckedWriter, Word, WriteFailed, flush};
 use amr_replay::Session;
 use std::alloc::Global;
 use std::io::Write;
@@ -22,7 +22,7 @@ pub(crate) fn answer_line<W: Write>(
     alloc: Global,
     session: &mut Session,
     line: &Line,
-    out: &mut Outlet<W>,
+    out: &mut CheckedWriter<W>,
 ) -> Result<(), WriteFailed>
     ensures kept { incident_of session.new ≡ incident_of session.old }
     ensures answered { (bytes : List ℕ) → Holds line.now bytes
@@ -39,7 +39,7 @@ fn write_line<W: Write>(
     alloc: Global,
     session: &mut Session,
     line: &Line,
-    out: &mut Outlet<W>,
+    out: &mut CheckedWriter<W>,
 ) -> Result<(), WriteFailed>
     ensures kept { incident_of session.new ≡ incident_of session.old }
     ensures answered { (bytes : List ℕ) → Holds line.now bytes

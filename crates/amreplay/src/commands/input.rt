@@ -1,13 +1,13 @@
 //! Taking in the bytes of commands as they come, and answering each line at its line feed.
 //! `converse` calls `take_bytes` after each read.
 ghost use Rattle.std.specs.Prelude.{◌≡◌, [], ◌∷◌};
-ghost use Rattle.amreplay.specs.Lines.Outlet.{FailsAt};
+ghost use Rattle.amreplay.specs.Lines.CheckedWriter.{FailsAt};
 ghost use Rattle.amreplay.specs.Commands.Replies.{incident_of};
 ghost use Rattle.amreplay.specs.Commands.Talk.{Takes};
 
 use crate::command_lines::Line;
 use crate::commands::dispatch::answer_line;
-use crate::lines::{Outlet, WriteFailed};
+use crate::lines::{CheckedWriter, WriteFailed};
 use amr_replay::Session;
 use std::alloc::Global;
 use std::io::Write;
@@ -18,7 +18,7 @@ pub(crate) fn take_bytes<W: Write>(
     session: &mut Session,
     line: &mut Line,
     bytes: &[u8],
-    out: &mut Outlet<W>,
+    out: &mut CheckedWriter<W>,
 ) -> Result<(), WriteFailed>
     ensures kept { incident_of session.new ≡ incident_of session.old }
     ensures heard { Takes (incident_of session.old) (W.contents out.old.writer)
@@ -38,7 +38,7 @@ fn take_byte<W: Write>(
     session: &mut Session,
     line: &mut Line,
     b: u8,
-    out: &mut Outlet<W>,
+    out: &mut CheckedWriter<W>,
 ) -> Result<(), WriteFailed>
     ensures kept { incident_of session.new ≡ incident_of session.old }
     ensures heard { Takes (incident_of session.old) (W.contents out.old.writer)

@@ -2,10 +2,10 @@
 //! `cursor` are written part by part, because they must not take memory.
 ghost use Rattle.std.specs.Prelude.{◌≡◌, IfOk, string_bytes};
 ghost use Rattle.amreplay.specs.Lines.LastLines.{moves_line, cursor_line, place_line, refused_line};
-ghost use Rattle.amreplay.specs.Lines.Outlet.{WritesText, FailsAt};
+ghost use Rattle.amreplay.specs.Lines.CheckedWriter.{WritesText, FailsAt};
 ghost use Rattle.amreplay.specs.declared.lines.word.Word.TheVariants.{Back};
 
-use crate::lines::outlet::{Outlet, WriteFailed, write_parts};
+use crate::lines::checked_writer::{CheckedWriter, WriteFailed, write_parts};
 use crate::lines::word::{Word, word_text};
 use amr_time::{Moment, MomentText};
 use itoa::Buffer;
@@ -36,7 +36,7 @@ pub fn cursor_text(alloc: Global, word: Word, cursor: usize) -> Result<String, A
 /// Writes the line of the command `cursor`: the cursor, the number of events, and the clock. It takes
 /// no memory.
 pub fn write_place<W: Write>(
-    out: &mut Outlet<W>,
+    out: &mut CheckedWriter<W>,
     cursor: usize,
     events: usize,
     now: Moment,
@@ -64,7 +64,7 @@ pub fn write_place<W: Write>(
 
 /// Writes the line of a refused command, with the number of the reason. It takes no memory.
 pub fn write_refused<W: Write>(
-    out: &mut Outlet<W>,
+    out: &mut CheckedWriter<W>,
     word: Word,
     cursor: usize,
     reason: u64,
@@ -90,7 +90,7 @@ pub fn write_refused<W: Write>(
 }
 
 /// Writes the line of a step back. It takes no memory.
-pub fn write_back<W: Write>(out: &mut Outlet<W>, cursor: usize) -> Result<(), WriteFailed>
+pub fn write_back<W: Write>(out: &mut CheckedWriter<W>, cursor: usize) -> Result<(), WriteFailed>
     ensures written { WritesText (W.contents out.old.writer) (W.contents out.new.writer)
         result (cursor_line Back cursor) }
     ensures failed { FailsAt result out.old.failed out.new.failed }
@@ -109,7 +109,7 @@ pub fn write_back<W: Write>(out: &mut Outlet<W>, cursor: usize) -> Result<(), Wr
 /// Writes the line of a seek that passes no event, because it goes to the cursor or below. It takes
 /// no memory.
 pub fn write_backward_seek<W: Write>(
-    out: &mut Outlet<W>,
+    out: &mut CheckedWriter<W>,
     word: Word,
     cursor: usize,
 ) -> Result<(), WriteFailed>

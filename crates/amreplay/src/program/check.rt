@@ -4,7 +4,7 @@ ghost use Rattle.std.specs.Prelude.{◌≡◌, IfOk, string_bytes};
 ghost use Rattle.amreplay.specs.Program.Ends.{EndsBy};
 ghost use Rattle.amreplay.specs.Program.Checked.{counts_line, CheckLeaves};
 
-use crate::lines::{Outlet, flush, write_whole};
+use crate::lines::{CheckedWriter, flush, write_whole};
 use crate::program::fault::Fault;
 use crate::program::load::read_config;
 use amr_config::Config;
@@ -16,7 +16,7 @@ use std::io::Write;
 pub fn check_config<W: Write>(
     alloc: Global,
     config: &[u8],
-    out: &mut Outlet<W>,
+    out: &mut CheckedWriter<W>,
 ) -> Result<(), Fault>
     ensures left { CheckLeaves (W.contents out.old.writer) (W.contents out.new.writer) config.now
         result }

@@ -1,10 +1,10 @@
 //! What stops the program: the line for standard error, and the exit status. `main` writes it last.
 //! The line takes no memory, so it can also report that memory ran out.
 ghost use Rattle.std.specs.Prelude.{◌≡◌};
-ghost use Rattle.amreplay.specs.Lines.Outlet.{WritesText, FailsAt};
+ghost use Rattle.amreplay.specs.Lines.CheckedWriter.{WritesText, FailsAt};
 
 use crate::commands::ConversationError;
-use crate::lines::{Outlet, WriteFailed, write_parts};
+use crate::lines::{CheckedWriter, WriteFailed, write_parts};
 use crate::program::run::RunError;
 use amr_config::read::{ConfigError, Refusal};
 use amr_events::{Fault as ScriptFault, ScriptError};
@@ -126,7 +126,7 @@ enum Place<'a> {
 ghost use Rattle.amreplay.specs.Program.Faults.{fault_line, fault_prefix, fault_name, fault_place, config_place as config_place_of, script_place as script_place_of, path_place as place_of_path, line_with_place, place_of as place_seen, status_of as fault_status};
 
 /// Writes the line of a fault. It takes no memory.
-pub fn write_fault<W: Write>(fault: &Fault, out: &mut Outlet<W>) -> Result<(), WriteFailed>
+pub fn write_fault<W: Write>(fault: &Fault, out: &mut CheckedWriter<W>) -> Result<(), WriteFailed>
     ensures written { WritesText (W.contents out.old.writer) (W.contents out.new.writer)
         result (fault_line fault.now) }
     ensures failed { FailsAt result out.old.failed out.new.failed }
@@ -139,7 +139,7 @@ fn write_line<W: Write>(
     prefix: &str,
     name: &str,
     place: &Place,
-    out: &mut Outlet<W>,
+    out: &mut CheckedWriter<W>,
 ) -> Result<(), WriteFailed>
     ensures written { WritesText (W.contents out.old.writer) (W.contents out.new.writer)
         result (line_with_place prefix.now name.now (place_seen place.now)) }

@@ -6,7 +6,7 @@ ghost use Rattle.amreplay.specs.Program.Files.{ConfigFileIs};
 ghost use Rattle.amreplay.specs.Program.Input.{UnreadBy, StandFor, after_byte, after_bytes, most_full_lines, AreSettled};
 ghost use Rattle.amr_events.specs.Scripts.{is_space as is_space_byte, longest_line};
 
-use crate::lines::{Inlet, ReadFailed};
+use crate::lines::{CheckedReader, ReadFailed};
 use crate::program::load::LONGEST_CONFIG;
 use std::alloc::{AllocError, Global};
 use std::io::Read;
@@ -56,17 +56,20 @@ impl From<ReadFailed> for InputError {
 ///
 /// Reading also ends at an error of the reader, and at the read numbered 1,099,511,627,776. Both
 /// are errors, so that a file that is cut short is never taken for a whole one.
-pub fn read_config_file<R: Read>(alloc: Global, inlet: &mut Inlet<R>) -> Result<Vec<u8>, InputError>
-    ensures read { IfOk result (λ bytes. StandFor ConfigFileIs (R.remaining inlet.old.reader)
+pub fn read_config_file<R: Read>(
+    alloc: Global,
+    checked_reader: &mut CheckedReader<R>,
+) -> Result<Vec<u8>, InputError>
+    ensures read { IfOk result (λ bytes. StandFor ConfigFileIs (R.remaining checked_reader.old.reader)
         bytes.items) }
     ensures ended { MatchResult result
-        (λ _. inlet.new.failed ≡ inlet.old.failed)
-        (λ unread. UnreadBy unread inlet.old.failed inlet.new.failed inlet.new.calls) }
+        (λ _. checked_reader.new.failed ≡ checked_reader.old.failed)
+        (λ unread. UnreadBy unread checked_reader.old.failed checked_reader.new.failed checked_reader.new.calls) }
 {
     let mut bytes = Vec::new(alloc);
     let mut chunk = [0; CHUNK];
     loop {
-        let taken = inlet.read(&mut chunk)?;
+        let taken = checked_reader.read(&mut chunk)?;
         if taken == 0 {
             return Ok(bytes);
         }
@@ -81,12 +84,15 @@ pub fn read_config_file<R: Read>(alloc: Global, inlet: &mut Inlet<R>) -> Result<
 /// many. Whatever follows such a line, the script is refused for it or for one before it.
 ///
 /// Reading also ends as that of a configuration does.
-pub fn read_script_file<R: Read>(alloc: Global, inlet: &mut Inlet<R>) -> Result<Vec<u8>, InputError>
-    ensures read { IfOk result (λ bytes. StandFor ScriptIs (R.remaining inlet.old.reader)
+pub fn read_script_file<R: Read>(
+    alloc: Global,
+    checked_reader: &mut CheckedReader<R>,
+) -> Result<Vec<u8>, InputError>
+    ensures read { IfOk result (λ bytes. StandFor ScriptIs (R.remaining checked_reader.old.reader)
         bytes.items) }
     ensures ended { MatchResult result
-        (λ _. inlet.new.failed ≡ inlet.old.failed)
-        (λ unread. UnreadBy unread inlet.old.failed inlet.new.failed inlet.new.calls) }
+        (λ _. checked_reader.new.failed ≡ checked_reader.old.failed)
+        (λ unread. UnreadBy unread checked_reader.old.failed checked_reader.new.failed checked_reader.new.calls) }
 {
     let mut bytes = Vec::new(alloc);
     let mut chunk = [0; CHUNK];
@@ -96,7 +102,7 @@ pub fn read_script_file<R: Read>(alloc: Global, inlet: &mut Inlet<R>) -> Result<
         is_blank: true,
     };
     loop {
-        let taken = inlet.read(&mut chunk)?;
+        let taken = checked_reader.read(&mut chunk)?;
         if taken == 0 {
             return Ok(bytes);
         }

@@ -9,7 +9,7 @@ ghost use Rattle.amr_engine.specs.Outcomes.{outcome_view};
 ghost use Rattle.amr_engine.specs.Events.{outcome_of, after_event, without_notifications};
 ghost use Rattle.amr_engine.specs.State.State.{start};
 
-use crate::lines::{Outlet, WriteFailed, event_text, flush, write_whole};
+use crate::lines::{CheckedWriter, WriteFailed, event_text, flush, write_whole};
 use crate::program::fault::Fault;
 use crate::program::load::read_files;
 use amr_engine::{Engine, Outcome};
@@ -61,7 +61,7 @@ pub fn run_script<W: Write>(
     alloc: Global,
     config: &[u8],
     script: Vec<u8>,
-    out: &mut Outlet<W>,
+    out: &mut CheckedWriter<W>,
 ) -> Result<(), Fault>
     ensures left { FilesLeave (W.contents out.old.writer) (W.contents out.new.writer)
         config.now script.items result }
@@ -82,7 +82,7 @@ fn write_run<W: Write>(
     alloc: Global,
     engine: &mut Engine,
     script: &Script,
-    out: &mut Outlet<W>,
+    out: &mut CheckedWriter<W>,
 ) -> Result<(), RunError>
     requires { engine.old.state ≡ start engine.old.state.config }
     ensures left { RunLeaves (W.contents out.old.writer) (W.contents out.new.writer)
@@ -99,7 +99,7 @@ fn write_events<W: Write>(
     alloc: Global,
     engine: &mut Engine,
     script: &Script,
-    out: &mut Outlet<W>,
+    out: &mut CheckedWriter<W>,
 ) -> Result<(), RunError>
     requires { engine.old.state ≡ start engine.old.state.config }
     ensures left { RunLeaves (W.contents out.old.writer) (W.contents out.new.writer)
@@ -119,7 +119,7 @@ fn pass_event<W: Write>(
     engine: &mut Engine,
     number: u64,
     event: &Event,
-    out: &mut Outlet<W>,
+    out: &mut CheckedWriter<W>,
 ) -> Result<(), RunError>
     ensures left { Leaves (W.contents out.old.writer) (W.contents out.new.writer)
         (event_lines number event.now (outcome_of engine.old.state event.now)) result }
@@ -141,7 +141,7 @@ fn write_event<W: Write>(
     number: u64,
     event: &Event,
     outcome: &Outcome,
-    out: &mut Outlet<W>,
+    out: &mut CheckedWriter<W>,
 ) -> Result<(), RunError>
     ensures left { Leaves (W.contents out.old.writer) (W.contents out.new.writer)
         (event_lines number event.now (outcome_view outcome.now)) result }

@@ -4,7 +4,7 @@ ghost use Rattle.amreplay.specs.Program.Ends.{EndsBy, ReadsBy};
 ghost use Rattle.amreplay.specs.Program.Sessions.{SessionLeaves};
 
 use crate::commands::converse;
-use crate::lines::{Inlet, Outlet};
+use crate::lines::{CheckedReader, CheckedWriter};
 use crate::program::fault::Fault;
 use crate::program::load::open_session;
 use std::alloc::Global;
@@ -19,8 +19,8 @@ pub fn run_session<R: Read, W: Write>(
     alloc: Global,
     config: &[u8],
     script: Vec<u8>,
-    commands: &mut Inlet<R>,
-    out: &mut Outlet<W>,
+    commands: &mut CheckedReader<R>,
+    out: &mut CheckedWriter<W>,
 ) -> Result<(), Fault>
     ensures left { SessionLeaves (R.remaining commands.old.reader) (R.remaining commands.new.reader)
         (W.contents out.old.writer) (W.contents out.new.writer) config.now script.items result }

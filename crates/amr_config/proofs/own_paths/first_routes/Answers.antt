@@ -2,7 +2,7 @@ use Rattle.std.proofs.Common.{◌≡◌, ◌+◌, ◌<◌, ◌∙◌, length, So
 use Rattle.std.specs.BTreeMap.Entry.{map_with_value}
 use Rattle.std.proofs.lemmas.Grind.{common_steps}
 use Rattle.std.proofs.lemmas.Option.{slice_get-get_or}
-use Rattle.amr_config.specs.Paths.{AreFirsts, IsFirstLike, path_spread}
+use Rattle.amr_config.specs.Paths.{AreFirsts, IsFirstLike, path_hash}
 use Rattle.amr_config.specs.Routing.{path_of}
 use Rattle.amr_config.specs.Settled.{stated_config}
 use Rattle.amr_config.proofs.OwnPaths.{IsKeyOf, path_settled, own_of, is_key, firsts_more, first_like, known_same, known_more}
@@ -31,7 +31,7 @@ loop-number-preserved c =
     let above = c.above-first_above.ensures ∙ ap (λ fs. option_and_then (slice_get fs) route.parent) c.as_slice.ensures.value in
     let is_its : IsKeyOf config number key =
     is_key config c.requires.parents number route here firsts c.loop-number.invariant.firsts its.path key path
-    (c.in_ok-key.ensures ∙ (λ i. let at = sym c.index-settings-number.is i in (path_spread at.path, (above i, own_of at.path)))) in
+    (c.in_ok-key.ensures ∙ (λ i. let at = sym c.index-settings-number.is i in (path_hash at.path, (above i, own_of at.path)))) in
     let are_known = c.loop-number.invariant.known in
     let like : IsFirstLike config number first =
     first_like config number key is_its known.entries are_known first (c.or_insert-first.ensures.value ∙ ap (λ o. unwrap_or o number) c.in_ok-known.ensures.value) in

@@ -1,5 +1,5 @@
 use Rattle.std.proofs.Common.{subst}
-use Rattle.amreplay.specs.Lines.Outlet.{WritesText}
+use Rattle.amreplay.specs.Lines.CheckedWriter.{WritesText}
 use Rattle.amreplay.proofs.LinesLemmas.LineParts.{cursor_line-parts}
 use Rattle.amreplay.specs.declared.lines.word.Word.TheVariants.{Back}
 use Rattle.amreplay.proofs.lines.last_lines.write_back.Goals as goal

@@ -1,5 +1,5 @@
 use Rattle.std.proofs.Common.{subst}
-use Rattle.amreplay.specs.Lines.Outlet.{WritesText}
+use Rattle.amreplay.specs.Lines.CheckedWriter.{WritesText}
 use Rattle.amreplay.proofs.LinesLemmas.LineParts.{refused_line-parts}
 use Rattle.amreplay.proofs.lines.last_lines.write_refused.Goals as goal
 

@@ -2,7 +2,7 @@ use Rattle.std.proofs.Common.{◌≡◌, ◌+◌, ◌++◌, drop}
 use Rattle.std.specs.List.{filter_map}
 use Rattle.amr_rules.specs.Alerts.{completed}
 use Rattle.amr_engine.specs.Events.{skipped_from}
-use Rattle.amr_engine.proofs.post.sift.Given as goal
+use Rattle.amr_engine.proofs.post.validate.Given as goal
 
 -- what was split so far, and what is left to split, are all
 abbrev pub invariant-loop-index : goal.invariant-loop-index

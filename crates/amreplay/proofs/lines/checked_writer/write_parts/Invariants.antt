@@ -1,6 +1,6 @@
 use Rattle.std.proofs.Common.{◌≡◌, flat_map, take}
 use Rattle.std.specs.Io.KnownBytes.{Appends}
-use Rattle.amreplay.proofs.lines.outlet.write_parts.Given as goal
+use Rattle.amreplay.proofs.lines.checked_writer.write_parts.Given as goal
 
 abbrev pub invariant-loop-part : goal.invariant-loop-part
 invariant-loop-part g l = record {

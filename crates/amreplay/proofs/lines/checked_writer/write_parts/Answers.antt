@@ -1,6 +1,6 @@
 use Rattle.std.proofs.lemmas.Result.{MatchResult-from_err}
 use Rattle.amreplay.proofs.LinesLemmas.Parts.{AppendsBeginning-after, flat_map-around}
-use Rattle.amreplay.proofs.lines.outlet.write_parts.Goals as goal
+use Rattle.amreplay.proofs.lines.checked_writer.write_parts.Goals as goal
 
 pub returns-in_err-write_whole-clause-written : goal.returns-in_err-write_whole-clause-written
 returns-in_err-write_whole-clause-written g c =

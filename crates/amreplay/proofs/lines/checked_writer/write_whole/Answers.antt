@@ -3,7 +3,7 @@ use Rattle.std.proofs.lemmas.List.{take_rest}
 use Rattle.std.specs.Io.KnownBytes.{Appends}
 use Rattle.std.proofs.KnownBytes.{Appends-trans, Appends-kept}
 use Rattle.std.proofs.lemmas.Result.{MatchResult-from_err}
-use Rattle.amreplay.proofs.lines.outlet.write_whole.Goals as goal
+use Rattle.amreplay.proofs.lines.checked_writer.write_whole.Goals as goal
 
 moves_front : (all done rest : List ℕ) (n : ℕ) → all ≡ done ++ rest → all ≡ (done ++ take n rest) ++ take (length rest - n) (drop n rest)
 moves_front all done rest n e =

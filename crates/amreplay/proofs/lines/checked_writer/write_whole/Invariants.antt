@@ -1,7 +1,7 @@
 -- The writer has got what is no longer in `rest`, and hasn't failed.
 use Rattle.std.proofs.Common.{◌≡◌, ℕ, List, ◌++◌, length}
 use Rattle.std.specs.Io.KnownBytes.{Appends}
-use Rattle.amreplay.proofs.lines.outlet.write_whole.Given as goal
+use Rattle.amreplay.proofs.lines.checked_writer.write_whole.Given as goal
 
 abbrev pub invariant-loop-rest : goal.invariant-loop-rest
 invariant-loop-rest g l = record {

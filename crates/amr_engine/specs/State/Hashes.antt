@@ -1,9 +1,8 @@
--- Numbers that tables spread the state's keys out by. Nothing but the speed of look-ups depends on
--- which ones they are.
+-- Hashes of the state's keys. Nothing but the speed of look-ups depends on them.
 use Rattle.std.specs.Prelude.{ℕ, ◌+◌, ◌-◌, ◌*◌, ◌/◌, ◌%◌, ◌^◌, length, slice_get, unwrap_or}
 use Rattle.amr_labels.specs.Labels.{Text}
-use Rattle.amr_labels.specs.Spread.{label_set_spread}
-use Rattle.amr_config.specs.Paths.{path_spread}
+use Rattle.amr_labels.specs.Hashes.{label_set_hash}
+use Rattle.amr_config.specs.Paths.{path_hash}
 use Rattle.amr_engine.specs.declared.state.notification.LogKey.{LogKey}
 
 -- the byte at a place, or 0 where there is none
@@ -19,8 +18,8 @@ text_sample text =
     (second * 31 % 2 ^ 64 + byte_at text (length text - 1)) % 2 ^ 64
 
 -- by the route and the integration, and by the group labels
-unfoldable pub log_key_spread : LogKey → ℕ
-log_key_spread key =
+unfoldable pub log_key_hash : LogKey → ℕ
+log_key_hash key =
     let integration = ((key.place + length key.kind * 256 % 2 ^ 64) % 2 ^ 64 + text_sample key.receiver) % 2 ^ 64 in
-    let route = (path_spread key.path + integration) % 2 ^ 64 in
-    (route * 0x9e3779b97f4a7c15 % 2 ^ 64 + label_set_spread key.group) % 2 ^ 64
+    let route = (path_hash key.path + integration) % 2 ^ 64 in
+    (route * 0x9e3779b97f4a7c15 % 2 ^ 64 + label_set_hash key.group) % 2 ^ 64

@@ -4,7 +4,7 @@
 ghost use Rattle.std.specs.Prelude.{◌≡◌, ◌≢◌, IfOk, flat_map, false};
 ghost use Rattle.std.specs.Io.KnownBytes.{WriteAppends, Keeps};
 ghost use Rattle.std.specs.Io.{WritesAtMost};
-ghost use Rattle.amreplay.specs.Lines.Outlet.{WritesText, FailsAt};
+ghost use Rattle.amreplay.specs.Lines.CheckedWriter.{WritesText, FailsAt};
 
 use std::io::Write;
 use thiserror::Error;
@@ -16,17 +16,17 @@ pub struct WriteFailed;
 
 /// A writer, and whether it failed.
 #[derive(Drop)]
-pub struct Outlet<W> {
+pub struct CheckedWriter<W> {
     writer: W,
     failed: bool,
 }
 
-impl<W: Write> Outlet<W> {
+impl<W: Write> CheckedWriter<W> {
     /// Wraps a writer that hasn't failed.
-    pub fn new(writer: W) -> Outlet<W>
+    pub fn new(writer: W) -> CheckedWriter<W>
         ensures { result ≡ record { writer = writer; failed = false } }
     {
-        Outlet {
+        CheckedWriter {
             writer,
             failed: false,
         }
@@ -52,7 +52,7 @@ impl<W: Write> Outlet<W> {
 
 /// Writes all the bytes, in several writes if the writer takes only a part. It fails at any error
 /// of the writer, even an interrupted write, and at a write that takes no byte.
-pub fn write_whole<W: Write>(out: &mut Outlet<W>, bytes: &[u8]) -> Result<(), WriteFailed>
+pub fn write_whole<W: Write>(out: &mut CheckedWriter<W>, bytes: &[u8]) -> Result<(), WriteFailed>
     ensures written { WritesText (W.contents out.old.writer) (W.contents out.new.writer)
         result bytes.now }
     ensures failed { FailsAt result out.old.failed out.new.failed }
@@ -66,7 +66,7 @@ pub fn write_whole<W: Write>(out: &mut Outlet<W>, bytes: &[u8]) -> Result<(), Wr
 }
 
 /// Flushes the writer.
-pub fn flush<W: Write>(out: &mut Outlet<W>) -> Result<(), WriteFailed>
+pub fn flush<W: Write>(out: &mut CheckedWriter<W>) -> Result<(), WriteFailed>
     ensures kept { Keeps (W.contents out.old.writer) (W.contents out.new.writer) }
     ensures failed { FailsAt result out.old.failed out.new.failed }
 {
@@ -80,7 +80,7 @@ pub fn flush<W: Write>(out: &mut Outlet<W>) -> Result<(), WriteFailed>
 }
 
 /// Writes the parts, one after another.
-pub fn write_parts<W: Write>(out: &mut Outlet<W>, parts: &[&[u8]]) -> Result<(), WriteFailed>
+pub fn write_parts<W: Write>(out: &mut CheckedWriter<W>, parts: &[&[u8]]) -> Result<(), WriteFailed>
     ensures written { WritesText (W.contents out.old.writer) (W.contents out.new.writer)
         result (flat_map (λ part. part.now) parts.now) }
     ensures failed { FailsAt result out.old.failed out.new.failed }

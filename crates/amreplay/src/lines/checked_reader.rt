@@ -3,7 +3,7 @@
 ghost use Rattle.std.specs.Prelude.{◌≡◌, ◌<◌, false};
 ghost use Rattle.std.specs.Io.{ReadsAtMost};
 ghost use Rattle.std.specs.Io.KnownBytes.{ReadConsumes};
-ghost use Rattle.amreplay.specs.Lines.Inlet.{CountsCall};
+ghost use Rattle.amreplay.specs.Lines.CheckedReader.{CountsCall};
 
 use std::io::Read;
 use thiserror::Error;
@@ -20,21 +20,21 @@ pub struct ReadFailed;
 
 /// A reader, the number of calls, and whether one failed.
 #[derive(Drop)]
-pub struct Inlet<R> {
+pub struct CheckedReader<R> {
     reader: R,
     calls: u64,
     failed: bool,
     ghost within: { calls < 1_099_511_627_776 },
 }
 
-impl<R: Read> Inlet<R> {
+impl<R: Read> CheckedReader<R> {
     /// Wraps a reader that hasn't been called yet.
-    pub fn new(reader: R) -> Inlet<R>
+    pub fn new(reader: R) -> CheckedReader<R>
         ensures reader { result.reader ≡ reader }
         ensures uncalled { result.calls ≡ 0 }
         ensures sound { result.failed ≡ false }
     {
-        Inlet {
+        CheckedReader {
             reader,
             calls: 0,
             failed: false,

@@ -1,6 +1,0 @@
-use Rattle.std.proofs.Common.{◌≡◌, take}
-use Rattle.amr_config.specs.Paths.{spread_below}
-use Rattle.amr_config.proofs.route_path.spread_below.Given as goal
-
-abbrev pub invariant-loop-matcher : goal.invariant-loop-matcher
-invariant-loop-matcher l = l.spread ≡ spread_below l.above (take l.matcher-index l.own)
