@@ -1,7 +1,7 @@
 -- What is noted of the moves from a state holds of them.
 use Rattle.std.specs.Prelude.{◌≡◌, ◌⊎◌, ℕ, zero, suc, Bool, true, false, if◌then◌else◌, ◌==◌, ◌&&◌, nat_lt, ◌+◌, List, [], ◌∷◌, ◌++◌, Option, Some, None, length, get_or, nat_le}
 use Rattle.std.specs.Option.{option_map_or}
-use Rattle.std.proofs.Common.{inl, inr, refl, sym, ap, ◌∙◌, subst, arith}
+use Rattle.std.proofs.Common.{inl, inr, Result, Ok, Err, OnOk, OnErr, refl, sym, ap, ◌∙◌, subst, arith}
 use Rattle.std.proofs.lemmas.Bool.Decides.{nat_tests}
 use Rattle.amr_time.specs.Time.{Moment}
 use Rattle.amr_engine.specs.declared.state.due.Due.{Due}

@@ -47,8 +47,8 @@ loop-made-preserved c =
           (length c.args.store.now.current + 2 * first_weight move_limit c.args.at c.args.store.now.state) c.loop-made.invariant.grown less next made.ok made.grown;
       memory = made.memory;
       here = one_more c.loop-made.made c.args.store.now.state c.loop-made.store.state c.make.new.store.state c.args.at c.in-Some.due c.loop-made.invariant.here next made.ok;
-      quiet = note_move c.loop-made.quiet_moves c.note.new.self c.loop-made.made c.in_ok-is_quiet-in-Some.is_quiet c.args.store.now.state c.loop-made.store.state c.args.at c.in-Some.due
-          c.loop-made.invariant.here c.loop-made.invariant.quiet next made.quiet (noted_or_not c.in-Some._forgotten _ _ c.note.ensures.ok c.note.ensures.err);
+      quiet = note_move c.loop-made.quiet_moves c.note-forgotten.new.self c.loop-made.made c.in_ok-is_quiet-in-Some.is_quiet c.args.store.now.state c.loop-made.store.state c.args.at c.in-Some.due
+          c.loop-made.invariant.here c.loop-made.invariant.quiet next made.quiet (noted_or_not c.note-forgotten.result _ _ c.note-forgotten.ensures.ok c.note-forgotten.ensures.err);
     }
 
 pub returns-then-is_some-clause-ok : goal.returns-then-is_some-clause-ok
