@@ -1,6 +1,6 @@
 //! One event, applied in place: whether it is refused, the moves that are due before it, and its
-//! action. `Engine::apply` calls `attempt` with an open record, and puts the record back if the
-//! event is refused or memory runs out. Nothing here undoes a change.
+//! action. `Engine::apply_noting` calls `attempt` with an open record, and puts the record back if
+//! the event is refused or memory runs out. Nothing here undoes a change.
 ghost use Rattle.std.specs.Prelude.{◌≡◌, ◌≤◌, ◌+◌, ◌*◌, OnOk, IfOk, length, drop};
 ghost use Rattle.amr_time.specs.Time.{latest_read};
 ghost use Rattle.amr_engine.specs.State.Kept.{GrownBy, undone};

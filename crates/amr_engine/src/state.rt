@@ -1,6 +1,7 @@
 //! The state of the replayed Alertmanager: stored alerts, groups and their members, silences, the
 //! notification log and the notifications, with the journal that undoes events. The engine changes
-//! it through `Store` and lists it through `views`. No rule about what an event does is here.
+//! it through `Store` and lists it through `views`. Of the rules, only when a timer is due (`due.rt`)
+//! and how an alert joins its groups (`placing.rt`) are here.
 
 mod change;
 mod due;

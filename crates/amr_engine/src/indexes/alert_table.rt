@@ -105,8 +105,8 @@ impl AlertTable {
     }
 
     /// Clears the marks of all places, so that the open record takes their next change again. Each
-    /// event does it, and each change of the configuration, after which other rules are at the
-    /// places. It takes no memory.
+    /// event does it, and each change of the configuration, after which other rules have the
+    /// numbers. It takes no memory.
     pub fn clear_entered(&mut self)
         ensures entered { NoneEntered label_set_cmp self.new }
         ensures shown { shown label_set_cmp self.new ≡ shown label_set_cmp self.old }

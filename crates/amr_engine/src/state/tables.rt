@@ -1,5 +1,6 @@
 //! The representation of the state: the clock, the tables and the notifications, with the marks of
-//! what the open record has entries for. `Store` owns it; `displace` is the one way to change it.
+//! what the open record has entries for. `Store` owns it, appends notifications and drops them;
+//! `displace` is the one way to change it otherwise.
 ghost use Rattle.std.specs.Prelude.{◌≡◌, Some, IsTrue, IfOk, not};
 ghost use Rattle.amr_tables.specs.Numbered.{shown, has_place, number_of, KeepsPlaces, SameEntered};
 ghost use Rattle.amr_engine.specs.State.State.{log_key_cmp};

@@ -1,5 +1,5 @@
-//! A reader that counts its calls and knows whether it failed, so that a session can say why
-//! reading ended. `commands` reads commands through it.
+//! A reader that counts its calls and knows whether it failed, so that the program can say why
+//! reading ended. Files and commands are read through it.
 ghost use Rattle.std.specs.Prelude.{◌≡◌, ◌<◌, false};
 ghost use Rattle.std.specs.Io.{ReadsAtMost};
 ghost use Rattle.std.specs.Io.KnownBytes.{ReadConsumes};

@@ -58,18 +58,18 @@ impl From<ReadFailed> for InputError {
 /// are errors, so that a file that is cut short is never taken for a whole one.
 pub fn read_config_file<R: Read>(
     alloc: Global,
-    checked_reader: &mut CheckedReader<R>,
+    file: &mut CheckedReader<R>,
 ) -> Result<Vec<u8>, InputError>
-    ensures read { IfOk result (λ bytes. StandFor ConfigFileIs (R.remaining checked_reader.old.reader)
+    ensures read { IfOk result (λ bytes. StandFor ConfigFileIs (R.remaining file.old.reader)
         bytes.items) }
     ensures ended { MatchResult result
-        (λ _. checked_reader.new.failed ≡ checked_reader.old.failed)
-        (λ unread. UnreadBy unread checked_reader.old.failed checked_reader.new.failed checked_reader.new.calls) }
+        (λ _. file.new.failed ≡ file.old.failed)
+        (λ unread. UnreadBy unread file.old.failed file.new.failed file.new.calls) }
 {
     let mut bytes = Vec::new(alloc);
     let mut chunk = [0; CHUNK];
     loop {
-        let taken = checked_reader.read(&mut chunk)?;
+        let taken = file.read(&mut chunk)?;
         if taken == 0 {
             return Ok(bytes);
         }
@@ -86,13 +86,13 @@ pub fn read_config_file<R: Read>(
 /// Reading also ends as that of a configuration does.
 pub fn read_script_file<R: Read>(
     alloc: Global,
-    checked_reader: &mut CheckedReader<R>,
+    file: &mut CheckedReader<R>,
 ) -> Result<Vec<u8>, InputError>
-    ensures read { IfOk result (λ bytes. StandFor ScriptIs (R.remaining checked_reader.old.reader)
+    ensures read { IfOk result (λ bytes. StandFor ScriptIs (R.remaining file.old.reader)
         bytes.items) }
     ensures ended { MatchResult result
-        (λ _. checked_reader.new.failed ≡ checked_reader.old.failed)
-        (λ unread. UnreadBy unread checked_reader.old.failed checked_reader.new.failed checked_reader.new.calls) }
+        (λ _. file.new.failed ≡ file.old.failed)
+        (λ unread. UnreadBy unread file.old.failed file.new.failed file.new.calls) }
 {
     let mut bytes = Vec::new(alloc);
     let mut chunk = [0; CHUNK];
@@ -102,7 +102,7 @@ pub fn read_script_file<R: Read>(
         is_blank: true,
     };
     loop {
-        let taken = checked_reader.read(&mut chunk)?;
+        let taken = file.read(&mut chunk)?;
         if taken == 0 {
             return Ok(bytes);
         }
