@@ -3,4 +3,5 @@ pub mod Stopping
 pub mod FirstPage
 pub mod RunLines
 pub mod SettledLines
+pub mod Counting
 pub mod Reading

@@ -1,7 +1,7 @@
 -- What is read of a file, and why a file couldn't be read.
-use Rattle.std.specs.Prelude.{◌≡◌, ◌⊎◌, ℕ, ◌+◌, ◌<◌, ◌==◌, ◌&&◌, List, fold, Bool, true, Option, Some, None, ⊤, if◌then◌else◌}
+use Rattle.std.specs.Prelude.{◌≡◌, ◌⊎◌, ℕ, ◌+◌, ◌<◌, ◌==◌, ◌&&◌, List, fold, length, Bool, true, Option, Some, None, ⊤, if◌then◌else◌}
 use Rattle.amreplay.specs.Lines.CheckedReader.{HasEnded}
-use Rattle.amr_events.specs.Scripts.{is_space, longest_line}
+use Rattle.amr_events.specs.Scripts.{is_space, is_blank, longest_line}
 use Rattle.amreplay.specs.declared.program.input.LinesRead.{LinesRead}
 use Rattle.amreplay.specs.declared.program.input.InputError.{InputError}
 use Rattle.amreplay.specs.declared.program.input.InputError.TheVariants.{Memory, CannotRead}
@@ -22,6 +22,10 @@ abbrev pub after_byte : LinesRead → ℕ → LinesRead
 after_byte lines byte =
     if byte == 10 then record { full = if lines.is_blank then lines.full else lines.full + 1; len = 0; is_blank = true }
     else record { full = lines.full; len = lines.len + 1; is_blank = lines.is_blank && is_space byte }
+
+-- what is known of them after more bytes of the last line
+abbrev pub after_part : LinesRead → List ℕ → LinesRead
+after_part lines part = record lines { len = lines.len + length part; is_blank = lines.is_blank && is_blank part }
 
 -- what is known of them after these bytes
 abbrev pub after_bytes : LinesRead → List ℕ → LinesRead

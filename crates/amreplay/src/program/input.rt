@@ -3,11 +3,12 @@
 ghost use Rattle.std.specs.Prelude.{◌≡◌, ◌+◌, ◌<◌, ◌≤◌, ◌^◌, true, false, IfOk, MatchResult, length};
 ghost use Rattle.amr_events.specs.Scripts.{ScriptIs};
 ghost use Rattle.amreplay.specs.Program.Files.{ConfigFileIs};
-ghost use Rattle.amreplay.specs.Program.Input.{UnreadBy, StandFor, after_byte, after_bytes, most_full_lines, AreSettled};
-ghost use Rattle.amr_events.specs.Scripts.{is_space as is_space_byte, longest_line};
+ghost use Rattle.amreplay.specs.Program.Input.{UnreadBy, StandFor, after_byte, after_bytes, after_part, most_full_lines, AreSettled};
+ghost use Rattle.amr_events.specs.Scripts.{is_blank as is_blank_line, longest_line};
 
 use crate::lines::{CheckedReader, ReadFailed};
 use crate::program::load::LONGEST_CONFIG;
+use memchr::memchr;
 use std::alloc::{AllocError, Global};
 use std::io::Read;
 use thiserror::Error;
@@ -141,43 +142,47 @@ impl LinesRead {
         ensures { result ≡ after_bytes self bytes.now }
     {
         let mut lines = self;
-        for byte in bytes {
-            lines = lines.after_byte(*byte);
+        let mut left = bytes;
+        while let Some(end) = memchr(b'\n', left) {
+            lines = lines.after_part(&left[..end]).after_feed();
+            left = &left[end + 1..];
         }
-        lines
+        lines.after_part(left)
     }
 
-    /// Returns what is known of the lines after one more byte. A line feed begins another line.
-    fn after_byte(self, byte: u8) -> LinesRead
-        requires full { self.full + 1 < 2 ^ 64 }
-        requires len { self.len + 1 < 2 ^ 64 }
-        ensures value { result ≡ after_byte self byte }
-        ensures full { result.full ≤ self.full + 1 }
-        ensures len { result.len ≤ self.len + 1 }
+    /// Returns what is known of the lines after more bytes of the last one.
+    fn after_part(self, part: &[u8]) -> LinesRead
+        requires { self.len + length part.now < 2 ^ 64 }
+        ensures { result ≡ after_part self part.now }
     {
-        if byte == b'\n' {
-            LinesRead {
-                full: if self.is_blank {
-                    self.full
-                } else {
-                    self.full + 1
-                },
-                len: 0,
-                is_blank: true,
-            }
-        } else {
-            LinesRead {
-                full: self.full,
-                len: self.len + 1,
-                is_blank: self.is_blank && is_space(byte),
-            }
+        LinesRead {
+            full: self.full,
+            len: self.len + part.len(),
+            is_blank: self.is_blank && is_blank(part),
+        }
+    }
+
+    /// Returns what is known of the lines after a line feed, which begins another line.
+    fn after_feed(self) -> LinesRead
+        requires { self.full + 1 < 2 ^ 64 }
+        ensures { result ≡ after_byte self 10 }
+    {
+        LinesRead {
+            full: if self.is_blank {
+                self.full
+            } else {
+                self.full + 1
+            },
+            len: 0,
+            is_blank: true,
         }
     }
 }
 
-/// Returns whether the byte is white space of JSON (RFC 8259).
-fn is_space(byte: u8) -> bool
-    ensures { result ≡ is_space_byte byte }
+/// Returns whether the bytes are white space of JSON (RFC 8259).
+fn is_blank(part: &[u8]) -> bool
+    ensures { result ≡ is_blank_line part.now }
 {
-    matches!(byte, b' ' | b'\t' | b'\n' | b'\r')
+    part.iter()
+        .all(|byte| matches!(*byte, b' ' | b'\t' | b'\n' | b'\r'))
 }
