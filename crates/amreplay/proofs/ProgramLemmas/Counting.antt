@@ -1,18 +1,16 @@
 -- What is known of the lines of a script after the bytes up to a line feed.
 use Rattle.std.proofs.Common.{◌≡◌, ℕ, zero, suc, ◌+◌, ◌-◌, ◌≤◌, ◌<◌, ◌==◌, ◌&&◌, if◌then◌else◌, Bool, true, false, List, [], ◌∷◌, length, take, drop, refl, sym, ap, ◌∙◌, arith}
+use Rattle.std.proofs.Math.Seq.{take-length}
 use Rattle.std.proofs.lemmas.Bool.Decides.{nat_tests}
 use Rattle.memchr.specs.Find.{Passes, is_byte, Nowhere, NoneBefore}
 use Rattle.amr_events.specs.Scripts.{is_space, is_blank}
 use Rattle.amreplay.specs.declared.program.input.LinesRead.{LinesRead}
 use Rattle.amreplay.specs.Program.Input.{after_byte, after_bytes, after_part}
+use Rattle.amreplay.proofs.ProgramLemmas.Reading.{and_true}
 
 and_assoc : (a b c : Bool) → ((a && b) && c) ≡ (a && (b && c))
 and_assoc true b c = refl
 and_assoc false b c = refl
-
-and_true : (a : Bool) → (a && true) ≡ a
-and_true true = refl
-and_true false = refl
 
 is_no : (b : Bool) → (b ≡ true → ⊥) → b ≡ false
 is_no true never = absurd (never refl)
@@ -62,16 +60,12 @@ at_feed lines (b ∷ rest) (suc k) first is =
 
 -- ---- the bytes after a line feed
 
-take_whole : (xs : List ℕ) → take (length xs) xs ≡ xs
-take_whole [] = refl
-take_whole (x ∷ xs) = ap (λ ys. x ∷ ys) (take_whole xs)
-
 take_none : (n : ℕ) → take {A = ℕ} n [] ≡ []
 take_none zero = refl
 take_none (suc n) = refl
 
 pub rest_whole : (n : ℕ) (xs : List ℕ) → take (length xs - n) (drop n xs) ≡ drop n xs
-rest_whole zero xs = let all : length xs - 0 ≡ length xs = omega arith in ap (λ n. take n xs) all ∙ take_whole xs
+rest_whole zero xs = let all : length xs - 0 ≡ length xs = omega arith in ap (λ n. take n xs) all ∙ take-length xs
 rest_whole (suc n) [] = take_none (length {A = ℕ} [] - suc n)
 rest_whole (suc n) (x ∷ xs) =
     let less : length (x ∷ xs) - suc n ≡ length xs - n = omega arith in

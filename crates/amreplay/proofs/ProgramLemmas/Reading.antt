@@ -61,7 +61,7 @@ count before last =
     ap length (filter-append (λ line. not (is_blank line)) before (last ∷ [])) ∙ length-append (full_lines before) (full_lines (last ∷ []))
     ∙ one_if_full (length (full_lines before)) last (is_blank last)
 
-and_true : (b : Bool) → (b && true) ≡ b
+pub and_true : (b : Bool) → (b && true) ≡ b
 and_true true = refl
 and_true false = refl
 
