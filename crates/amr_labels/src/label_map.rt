@@ -1,5 +1,5 @@
-//! A map from label sets to values. As a set of label sets it is the content of a log entry; the
-//! state itself is in `amr_tables`.
+//! A map from label sets to values. As a set of label sets it is the content of a log entry. The
+//! tables of the state are no such maps, but each a `Keyed` of `amr_tables`.
 ghost use Rattle.std.specs.Prelude.{◌≡◌, ◌==◌, List, ℕ, OnOk, OnErr};
 ghost use Rattle.std.specs.Option.{option_copied};
 ghost use Rattle.amr_labels.specs.Map as map;

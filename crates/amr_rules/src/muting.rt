@@ -1,5 +1,5 @@
 //! Muting: inhibition rules and silences. Each function returns what mutes, so that an explanation
-//! can name it. The stages of a flush call `inhibited_by`, and the state's `SilenceTable` calls
+//! can name it. The stages of a flush call `inhibited_by`, and `SilenceTable` of `amr_engine` calls
 //! `silenced_by` for label sets of which it knows nothing.
 ghost use Rattle.std.specs.Prelude.{◌≡◌, true, map, IfOk, is_some};
 ghost use Rattle.std.specs.List.{list_all};

@@ -1,5 +1,5 @@
 //! Reads the time intervals of a configuration, in the shapes of `time_interval` in Alertmanager's
-//! configuration reference. `read.rt` calls it for `mute_time_intervals`, and then for
+//! configuration reference. `read/read.rt` calls it for `mute_time_intervals`, and then for
 //! `time_intervals`. A location other than `UTC` is refused.
 #![tactic(auto, unfolding(crate::specs::Read::Readings::next))]
 

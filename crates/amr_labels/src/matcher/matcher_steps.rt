@@ -1,5 +1,5 @@
 //! The grammar of matcher texts as a state machine: where each character leads, and what it adds.
-//! `matcher_reader.rt` runs it. `specs/MatcherText.antt` says the same as a grammar.
+//! `matcher_reader.rt` runs it. `specs/Matcher/MatcherText.antt` says the same as a grammar.
 ghost use Rattle.std.specs.Prelude.{◌≡◌};
 ghost use Rattle.amr_labels.specs.Matcher.MatcherText.{is_refused as tests_refused};
 ghost use Rattle.amr_labels.specs.Matcher.MatcherReading as reading;
