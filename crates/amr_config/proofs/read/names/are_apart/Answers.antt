@@ -1,4 +1,4 @@
-use Rattle.std.proofs.Common.{◌≡◌, ◌-◌, true, not, arith, sym, ap, subst, ◌∙◌}
+use Rattle.std.proofs.Common.{◌-◌, true, not, arith, sym, ap, subst, ◌∙◌}
 use Rattle.std.specs.BTreeSet.{Updates, contains}
 use Rattle.amr_labels.specs.Labels.{Text, text_cmp}
 use Rattle.amr_config.proofs.ReadLemmas.NameSets.{one_before, repeated, still_apart}

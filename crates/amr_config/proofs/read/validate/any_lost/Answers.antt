@@ -1,4 +1,4 @@
-use Rattle.std.proofs.Common.{◌≡◌, List, subst, ◌∙◌}
+use Rattle.std.proofs.Common.{List, subst, ◌∙◌}
 use Rattle.amr_labels.specs.Labels.{Text}
 use Rattle.amr_config.specs.Read.NameSets.{IsSetOf}
 use Rattle.amr_config.proofs.ReadLemmas.NameSets.{any_missing}

@@ -1,4 +1,4 @@
-use Rattle.std.proofs.Common.{◌≡◌, IfOk, Bool, List, ap, subst, ◌∙◌}
+use Rattle.std.proofs.Common.{◌≡◌, IfOk, Bool, ap, subst, ◌∙◌}
 use Rattle.amr_config.specs.Read.Shape.{are_different}
 use Rattle.amr_config.proofs.ReadLemmas.NameSets.{named_apart}
 use Rattle.amr_config.proofs.read.validate.are_named_apart.Goals as goal

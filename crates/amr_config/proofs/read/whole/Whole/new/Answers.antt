@@ -1,10 +1,9 @@
-use Rattle.std.proofs.Common.{◌≡◌, codes, false, sym, ap, ◌∙◌}
+use Rattle.std.proofs.Common.{◌≡◌, codes, false, ap, ◌∙◌}
 use Rattle.std.specs.Prelude.{◌||◌}
-use Rattle.std.specs.BTreeSet.{BTreeSet, contains}
+use Rattle.std.specs.BTreeSet.{contains}
 use Rattle.serde_json.specs.View.{view}
 use Rattle.amr_labels.specs.Labels.{Text, text_cmp}
 use Rattle.amr_config.specs.Read.ReadIntervals.{defines, is_defined}
-use Rattle.amr_config.specs.Read.DefinedNames.{AreDefinedIn}
 use Rattle.amr_config.proofs.read.whole.Whole.new.Goals as goal
 
 pub invariant_of-result : goal.invariant_of-result
