@@ -19,5 +19,5 @@ mod read_rules;
 mod validate;
 mod whole;
 
-pub use error::{ConfigError, Refusal};
+pub use error::{Cause, ConfigError, Refusal};
 pub use load::{config_of, load_config};

@@ -6,7 +6,7 @@ use Rattle.serde_json.specs.Read.{read}
 use Rattle.serde_json.specs.Find.{get, as_bool, as_str}
 use Rattle.amr_labels.specs.Labels.{Text}
 use Rattle.amr_config.specs.Stated.Config.{Config}
-use Rattle.amr_config.specs.Read.Refusals.{number_of}
+use Rattle.amr_config.specs.Read.Refusals.{number_of, cause_of}
 use Rattle.amr_config.specs.Read.Reading.{config_of}
 use Rattle.amr_config.specs.declared.read.error.Refusal.{Refusal}
 use Rattle.amr_events.specs.Posts.Reasons.{Reason}
@@ -61,7 +61,7 @@ expiry_of d = do
 -- a refusal as its number
 abbrev pub numbered : Result Config Refusal → Result Config Reason
 numbered (Ok config) = Ok config
-numbered (Err refusal) = Err (number_of refusal)
+numbered (Err refusal) = Err (number_of (cause_of refusal))
 
 -- a reload, with the configuration or the number of what refuses it
 abbrev pub reload_of : Data → Act

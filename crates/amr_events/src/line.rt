@@ -4,8 +4,6 @@ ghost use Rattle.std.specs.Prelude.{◌≡◌, ◌≤◌, codes, option_map, IfO
 ghost use Rattle.serde_json.specs.Data.{depth};
 ghost use Rattle.serde_json.specs.Read.{max_depth};
 ghost use Rattle.serde_json.specs.View.{view};
-ghost use Rattle.amr_events.specs.Posts.Reasons.{reason_number};
-ghost use Rattle.amr_config.specs.Read.Refusals.{number_of};
 ghost use Rattle.amr_events.specs.Answers.{Reads, ReadsSuch};
 ghost use Rattle.amr_events.specs.Actions.Acts.{by_number, act_of};
 ghost use Rattle.amr_events.specs.Actions.Events as events;
@@ -22,7 +20,7 @@ use crate::seen_texts::SeenTexts;
 use crate::shapes::moment;
 use crate::version::Version;
 use amr_config::Config;
-use amr_config::read::{ConfigError, Refusal, config_of};
+use amr_config::read::{ConfigError, config_of};
 use amr_labels::Text;
 use json::Scratch;
 use serde_json::Value;
@@ -152,23 +150,8 @@ fn reload(
             seen.reloads.keep(text, &config)?;
             Ok(Ok(config))
         }
-        Err(ConfigError::Refused(refusal)) => Ok(Err(reason_of(&refusal))),
+        Err(ConfigError::Refused(refusal)) => Ok(Err(Reason::BadReload(refusal.cause()))),
         Err(ConfigError::Memory) => Err(AllocError),
-    }
-}
-
-/// Returns the reason that refuses the reload of a faulty configuration.
-fn reason_of(refusal: &Refusal) -> Reason
-    ensures { reason_number result ≡ number_of refusal.now }
-{
-    match refusal {
-        Refusal::BadConfig { path: _ } => Reason::BadConfig,
-        Refusal::UnknownReceiver => Reason::UnknownReceiver,
-        Refusal::DuplicateReceiver => Reason::DuplicateReceiver,
-        Refusal::RootRoute => Reason::RootRoute,
-        Refusal::ZeroInterval => Reason::ZeroInterval,
-        Refusal::BadGroupBy => Reason::BadGroupBy,
-        Refusal::TooDeep => Reason::TooDeep,
     }
 }
 

@@ -3,7 +3,8 @@ use Rattle.std.proofs.Common.{◌≡◌, ◌≢◌, ℕ, zero, suc, ◌-◌, Lis
 use Rattle.serde_json.specs.Data.{Data, Items}
 use Rattle.amr_config.specs.declared.stated.route.Route.{Route}
 use Rattle.amr_config.specs.declared.read.error.ConfigError.{ConfigError}
-use Rattle.amr_config.specs.declared.read.error.Refusal.TheVariants.{TooDeep}
+use Rattle.amr_config.specs.declared.read.error.Refusal.TheVariants.{Other}
+use Rattle.amr_config.specs.declared.read.error.Cause.TheVariants.{TooDeep}
 use Rattle.amr_config.specs.Read.Answers.{Fails, Stops}
 use Rattle.amr_config.specs.Read.Readings.{MayGive, give, items_in_turn}
 use Rattle.amr_config.specs.Read.RouteParts.{children_at}
@@ -11,7 +12,7 @@ use Rattle.amr_config.specs.Read.ReadRoutes.{own_into, add_route, child_into}
 use Rattle.amr_config.proofs.ReadLemmas.Readings.{stops_first, stops_later, stops_plain}
 use Rattle.amr_config.proofs.ReadLemmas.Turns.{Ends, ends_past, ends_after, ends_itself}
 
-pub at_zero : (whole : Data) (left : ℕ) (path : List ℕ) (parent : Option ℕ) (d : Data) (routes : List Route) → left ≡ 0 → (add_route whole left path parent d routes).value ≡ Err TooDeep
+pub at_zero : (whole : Data) (left : ℕ) (path : List ℕ) (parent : Option ℕ) (d : Data) (routes : List Route) → left ≡ 0 → (add_route whole left path parent d routes).value ≡ Err (Other TooDeep)
 unfolding add_route
 at_zero whole zero path parent d routes e = refl
 at_zero whole (suc left) path parent d routes e = absurd (omega (arith, e))

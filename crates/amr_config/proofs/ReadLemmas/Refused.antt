@@ -1,10 +1,11 @@
 -- A configuration is refused as too deep exactly if one of its routes is too deep.
-use Rattle.std.proofs.Common.{◌≡◌, ℕ, Bool, true, false, if◌then◌else◌, List, [], Option, Some, None, Result, Ok, Err, refl, ap, subst, inl, inr, not, arith}
+use Rattle.std.proofs.Common.{◌≡◌, ◌≢◌, ℕ, Bool, true, false, if◌then◌else◌, List, [], Option, Some, None, Result, Ok, Err, refl, ap, subst, inl, inr, not, arith}
 use Rattle.std.specs.List.{list_any, Contains}
 use Rattle.serde_json.specs.Data.{Data}
 use Rattle.amr_labels.specs.Labels.{Text}
 use Rattle.amr_config.specs.declared.read.error.Refusal.{Refusal}
-use Rattle.amr_config.specs.declared.read.error.Refusal.TheVariants.{BadConfig, TooDeep, UnknownReceiver, DuplicateReceiver, RootRoute, ZeroInterval, BadGroupBy}
+use Rattle.amr_config.specs.declared.read.error.Refusal.TheVariants.{Other}
+use Rattle.amr_config.specs.declared.read.error.Cause.TheVariants.{TooDeep, UnknownReceiver, DuplicateReceiver, RootRoute, ZeroInterval, BadGroupBy}
 use Rattle.amr_config.specs.declared.stated.stated.Stated.{Stated}
 use Rattle.amr_config.specs.Stated.Config.{Config}
 use Rattle.amr_config.specs.Read.Readings.{Reading, plain, next, value_after, MayGive, IsBadPattern}
@@ -19,55 +20,42 @@ use Rattle.amr_config.specs.Read.Faults.{Finding, findings_of}
 use Rattle.amr_config.proofs.ReadLemmas.Judged.{Tells}
 use Rattle.amr_config.proofs.ReadLemmas.JudgedRoutes.{walked_judged}
 
-abbrev IsOther : Refusal → Type 0
-IsOther (BadConfig path) = Unit {0}
-IsOther UnknownReceiver = Unit {0}
-IsOther DuplicateReceiver = Unit {0}
-IsOther RootRoute = Unit {0}
-IsOther ZeroInterval = Unit {0}
-IsOther BadGroupBy = Unit {0}
-IsOther TooDeep = ⊥
+other_of : (a b c d e : Bool) → (if a then Some (Other UnknownReceiver) else (if b then Some (Other DuplicateReceiver) else (if c then Some (Other RootRoute) else (if d then Some (Other ZeroInterval) else (if e then Some (Other BadGroupBy) else None))))) ≢ Some (Other TooDeep)
+other_of true b c d e is = absurd (cc)
+other_of false true c d e is = absurd (cc)
+other_of false false true d e is = absurd (cc)
+other_of false false false true e is = absurd (cc)
+other_of false false false false true is = absurd (cc)
+other_of false false false false false is = absurd (cc)
 
-abbrev NoneOrOther : Option Refusal → Type 0
-NoneOrOther None = Unit {0}
-NoneOrOther (Some refusal) = IsOther refusal
-
-other_of : (a b c d e : Bool) → NoneOrOther (if a then Some UnknownReceiver else (if b then Some DuplicateReceiver else (if c then Some RootRoute else (if d then Some ZeroInterval else (if e then Some BadGroupBy else None)))))
-other_of true b c d e = tt
-other_of false true c d e = tt
-other_of false false true d e = tt
-other_of false false false true e = tt
-other_of false false false false true = tt
-other_of false false false false false = tt
-
-judged : (stated : Stated) → NoneOrOther (refusal_of stated)
+judged : (stated : Stated) → refusal_of stated ≢ Some (Other TooDeep)
 unfolding refusal_of
 judged stated =
     other_of (list_any (is_lost stated.receivers) stated.routes) (not (are_named_apart stated.receivers)) (root_is_bad stated.routes) (list_any has_zero stated.routes) (list_any is_badly_grouped stated.routes)
 
-not_told : (o : Option Refusal) (stated : Stated) → NoneOrOther o → unless_refused stated o ≡ Err TooDeep → ⊥
+not_told : (o : Option Refusal) (stated : Stated) → o ≢ Some (Other TooDeep) → unless_refused stated o ≡ Err (Other TooDeep) → ⊥
 not_told None stated other e = absurd (cc)
 not_told (Some refusal) stated other e =
-    let same : refusal ≡ TooDeep = cc in
-    rw same at other
+    let same : refusal ≡ Other TooDeep = cc in
+    other (ap (λ (r : Refusal). Some r) same)
 
-not_deep : (r : Result Stated Refusal) (findings : List Finding) (P : Stated → Type 0) → Tells r findings P → value_after r (λ stated. plain (unless_refused stated (refusal_of stated))) ≡ Err TooDeep → ⊥
+not_deep : (r : Result Stated Refusal) (findings : List Finding) (P : Stated → Type 0) → Tells r findings P → value_after r (λ stated. plain (unless_refused stated (refusal_of stated))) ≡ Err (Other TooDeep) → ⊥
 not_deep (Ok stated) findings P t e = not_told (refusal_of stated) stated (judged stated) e
 not_deep (Err refusal) findings P (path, is, first) e =
-    let same : refusal ≡ TooDeep = cc in
+    let same : refusal ≡ Other TooDeep = cc in
     absurd (cc)
 
-shallow_config : (d : Data) → is_too_deep d ≡ false → config_of d ≡ Err TooDeep → ⊥
+shallow_config : (d : Data) → is_too_deep d ≡ false → config_of d ≡ Err (Other TooDeep) → ⊥
 unfolding reading_of next
 shallow_config d shallow e =
-    let value : value_after (walked_at d).value (λ stated. plain (unless_refused stated (refusal_of stated))) ≡ Err TooDeep = rw (shallow, config_of) at e in
+    let value : value_after (walked_at d).value (λ stated. plain (unless_refused stated (refusal_of stated))) ≡ Err (Other TooDeep) = rw (shallow, config_of) at e in
     not_deep (walked_at d).value (findings_of d) (StatesWhole d) (walked_judged d shallow).tells value
 
-told : (d : Data) → is_too_deep d ≡ true → config_of d ≡ Err TooDeep
+told : (d : Data) → is_too_deep d ≡ true → config_of d ≡ Err (Other TooDeep)
 unfolding reading_of
 told d deep = rw (deep, config_of)
 
-only_deep : (d : Data) (b : Bool) → is_too_deep d ≡ b → config_of d ≡ Err TooDeep → is_too_deep d ≡ true
+only_deep : (d : Data) (b : Bool) → is_too_deep d ≡ b → config_of d ≡ Err (Other TooDeep) → is_too_deep d ≡ true
 only_deep d true is refused = is
 only_deep d false is refused = absurd (shallow_config d is refused)
 
@@ -76,25 +64,25 @@ deep_is_refused d = (λ refused. deep_route_of d (only_deep d (is_too_deep d) re
 
 -- ---- answers if a pattern may be refused
 
-none_met : (reading : Reading Config) → reading ≡ plain (Err TooDeep) → (refusal : Refusal) → IsBadPattern reading.patterns refusal → ⊥
+none_met : (reading : Reading Config) → reading ≡ plain (Err (Other TooDeep)) → (refusal : Refusal) → IsBadPattern reading.patterns refusal → ⊥
 none_met reading is refusal (path, text, met, may, faulty) =
     let none : Contains {X = List ℕ × Text} [] (path, text) = rw is at met in
     absurd (omega (arith, none.1))
 
-only_answer : (reading : Reading Config) (answer : Result Config Refusal) → reading ≡ plain (Err TooDeep) → MayGive reading answer → answer ≡ Err TooDeep
+only_answer : (reading : Reading Config) (answer : Result Config Refusal) → reading ≡ plain (Err (Other TooDeep)) → MayGive reading answer → answer ≡ Err (Other TooDeep)
 only_answer reading (Ok config) is h =
-    let value : reading.value ≡ Err TooDeep = ap (λ (r : Reading Config). r.value) is in
+    let value : reading.value ≡ Err (Other TooDeep) = ap (λ (r : Reading Config). r.value) is in
     cc
 only_answer reading (Err refusal) is (inl h) =
-    let value : reading.value ≡ Err TooDeep = ap (λ (r : Reading Config). r.value) is in
+    let value : reading.value ≡ Err (Other TooDeep) = ap (λ (r : Reading Config). r.value) is in
     cc
 only_answer reading (Err refusal) is (inr bad) = absurd (none_met reading is refusal bad)
 
-nothing_else : (d : Data) → is_too_deep d ≡ true → reading_of d ≡ plain (Err TooDeep)
+nothing_else : (d : Data) → is_too_deep d ≡ true → reading_of d ≡ plain (Err (Other TooDeep))
 unfolding reading_of
 nothing_else d deep = rw deep
 
-answered_deep : (reading : Reading Config) → MayGive reading (Err TooDeep) → reading.value ≡ Err TooDeep
+answered_deep : (reading : Reading Config) → MayGive reading (Err (Other TooDeep)) → reading.value ≡ Err (Other TooDeep)
 answered_deep reading (inl h) = h
 answered_deep reading (inr (path, text, met, may, faulty)) = absurd (cc)
 

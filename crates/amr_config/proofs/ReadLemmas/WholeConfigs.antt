@@ -11,7 +11,8 @@ use Rattle.amr_config.specs.Read.Keys.{HasOrderedKeys}
 use Rattle.amr_config.proofs.ReadLemmas.Integrations.{walked_in_order}
 use Rattle.serde_json.specs.Data.{Data}
 use Rattle.amr_config.specs.declared.read.error.Refusal.{Refusal}
-use Rattle.amr_config.specs.declared.read.error.Refusal.TheVariants.{UnknownReceiver, DuplicateReceiver, RootRoute, ZeroInterval, BadGroupBy}
+use Rattle.amr_config.specs.declared.read.error.Refusal.TheVariants.{Other}
+use Rattle.amr_config.specs.declared.read.error.Cause.TheVariants.{UnknownReceiver, DuplicateReceiver, RootRoute, ZeroInterval, BadGroupBy}
 use Rattle.amr_config.specs.declared.stated.stated.Stated.{Stated}
 use Rattle.amr_config.specs.Read.Readings.{plain, next}
 use Rattle.amr_config.specs.Read.RouteParts.{is_too_deep}
@@ -101,7 +102,7 @@ is_true : (b : Bool) → not b ≡ false → b ≡ true
 is_true true e = refl
 is_true false e = absurd (true≢false e)
 
-good_from : (a b c d e : Bool) → (if a then Some UnknownReceiver else (if b then Some DuplicateReceiver else (if c then Some RootRoute else (if d then Some ZeroInterval else (if e then Some BadGroupBy else None))))) ≡ None → (a ≡ false) × (b ≡ false) × (c ≡ false)
+good_from : (a b c d e : Bool) → (if a then Some (Other UnknownReceiver) else (if b then Some (Other DuplicateReceiver) else (if c then Some (Other RootRoute) else (if d then Some (Other ZeroInterval) else (if e then Some (Other BadGroupBy) else None))))) ≡ None → (a ≡ false) × (b ≡ false) × (c ≡ false)
 good_from true b c d e h = cc
 good_from false true c d e h = cc
 good_from false false true d e h = cc

@@ -6,7 +6,8 @@ use Rattle.std.specs.Ordering.{eq_by_cmp}
 use Rattle.amr_labels.specs.Labels.{Text, text_cmp}
 use Rattle.amr_time.specs.Time.{Span}
 use Rattle.amr_config.specs.declared.read.error.Refusal.{Refusal}
-use Rattle.amr_config.specs.declared.read.error.Refusal.TheVariants.{UnknownReceiver, DuplicateReceiver, RootRoute, ZeroInterval, BadGroupBy}
+use Rattle.amr_config.specs.declared.read.error.Refusal.TheVariants.{Other}
+use Rattle.amr_config.specs.declared.read.error.Cause.TheVariants.{UnknownReceiver, DuplicateReceiver, RootRoute, ZeroInterval, BadGroupBy}
 use Rattle.amr_config.specs.declared.stated.receiver.Receiver.{Receiver}
 use Rattle.amr_config.specs.declared.stated.route.Route.{Route}
 use Rattle.amr_config.specs.declared.stated.route.Grouping.{Grouping}
@@ -69,9 +70,9 @@ are_named_apart (receiver ∷ receivers) = not (is_name_of receiver.name receive
 -- the refusal with the least number
 unfoldable pub refusal_of : Stated → Option Refusal
 refusal_of stated =
-    if list_any (is_lost stated.receivers) stated.routes then Some UnknownReceiver
-    else (if not (are_named_apart stated.receivers) then Some DuplicateReceiver
-    else (if root_is_bad stated.routes then Some RootRoute
-    else (if list_any has_zero stated.routes then Some ZeroInterval
-    else (if list_any is_badly_grouped stated.routes then Some BadGroupBy
+    if list_any (is_lost stated.receivers) stated.routes then Some (Other UnknownReceiver)
+    else (if not (are_named_apart stated.receivers) then Some (Other DuplicateReceiver)
+    else (if root_is_bad stated.routes then Some (Other RootRoute)
+    else (if list_any has_zero stated.routes then Some (Other ZeroInterval)
+    else (if list_any is_badly_grouped stated.routes then Some (Other BadGroupBy)
     else None))))

@@ -1,7 +1,8 @@
 -- Reading the routing tree of a configuration, by key in byte order.
 use Rattle.std.specs.Prelude.{ℕ, zero, suc, List, [], ◌∷◌, ◌++◌, length, Option, Some, None, Err, false, codes, unwrap_or}
 use Rattle.serde_json.specs.Data.{Data}
-use Rattle.amr_config.specs.declared.read.error.Refusal.TheVariants.{TooDeep}
+use Rattle.amr_config.specs.declared.read.error.Refusal.TheVariants.{Other}
+use Rattle.amr_config.specs.declared.read.error.Cause.TheVariants.{TooDeep}
 use Rattle.amr_config.specs.declared.stated.route.Route.{Route}
 use Rattle.amr_config.specs.Read.Paths.{under, item_path}
 use Rattle.amr_config.specs.Read.Members.{member_of, stated, members_at, text_at, flag_at, span_at, texts_at}
@@ -31,7 +32,7 @@ own_into whole path parent d routes = route_at whole path parent d >>= λ route.
 
 -- a route and those below it, down to n levels, added to the routes before them
 unfoldable pub add_route : Data → ℕ → List ℕ → Option ℕ → Data → List Route → Reading (List Route)
-add_route whole zero path parent d routes = plain (Err TooDeep)
+add_route whole zero path parent d routes = plain (Err (Other TooDeep))
 add_route whole (suc left) path parent d routes = do
   own ← own_into whole path parent d routes
   children ← children_at path d

@@ -2,7 +2,8 @@
 use Rattle.std.specs.Prelude.{Option, Some, None, Result, Ok, Err, if◌then◌else◌}
 use Rattle.serde_json.specs.Data.{Data}
 use Rattle.amr_config.specs.declared.read.error.Refusal.{Refusal}
-use Rattle.amr_config.specs.declared.read.error.Refusal.TheVariants.{TooDeep}
+use Rattle.amr_config.specs.declared.read.error.Refusal.TheVariants.{Other}
+use Rattle.amr_config.specs.declared.read.error.Cause.TheVariants.{TooDeep}
 use Rattle.amr_config.specs.declared.stated.stated.Stated.{Stated}
 use Rattle.amr_config.specs.Stated.Config.{Config}
 use Rattle.amr_config.specs.Settled.{stated_config}
@@ -18,7 +19,7 @@ unless_refused stated (Some refusal) = Err refusal
 -- too many levels come first, then the first faulty place of the walk, then the refusal with the
 -- least number
 unfoldable pub reading_of : Data → Reading Config
-reading_of d = if is_too_deep d then plain (Err TooDeep) else (walked_at d >>= λ stated. plain (unless_refused stated (refusal_of stated)))
+reading_of d = if is_too_deep d then plain (Err (Other TooDeep)) else (walked_at d >>= λ stated. plain (unless_refused stated (refusal_of stated)))
 
 -- the configuration if all patterns are good
 abbrev pub config_of : Data → Result Config Refusal

@@ -5,7 +5,7 @@ ghost use Rattle.amr_config.specs.Read.Answers.{Answers};
 ghost use Rattle.amr_config.specs.Read.Reading.{ConfigIs};
 
 use crate::Config;
-use crate::read::error::{ConfigError, Refusal};
+use crate::read::error::{Cause, ConfigError, Refusal};
 use crate::read::read::walk;
 use crate::read::read_routes::is_too_deep;
 use crate::read::validate::refusal;
@@ -33,7 +33,7 @@ pub fn config_of(alloc: Global, seen: &mut Patterns, value: &Value) -> Result<Co
     ensures { Answers (λ config. config) result (ConfigIs (view value.now)) }
 {
     if is_too_deep(value) {
-        return Err(ConfigError::Refused(Refusal::TooDeep));
+        return Err(ConfigError::Refused(Refusal::Other(Cause::TooDeep)));
     }
     let stated = walk(alloc, seen, value)?;
     if let Some(refusal) = refusal(alloc, &stated)? {

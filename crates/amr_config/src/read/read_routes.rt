@@ -8,7 +8,7 @@ ghost use Rattle.amr_config.specs.Read.Answers.{Gives, Reads, ReadsInto};
 ghost use Rattle.amr_config.specs.Read.RouteParts.{is_all as all_of, grouping_of, grouping_stated, children_at, is_deeper as deeper_of, is_too_deep as too_deep_of};
 ghost use Rattle.amr_config.specs.Read.ReadRoutes.{route_at, own_into, add_route, routes_at};
 
-use crate::read::error::{ConfigError, Refusal};
+use crate::read::error::{Cause, ConfigError, Refusal};
 use crate::read::interval_names::names_member;
 use crate::read::members::{
     flag_member, items, member, same, span_member, text_member, texts_member,
@@ -90,7 +90,7 @@ fn add_route(
         routes.old) }
 {
     if left == 0 {
-        return Err(ConfigError::Refused(Refusal::TooDeep));
+        return Err(ConfigError::Refused(Refusal::Other(Cause::TooDeep)));
     }
     let index = routes.len();
     add_own(alloc, seen, whole, place, parent, value, routes)?;

@@ -5,7 +5,7 @@ ghost use Rattle.std.specs.List.{list_any};
 ghost use Rattle.amr_config.specs.Read.NameSets.{names_of as receiver_names, is_missing as missing_of};
 ghost use Rattle.amr_config.specs.Read.Judging.{is_lost as lost_of, is_zero as zero_of, has_zero as zeros_of, is_bad_name as bad_of, has_bad_names as bad_names_of, is_badly_grouped as badly_of, has_intervals as intervals_of, is_bad_root as bad_root_of, root_is_bad, are_named_apart as apart_of, refusal_of};
 
-use crate::read::error::Refusal;
+use crate::read::error::{Cause, Refusal};
 use crate::read::members::same;
 use crate::read::names::{are_apart, set_of};
 use crate::stated::{Grouping, Receiver, Route, Stated};
@@ -22,19 +22,19 @@ pub(crate) fn refusal(alloc: Global, stated: &Stated) -> Result<Option<Refusal>,
     let routes = stated.routes.as_slice();
     let receivers = stated.receivers.as_slice();
     if any_lost(alloc, receivers, routes)? {
-        return Ok(Some(Refusal::UnknownReceiver));
+        return Ok(Some(Refusal::Other(Cause::UnknownReceiver)));
     }
     if !are_named_apart(alloc, receivers)? {
-        return Ok(Some(Refusal::DuplicateReceiver));
+        return Ok(Some(Refusal::Other(Cause::DuplicateReceiver)));
     }
     if is_root_bad(routes) {
-        return Ok(Some(Refusal::RootRoute));
+        return Ok(Some(Refusal::Other(Cause::RootRoute)));
     }
     if any_zero(routes) {
-        return Ok(Some(Refusal::ZeroInterval));
+        return Ok(Some(Refusal::Other(Cause::ZeroInterval)));
     }
     if any_badly_grouped(alloc, routes)? {
-        return Ok(Some(Refusal::BadGroupBy));
+        return Ok(Some(Refusal::Other(Cause::BadGroupBy)));
     }
     Ok(None)
 }

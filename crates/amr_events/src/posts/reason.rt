@@ -1,27 +1,17 @@
 //! The reasons that refuse an event, with the numbers that `docs/RULES.md` lists. Those of a
-//! reload are the refusals of its configuration.
+//! reload are the causes that refuse its configuration.
 ghost use Rattle.std.specs.Prelude.{◌≡◌};
 ghost use Rattle.amr_events.specs.Posts.Reasons.{reason_number};
 
+use amr_config::read::Cause;
 use thiserror::Error;
 
 /// Why an event is refused. A refused event changes nothing.
 #[derive(Clone, Copy, Debug, PartialEq, Eq, Error)]
 pub enum Reason {
-    #[error("the configuration has a faulty place")]
-    BadConfig,
-    #[error("a route names a receiver that doesn't exist")]
-    UnknownReceiver,
-    #[error("two receivers have the same name")]
-    DuplicateReceiver,
-    #[error("the root route has matchers, `continue` or time intervals, or no receiver")]
-    RootRoute,
-    #[error("`group_interval` or `repeat_interval` is zero")]
-    ZeroInterval,
-    #[error("`group_by` has an empty or a repeated name, or has `...` beside other names")]
-    BadGroupBy,
-    #[error("the routing tree has more than 32 levels")]
-    TooDeep,
+    /// The configuration of a reload is refused.
+    #[error("{0}")]
+    BadReload(Cause),
     #[error("no alert of the post is valid")]
     BadAlert,
     #[error("the silence isn't valid now")]
@@ -42,13 +32,7 @@ impl Reason {
         ensures { result ≡ reason_number self }
     {
         match self {
-            Reason::BadConfig => 5,
-            Reason::UnknownReceiver => 6,
-            Reason::DuplicateReceiver => 7,
-            Reason::RootRoute => 8,
-            Reason::ZeroInterval => 9,
-            Reason::BadGroupBy => 10,
-            Reason::TooDeep => 11,
+            Reason::BadReload(cause) => cause.number(),
             Reason::BadAlert => 16,
             Reason::BadSilence => 17,
             Reason::UnknownSilence => 18,

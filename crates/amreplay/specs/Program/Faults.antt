@@ -1,9 +1,9 @@
 -- The lines of faults on standard error, and the exit statuses.
 use Rattle.std.specs.Prelude.{ℕ, List, [], ◌∷◌, ◌++◌, codes, decimal}
 use Rattle.amr_config.specs.declared.read.error.Refusal.{Refusal}
-use Rattle.amr_config.specs.declared.read.error.Refusal.TheVariants.{BadConfig, UnknownReceiver, DuplicateReceiver, RootRoute, ZeroInterval, BadGroupBy, TooDeep}
+use Rattle.amr_config.specs.declared.read.error.Refusal.TheVariants.{BadConfig, Other}
 use Rattle.amr_config.specs.declared.read.error.ConfigError.{ConfigError}
-use Rattle.amr_config.specs.Read.Refusals.{name_of_refusal}
+use Rattle.amr_config.specs.Read.Refusals.{printed_name_of, cause_of}
 use Rattle.amr_config.specs.declared.read.error.ConfigError.TheVariants as config_error
 use Rattle.amr_events.specs.declared.error.Fault.{Fault as ScriptFault}
 use Rattle.amr_events.specs.declared.error.Fault.TheVariants.{BadLine, LineTooLong, TooManyEvents}
@@ -48,7 +48,7 @@ fault_prefix Memory = codes "amreplay: "
 fault_prefix Usage = codes "amreplay: "
 
 abbrev pub fault_name : Fault → List ℕ
-fault_name (Config refusal) = name_of_refusal refusal
+fault_name (Config refusal) = printed_name_of (cause_of refusal)
 fault_name (Script fault) = name_of_fault fault
 fault_name CannotReadConfig = codes "cannot read config"
 fault_name CannotReadScript = codes "cannot read script"
@@ -74,12 +74,7 @@ path_place (b ∷ bs) = AtPath (b ∷ bs)
 
 abbrev pub config_place : Refusal → FaultPlace
 config_place (BadConfig path) = path_place path
-config_place UnknownReceiver = Nowhere
-config_place DuplicateReceiver = Nowhere
-config_place RootRoute = Nowhere
-config_place ZeroInterval = Nowhere
-config_place BadGroupBy = Nowhere
-config_place TooDeep = Nowhere
+config_place (Other cause) = Nowhere
 
 abbrev pub script_place : ScriptFault → FaultPlace
 script_place (BadLine line) = AtLine line

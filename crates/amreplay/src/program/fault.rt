@@ -190,7 +190,7 @@ fn name_of(fault: &Fault) -> &'static str
     ensures { result.now ≡ fault_name fault.now }
 {
     match fault {
-        Fault::Config(refusal) => refusal.printed_name(),
+        Fault::Config(refusal) => refusal.cause().printed_name(),
         Fault::Script(fault) => fault.printed_name(),
         Fault::CannotReadConfig => "cannot read config",
         Fault::CannotReadScript => "cannot read script",
@@ -218,7 +218,7 @@ fn config_place(refusal: &Refusal) -> Place<'_>
 {
     match refusal {
         Refusal::BadConfig { path } => path_place(path.as_str()),
-        _ => Place::Nowhere,
+        Refusal::Other(_) => Place::Nowhere,
     }
 }
 

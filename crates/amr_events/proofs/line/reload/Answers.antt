@@ -1,6 +1,7 @@
 use Rattle.std.proofs.Common.{◌≡◌, Some, Ok, Err, option_map, refl, sym, ap, ◌∙◌}
 use Rattle.serde_json.specs.View.{view}
 use Rattle.serde_json.specs.Read.{read}
+use Rattle.amr_config.specs.Read.Refusals.{number_of}
 use Rattle.amr_config.specs.Read.Reading.{config_of}
 use Rattle.amr_events.specs.SeenReloads.{Spells}
 use Rattle.amr_events.proofs.line.reload.Goals as goal
@@ -19,4 +20,4 @@ pub returns-in-Ok : goal.returns-in-Ok
 returns-in-Ok c = (Ok c.in-Ok.config, c.in-Ok.ensures, refl)
 
 pub returns-in-Err-Refused : goal.returns-in-Err-Refused
-returns-in-Err-Refused c = (Err c.in-Err-Refused.refusal, rw c.in-Err-Refused.field-0-is at c.in-Err-Refused.ensures, ap Err c.reason_of.ensures)
+returns-in-Err-Refused c = (Err c.in-Err-Refused.refusal, rw c.in-Err-Refused.field-0-is at c.in-Err-Refused.ensures, ap (λ cause. Err (number_of cause)) c.cause.ensures)
