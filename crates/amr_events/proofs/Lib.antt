@@ -4,5 +4,7 @@ pub mod Stating
 pub mod Drafting
 pub mod Pairs
 pub mod LineSteps
+pub mod LineEnds
+pub mod ReaderSteps
 pub mod ScriptReading
 pub mod EventReading

@@ -1,20 +1,16 @@
 -- One line after another, as the loop reads them.
-use Rattle.std.proofs.Common.{◌≡◌, ℕ, ◌+◌, ◌<◌, ◌≤◌, ◌&&◌, ◌==◌, Bool, true, false, List, [], ◌∷◌, ◌++◌, length, take, drop, get_or, refl, sym, ap, ◌∙◌, subst, arith, rules, tests, append-nil, length-append}
+use Rattle.std.proofs.Common.{◌≡◌, ℕ, ◌+◌, ◌≤◌, ◌&&◌, ◌==◌, Bool, true, false, List, [], ◌∷◌, ◌++◌, length, refl, sym, ap, ◌∙◌, subst, arith, rules, tests, append-nil, length-append}
 use Rattle.std.specs.Prelude.{All, not, if◌then◌else◌}
 use Rattle.std.specs.List.{AllZip}
-use Rattle.std.proofs.lemmas.List.{at_drop_more, take_more, take_all, take-append-drop, length-take-le}
 use Rattle.std.proofs.lemmas.List.Elements.{All-nil, All-push, filter-append}
-use Rattle.amr_events.specs.Answers.{IsRefused, IsStop}
 use Rattle.amr_events.specs.Actions.Events.{Event}
 use Rattle.amr_events.specs.Refused.{LineIs}
 use Rattle.amr_events.specs.Versions.{is_header}
-use Rattle.amr_events.specs.Scripts.{is_blank, lines_of, longest_line, most_events, full_lines, version_of, after_header, Script, ReadAs, is_header_after, HasFault, HasFirstFault, ScriptIs}
+use Rattle.amr_events.specs.Scripts.{is_blank, longest_line, most_events, full_lines, version_of, after_header, Script, ReadAs, is_header_after, HasFault, HasFirstFault}
 use Rattle.amr_events.specs.Drafts.{nothing, is_new, begins_with, Adds, NoEvent, Header, OneEvent}
 use Rattle.amr_events.specs.declared.version.Version.{Version}
 use Rattle.amr_events.specs.declared.version.Version.TheVariants.{One, Two}
 use Rattle.amr_events.specs.declared.error.Fault.{Fault}
-use Rattle.amr_events.specs.declared.error.ScriptError.{ScriptError}
-use Rattle.amr_events.specs.declared.error.ScriptError.TheVariants.{Memory, Refused}
 
 abbrev pub Line : Type 0
 Line = List ℕ
@@ -120,7 +116,7 @@ reads_with lines line new full is short of few =
     let all : AreOf (full_lines (lines ++ line ∷ [])) new = subst (λ ls. AreOf ls new) (sym is) of in
     record { short = short; version = all.version; read = all.read; few = few }
 
-reads_one_more : (lines : List Line) (line : Line) (old new : Script) → ReadAs lines old → Adds line old new → ReadAs (lines ++ line ∷ []) new
+pub reads_one_more : (lines : List Line) (line : Line) (old new : Script) → ReadAs lines old → Adds line old new → ReadAs (lines ++ line ∷ []) new
 reads_one_more lines line old new reads (NoEvent short blank same) =
     subst (ReadAs (lines ++ line ∷ [])) (sym same)
     (reads_with lines line old (full_lines lines) (push_blank lines line blank) (All-push IsShort lines line reads.short short) (are_of lines old reads) reads.few)
@@ -132,34 +128,17 @@ reads_one_more lines line old new reads (OneEvent event short blank begins room 
     subst (ReadAs (lines ++ line ∷ [])) (sym same)
     (reads_with lines line (record { version = old.version; events = old.events ++ event ∷ [] }) _ (push_full lines line blank) (All-push IsShort lines line reads.short short) (event_read (full_lines lines) line old event (are_of lines old reads) begins is) few)
 
-module _ (lines : List Line) (i : ℕ) (line : Line) (within : i < length lines) (is : line ≡ get_or lines i line) where
-  pub line_more : (old new : Script) → ReadAs (take i lines) old → Adds line old new → ReadAs (take (i + 1) lines) new
-  line_more old new reads more =
-      let taken : take (i + 1) lines ≡ take i lines ++ line ∷ [] = take_more lines i line within ∙ ap (λ (l : Line). take i lines ++ l ∷ []) (sym is) in
-      subst (λ ls. ReadAs ls new) (sym taken) (reads_one_more (take i lines) line old new reads more)
-
-  parts : lines ≡ take i lines ++ line ∷ drop (i + 1) lines
-  parts =
-      sym (take-append-drop i lines) ∙ ap (λ (ls : List Line). take i lines ++ ls) (at_drop_more (λ (ls : List Line). ls) lines i line within)
-      ∙ ap (λ (l : Line). take i lines ++ l ∷ drop (i + 1) lines) (sym is)
-
-  first_fault : (n : ℕ) (script : Script) (fault : Fault) → n ≡ i + 1 → ReadAs (take i lines) script → HasFault n (begins_with script line) line script fault → HasFirstFault lines fault
-  first_fault n script fault number reads has =
-      let place : n ≡ length (take i lines) + 1 = omega (arith, number, length-take-le i lines (omega arith)) in
-      let header : begins_with script line ≡ is_header_after (take i lines) line = ap (λ b. b && is_header line) (new_of (full_lines (take i lines)) script (are_of (take i lines) script reads)) in
-      record {
-        before = take i lines;
-        line = line;
-        after = drop (i + 1) lines;
-        script = script;
-        parts = parts;
-        read = reads;
-        here = subst (λ b. HasFault (length (take i lines) + 1) b line script fault) header (subst (λ m. HasFault m (begins_with script line) line script fault) place has);
-      }
-
-  pub line_fails : (bytes : List ℕ) (n : ℕ) (script : Script) (e : ScriptError) → lines ≡ lines_of bytes → n ≡ i + 1 → ReadAs (take i lines) script → IsStop (HasFault n (begins_with script line) line script) e → IsRefused (ScriptIs bytes) e
-  line_fails bytes n script Memory same number reads has = tt
-  line_fails bytes n script (Refused fault) same number reads has = subst (λ ls. HasFirstFault ls fault) same (first_fault n script fault number reads has)
-
-pub line_all : (lines : List Line) (i : ℕ) (script : Script) → length lines ≤ i → ReadAs (take i lines) script → ReadAs lines script
-line_all lines i script le reads = subst (λ ls. ReadAs ls script) (take_all i lines le) reads
+-- the first line after others that has a fault
+pub fails_first : (before : List Line) (line : Line) (after : List Line) (n : ℕ) (script : Script) (fault : Fault) → n ≡ length before + 1 → ReadAs before script
+    → HasFault n (begins_with script line) line script fault → HasFirstFault (before ++ line ∷ after) fault
+fails_first before line after n script fault number reads has =
+    let header : begins_with script line ≡ is_header_after before line = ap (λ b. b && is_header line) (new_of (full_lines before) script (are_of before script reads)) in
+    record {
+      before = before;
+      line = line;
+      after = after;
+      script = script;
+      parts = refl;
+      read = reads;
+      here = subst (λ b. HasFault (length before + 1) b line script fault) header (subst (λ m. HasFault m (begins_with script line) line script fault) number has);
+    }

@@ -1,5 +1,5 @@
-//! A script while it is read, a line at a time. `Script::read` calls `add_line` for each line.
-ghost use Rattle.std.specs.Prelude.{◌≡◌, IfOk, OnOk};
+//! The lines of a script that have ended, while it is read. `ScriptReader` adds a line at a time.
+ghost use Rattle.std.specs.Prelude.{◌≡◌, ◌+◌, IfOk, OnOk};
 ghost use Rattle.amr_events.specs.Answers.{Stops};
 ghost use Rattle.amr_events.specs.Scripts.{is_blank as is_blank_line, HasFault};
 ghost use Rattle.amr_events.specs.Drafts.{so_far, nothing, begins_with as begins_script_with, Adds};
@@ -13,7 +13,7 @@ use json::Scratch;
 use std::alloc::{AllocError, Global};
 
 /// The longest line, in bytes before its line feed.
-const LONGEST_LINE: usize = 1_048_576;
+pub(crate) const LONGEST_LINE: usize = 1_048_576;
 
 /// The most events of a script.
 const MOST_EVENTS: usize = 1_000_000;
@@ -23,63 +23,87 @@ const MOST_EVENTS: usize = 1_000_000;
 pub(crate) struct Draft {
     pub(crate) version: Version,
     pub(crate) events: Vec<Event>,
+    /// The number of the next line, from 1.
+    pub(crate) number: u64,
+    alloc: Global,
+    scratch: Scratch,
+    seen: SeenTexts,
 }
 
 impl Draft {
     /// Returns a draft of no line.
     pub(crate) fn new(alloc: Global) -> Draft
-        ensures { so_far result ≡ nothing }
+        ensures nothing { so_far result ≡ nothing }
+        ensures number { result.number ≡ 1 }
     {
         Draft {
             version: Version::One,
             events: Vec::new(alloc),
+            number: 1,
+            alloc,
+            scratch: Scratch::new(alloc),
+            seen: SeenTexts::new(alloc),
         }
     }
-}
 
-/// Reads one more line, and appends its event unless the line is blank or is the header.
-pub(crate) fn add_line(
-    alloc: Global,
-    scratch: &mut Scratch,
-    seen: &mut SeenTexts,
-    number: u64,
-    line: &[u8],
-    draft: &mut Draft,
-) -> Result<(), ScriptError>
-    ensures ok { OnOk result (Adds line.now (so_far draft.old) (so_far draft.new)) }
-    ensures err { Stops (HasFault number (begins_script_with (so_far draft.old) line.now) line.now
-        (so_far draft.old)) result }
-{
-    if line.len() > LONGEST_LINE {
-        return Err(ScriptError::Refused(Fault::LineTooLong { line: number }));
+    /// Reads the next line, and counts it. A count that doesn't fit a `u64` is out of memory.
+    pub(crate) fn add_line(&mut self, line: &[u8]) -> Result<(), ScriptError>
+        ensures added { OnOk result (Adds line.now (so_far self.old) (so_far self.new)) }
+        ensures counted { OnOk result (self.new.number ≡ self.old.number + 1) }
+        ensures fault { Stops (HasFault self.old.number
+            (begins_script_with (so_far self.old) line.now) line.now (so_far self.old)) result }
+    {
+        self.read_line(line)?;
+        self.number = self.number.checked_add(1).ok_or(AllocError)?;
+        Ok(())
     }
-    if is_blank(line) {
-        return Ok(());
-    }
-    if begins_with(alloc, draft, line)? {
-        draft.version = Version::Two;
-        return Ok(());
-    }
-    if draft.events.len() >= MOST_EVENTS {
-        return Err(ScriptError::Refused(Fault::TooManyEvents));
-    }
-    match read_line(alloc, draft.version, scratch, seen, line) {
-        Ok(event) => {
-            draft.events.push(event)?;
-            Ok(())
+
+    /// Reads the next line, and appends its event unless the line is blank or is the header.
+    fn read_line(&mut self, line: &[u8]) -> Result<(), ScriptError>
+        ensures added { OnOk result (Adds line.now (so_far self.old) (so_far self.new)) }
+        ensures number { OnOk result (self.new.number ≡ self.old.number) }
+        ensures fault { Stops (HasFault self.old.number
+            (begins_script_with (so_far self.old) line.now) line.now (so_far self.old)) result }
+    {
+        let number = self.number;
+        if line.len() > LONGEST_LINE {
+            return Err(ScriptError::Refused(Fault::LineTooLong { line: number }));
         }
-        Err(LineError::Memory) => Err(ScriptError::Memory),
-        Err(LineError::Faulty) => Err(ScriptError::Refused(Fault::BadLine { line: number })),
+        if is_blank(line) {
+            return Ok(());
+        }
+        if self.begins_with(line)? {
+            self.version = Version::Two;
+            return Ok(());
+        }
+        if self.events.len() >= MOST_EVENTS {
+            return Err(ScriptError::Refused(Fault::TooManyEvents));
+        }
+        let event = read_line(
+            self.alloc,
+            self.version,
+            &mut self.scratch,
+            &mut self.seen,
+            line,
+        );
+        match event {
+            Ok(event) => {
+                self.events.push(event)?;
+                Ok(())
+            }
+            Err(LineError::Memory) => Err(ScriptError::Memory),
+            Err(LineError::Faulty) => Err(ScriptError::Refused(Fault::BadLine { line: number })),
+        }
     }
-}
 
-/// Returns whether the line is the header. Only a line before all events can be.
-fn begins_with(alloc: Global, draft: &Draft, line: &[u8]) -> Result<bool, AllocError>
-    ensures { IfOk result (λ header. header ≡ begins_script_with (so_far draft.now) line.now) }
-{
-    match draft.version {
-        Version::One if draft.events.is_empty() => is_header(alloc, line),
-        _ => Ok(false),
+    /// Returns whether the line is the header. Only a line before all events can be.
+    fn begins_with(&self, line: &[u8]) -> Result<bool, AllocError>
+        ensures { IfOk result (λ header. header ≡ begins_script_with (so_far self.now) line.now) }
+    {
+        match self.version {
+            Version::One if self.events.is_empty() => is_header(self.alloc, line),
+            _ => Ok(false),
+        }
     }
 }
 

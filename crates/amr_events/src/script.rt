@@ -5,16 +5,13 @@ ghost use Rattle.std.specs.List.{slice_get};
 ghost use Rattle.std.specs.Global.{Vec};
 ghost use Rattle.amr_events.specs.Actions.Events.{Event};
 ghost use Rattle.amr_events.specs.Answers.{Answers};
-ghost use Rattle.amr_events.specs.Scripts.{ScriptIs, OnlyLineIs};
+ghost use Rattle.amr_events.specs.Scripts.{OnlyLineIs};
 
 use crate::actions::Event;
-use crate::draft::{Draft, add_line};
 use crate::error::{Fault, LineError, ScriptError};
 use crate::line::read_single_line;
-use crate::seen_texts::SeenTexts;
 use crate::version::Version;
 use amr_labels::Listing;
-use json::Scratch;
 use std::alloc::Global;
 use std::marker::Model;
 
@@ -70,28 +67,15 @@ pub fn read_event(alloc: Global, version: Version, line: &[u8]) -> Result<Event,
 }
 
 impl Script {
-    /// Reads a script: JSON lines (jsonlines.org), each an event as `read_event` reads it.
-    ///
-    /// A line feed ends a line; the last line may lack it. Lines of nothing but JSON's white space
-    /// are skipped, but counted. The script is of version 2 if the first line that isn't blank is
-    /// the object `{"v":2}`, which is no event, and else of version 1. A line has at most 1,048,576
-    /// bytes, and a script at most 1,000,000 events. It fails with the first faulty line: one that
-    /// is too long, then one event too many, then a line that isn't an event.
-    pub fn read(alloc: Global, bytes: &[u8]) -> Result<Script, ScriptError>
-        ensures { Answers (ScriptIs bytes.now) result }
+    /// Returns a script of this version with these events.
+    pub(crate) fn new(version: Version, events: Vec<Event>) -> Script
+        ensures version { result.version ≡ version }
+        ensures events { result.events ≡ events.items }
     {
-        let mut scratch = Scratch::new(alloc);
-        let mut seen = SeenTexts::new(alloc);
-        let mut draft = Draft::new(alloc);
-        let mut number = 1;
-        for line in bytes.split(|byte| *byte == b'\n') {
-            add_line(alloc, &mut scratch, &mut seen, number, line, &mut draft)?;
-            number += 1;
+        Script {
+            version,
+            events: Listing::from_vec(events),
         }
-        Ok(Script {
-            version: draft.version,
-            events: Listing::from_vec(draft.events),
-        })
     }
 
     /// Returns the version. It takes no memory.

@@ -1,5 +1,5 @@
 //! The texts and the labels of a script that were read before. Names and values of labels are
-//! repeated in most lines, and most alerts are posted again, so `Script::read` shares them: it
+//! repeated in most lines, and most alerts are posted again, so `Draft` shares them: it
 //! holds each text once, and the labels of an alert once, however often they are posted. They are
 //! found by comparing them with what a line states, before any text is copied. It also keeps the
 //! patterns of silences and reloads, so that each is built once, and the configurations of reloads.
