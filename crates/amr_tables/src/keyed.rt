@@ -112,8 +112,8 @@ impl<K: Key + Drop, V: Drop> Keyed<K, V> {
         self.numbers.contains_key(key)
     }
 
-    /// Returns the number of a key, if it has a place, and its value. With the number, `exchange_at`
-    /// needn't look for the key again.
+    /// Returns the number of a key, if it has a place, and its value. With the number, `swap_at` needn't
+    /// look for the key again.
     pub fn look_up_number(&self, key: &K) -> (Option<usize>, Option<&V>)
         ensures number { result.0 ≡ number_of K.cmp self.now key.now }
         ensures value { option_copied result.1 ≡ map.get (shown K.cmp self.now) key.now }
@@ -197,34 +197,22 @@ impl<K: Key + Drop, V: Drop> Keyed<K, V> {
         }
     }
 
-    /// Sets or removes the value of the key with a number, and marks its place as entered. Returns
-    /// the former value, and whether the place was marked before. It compares no keys and takes no
-    /// memory.
-    pub fn exchange_at(&mut self, number: usize, value: Option<V>) -> (Option<V>, bool)
+    /// Swaps the value of the key with a number, or `None` if it has none, with another, and marks
+    /// its place as entered. Returns whether the place was marked before. It compares no keys and
+    /// takes no memory.
+    pub fn swap_at(&mut self, number: usize, value: &mut Option<V>) -> bool
         requires { IsNumber K.cmp self.old number }
-        ensures answer { IsValueOf K.cmp self.old number result.0 }
-        ensures was_entered { IsMarkOf K.cmp self.old number result.1 }
-        ensures shown { IsSetAt K.cmp self.old number value self.new }
+        ensures former { IsValueOf K.cmp self.old number value.new }
+        ensures was_entered { IsMarkOf K.cmp self.old number result }
+        ensures shown { IsSetAt K.cmp self.old number value.old self.new }
         ensures places { SamePlaces K.cmp self.old self.new }
         ensures entered { EntersAt K.cmp self.old number self.new }
         ensures keys { self.new.numbers ≡ self.old.numbers }
     {
         let was_entered = self.entered.is_marked(number);
         self.entered.mark(number);
-        (self.slots.displace(number, value), was_entered)
-    }
-
-    /// Sets or removes the value of the key with a number, and returns the former one. It marks no
-    /// place, compares no keys and takes no memory.
-    pub fn displace_at(&mut self, number: usize, value: Option<V>) -> Option<V>
-        requires { IsNumber K.cmp self.old number }
-        ensures answer { IsValueOf K.cmp self.old number result }
-        ensures shown { IsSetAt K.cmp self.old number value self.new }
-        ensures places { SamePlaces K.cmp self.old self.new }
-        ensures entered { SameEntered K.cmp self.old self.new }
-        ensures keys { self.new.numbers ≡ self.old.numbers }
-    {
-        self.slots.displace(number, value)
+        self.slots.swap(number, value);
+        was_entered
     }
 
     /// Clears the marks of all places. It takes no memory.

@@ -48,6 +48,15 @@ impl<V> Slots<V> {
     {
         self.cells.as_slice()
     }
+
+    /// Swaps the value at a place, or `None` if the place is empty, with another.
+    pub(crate) fn swap(&mut self, place: usize, value: &mut Option<V>)
+        requires { place < length self.old }
+        ensures former { value.new ≡ value_at self.old place }
+        ensures table { self.new ≡ slice_set self.old place value.old }
+    {
+        mem::swap(&mut self.cells[place], value);
+    }
 }
 
 impl<V> Table for Slots<V> {
