@@ -295,7 +295,7 @@ fn remove(times: &mut Times, group: &RouteLabels)
     match number {
         None => {}
         Some(number) => {
-            times.displace_at(number, None);
+            times.swap_at(number, &mut None);
         }
     }
 }

@@ -5,7 +5,6 @@
 
 mod change;
 mod due;
-mod logging;
 mod members;
 mod membership;
 mod notification;

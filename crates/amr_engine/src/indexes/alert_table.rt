@@ -117,18 +117,18 @@ impl AlertTable {
         self.sources.forget_places();
     }
 
-    /// Sets or removes the alert of the label set with a number, and marks its place as entered.
-    /// Returns the former alert, and whether the place was marked before. It takes no memory.
-    pub fn exchange_at(&mut self, number: usize, alert: Option<Alert>) -> (Option<Alert>, bool)
+    /// Swaps the alert of the label set with a number, or `None` if it has none, with another, and
+    /// marks its place as entered. Returns whether the place was marked before. It takes no memory.
+    pub fn swap_at(&mut self, number: usize, alert: &mut Option<Alert>) -> bool
         requires { IsNumber label_set_cmp self.old number }
-        ensures answer { IsValueOf label_set_cmp self.old number result.0 }
-        ensures was_entered { IsMarkOf label_set_cmp self.old number result.1 }
-        ensures shown { IsSetAt label_set_cmp self.old number alert self.new }
+        ensures former { IsValueOf label_set_cmp self.old number alert.new }
+        ensures was_entered { IsMarkOf label_set_cmp self.old number result }
+        ensures shown { IsSetAt label_set_cmp self.old number alert.old self.new }
         ensures places { SamePlaces label_set_cmp self.old self.new }
         ensures entered { EntersAt label_set_cmp self.old number self.new }
         ensures keys { self.new.numbers ≡ self.old.numbers }
     {
-        self.alerts.exchange_at(number, alert)
+        self.alerts.swap_at(number, alert)
     }
 
     /// Makes a place for this label set, which has none, and adds it to the sources.

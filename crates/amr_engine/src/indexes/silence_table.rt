@@ -388,19 +388,15 @@ impl SilenceTable {
         }
     }
 
-    /// Sets or removes the silence with this id, given the number of its place, and marks the place
-    /// as entered. Returns the former silence, and whether the place was marked before. It takes no
-    /// memory.
-    pub fn exchange_at(
-        &mut self,
-        id: &SilenceId,
-        number: usize,
-        silence: Option<Silence>,
-    ) -> (Option<Silence>, bool)
+    /// Swaps the silence with this id, or `None` if there is none, with another, given the number of
+    /// its place, and marks the place as entered. Returns whether the place was marked before. It
+    /// takes no memory.
+    pub fn swap_at(&mut self, id: &SilenceId, number: usize, silence: &mut Option<Silence>) -> bool
         requires { number_of nat_cmp self.old id.now ≡ Some number }
-        ensures answer { result.0 ≡ map.get (shown nat_cmp self.old) id.now }
-        ensures was_entered { result.1 ≡ is_entered nat_cmp self.old id.now }
-        ensures shown { shown nat_cmp self.new ≡ map.set (shown nat_cmp self.old) id.now silence }
+        ensures former { silence.new ≡ map.get (shown nat_cmp self.old) id.now }
+        ensures was_entered { result ≡ is_entered nat_cmp self.old id.now }
+        ensures shown { shown nat_cmp self.new
+            ≡ map.set (shown nat_cmp self.old) id.now silence.old }
         ensures places { SamePlaces nat_cmp self.old self.new }
         ensures entered { Enters nat_cmp self.old self.new id.now }
     {
@@ -415,7 +411,7 @@ impl SilenceTable {
             asked,
             noted,
         );
-        self.silences.exchange_at(number, silence)
+        self.silences.swap_at(number, silence)
     }
 }
 

@@ -192,22 +192,22 @@ impl Roster {
         }
     }
 
-    /// Sets or removes a member of its group, given the number of its place, and marks the place as
-    /// entered. Returns the former alert, and whether the place was marked before. A member that stays
-    /// in its group keeps its links there. It takes no memory.
-    pub(crate) fn displace_member(
+    /// Swaps the alert of a member of its group, or `None` if it is no member, with another, given
+    /// the number of its place, and marks the place as entered. Returns whether the place was marked
+    /// before. A member that stays in its group keeps its links there. It takes no memory.
+    pub(crate) fn swap_member(
         &mut self,
         number: usize,
         member: &Membership,
-        alert: Option<Alert>,
-    ) -> (Option<Alert>, bool)
+        alert: &mut Option<Alert>,
+    ) -> bool
         requires place { number_of route_labels_cmp self.old.placements
             (member_on_route member.now) ≡ Some number }
         requires known { IsTrue (has_place route_labels_cmp self.old.groups member.now.group) }
         requires group { member.now.group ≡ group_key self.old.config (member_on_route member.now) }
-        ensures answer { IsValueOf route_labels_cmp self.old.placements number result.0 }
-        ensures was_entered { IsMarkOf route_labels_cmp self.old.placements number result.1 }
-        ensures shown { IsSetAt route_labels_cmp self.old.placements number alert
+        ensures former { IsValueOf route_labels_cmp self.old.placements number alert.new }
+        ensures was_entered { IsMarkOf route_labels_cmp self.old.placements number result }
+        ensures shown { IsSetAt route_labels_cmp self.old.placements number alert.old
             self.new.placements }
         ensures places { SamePlaces route_labels_cmp self.old.placements self.new.placements }
         ensures entered { EntersAt route_labels_cmp self.old.placements number
@@ -216,28 +216,27 @@ impl Roster {
         ensures config { self.new.config ≡ self.old.config }
     {
         if self.placements.at(number).is_some() == alert.is_some() {
-            return self.placements.exchange_at(number, alert);
+            return self.placements.swap_at(number, alert);
         }
         let Some(group) = self.groups.number_of(&member.group) else {
             unreachable!()
         };
-        let in_group = if_member(&alert, group);
-        let was = self.placements.exchange_at(number, alert);
+        let in_group = if_member(alert, group);
+        let was_entered = self.placements.swap_at(number, alert);
         self.members.set(number, in_group);
-        was
+        was_entered
     }
 
-    /// Replaces the configuration, while no group has members, and returns the one before. The new
-    /// one takes over what patterns answered. It takes no memory.
-    pub(crate) fn replace_config(&mut self, mut config: BoxedRouter) -> BoxedRouter
+    /// Swaps the configuration with another, while no group has members. The new one takes over what
+    /// patterns answered. It takes no memory.
+    pub(crate) fn swap_config(&mut self, config: &mut BoxedRouter)
         requires { shown route_labels_cmp self.old.placements ≡ map.empty }
-        ensures before { result ≡ self.old.config }
-        ensures config { self.new.config ≡ config }
+        ensures before { config.new ≡ self.old.config }
+        ensures config { self.new.config ≡ config.old }
         ensures placements { self.new.placements ≡ self.old.placements }
         ensures groups { self.new.groups ≡ self.old.groups }
     {
         config.swap(&mut self.config);
-        config
     }
 
     /// Returns the number of a group. Gives it one if it has none.

@@ -26,7 +26,6 @@ ghost use Rattle.amr_engine.specs.State.Stored.{shown_by, IsEntered, IsPlaceOf, 
 use crate::indexes::{AlertTable, SilenceTable};
 use crate::state::change::{BoxedRouter, Change};
 use crate::state::due::Due;
-use crate::state::logging::is_due;
 use crate::state::members::Member;
 use crate::state::membership::Membership;
 use crate::state::notification::{GroupTimer, LogKey, Notification};
@@ -39,7 +38,7 @@ use amr_config::stated::RuleMatch;
 use amr_config::{Config, RouteGroup};
 use amr_events::posts::SilenceId;
 use amr_labels::{Labels, Listing, Shared};
-use amr_rules::{Alert, LogEntry, Silence};
+use amr_rules::{Alert, LogEntry, Silence, needs_update};
 use amr_tables::{Journal, Keyed};
 use amr_time::{Moment, Span};
 use std::alloc::{AllocError, Global};
@@ -137,9 +136,9 @@ impl Store {
         ensures kept { undone self.new ≡ undone self.old }
         ensures shorter { length self.new.current + 1 ≡ length self.old.current }
     {
-        let back = self.journal.pop();
+        let mut back = self.journal.pop();
         let number = self.tables.find(&back);
-        drop(self.tables.displace(number, back));
+        self.tables.displace(number, &mut back);
         self.tables.clear_entered();
     }
 
@@ -389,7 +388,15 @@ impl Store {
         ensures grown { GrownBy 1 self.old self.new }
     {
         let (number, former) = self.tables.log.look_up_number(key);
-        if !is_due(former, &entry, send_resolved, repeat_interval) {
+        let is_due = needs_update(
+            former,
+            &entry.firing,
+            &entry.resolved,
+            send_resolved,
+            entry.time,
+            repeat_interval,
+        );
+        if !is_due {
             return Ok(false);
         }
         let change = Change::OfLog(key.clone()?, Some(entry));
@@ -499,9 +506,9 @@ impl Store {
         ensures grown { GrownBy 1 self.old self.new }
     {
         self.journal.reserve_entry()?;
-        let config = BoxedRouter::new(self.alloc, config)?;
-        let (back, _) = self.tables.displace(0, Change::OfConfig(config));
-        self.journal.push(back);
+        let mut change = Change::OfConfig(BoxedRouter::new(self.alloc, config)?);
+        self.tables.displace(0, &mut change);
+        self.journal.push(change);
         self.tables.clear_entered();
         Ok(())
     }
@@ -531,7 +538,7 @@ fn make_room(
 
 /// Makes a change, given the number of its place, and enters the one that leads back into the open
 /// record, unless the place is marked. It takes no memory.
-fn enter(tables: &mut Tables, journal: &mut Journal<Change>, number: usize, change: Change)
+fn enter(tables: &mut Tables, journal: &mut Journal<Change>, number: usize, mut change: Change)
     requires room { 0 < journal.old.entry_room }
     requires number { IsPlaceOf tables.old change number }
     requires fits { FitsOne (shown_by tables.old) change }
@@ -539,9 +546,9 @@ fn enter(tables: &mut Tables, journal: &mut Journal<Change>, number: usize, chan
     ensures places { MorePlaces tables.old tables.new }
     ensures entered { IsEntered tables.old journal.old change tables.new journal.new }
 {
-    let (back, was_marked) = tables.displace(number, change);
+    let was_marked = tables.displace(number, &mut change);
     if !was_marked {
-        journal.push(back);
+        journal.push(change);
     }
 }
 

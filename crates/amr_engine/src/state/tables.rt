@@ -69,55 +69,39 @@ impl Tables {
         }
     }
 
-    /// Makes a change, given the number of its place, and marks the place. Returns the change that
-    /// leads back, and whether the place was marked before. The configuration has no mark. It takes
-    /// no memory.
-    pub(crate) fn displace(&mut self, number: usize, change: Change) -> (Change, bool)
-        requires number { IsPlaceOf self.old change number }
-        requires fits { FitsOne (shown_by self.old) change }
-        ensures state { shown_by self.new ≡ changed (shown_by self.old) change }
-        ensures back { result.0 ≡ present (shown_by self.old) change }
-        ensures was_marked { result.1 ≡ is_marked_at self.old change }
-        ensures marked { is_marked_at self.new change ≡ not (is_config change) }
+    /// Makes a change, given the number of its place, and marks the place. `change` becomes the one
+    /// that leads back. Returns whether the place was marked before. The configuration has no mark.
+    /// It takes no memory.
+    pub(crate) fn displace(&mut self, number: usize, change: &mut Change) -> bool
+        requires number { IsPlaceOf self.old change.old number }
+        requires fits { FitsOne (shown_by self.old) change.old }
+        ensures state { shown_by self.new ≡ changed (shown_by self.old) change.old }
+        ensures back { change.new ≡ present (shown_by self.old) change.old }
+        ensures was_marked { result ≡ is_marked_at self.old change.old }
+        ensures marked { is_marked_at self.new change.old ≡ not (is_config change.old) }
         ensures places { MorePlaces self.old self.new }
         ensures marks { (place : Change)
-            → NewMarkAt (present (shown_by self.old) change) self.old self.new place }
+            → NewMarkAt (present (shown_by self.old) change.old) self.old self.new place }
     {
         match change {
             Change::OfMoment(at) => {
-                let was = mem::replace(&mut self.moment, at);
-                let was_marked = mem::replace(&mut self.is_moment_entered, true);
-                (Change::OfMoment(was), was_marked)
+                mem::swap(&mut self.moment, at);
+                mem::replace(&mut self.is_moment_entered, true)
             }
             Change::OfConfig(config) => {
-                let was = self.roster.replace_config(config);
-                (Change::OfConfig(was), false)
+                self.roster.swap_config(config);
+                false
             }
-            Change::OfAlert(labels, alert) => {
-                let (was, was_marked) = self.timetable.displace_alert(number, alert);
-                (Change::OfAlert(labels, was), was_marked)
-            }
-            Change::OfSilence(id, silence) => {
-                let (was, was_marked) = self.silences.exchange_at(&id, number, silence);
-                (Change::OfSilence(id, was), was_marked)
-            }
-            Change::OfMember(member, alert) => {
-                let (was, was_marked) = self.roster.displace_member(number, &member, alert);
-                (Change::OfMember(member, was), was_marked)
-            }
-            Change::OfTimer(group, timer) => {
-                let (was, was_marked) = self.timetable.displace_timer(number, timer);
-                (Change::OfTimer(group, was), was_marked)
-            }
-            Change::OfLog(key, entry) => {
-                let (was, was_marked) = self.log.exchange_at(number, entry);
-                (Change::OfLog(key, was), was_marked)
-            }
+            Change::OfAlert(_, alert) => self.timetable.swap_alert(number, alert),
+            Change::OfSilence(id, silence) => self.silences.swap_at(id, number, silence),
+            Change::OfMember(member, alert) => self.roster.swap_member(number, member, alert),
+            Change::OfTimer(_, timer) => self.timetable.swap_timer(number, timer),
+            Change::OfLog(_, entry) => self.log.swap_at(number, entry),
             Change::OfNotes(count) => {
                 let was = self.notes.len();
-                self.notes.truncate(count);
-                let was_marked = mem::replace(&mut self.are_notes_entered, true);
-                (Change::OfNotes(was), was_marked)
+                self.notes.truncate(*count);
+                *count = was;
+                mem::replace(&mut self.are_notes_entered, true)
             }
         }
     }

@@ -121,51 +121,43 @@ impl Timetable {
         self.timers.clear_entered();
     }
 
-    /// Sets or removes the alert of the label set with a number, and marks its place as entered.
-    /// Returns the former alert, and whether the place was marked before. It takes no memory.
-    pub(crate) fn displace_alert(
-        &mut self,
-        number: usize,
-        alert: Option<Alert>,
-    ) -> (Option<Alert>, bool)
+    /// Swaps the alert of the label set with a number, or `None` if it has none, with another, and
+    /// marks its place as entered. Returns whether the place was marked before. It takes no memory.
+    pub(crate) fn swap_alert(&mut self, number: usize, alert: &mut Option<Alert>) -> bool
         requires { IsNumber label_set_cmp self.old.alerts number }
-        ensures answer { IsValueOf label_set_cmp self.old.alerts number result.0 }
-        ensures was_entered { IsMarkOf label_set_cmp self.old.alerts number result.1 }
-        ensures shown { IsSetAt label_set_cmp self.old.alerts number alert self.new.alerts }
+        ensures former { IsValueOf label_set_cmp self.old.alerts number alert.new }
+        ensures was_entered { IsMarkOf label_set_cmp self.old.alerts number result }
+        ensures shown { IsSetAt label_set_cmp self.old.alerts number alert.old self.new.alerts }
         ensures places { SamePlaces label_set_cmp self.old.alerts self.new.alerts }
         ensures entered { EntersAt label_set_cmp self.old.alerts number self.new.alerts }
         ensures timers { self.new.timers ≡ self.old.timers }
     {
-        let moment = alert_moment(&alert);
-        let was = self.alerts.exchange_at(number, alert);
+        let moment = alert_moment(alert);
+        let was_entered = self.alerts.swap_at(number, alert);
         self.alert_removals
             .set(self.alerts.by_number(), number, moment);
-        was
+        was_entered
     }
 
-    /// Sets or removes the timer of the group with a number, and marks its place as entered. Returns
-    /// the former timer, and whether the place was marked before. It takes no memory.
-    pub(crate) fn displace_timer(
-        &mut self,
-        number: usize,
-        timer: Option<GroupTimer>,
-    ) -> (Option<GroupTimer>, bool)
+    /// Swaps the timer of the group with a number, or `None` if it has none, with another, and marks
+    /// its place as entered. Returns whether the place was marked before. It takes no memory.
+    pub(crate) fn swap_timer(&mut self, number: usize, timer: &mut Option<GroupTimer>) -> bool
         requires { IsNumber route_labels_cmp self.old.timers number }
-        ensures answer { IsValueOf route_labels_cmp self.old.timers number result.0 }
-        ensures was_entered { IsMarkOf route_labels_cmp self.old.timers number result.1 }
-        ensures shown { IsSetAt route_labels_cmp self.old.timers number timer self.new.timers }
+        ensures former { IsValueOf route_labels_cmp self.old.timers number timer.new }
+        ensures was_entered { IsMarkOf route_labels_cmp self.old.timers number result }
+        ensures shown { IsSetAt route_labels_cmp self.old.timers number timer.old self.new.timers }
         ensures places { SamePlaces route_labels_cmp self.old.timers self.new.timers }
         ensures entered { EntersAt route_labels_cmp self.old.timers number self.new.timers }
         ensures alerts { self.new.alerts ≡ self.old.alerts }
     {
-        let flush = flush_moment(&timer);
-        let removal = removal_moment(&timer);
+        let flush = flush_moment(timer);
+        let removal = removal_moment(timer);
         // The prover needs to see the type of moments here.
         let _start = Moment::START;
-        let was = self.timers.exchange_at(number, timer);
+        let was_entered = self.timers.swap_at(number, timer);
         self.flushes.set(&self.timers, number, flush);
         self.group_removals.set(&self.timers, number, removal);
-        was
+        was_entered
     }
 
     /// Returns the number of a label set's place. Makes the place if there is none.

@@ -3,8 +3,8 @@ use Rattle.amr_engine.specs.State.State.{route_labels_cmp_total, route_labels_cm
 use Rattle.amr_engine.proofs.Forgetting.{none_placed, unknown_left}
 use Rattle.amr_engine.proofs.quiet.remove.Goals as goal
 
-pub displace_at-requires : goal.displace_at-requires
-displace_at-requires c = (c.args.group.now, sym c.look_up_number-number.ensures.number ∙ c.in-Some.is)
+pub swap_at-requires : goal.swap_at-requires
+swap_at-requires c = (c.args.group.now, sym c.look_up_number-number.ensures.number ∙ c.in-Some.is)
 
 pub returns-in-None : goal.returns-in-None
 returns-in-None c =
@@ -12,4 +12,4 @@ returns-in-None c =
     (sym c.look_up_number-number.ensures.value ∙ none_placed c.look_up_number-number.result.0 c.look_up_number-number.result.1 c.in-None.is c.look_up_number-number.ensures.placed)
 
 pub returns-in-Some : goal.returns-in-Some
-returns-in-Some c = c.displace_at.ensures.shown c.args.group.now (sym c.look_up_number-number.ensures.number ∙ c.in-Some.is)
+returns-in-Some c = c.swap_at.ensures.shown c.args.group.now (sym c.look_up_number-number.ensures.number ∙ c.in-Some.is)

@@ -11,14 +11,14 @@ use Rattle.amr_engine.specs.State.Fitting.{is_config}
 use Rattle.amr_engine.specs.State.Stored.{IsPlaceOf, is_marked_at}
 use Rattle.amr_engine.proofs.state.tables.Tables.displace.Goals as goal
 
-pub displace_alert-was-requires : goal.displace_alert-was-requires
-displace_alert-was-requires c = (c.in-OfAlert.labels, subst (λ e. IsPlaceOf c.args.self.now e c.args.number) c.in-OfAlert.is c.requires.number)
+pub swap_alert-requires : goal.swap_alert-requires
+swap_alert-requires c = (c.in-OfAlert.field-0, subst (λ e. IsPlaceOf c.args.self.now e c.args.number) c.in-OfAlert.is c.requires.number)
 
-pub displace_timer-was-requires : goal.displace_timer-was-requires
-displace_timer-was-requires c = (c.in-OfTimer.group, subst (λ e. IsPlaceOf c.args.self.now e c.args.number) c.in-OfTimer.is c.requires.number)
+pub swap_timer-requires : goal.swap_timer-requires
+swap_timer-requires c = (c.in-OfTimer.field-0, subst (λ e. IsPlaceOf c.args.self.now e c.args.number) c.in-OfTimer.is c.requires.number)
 
-pub exchange_at-was-requires-in-OfLog : goal.exchange_at-was-requires-in-OfLog
-exchange_at-was-requires-in-OfLog c = (c.in-OfLog.key, subst (λ e. IsPlaceOf c.args.self.now e c.args.number) c.in-OfLog.is c.requires.number)
+pub swap_at-requires-in-OfLog : goal.swap_at-requires-in-OfLog
+swap_at-requires-in-OfLog c = (c.in-OfLog.field-0, subst (λ e. IsPlaceOf c.args.self.now e c.args.number) c.in-OfLog.is c.requires.number)
 
 -- the place of a key whose number was entered is marked
 marked_now : {K V : Type 0} (R : K → K → Ordering) → IsTotalOrder R → (old changed : Numbered K V) (n : ℕ) (key : K) → EntersAt R old n changed → number_of R old key ≡ Some n → is_entered R changed key ≡ true
@@ -26,28 +26,28 @@ marked_now R o old changed n key enters at = enters key at key ∙ ap (λ r. is_
 
 pub returns-in-OfAlert-clause-marked : goal.returns-in-OfAlert-clause-marked
 returns-in-OfAlert-clause-marked c =
-    let after : Tables = record c.args.self.now { timetable = c.displace_alert-was.new.self } in
+    let after : Tables = record c.args.self.now { timetable = c.swap_alert.new.self } in
     subst (λ e. is_marked_at after e ≡ not (is_config e)) (sym c.in-OfAlert.is)
-    (marked_now label_set_cmp label_set_cmp_total c.args.self.now.timetable.alerts c.displace_alert-was.new.self.alerts c.args.number c.in-OfAlert.labels c.displace_alert-was.ensures.entered
+    (marked_now label_set_cmp label_set_cmp_total c.args.self.now.timetable.alerts c.swap_alert.new.self.alerts c.args.number c.in-OfAlert.field-0 c.swap_alert.ensures.entered
     (subst (λ e. IsPlaceOf c.args.self.now e c.args.number) c.in-OfAlert.is c.requires.number))
 
 pub returns-in-OfMember-clause-marked : goal.returns-in-OfMember-clause-marked
 returns-in-OfMember-clause-marked c =
-    let after : Tables = record c.args.self.now { roster = c.displace_member-was.new.self } in
+    let after : Tables = record c.args.self.now { roster = c.swap_member.new.self } in
     subst (λ e. is_marked_at after e ≡ not (is_config e)) (sym c.in-OfMember.is)
-    (marked_now route_labels_cmp route_labels_cmp_total c.args.self.now.roster.placements c.displace_member-was.new.self.placements c.args.number (member_on_route c.in-OfMember.member) c.displace_member-was.ensures.entered
+    (marked_now route_labels_cmp route_labels_cmp_total c.args.self.now.roster.placements c.swap_member.new.self.placements c.args.number (member_on_route c.in-OfMember.member) c.swap_member.ensures.entered
     (subst (λ e. IsPlaceOf c.args.self.now e c.args.number) c.in-OfMember.is c.requires.number).0)
 
 pub returns-in-OfTimer-clause-marked : goal.returns-in-OfTimer-clause-marked
 returns-in-OfTimer-clause-marked c =
-    let after : Tables = record c.args.self.now { timetable = c.displace_timer-was.new.self } in
+    let after : Tables = record c.args.self.now { timetable = c.swap_timer.new.self } in
     subst (λ e. is_marked_at after e ≡ not (is_config e)) (sym c.in-OfTimer.is)
-    (marked_now route_labels_cmp route_labels_cmp_total c.args.self.now.timetable.timers c.displace_timer-was.new.self.timers c.args.number c.in-OfTimer.group c.displace_timer-was.ensures.entered
+    (marked_now route_labels_cmp route_labels_cmp_total c.args.self.now.timetable.timers c.swap_timer.new.self.timers c.args.number c.in-OfTimer.field-0 c.swap_timer.ensures.entered
     (subst (λ e. IsPlaceOf c.args.self.now e c.args.number) c.in-OfTimer.is c.requires.number))
 
 pub returns-in-OfLog-clause-marked : goal.returns-in-OfLog-clause-marked
 returns-in-OfLog-clause-marked c =
-    let after : Tables = record c.args.self.now { log = c.exchange_at-was-in-OfLog.new.self } in
+    let after : Tables = record c.args.self.now { log = c.swap_at-in-OfLog.new.self } in
     subst (λ e. is_marked_at after e ≡ not (is_config e)) (sym c.in-OfLog.is)
-    (marked_now log_key_cmp log_key_cmp_total c.args.self.now.log c.exchange_at-was-in-OfLog.new.self c.args.number c.in-OfLog.key c.exchange_at-was-in-OfLog.ensures.entered
+    (marked_now log_key_cmp log_key_cmp_total c.args.self.now.log c.swap_at-in-OfLog.new.self c.args.number c.in-OfLog.field-0 c.swap_at-in-OfLog.ensures.entered
     (subst (λ e. IsPlaceOf c.args.self.now e c.args.number) c.in-OfLog.is c.requires.number))

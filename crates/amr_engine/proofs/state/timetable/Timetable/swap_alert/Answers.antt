@@ -7,10 +7,10 @@ use Rattle.amr_tables.specs.Numbered.{Numbered, shown, number_of, is_entered, ra
 use Rattle.amr_tables.specs.Earliest.{IsTournament}
 use Rattle.amr_engine.specs.State.Timed.{Timed}
 use Rattle.amr_engine.proofs.StateLemmas.Scheduling.{alert_set}
-use Rattle.amr_engine.proofs.state.timetable.Timetable.displace_alert.Goals as goal
+use Rattle.amr_engine.proofs.state.timetable.Timetable.swap_alert.Goals as goal
 
-pub exchange_at-was-requires : goal.exchange_at-was-requires
-exchange_at-was-requires c = (c.requires.0, ap (λ (v : Timed). number_of label_set_cmp v.alerts c.requires.0) c.self.view_is ∙ c.requires.1)
+pub swap_at-was_entered-requires : goal.swap_at-was_entered-requires
+swap_at-was_entered-requires c = (c.requires.0, ap (λ (v : Timed). number_of label_set_cmp v.alerts c.requires.0) c.self.view_is ∙ c.requires.1)
 
 pub invariant_of-self : goal.invariant_of-self
 invariant_of-self c =
@@ -18,21 +18,21 @@ invariant_of-self c =
     let labels = c.requires.0 in
     let n = c.args.number in
     let number : number_of label_set_cmp t.alerts labels ≡ Some n = ap (λ (v : Timed). number_of label_set_cmp v.alerts labels) c.self.view_is ∙ c.requires.1 in
-    alert_set t.alerts t.timers t.alert_removals t.group_removals t.flushes c.self.invariant c.exchange_at-was.new.self c.set.new.self labels n c.args.alert number c.exchange_at-was.ensures.keys (c.exchange_at-was.ensures.shown labels number)
+    alert_set t.alerts t.timers t.alert_removals t.group_removals t.flushes c.self.invariant c.swap_at-was_entered.new.self c.set.new.self labels n c.args.alert.now number c.swap_at-was_entered.ensures.keys (c.swap_at-was_entered.ensures.shown labels number)
     (c.set.ensures.moments ∙ ap (slice_set t.alert_removals.moments n) c.alert_moment-moment.ensures)
     (subst (λ (v : Numbered LabelSet Alert). IsTournament (rank_of label_set_cmp v) c.set.new.self) c.by_number.ensures c.set.ensures.kept)
 
-pub returns-clause-answer : goal.returns-clause-answer
-returns-clause-answer c = λ labels at.
+pub returns-clause-former : goal.returns-clause-former
+returns-clause-former c = λ labels at.
     let number = ap (λ (v : Timed). number_of label_set_cmp v.alerts labels) c.self.view_is ∙ at in
-    c.exchange_at-was.ensures.answer labels number ∙ ap (λ (v : Timed). map.get (shown label_set_cmp v.alerts) labels) c.self.view_is
+    c.swap_at-was_entered.ensures.former labels number ∙ ap (λ (v : Timed). map.get (shown label_set_cmp v.alerts) labels) c.self.view_is
 
 pub returns-clause-was_entered : goal.returns-clause-was_entered
 returns-clause-was_entered c = λ labels at.
     let number = ap (λ (v : Timed). number_of label_set_cmp v.alerts labels) c.self.view_is ∙ at in
-    c.exchange_at-was.ensures.was_entered labels number ∙ ap (λ (v : Timed). is_entered label_set_cmp v.alerts labels) c.self.view_is
+    c.swap_at-was_entered.ensures.was_entered labels number ∙ ap (λ (v : Timed). is_entered label_set_cmp v.alerts labels) c.self.view_is
 
 pub returns-clause-shown : goal.returns-clause-shown
 returns-clause-shown c = λ labels at.
     let number = ap (λ (v : Timed). number_of label_set_cmp v.alerts labels) c.self.view_is ∙ at in
-    c.exchange_at-was.ensures.shown labels number ∙ ap (λ (v : Timed). map.set (shown label_set_cmp v.alerts) labels c.args.alert) c.self.view_is
+    c.swap_at-was_entered.ensures.shown labels number ∙ ap (λ (v : Timed). map.set (shown label_set_cmp v.alerts) labels c.args.alert.now) c.self.view_is

@@ -3,7 +3,7 @@ use Rattle.amr_tables.specs.Numbered.{shown}
 use Rattle.amr_engine.specs.State.State.{route_labels_cmp}
 use Rattle.amr_engine.specs.State.Rostered.{Rostered}
 use Rattle.amr_engine.proofs.StateLemmas.Rostering.{grouped_again}
-use Rattle.amr_engine.proofs.state.roster.Roster.replace_config.Goals as goal
+use Rattle.amr_engine.proofs.state.roster.Roster.swap_config.Goals as goal
 
 pub invariant_of-self : goal.invariant_of-self
 invariant_of-self c =

@@ -11,10 +11,10 @@ use Rattle.amr_engine.specs.State.State.{member_on_route, route_labels_cmp, grou
 use Rattle.amr_engine.specs.State.Rostered.{Rostered}
 use Rattle.amr_engine.proofs.StateLemmas.Rostering.{grouped_set, grouped_stays, place_number, within_if}
 use Rattle.amr_engine.proofs.StateLemmas.Scheduling.{has_number}
-use Rattle.amr_engine.proofs.state.roster.Roster.displace_member.Goals as goal
+use Rattle.amr_engine.proofs.state.roster.Roster.swap_member.Goals as goal
 
-pub exchange_at-requires : goal.exchange_at-requires
-exchange_at-requires c =
+pub swap_at-requires : goal.swap_at-requires
+swap_at-requires c =
     let key = member_on_route c.args.member.now in
     (key, ap (λ (t : Rostered). number_of route_labels_cmp t.placements key) c.self.view_is ∙ c.requires.place)
 
@@ -23,8 +23,8 @@ unreachable-requires c =
     has_number route_labels_cmp c.self.inside.groups c.args.member.now.group (subst (λ (t : Rostered). IsTrue (has_place route_labels_cmp t.groups c.args.member.now.group)) (sym c.self.view_is) c.requires.known)
     (sym c.number_of.ensures.number ∙ c.in_default.is)
 
-pub exchange_at-was-requires : goal.exchange_at-was-requires
-exchange_at-was-requires c =
+pub swap_at-was_entered-requires : goal.swap_at-was_entered-requires
+swap_at-was_entered-requires c =
     let key = member_on_route c.args.member.now in
     (key, ap (λ (t : Rostered). number_of route_labels_cmp t.placements key) c.self.view_is ∙ c.requires.place)
 
@@ -36,7 +36,7 @@ set-requires-clause-room c =
 pub set-requires-clause-group : goal.set-requires-clause-group
 set-requires-clause-group c =
     subst (λ (o : Option ℕ). IfSome o (λ g. g < c.self.inside.members.count)) (sym c.if_member-in_group.ensures)
-    (within_if c.args.alert c.in-Some.group c.self.inside.members.count (c.self.invariant.group_room c.args.member.now.group c.in-Some.group (sym c.number_of.ensures.number ∙ c.in-Some.is)))
+    (within_if c.args.alert.now c.in-Some.group c.self.inside.members.count (c.self.invariant.group_room c.args.member.now.group c.in-Some.group (sym c.number_of.ensures.number ∙ c.in-Some.is)))
 
 alike : (a b : Bool) → beq a b ≡ true → a ≡ b
 alike true true e = refl
@@ -56,8 +56,8 @@ invariant_of-self c =
     let number : number_of route_labels_cmp r.placements key ≡ Some n = ap (λ (t : Rostered). number_of route_labels_cmp t.placements key) c.self.view_is ∙ c.requires.place in
     let group : group_key r.config key ≡ c.args.member.now.group = sym (c.requires.group ∙ ap (λ (t : Rostered). group_key t.config key) (sym c.self.view_is)) in
     let known = place_number r.groups c.args.member.now.group (subst (λ (t : Rostered). IsTrue (has_place route_labels_cmp t.groups c.args.member.now.group)) (sym c.self.view_is) c.requires.known) in
-    grouped_stays r.config r.placements r.groups r.members c.self.invariant c.exchange_at.new.self key n known.0 c.args.alert number
-    (ap (number_of route_labels_cmp r.groups) group ∙ known.1) c.exchange_at.ensures.keys (c.exchange_at.ensures.shown key number)
+    grouped_stays r.config r.placements r.groups r.members c.self.invariant c.swap_at.new.self key n known.0 c.args.alert.now number
+    (ap (number_of route_labels_cmp r.groups) group ∙ known.1) c.swap_at.ensures.keys (c.swap_at.ensures.shown key number)
     (sym (ap is_some (c.at.ensures.key key number)) ∙ copied c.at.result ∙ sym c.is_some.ensures ∙ alike c.is_some.result c.is_some-2.result c.if-is_some.true ∙ c.is_some-2.ensures)
 
 pub invariant_of-self-2 : goal.invariant_of-self-2
@@ -67,52 +67,52 @@ invariant_of-self-2 c =
     let n = c.args.number in
     let number : number_of route_labels_cmp r.placements key ≡ Some n = ap (λ (t : Rostered). number_of route_labels_cmp t.placements key) c.self.view_is ∙ c.requires.place in
     let group : group_key r.config key ≡ c.args.member.now.group = sym (c.requires.group ∙ ap (λ (t : Rostered). group_key t.config key) (sym c.self.view_is)) in
-    grouped_set r.config r.placements r.groups r.members c.self.invariant c.exchange_at-was.new.self c.set.new.self key n c.in-Some.group c.args.alert number
-    (ap (number_of route_labels_cmp r.groups) group ∙ sym c.number_of.ensures.number ∙ c.in-Some.is) c.exchange_at-was.ensures.keys (c.exchange_at-was.ensures.shown key number)
+    grouped_set r.config r.placements r.groups r.members c.self.invariant c.swap_at-was_entered.new.self c.set.new.self key n c.in-Some.group c.args.alert.now number
+    (ap (number_of route_labels_cmp r.groups) group ∙ sym c.number_of.ensures.number ∙ c.in-Some.is) c.swap_at-was_entered.ensures.keys (c.swap_at-was_entered.ensures.shown key number)
     (c.set.ensures.groups ∙ ap (slice_set r.members.groups n) c.if_member-in_group.ensures) c.set.ensures.count
 
-pub returns-clause-answer : goal.returns-clause-answer
-returns-clause-answer c = λ key at.
+pub returns-clause-former : goal.returns-clause-former
+returns-clause-former c = λ key at.
     let number = ap (λ (t : Rostered). number_of route_labels_cmp t.placements key) c.self.view_is ∙ at in
-    c.exchange_at-was.ensures.answer key number ∙ ap (λ (t : Rostered). map.get (shown route_labels_cmp t.placements) key) c.self.view_is
+    c.swap_at-was_entered.ensures.former key number ∙ ap (λ (t : Rostered). map.get (shown route_labels_cmp t.placements) key) c.self.view_is
 
 pub returns-clause-was_entered : goal.returns-clause-was_entered
 returns-clause-was_entered c = λ key at.
     let number = ap (λ (t : Rostered). number_of route_labels_cmp t.placements key) c.self.view_is ∙ at in
-    c.exchange_at-was.ensures.was_entered key number ∙ ap (λ (t : Rostered). is_entered route_labels_cmp t.placements key) c.self.view_is
+    c.swap_at-was_entered.ensures.was_entered key number ∙ ap (λ (t : Rostered). is_entered route_labels_cmp t.placements key) c.self.view_is
 
 pub returns-clause-shown : goal.returns-clause-shown
 returns-clause-shown c = λ key at.
     let number = ap (λ (t : Rostered). number_of route_labels_cmp t.placements key) c.self.view_is ∙ at in
-    c.exchange_at-was.ensures.shown key number ∙ ap (λ (t : Rostered). map.set (shown route_labels_cmp t.placements) key c.args.alert) c.self.view_is
+    c.swap_at-was_entered.ensures.shown key number ∙ ap (λ (t : Rostered). map.set (shown route_labels_cmp t.placements) key c.args.alert.now) c.self.view_is
 
 pub returns-clause-places : goal.returns-clause-places
-returns-clause-places c = λ other. c.exchange_at-was.ensures.places other ∙ ap (λ (r : Rostered). has_place route_labels_cmp r.placements other) c.self.view_is
+returns-clause-places c = λ other. c.swap_at-was_entered.ensures.places other ∙ ap (λ (r : Rostered). has_place route_labels_cmp r.placements other) c.self.view_is
 
 pub returns-clause-entered : goal.returns-clause-entered
 returns-clause-entered c = λ key at other.
     let number = ap (λ (t : Rostered). number_of route_labels_cmp t.placements key) c.self.view_is ∙ at in
-    c.exchange_at-was.ensures.entered key number other ∙ ap (λ (t : Rostered). eq_by_cmp route_labels_cmp other key || is_entered route_labels_cmp t.placements other) c.self.view_is
+    c.swap_at-was_entered.ensures.entered key number other ∙ ap (λ (t : Rostered). eq_by_cmp route_labels_cmp other key || is_entered route_labels_cmp t.placements other) c.self.view_is
 
-pub returns-then-is_some-clause-answer : goal.returns-then-is_some-clause-answer
-returns-then-is_some-clause-answer c = λ key at.
+pub returns-then-is_some-clause-former : goal.returns-then-is_some-clause-former
+returns-then-is_some-clause-former c = λ key at.
     let number = ap (λ (t : Rostered). number_of route_labels_cmp t.placements key) c.self.view_is ∙ at in
-    c.exchange_at.ensures.answer key number ∙ ap (λ (t : Rostered). map.get (shown route_labels_cmp t.placements) key) c.self.view_is
+    c.swap_at.ensures.former key number ∙ ap (λ (t : Rostered). map.get (shown route_labels_cmp t.placements) key) c.self.view_is
 
 pub returns-then-is_some-clause-was_entered : goal.returns-then-is_some-clause-was_entered
 returns-then-is_some-clause-was_entered c = λ key at.
     let number = ap (λ (t : Rostered). number_of route_labels_cmp t.placements key) c.self.view_is ∙ at in
-    c.exchange_at.ensures.was_entered key number ∙ ap (λ (t : Rostered). is_entered route_labels_cmp t.placements key) c.self.view_is
+    c.swap_at.ensures.was_entered key number ∙ ap (λ (t : Rostered). is_entered route_labels_cmp t.placements key) c.self.view_is
 
 pub returns-then-is_some-clause-shown : goal.returns-then-is_some-clause-shown
 returns-then-is_some-clause-shown c = λ key at.
     let number = ap (λ (t : Rostered). number_of route_labels_cmp t.placements key) c.self.view_is ∙ at in
-    c.exchange_at.ensures.shown key number ∙ ap (λ (t : Rostered). map.set (shown route_labels_cmp t.placements) key c.args.alert) c.self.view_is
+    c.swap_at.ensures.shown key number ∙ ap (λ (t : Rostered). map.set (shown route_labels_cmp t.placements) key c.args.alert.now) c.self.view_is
 
 pub returns-then-is_some-clause-places : goal.returns-then-is_some-clause-places
-returns-then-is_some-clause-places c = λ other. c.exchange_at.ensures.places other ∙ ap (λ (r : Rostered). has_place route_labels_cmp r.placements other) c.self.view_is
+returns-then-is_some-clause-places c = λ other. c.swap_at.ensures.places other ∙ ap (λ (r : Rostered). has_place route_labels_cmp r.placements other) c.self.view_is
 
 pub returns-then-is_some-clause-entered : goal.returns-then-is_some-clause-entered
 returns-then-is_some-clause-entered c = λ key at other.
     let number = ap (λ (t : Rostered). number_of route_labels_cmp t.placements key) c.self.view_is ∙ at in
-    c.exchange_at.ensures.entered key number other ∙ ap (λ (t : Rostered). eq_by_cmp route_labels_cmp other key || is_entered route_labels_cmp t.placements other) c.self.view_is
+    c.swap_at.ensures.entered key number other ∙ ap (λ (t : Rostered). eq_by_cmp route_labels_cmp other key || is_entered route_labels_cmp t.placements other) c.self.view_is

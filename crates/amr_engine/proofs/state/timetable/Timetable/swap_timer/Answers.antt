@@ -6,10 +6,10 @@ use Rattle.amr_tables.specs.Numbered.{shown, number_of, has_place, is_entered}
 use Rattle.amr_engine.specs.State.State.{route_labels_cmp}
 use Rattle.amr_engine.specs.State.Timed.{Timed}
 use Rattle.amr_engine.proofs.StateLemmas.Scheduling.{timer_set, ranked}
-use Rattle.amr_engine.proofs.state.timetable.Timetable.displace_timer.Goals as goal
+use Rattle.amr_engine.proofs.state.timetable.Timetable.swap_timer.Goals as goal
 
-pub exchange_at-was-requires : goal.exchange_at-was-requires
-exchange_at-was-requires c = (c.requires.0, ap (λ (v : Timed). number_of route_labels_cmp v.timers c.requires.0) c.self.view_is ∙ c.requires.1)
+pub swap_at-was_entered-requires : goal.swap_at-was_entered-requires
+swap_at-was_entered-requires c = (c.requires.0, ap (λ (v : Timed). number_of route_labels_cmp v.timers c.requires.0) c.self.view_is ∙ c.requires.1)
 
 pub set-requires-clause-room : goal.set-requires-clause-room
 set-requires-clause-room c = c.self.invariant.groups_flushed.room c.requires.0 c.args.number (ap (λ (v : Timed). number_of route_labels_cmp v.timers c.requires.0) c.self.view_is ∙ c.requires.1)
@@ -20,12 +20,12 @@ set-requires-2-clause-room c = c.self.invariant.groups_removed.room c.requires.0
 pub set-requires-clause-kept : goal.set-requires-clause-kept
 set-requires-clause-kept c =
     let t = c.self.inside in
-    ranked route_labels_cmp t.timers c.exchange_at-was.new.self c.exchange_at-was.ensures.keys t.flushes c.self.invariant.groups_flushed.tournament
+    ranked route_labels_cmp t.timers c.swap_at-was_entered.new.self c.swap_at-was_entered.ensures.keys t.flushes c.self.invariant.groups_flushed.tournament
 
 pub set-requires-2-clause-kept : goal.set-requires-2-clause-kept
 set-requires-2-clause-kept c =
     let t = c.self.inside in
-    ranked route_labels_cmp t.timers c.exchange_at-was.new.self c.exchange_at-was.ensures.keys t.group_removals c.self.invariant.groups_removed.tournament
+    ranked route_labels_cmp t.timers c.swap_at-was_entered.new.self c.swap_at-was_entered.ensures.keys t.group_removals c.self.invariant.groups_removed.tournament
 
 pub invariant_of-self : goal.invariant_of-self
 invariant_of-self c =
@@ -33,29 +33,29 @@ invariant_of-self c =
     let group = c.requires.0 in
     let n = c.args.number in
     let number : number_of route_labels_cmp t.timers group ≡ Some n = ap (λ (v : Timed). number_of route_labels_cmp v.timers group) c.self.view_is ∙ c.requires.1 in
-    timer_set t.alerts t.timers t.alert_removals t.group_removals t.flushes c.self.invariant c.exchange_at-was.new.self c.set-2.new.self c.set.new.self group n c.args.timer number c.exchange_at-was.ensures.keys (c.exchange_at-was.ensures.shown group number)
+    timer_set t.alerts t.timers t.alert_removals t.group_removals t.flushes c.self.invariant c.swap_at-was_entered.new.self c.set-2.new.self c.set.new.self group n c.args.timer.now number c.swap_at-was_entered.ensures.keys (c.swap_at-was_entered.ensures.shown group number)
     (c.set-2.ensures.moments ∙ ap (slice_set t.group_removals.moments n) c.removal_moment-removal.ensures) c.set-2.ensures.kept
     (c.set.ensures.moments ∙ ap (slice_set t.flushes.moments n) c.flush_moment-flush.ensures) c.set.ensures.kept
 
-pub returns-clause-answer : goal.returns-clause-answer
-returns-clause-answer c = λ group at.
+pub returns-clause-former : goal.returns-clause-former
+returns-clause-former c = λ group at.
     let number = ap (λ (v : Timed). number_of route_labels_cmp v.timers group) c.self.view_is ∙ at in
-    c.exchange_at-was.ensures.answer group number ∙ ap (λ (v : Timed). map.get (shown route_labels_cmp v.timers) group) c.self.view_is
+    c.swap_at-was_entered.ensures.former group number ∙ ap (λ (v : Timed). map.get (shown route_labels_cmp v.timers) group) c.self.view_is
 
 pub returns-clause-was_entered : goal.returns-clause-was_entered
 returns-clause-was_entered c = λ group at.
     let number = ap (λ (v : Timed). number_of route_labels_cmp v.timers group) c.self.view_is ∙ at in
-    c.exchange_at-was.ensures.was_entered group number ∙ ap (λ (v : Timed). is_entered route_labels_cmp v.timers group) c.self.view_is
+    c.swap_at-was_entered.ensures.was_entered group number ∙ ap (λ (v : Timed). is_entered route_labels_cmp v.timers group) c.self.view_is
 
 pub returns-clause-shown : goal.returns-clause-shown
 returns-clause-shown c = λ group at.
     let number = ap (λ (v : Timed). number_of route_labels_cmp v.timers group) c.self.view_is ∙ at in
-    c.exchange_at-was.ensures.shown group number ∙ ap (λ (v : Timed). map.set (shown route_labels_cmp v.timers) group c.args.timer) c.self.view_is
+    c.swap_at-was_entered.ensures.shown group number ∙ ap (λ (v : Timed). map.set (shown route_labels_cmp v.timers) group c.args.timer.now) c.self.view_is
 
 pub returns-clause-places : goal.returns-clause-places
-returns-clause-places c = λ other. c.exchange_at-was.ensures.places other ∙ ap (λ (v : Timed). has_place route_labels_cmp v.timers other) c.self.view_is
+returns-clause-places c = λ other. c.swap_at-was_entered.ensures.places other ∙ ap (λ (v : Timed). has_place route_labels_cmp v.timers other) c.self.view_is
 
 pub returns-clause-entered : goal.returns-clause-entered
 returns-clause-entered c = λ group at other.
     let number = ap (λ (v : Timed). number_of route_labels_cmp v.timers group) c.self.view_is ∙ at in
-    c.exchange_at-was.ensures.entered group number other ∙ ap (λ (v : Timed). eq_by_cmp route_labels_cmp other group || is_entered route_labels_cmp v.timers other) c.self.view_is
+    c.swap_at-was_entered.ensures.entered group number other ∙ ap (λ (v : Timed). eq_by_cmp route_labels_cmp other group || is_entered route_labels_cmp v.timers other) c.self.view_is

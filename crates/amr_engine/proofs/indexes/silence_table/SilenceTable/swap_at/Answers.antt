@@ -6,10 +6,10 @@ use Rattle.amr_rules.specs.declared.silence.Silence.{Silence}
 use Rattle.amr_rules.specs.Silences.{Silences}
 use Rattle.amr_engine.specs.Indexes.SilencesKnown.{change_of}
 use Rattle.amr_engine.proofs.IndexesLemmas.SilencesKnown.{noted_right}
-use Rattle.amr_engine.proofs.indexes.silence_table.SilenceTable.exchange_at.Goals as goal
+use Rattle.amr_engine.proofs.indexes.silence_table.SilenceTable.swap_at.Goals as goal
 
-pub exchange_at-requires : goal.exchange_at-requires
-exchange_at-requires c = (c.args.id.now, ap (λ (v : Numbered ℕ Silence). number_of nat_cmp v c.args.id.now) c.self.view_is ∙ c.requires)
+pub swap_at-requires : goal.swap_at-requires
+swap_at-requires c = (c.args.id.now, ap (λ (v : Numbered ℕ Silence). number_of nat_cmp v c.args.id.now) c.self.view_is ∙ c.requires)
 
 pub invariant_of-self : goal.invariant_of-self
 invariant_of-self c =
@@ -17,33 +17,33 @@ invariant_of-self c =
     let id = c.args.id.now in
     let at : number_of nat_cmp t.silences id ≡ Some c.args.number = ap (λ (v : Numbered ℕ Silence). number_of nat_cmp v id) c.self.view_is ∙ c.requires in
     let before : Silences = shown nat_cmp t.silences in
-    let after : Silences = shown nat_cmp c.exchange_at.new.self in
-    let right = noted_right c.new-noted.result id before after c.args.silence (c.new-noted.ensures ∙ ap (change_of id) c.as_ref.ensures.value) (c.exchange_at.ensures.shown id at) in (
+    let after : Silences = shown nat_cmp c.swap_at.new.self in
+    let right = noted_right c.new-noted.result id before after c.args.silence.now (c.new-noted.ensures ∙ ap (change_of id) c.as_ref.ensures.value) (c.swap_at.ensures.shown id at) in (
       c.note_change.ensures.known before after right.0 c.self.invariant.0,
       tt,
       c.note_change.ensures.noted before after right.0 right.1 c.self.invariant.2,
     )
 
-pub returns-clause-answer : goal.returns-clause-answer
-returns-clause-answer c =
+pub returns-clause-former : goal.returns-clause-former
+returns-clause-former c =
     let id = c.args.id.now in
     let at : number_of nat_cmp c.self.inside.silences id ≡ Some c.args.number = ap (λ (v : Numbered ℕ Silence). number_of nat_cmp v id) c.self.view_is ∙ c.requires in
-    c.exchange_at.ensures.answer id at ∙ ap (λ (v : Numbered ℕ Silence). map.get (shown nat_cmp v) id) c.self.view_is
+    c.swap_at.ensures.former id at ∙ ap (λ (v : Numbered ℕ Silence). map.get (shown nat_cmp v) id) c.self.view_is
 
 pub returns-clause-was_entered : goal.returns-clause-was_entered
 returns-clause-was_entered c =
     let id = c.args.id.now in
     let at : number_of nat_cmp c.self.inside.silences id ≡ Some c.args.number = ap (λ (v : Numbered ℕ Silence). number_of nat_cmp v id) c.self.view_is ∙ c.requires in
-    c.exchange_at.ensures.was_entered id at ∙ ap (λ (v : Numbered ℕ Silence). is_entered nat_cmp v id) c.self.view_is
+    c.swap_at.ensures.was_entered id at ∙ ap (λ (v : Numbered ℕ Silence). is_entered nat_cmp v id) c.self.view_is
 
 pub returns-clause-shown : goal.returns-clause-shown
 returns-clause-shown c =
     let id = c.args.id.now in
     let at : number_of nat_cmp c.self.inside.silences id ≡ Some c.args.number = ap (λ (v : Numbered ℕ Silence). number_of nat_cmp v id) c.self.view_is ∙ c.requires in
-    c.exchange_at.ensures.shown id at ∙ ap (λ (v : Numbered ℕ Silence). map.set (shown nat_cmp v) id c.args.silence) c.self.view_is
+    c.swap_at.ensures.shown id at ∙ ap (λ (v : Numbered ℕ Silence). map.set (shown nat_cmp v) id c.args.silence.now) c.self.view_is
 
 pub returns-clause-entered : goal.returns-clause-entered
 returns-clause-entered c =
     let id = c.args.id.now in
     let at : number_of nat_cmp c.self.inside.silences id ≡ Some c.args.number = ap (λ (v : Numbered ℕ Silence). number_of nat_cmp v id) c.self.view_is ∙ c.requires in
-    λ other. c.exchange_at.ensures.entered id at other ∙ ap (λ (v : Numbered ℕ Silence). eq_by_cmp nat_cmp other id || is_entered nat_cmp v other) c.self.view_is
+    λ other. c.swap_at.ensures.entered id at other ∙ ap (λ (v : Numbered ℕ Silence). eq_by_cmp nat_cmp other id || is_entered nat_cmp v other) c.self.view_is
