@@ -3,11 +3,10 @@ use Rattle.std.proofs.Common.{◌≡◌, true, false, ℕ, suc, zero, ◌+◌, �
 use Rattle.std.specs.Option.{option_map, option_map_or, is_some}
 use Rattle.std.proofs.lemmas.Bool.{true≢false}
 use Rattle.amr_time.specs.Time.{Moment}
-use Rattle.amr_engine.specs.declared.state.due.Due.{Due}
 use Rattle.amr_engine.specs.State.State.{State}
 use Rattle.amr_engine.specs.Runs.{after_step}
 use Rattle.amr_engine.specs.Events.{move_limit}
-use Rattle.amr_engine.specs.State.Dues.{next_due}
+use Rattle.amr_engine.specs.State.Dues.{Due, next_due}
 use Rattle.amr_engine.specs.Moves.{move, advance, counted_run}
 
 -- this many moves more

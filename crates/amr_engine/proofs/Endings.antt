@@ -5,9 +5,8 @@ use Rattle.amr_time.specs.Time.{Moment}
 use Rattle.amr_events.specs.Posts.Reasons.{Reason, reason_number}
 use Rattle.amr_events.specs.Actions.Events.{Event, Act, is_label}
 use Rattle.amr_events.specs.Actions.Acts.{event_at}
-use Rattle.amr_engine.specs.declared.state.due.Due.{Due}
 use Rattle.amr_engine.specs.State.State.{State}
-use Rattle.amr_engine.specs.State.Dues.{next_due}
+use Rattle.amr_engine.specs.State.Dues.{Due, next_due}
 use Rattle.amr_engine.specs.Moves.{move, advance}
 use Rattle.amr_engine.specs.Events.{do_event, after_event, outcome_of, outcome_from, skipped_of, judge, finish, after_act, at_moment, on_ok, move_limit}
 use Rattle.amr_engine.specs.Outcomes.{acceptance, refusal}

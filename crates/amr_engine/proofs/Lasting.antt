@@ -20,10 +20,9 @@ use Rattle.amr_config.specs.Routing.{integrations_of, group_interval_of}
 use Rattle.amr_rules.specs.declared.alert.Alert.{Alert}
 use Rattle.amr_engine.specs.declared.state.notification.GroupTimer.{GroupTimer}
 use Rattle.amr_engine.specs.declared.state.route_labels.RouteLabels.{RouteLabels}
-use Rattle.amr_engine.specs.declared.state.due.Due.{Due}
 use Rattle.amr_engine.specs.declared.state.due.Kind.TheVariants.{GroupRemoval}
 use Rattle.amr_engine.specs.State.State.{State, route_labels_cmp, route_labels_cmp_total, route_labels_cmp-IsAntisymmetric, members, members_among}
-use Rattle.amr_engine.specs.State.Dues.{alert_removal_of, group_removal_of, flush_of, least_due, due_by, dues, next_due}
+use Rattle.amr_engine.specs.State.Dues.{Due, alert_removal_of, group_removal_of, flush_of, least_due, due_by, dues, next_due}
 use Rattle.amr_engine.specs.Flush.{Members, firing_of, resolved_of, let_through, log_key_of, record_notification, notify, notify_all, set_timer, drop_member, mark_if_empty, drop_resolved, run_pipeline, flush}
 use Rattle.amr_engine.specs.Quiet.{all_fire_until, with_timer_reset}
 use Rattle.amr_engine.specs.Runs.{after_step}

@@ -4,9 +4,8 @@ use Rattle.std.specs.Option.{option_map_or}
 use Rattle.std.proofs.Common.{inl, inr, Result, Ok, Err, OnOk, OnErr, refl, sym, ap, ◌∙◌, subst, arith}
 use Rattle.std.proofs.lemmas.Bool.Decides.{nat_tests}
 use Rattle.amr_time.specs.Time.{Moment}
-use Rattle.amr_engine.specs.declared.state.due.Due.{Due}
 use Rattle.amr_engine.specs.State.State.{State}
-use Rattle.amr_engine.specs.State.Dues.{dues, least_due, due_by, next_due}
+use Rattle.amr_engine.specs.State.Dues.{Due, dues, least_due, due_by, next_due}
 use Rattle.amr_engine.specs.Moves.{move}
 use Rattle.amr_engine.specs.QuietMoves.{first_due, moved, moved_times, OnlySets, IsQuietMove, AreQuietMoves, most_noted, noted}
 

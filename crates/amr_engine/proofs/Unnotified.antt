@@ -13,14 +13,13 @@ use Rattle.amr_rules.specs.declared.alert.Alert.{Alert}
 use Rattle.amr_rules.specs.Silences.{after_post, after_expiry}
 use Rattle.amr_events.specs.Posts.Reasons.{Reason}
 use Rattle.amr_events.specs.Actions.Events.{Event, Act, is_label}
-use Rattle.amr_engine.specs.declared.state.due.Due.{Due}
 use Rattle.amr_engine.specs.declared.state.due.Kind.{Kind}
 use Rattle.amr_engine.specs.declared.state.due.Kind.TheVariants.{AlertRemoval, GroupRemoval, GroupFlush}
 use Rattle.amr_engine.specs.declared.state.notification.LogKey.{LogKey}
 use Rattle.amr_engine.specs.declared.state.notification.Notification.{Notification}
 use Rattle.amr_engine.specs.declared.state.route_labels.RouteLabels.{RouteLabels}
 use Rattle.amr_engine.specs.State.State.{State, on_route, members, place, place_on}
-use Rattle.amr_engine.specs.State.Dues.{dues, next_due}
+use Rattle.amr_engine.specs.State.Dues.{Due, dues, next_due}
 use Rattle.amr_engine.specs.Stages.{taken_away}
 use Rattle.amr_engine.specs.Flush.{Members, notify, notify_all, record_notification, notifications_of, drop_member, mark_if_empty, drop_resolved, run_pipeline, flush, firing_of, resolved_of, let_through, log_key_of}
 use Rattle.amr_engine.specs.Runs as run

@@ -5,7 +5,7 @@ use Rattle.amr_time.specs.Time.{Moment}
 use Rattle.amr_events.specs.Actions.Events.{Event}
 use Rattle.amr_events.specs.declared.posts.reason.Reason as code
 use Rattle.amr_events.specs.Posts.Reasons.{reason_number}
-use Rattle.amr_engine.specs.declared.state.due.Due.{Due}
+use Rattle.amr_engine.specs.State.Dues.{Due}
 use Rattle.amr_engine.specs.State.State.{State}
 use Rattle.amr_engine.specs.declared.apply.Done.{Done}
 use Rattle.amr_engine.specs.Events.{Outcome, after_event, outcome_of, at_moment}

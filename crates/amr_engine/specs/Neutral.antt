@@ -2,7 +2,7 @@
 use Rattle.std.specs.Prelude.{◌≡◌, ℕ, List, ◌++◌, Ok}
 use Rattle.amr_time.specs.Time.{Moment}
 use Rattle.amr_events.specs.Actions.Events.{Event, Act}
-use Rattle.amr_engine.specs.declared.state.due.Due.{Due}
+use Rattle.amr_engine.specs.State.Dues.{Due}
 use Rattle.amr_engine.specs.State.State.{State}
 use Rattle.amr_engine.specs.Events.{do_within}
 

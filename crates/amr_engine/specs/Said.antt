@@ -4,10 +4,9 @@ use Rattle.std.specs.Ordering.{is_gt}
 use Rattle.amr_events.specs.Posts.Reasons.{Reason, reason_number}
 use Rattle.amr_events.specs.declared.posts.reason.Reason.TheVariants.{Backwards, TooManyMoves}
 use Rattle.amr_events.specs.Actions.Events.{Event, is_label}
-use Rattle.amr_engine.specs.declared.state.due.Due.{Due}
 use Rattle.amr_engine.specs.State.State.{State}
 use Rattle.amr_engine.specs.Runs.{Begins}
-use Rattle.amr_engine.specs.State.Dues.{due_cmp, next_due}
+use Rattle.amr_engine.specs.State.Dues.{Due, due_cmp, next_due}
 use Rattle.amr_engine.specs.Moves.{move, Advances}
 use Rattle.amr_engine.specs.Events.{after_act, at_moment}
 

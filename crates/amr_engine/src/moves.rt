@@ -12,7 +12,7 @@ ghost use Rattle.amr_engine.specs.QuietMoves.{OnlySets, AreQuietMoves};
 use crate::flush::{flush, reset_timer};
 use crate::quiet::QuietGroups;
 use crate::quiet_moves::QuietMoves;
-use crate::state::{Change, Due, Kind, RouteLabels, Store};
+use crate::state::{Change, Due, Store, Timer};
 use crate::too_many::are_too_many;
 use amr_time::Moment;
 use std::alloc::AllocError;
@@ -71,25 +71,24 @@ fn fire(store: &mut Store, quiet_groups: &mut QuietGroups, due: Due) -> Result<b
     ensures grown { GrownBy (2 * move_weight store.old.state due due.kind) store.old store.new }
     ensures memory { OnOk result (IsTrueOf quiet_groups.new store.new.state) }
 {
-    let Due {
-        moment,
-        kind,
-        route,
-        labels,
-    } = due;
-    match kind {
-        Kind::AlertRemoval => {
+    let Due { moment, timer } = due;
+    match timer {
+        Timer::AlertRemoval(labels) => {
             quiet_groups.alert_leaves(store, &labels);
             store.change(Change::OfAlert(labels, None))?;
             Ok(false)
         }
-        Kind::GroupRemoval => {
-            store.change(Change::OfTimer(RouteLabels { route, labels }, None))?;
+        Timer::GroupRemoval(group) => {
+            store.change(Change::OfTimer(group, None))?;
             Ok(false)
         }
-        Kind::GroupFlush => {
-            let at = Moment::from_nanoseconds(moment);
-            flush(store, quiet_groups, at, &RouteLabels { route, labels })
+        Timer::GroupFlush(group) => {
+            flush(
+                store,
+                quiet_groups,
+                Moment::from_nanoseconds(moment),
+                &group,
+            )
         }
     }
 }
@@ -111,14 +110,14 @@ fn make(
     ensures grown { GrownBy (2 * move_weight store.old.state due due.kind) store.old store.new }
     ensures memory { OnOk result (IsTrueOf quiet_groups.new store.new.state) }
 {
-    if !is_quiet {
-        return fire(store, quiet_groups, due);
+    match due {
+        Due {
+            moment,
+            timer: Timer::GroupFlush(group),
+        } if is_quiet => {
+            reset_timer(store, Moment::from_nanoseconds(moment), &group)?;
+            Ok(true)
+        }
+        due => fire(store, quiet_groups, due),
     }
-    let at = Moment::from_nanoseconds(due.moment);
-    let group = RouteLabels {
-        route: due.route,
-        labels: due.labels,
-    };
-    reset_timer(store, at, &group)?;
-    Ok(true)
 }

@@ -17,7 +17,7 @@ mod timetable;
 pub mod views;
 
 pub use change::Change;
-pub use due::{Due, Kind};
+pub use due::{Due, Timer};
 pub use members::Member;
 pub use membership::Membership;
 pub use notification::{FiringAlert, GroupTimer, LogKey, Notification, ResolvedAlert};

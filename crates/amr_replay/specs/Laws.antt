@@ -4,10 +4,9 @@ use Rattle.std.specs.Prelude.{◌≡◌, ◌↔◌, ℕ, true, ◌<◌, ◌≤�
 use Rattle.amr_time.specs.Time.{Moment}
 use Rattle.amr_events.specs.Posts.Reasons.{Reason}
 use Rattle.amr_events.specs.Actions.Events.{Event, is_label}
-use Rattle.amr_engine.specs.declared.state.due.Due.{Due}
 use Rattle.amr_engine.specs.declared.state.notification.Notification.{Notification}
 use Rattle.amr_engine.specs.State.State.{State}
-use Rattle.amr_engine.specs.State.Dues.{dues, next_due}
+use Rattle.amr_engine.specs.State.Dues.{Due, dues, next_due}
 use Rattle.amr_engine.specs.Events.{Accepted, Refused, outcome_of, after_event, at_moment, skipped_of, move_limit}
 use Rattle.amr_engine.specs.Said.{Does, Refuses, IsIn, IsLeast}
 

@@ -2,7 +2,7 @@
 use Rattle.std.specs.Prelude.{◌≡◌, List, ◌∷◌, ◌++◌}
 use Rattle.amr_config.specs.Stated.Config.{Config}
 use Rattle.amr_events.specs.Actions.Events.{Event}
-use Rattle.amr_engine.specs.declared.state.due.Due.{Due}
+use Rattle.amr_engine.specs.State.Dues.{Due}
 use Rattle.amr_engine.specs.declared.state.due.Kind.TheVariants.{GroupFlush}
 use Rattle.amr_engine.specs.State.State.{State, on_route}
 use Rattle.amr_engine.specs.Moves.{move}

@@ -12,10 +12,9 @@ use Rattle.std.proofs.lemmas.Cmp.{upto, tied_itself}
 use Rattle.std.proofs.lemmas.Map.Keys.{le_from_not_gt}
 use Rattle.std.proofs.lemmas.Map.Views.{tells_apart}
 use Rattle.amr_tables.specs.Members.{has}
-use Rattle.amr_engine.specs.declared.state.due.Due.{Due}
 use Rattle.amr_engine.specs.declared.state.due.Kind.{Kind}
 use Rattle.amr_engine.specs.declared.state.due.Kind.TheVariants.{AlertRemoval, GroupRemoval, GroupFlush}
-use Rattle.amr_engine.specs.State.Dues.{kind_place, place_cmp, due_cmp, due_cmp_total, due_cmp-IsAntisymmetric, lesser_due, least_due}
+use Rattle.amr_engine.specs.State.Dues.{Due, kind_place, place_cmp, due_cmp, due_cmp_total, due_cmp-IsAntisymmetric, lesser_due, least_due}
 use Rattle.amr_engine.specs.State.Timed.{earlier, IsFirstAmong, IsFirstOfKind}
 
 pub not_after : (a b : Due) → is_gt (due_cmp a b) ≡ true → is_gt (due_cmp b a) ≡ false

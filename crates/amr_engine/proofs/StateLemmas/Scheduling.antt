@@ -26,11 +26,10 @@ use Rattle.amr_tables.specs.Members.{has}
 use Rattle.amr_tables.proofs.Naming.{key_at_number}
 use Rattle.amr_engine.specs.declared.state.notification.GroupTimer.{GroupTimer}
 use Rattle.amr_engine.specs.declared.state.route_labels.RouteLabels.{RouteLabels}
-use Rattle.amr_engine.specs.declared.state.due.Due.{Due}
 use Rattle.amr_engine.specs.declared.state.due.Kind.{Kind}
 use Rattle.amr_engine.specs.declared.state.due.Kind.TheVariants.{AlertRemoval, GroupRemoval, GroupFlush}
 use Rattle.amr_engine.specs.State.State.{on_route, route_labels_cmp, route_labels_cmp_total, route_labels_cmp-IsAntisymmetric}
-use Rattle.amr_engine.specs.State.Dues.{due_cmp, dues_of}
+use Rattle.amr_engine.specs.State.Dues.{Due, due_cmp, dues_of}
 use Rattle.amr_engine.specs.State.Timed.{AreNumbered, IsScheduled, IsTimed, alert_moment, flush_moment, removal_moment, group_moment, IsFirstOfKind}
 use Rattle.amr_engine.proofs.StateLemmas.Least.{sooner, alike}
 use Rattle.amr_engine.proofs.StateLemmas.Timing.{is_at, due_moment, alert_pick, members}

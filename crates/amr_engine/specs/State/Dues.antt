@@ -14,11 +14,34 @@ use Rattle.amr_time.specs.Time.{Moment, second, minute, next_multiple_of}
 use Rattle.amr_rules.specs.declared.alert.Alert.{Alert}
 use Rattle.amr_rules.specs.Muting.{Alerts}
 use Rattle.amr_engine.specs.declared.state.notification.GroupTimer.{GroupTimer}
-use Rattle.amr_engine.specs.declared.state.due.Due.{Due}
 use Rattle.amr_engine.specs.declared.state.due.Kind.{Kind}
 use Rattle.amr_engine.specs.declared.state.due.Kind.TheVariants.{AlertRemoval, GroupRemoval, GroupFlush}
+use Rattle.amr_engine.specs.declared.state.due.Timer.{Timer}
+use Rattle.amr_engine.specs.declared.state.due.Timer.TheVariants as timer
 use Rattle.amr_engine.specs.declared.state.route_labels.RouteLabels.{RouteLabels}
 use Rattle.amr_engine.specs.State.State.{State, on_route, route_labels_cmp, route_labels_cmp-IsAntisymmetric}
+
+-- A pending timer: when it fires, its kind, and the route and labels of the group. For the removal of
+-- an alert they are 0 and the labels of the alert.
+pub record Due : Type 0 where
+  pub moment : Moment
+  pub kind : Kind
+  pub route : ℕ
+  pub labels : LabelSet
+
+abbrev pub kind_of : Timer → Kind
+kind_of (timer.AlertRemoval labels) = AlertRemoval
+kind_of (timer.GroupRemoval group) = GroupRemoval
+kind_of (timer.GroupFlush group) = GroupFlush
+
+abbrev pub group_of : Timer → RouteLabels
+group_of (timer.AlertRemoval labels) = on_route 0 labels
+group_of (timer.GroupRemoval group) = group
+group_of (timer.GroupFlush group) = group
+
+-- the timer with its moment
+abbrev pub due_at : Moment → Timer → Due
+due_at moment timer = record { moment = moment; kind = kind_of timer; route = (group_of timer).route; labels = (group_of timer).labels }
 
 -- the rank of a kind among the timers of one moment
 abbrev pub kind_place : Kind → ℕ

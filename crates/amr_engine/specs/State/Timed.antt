@@ -12,12 +12,15 @@ use Rattle.amr_tables.specs.Earliest.{Earliest, moment_at, IsTournament}
 use Rattle.amr_tables.specs.Members.{has}
 use Rattle.amr_engine.specs.declared.state.notification.GroupTimer.{GroupTimer}
 use Rattle.amr_engine.specs.declared.state.route_labels.RouteLabels.{RouteLabels}
-use Rattle.amr_engine.specs.declared.state.due.Due.{Due}
 use Rattle.amr_engine.specs.declared.state.due.Kind.{Kind}
 use Rattle.amr_engine.specs.declared.state.due.Kind.TheVariants.{AlertRemoval, GroupRemoval, GroupFlush}
+use Rattle.amr_engine.specs.declared.state.due.Timer.{Timer}
+use Rattle.amr_engine.specs.declared.state.due.Timer.TheVariants as timer
 use Rattle.amr_engine.specs.declared.state.timetable.Pending.{Pending}
+use Rattle.amr_engine.specs.declared.state.timetable.TimerRef.{TimerRef}
+use Rattle.amr_engine.specs.declared.state.timetable.TimerRef.TheVariants as ref
 use Rattle.amr_engine.specs.State.State.{route_labels_cmp}
-use Rattle.amr_engine.specs.State.Dues.{due_cmp, alert_removal_at, group_removal_at}
+use Rattle.amr_engine.specs.State.Dues.{Due, due_at, due_cmp, alert_removal_at, group_removal_at}
 
 pub record Timed : Type 0 where
   pub alerts : Numbered LabelSet Alert
@@ -65,9 +68,14 @@ pub record IsTimed (alerts : Numbered LabelSet Alert) (timers : Numbered RouteLa
 
 -- ---- the first timer
 
--- the timer that a reference to its labels stands for
+-- the timer that references stand for
+abbrev pub timer_of : TimerRef → Timer
+timer_of (ref.AlertRemoval labels) = timer.AlertRemoval labels.now
+timer_of (ref.GroupRemoval group) = timer.GroupRemoval group.now
+timer_of (ref.GroupFlush group) = timer.GroupFlush group.now
+
 abbrev pub due_of : Pending → Due
-due_of pending = record { moment = pending.moment; kind = pending.kind; route = pending.route; labels = pending.labels.now }
+due_of pending = due_at pending.moment (timer_of pending.timer)
 
 -- the earlier of two timers; of two at one moment, the first
 abbrev pub earlier : Option Due → Option Due → Option Due

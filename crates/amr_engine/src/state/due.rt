@@ -5,9 +5,11 @@ ghost use Rattle.amr_time.specs.Time.{latest_read};
 ghost use Rattle.amr_engine.specs.State.Dues.{alert_removal_at, group_removal_at};
 
 use crate::state::notification::GroupTimer;
+use crate::state::route_labels::RouteLabels;
 use amr_labels::Labels;
 use amr_rules::Alert;
 use amr_time::{Moment, Span, next_multiple};
+use std::marker::Model;
 
 /// The kinds of timers, in the order in which those of one moment fire.
 #[derive(Clone, Copy)]
@@ -17,17 +19,36 @@ pub enum Kind {
     GroupFlush,
 }
 
+/// What a timer does when it fires.
+#[derive(Drop)]
+pub enum Timer {
+    /// It removes the stored alert with these labels.
+    AlertRemoval(Labels),
+    /// It removes this group, which is empty.
+    GroupRemoval(RouteLabels),
+    /// It flushes this group.
+    GroupFlush(RouteLabels),
+}
+
 /// A pending timer.
 #[derive(Drop)]
 pub struct Due {
     /// When it fires, in nanoseconds since 1970.
     pub moment: u128,
-    /// What it does when it fires.
-    pub kind: Kind,
-    /// The route of the group, by its number in preorder; 0 for the removal of an alert.
-    pub route: usize,
-    /// The labels of the alert, or the group labels.
-    pub labels: Labels,
+    /// What it does then, and of which alert or group it is.
+    pub timer: Timer,
+}
+
+impl Model for Due {
+    ghost use Rattle.std.specs.Coded.{codes};
+    ghost use Rattle.amr_labels.specs.Map as map;
+    ghost use Rattle.amr_engine.specs.State.Dues.{Due, due_at};
+
+    ghost Value = { Due };
+
+    ghost coded = { Prim.hlevel (codes, map.code) };
+
+    ghost view = { λ due. due_at due.moment due.timer };
 }
 
 /// Returns when a stored alert is removed, in nanoseconds since 1970: at the first multiple of 30

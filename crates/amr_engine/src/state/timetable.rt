@@ -7,12 +7,12 @@ ghost use Rattle.amr_labels.specs.Labels.{label_set_cmp};
 ghost use Rattle.amr_labels.specs.Map as map;
 ghost use Rattle.amr_tables.specs.Numbered.{shown, number_of, EntersAt, KeepsPlaces, SamePlaces, SameEntered, NoneEntered, IsMarkOf, IsNumber, IsNumbering, IsSetAt, IsValueOf, next_number, rank_of};
 ghost use Rattle.amr_engine.specs.State.State.{route_labels_cmp};
-ghost use Rattle.amr_engine.specs.State.Dues.{dues_of, least_due, due_by};
+ghost use Rattle.amr_engine.specs.State.Dues.{dues_of, least_due, due_by, kind_of, group_of};
 ghost use Rattle.amr_engine.specs.declared.state.due.Kind.TheVariants.{AlertRemoval};
-ghost use Rattle.amr_engine.specs.State.Timed.{AreNumbered, IsScheduled, IsFirstOfKind, alert_moment, flush_moment, removal_moment, group_moment, due_of, earlier};
+ghost use Rattle.amr_engine.specs.State.Timed.{AreNumbered, IsScheduled, IsFirstOfKind, alert_moment, flush_moment, removal_moment, group_moment, timer_of, due_of, earlier};
 
 use crate::indexes::AlertTable;
-use crate::state::due::{Due, Kind, alert_removal, group_removal};
+use crate::state::due::{Due, Kind, Timer, alert_removal, group_removal};
 use crate::state::notification::GroupTimer;
 use crate::state::route_labels::RouteLabels;
 use amr_config::stated::{InhibitRule, RuleMatch};
@@ -251,16 +251,35 @@ fn make_room<K: Key + Drop, V: Drop>(
     }
 }
 
-/// A pending timer that borrows its labels.
+/// What a timer does when it fires, with the labels or the group borrowed.
+#[derive(Clone, Copy)]
+enum TimerRef<'a> {
+    AlertRemoval(&'a Labels),
+    GroupRemoval(&'a RouteLabels),
+    GroupFlush(&'a RouteLabels),
+}
+
+impl TimerRef<'_> {
+    /// Copies the timer, with what it borrows.
+    fn to_timer(self) -> Result<Timer, AllocError>
+        ensures { IfOk result (λ timer. timer ≡ timer_of self.entry) }
+    {
+        match self {
+            TimerRef::AlertRemoval(labels) => Ok(Timer::AlertRemoval(labels.clone()?)),
+            TimerRef::GroupRemoval(group) => Ok(Timer::GroupRemoval(group.clone()?)),
+            TimerRef::GroupFlush(group) => Ok(Timer::GroupFlush(group.clone()?)),
+        }
+    }
+}
+
+/// A pending timer that borrows its labels or its group.
 #[derive(Clone, Copy)]
 struct Pending<'a> {
     moment: u128,
-    kind: Kind,
-    route: usize,
-    labels: &'a Labels,
+    timer: TimerRef<'a>,
 }
 
-/// Copies a timer, with its labels, if it is pending at or before a moment.
+/// Copies a timer, with what it borrows, if it is pending at or before a moment.
 fn if_due(at: Moment, first: Option<Pending<'_>>) -> Result<Option<Due>, AllocError>
     ensures { IfOk result (λ due. due ≡ due_by at (option_map due_of first.entry)) }
 {
@@ -268,12 +287,10 @@ fn if_due(at: Moment, first: Option<Pending<'_>>) -> Result<Option<Due>, AllocEr
         None => Ok(None),
         Some(first) => {
             if first.moment <= at.nanoseconds() {
-                let labels = first.labels.clone()?;
+                let timer = first.timer.to_timer()?;
                 Ok(Some(Due {
                     moment: first.moment,
-                    kind: first.kind,
-                    route: first.route,
-                    labels,
+                    timer,
                 }))
             } else {
                 Ok(None)
@@ -294,9 +311,7 @@ fn first_alert<'a>(alerts: &'a AlertTable, removals: &Earliest) -> Option<Pendin
     let labels = alerts.by_number().key_at(number)?;
     Some(Pending {
         moment,
-        kind: Kind::AlertRemoval,
-        route: 0,
-        labels,
+        timer: TimerRef::AlertRemoval(labels),
     })
 }
 
@@ -315,12 +330,21 @@ fn first_group<'a>(
     let number = moments.first()?;
     let moment = moments.at(number)?;
     let group = timers.key_at(number)?;
-    Some(Pending {
-        moment,
-        kind,
-        route: group.route,
-        labels: &group.labels,
-    })
+    let timer = timer_of_kind(group, kind);
+    Some(Pending { moment, timer })
+}
+
+/// Returns the timer of a kind of a group.
+fn timer_of_kind<'a>(group: &'a RouteLabels, kind: Kind) -> TimerRef<'a>
+    requires { kind ≢ AlertRemoval }
+    ensures kind { kind_of (timer_of result) ≡ kind }
+    ensures group { group_of (timer_of result) ≡ group.now }
+{
+    match kind {
+        Kind::AlertRemoval => unreachable!(),
+        Kind::GroupRemoval => TimerRef::GroupRemoval(group),
+        Kind::GroupFlush => TimerRef::GroupFlush(group),
+    }
 }
 
 /// Returns the earlier of two timers. If both are of one moment, that is the first.

@@ -6,8 +6,8 @@ use Rattle.amr_tables.proofs.Naming.{key_at_number}
 use Rattle.amr_tables.proofs.Keying.{rank_of-total}
 use Rattle.amr_engine.specs.State.State.{route_labels_cmp, route_labels_cmp_total, route_labels_cmp-IsAntisymmetric}
 use Rattle.amr_engine.specs.declared.state.timetable.Pending.{Pending}
-use Rattle.amr_engine.specs.State.Dues.{dues_of}
-use Rattle.amr_engine.specs.State.Timed.{group_moment, due_of, IsFirstOfKind}
+use Rattle.amr_engine.specs.State.Dues.{due_at, dues_of}
+use Rattle.amr_engine.specs.State.Timed.{group_moment, timer_of, due_of, IsFirstOfKind}
 use Rattle.amr_engine.proofs.StateLemmas.Scheduling.{first_moment, no_moment, first_group, no_group, group_none, not_none}
 use Rattle.amr_engine.proofs.state.timetable.first_group.Goals as goal
 
@@ -31,9 +31,16 @@ returns c = λ alerts.
     let n = c.in_ok-number.number in
     let first = c.in_ok-number.ensures.some (rank_of route_labels_cmp t) (rank_of-total route_labels_cmp_total t) c.requires.scheduled.tournament in
     let named : key_at t n ≡ Some c.in_ok-group.group.now = sym c.key_at.ensures.key ∙ ap option_copied c.in_ok-group.was in
-    first_group alerts (shown route_labels_cmp t) c.args.kind c.requires.group c.in_ok-group.group.now c.in_ok-moment.moment
-    (first_moment route_labels_cmp_total route_labels_cmp-IsAntisymmetric (group_moment c.args.kind) t c.args.moments.now n c.in_ok-moment.moment c.in_ok-group.group.now (group_none c.args.kind) c.key_at.ensures.numbering c.requires.numbered c.requires.scheduled
-    (sym c.at.ensures ∙ c.in_ok-moment.was) first named)
+    let group = c.in_ok-group.group.now in
+    let moment = c.in_ok-moment.moment in
+    let kinds = sym c.timer_of_kind-timer.ensures.kind in
+    let groups = sym c.timer_of_kind-timer.ensures.group in
+    let is : record { moment = moment; kind = c.args.kind; route = group.route; labels = group.labels } ≡ due_at moment (timer_of c.timer_of_kind-timer.result) =
+    λ i. record { moment = moment; kind = kinds i; route = (groups i).route; labels = (groups i).labels } in
+    subst (λ due. IsFirstOfKind c.args.kind (dues_of alerts (shown route_labels_cmp t)) (Some due)) is
+    (first_group alerts (shown route_labels_cmp t) c.args.kind c.requires.group group moment
+    (first_moment route_labels_cmp_total route_labels_cmp-IsAntisymmetric (group_moment c.args.kind) t c.args.moments.now n moment group (group_none c.args.kind) c.key_at.ensures.numbering c.requires.numbered c.requires.scheduled
+    (sym c.at.ensures ∙ c.in_ok-moment.was) first named))
 
 pub returns-in_err-moment : goal.returns-in_err-moment
 returns-in_err-moment c = λ alerts.
