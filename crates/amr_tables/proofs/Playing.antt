@@ -114,34 +114,6 @@ parity n q (suc (suc r)) h e = absurd (omega (arith, h))
 pub halves : (n : ℕ) → (n ≡ n / 2 * 2) ⊎ (n ≡ n / 2 * 2 + 1)
 halves n = parity n (n / 2) (n % 2) (mod-lt n (omega arith)) (div-add-mod n 2)
 
--- the half of a place, taken k times
-unfoldable pub halved : ℕ → ℕ → ℕ
-halved zero place = place
-halved (suc k) place = halved k (place / 2)
-
-pub halved-half : (k place : ℕ) → halved k place / 2 ≡ halved (suc k) place
-unfolding halved
-halved-half zero place = refl
-halved-half (suc k) place = halved-half k (place / 2)
-
-half_of_left : (j n : ℕ) → n ≡ j * 2 → n / 2 ≡ j
-half_of_left j n e = from (halves n)
-  where
-    from : (n ≡ n / 2 * 2) ⊎ (n ≡ n / 2 * 2 + 1) → n / 2 ≡ j
-    from (inl h) = omega (arith, h, e)
-    from (inr h) = omega (arith, h, e)
-
-half_of_right : (j n : ℕ) → n ≡ j * 2 + 1 → n / 2 ≡ j
-half_of_right j n e = from (halves n)
-  where
-    from : (n ≡ n / 2 * 2) ⊎ (n ≡ n / 2 * 2 + 1) → n / 2 ≡ j
-    from (inl h) = omega (arith, h, e)
-    from (inr h) = omega (arith, h, e)
-
--- no place above this one is that place
-unfoldable pub IsNotAbove : ℕ → ℕ → Type 0
-IsNotAbove j place = (k : ℕ) → halved (suc k) place ≢ j
-
 -- ---- who wins
 
 module _ (rank : ℕ → ℕ → Ordering) (t : Earliest) where
@@ -262,109 +234,91 @@ module _ (rank : ℕ → ℕ → Ordering) where
 
 -- ---- what a new moment changes
 
+-- The tables t, after a number got a new moment, and u, after matches were played from the number's
+-- own place up to this one.
+pub record IsClimbed (rank : ℕ → ℕ → Ordering) (n : ℕ) (t u : Earliest) (place : ℕ) : Type 0 where
+  pub either : (j : ℕ) → 1 ≤ j → j < length t.moments → (winner_at t (j * 2) ≡ winner_at t j) ⊎ (winner_at t (j * 2 + 1) ≡ winner_at t j)
+  -- matches of other numbers stand
+  pub stand : (j : ℕ) → 1 ≤ j → j < length t.moments → winner_at t (j * 2) ≢ n → winner_at t (j * 2 + 1) ≢ n → winner_at t j ≡ later_winner rank t j
+  -- the number won no place above this one if not this one, and none beside it
+  pub won : (j : ℕ) → 1 ≤ j → j < place * 2 → winner_at t j ≡ n → (winner_at t place ≡ n) × ((j ≡ place) ⊎ (j * 2 ≤ place))
+  pub same : (j : ℕ) → j < place * 2 → j ≢ place → winner_at u j ≡ winner_at t j
+  pub played : (j : ℕ) → 1 ≤ j → j < length t.moments → place < j * 2 → winner_at u j ≡ later_winner rank u j
+
 module _ (rank : ℕ → ℕ → Ordering) (t : Earliest) (played : IsTournament rank t) where
-  either_of : (l r w n : ℕ) (b : Bool) → w ≡ (if b then r else l) → w ≡ n → (l ≡ n) ⊎ (r ≡ n)
-  either_of l r w n true e is = inr (sym e ∙ is)
-  either_of l r w n false e is = inl (sym e ∙ is)
+  own_place : (n : ℕ) → winner_at t (length t.moments + n) ≡ n
+  own_place n = grind (arith, nat_tests)
 
-  -- a number wins its own place and places above it alone
-  wins_above : (fuel p n : ℕ) → length t.moments + length t.moments ≤ p + fuel → 1 ≤ p → winner_at t p ≡ n → (p ≡ length t.moments + n) ⊎ ((k : ℕ) × (halved (suc k) (length t.moments + n) ≡ p))
-  unfolding halved
-  wins_above zero p n within one wins = inl (outside p n within wins)
-    where
-      outside : (p n : ℕ) → length t.moments + length t.moments ≤ p + 0 → winner_at t p ≡ n → p ≡ length t.moments + n
-      outside p n within wins = grind (arith, nat_tests)
-  wins_above (suc fuel) p n within one wins =
+  at_own_place : (p n : ℕ) → length t.moments ≤ p → winner_at t p ≡ n → p ≡ length t.moments + n
+  at_own_place p n past wins = grind (arith, nat_tests)
+
+  one_of : (l r w : ℕ) (b : Bool) → w ≡ (if b then r else l) → (l ≡ w) ⊎ (r ≡ w)
+  one_of l r w true e = inr (sym e)
+  one_of l r w false e = inl (sym e)
+
+  -- a number wins its own place, and no other place after the half of it
+  wins_before : (fuel p n : ℕ) → length t.moments ≤ p + fuel → 1 ≤ p → winner_at t p ≡ n → (p ≡ length t.moments + n) ⊎ (p * 2 ≤ length t.moments + n)
+  wins_before zero p n within one wins = inl (at_own_place p n (omega (arith, within)) wins)
+  wins_before (suc fuel) p n within one wins =
       by_place (split (length t.moments) p)
-      (λ is. wins_above fuel (p * 2) n (omega (arith, within, one)) (omega (arith, one)) is)
-      (λ is. wins_above fuel (p * 2 + 1) n (omega (arith, within, one)) (omega (arith, one)) is)
+      (λ is. wins_before fuel (p * 2) n (omega (arith, within, one)) (omega (arith, one)) is)
+      (λ is. wins_before fuel (p * 2 + 1) n (omega (arith, within, one)) (omega (arith, one)) is)
     where
-      x : ℕ
-      x = length t.moments + n
-
-      raised : (c : ℕ) → c / 2 ≡ p → (c ≡ length t.moments + n) ⊎ ((k : ℕ) × (halved (suc k) (length t.moments + n) ≡ c)) → (p ≡ length t.moments + n) ⊎ ((k : ℕ) × (halved (suc k) (length t.moments + n) ≡ p))
-      raised c half (inl is) = inr (0, ap (λ y. y / 2) (sym is) ∙ half)
-      raised c half (inr (k, is)) = inr (suc k, sym (halved-half (suc k) x) ∙ ap (λ y. y / 2) is ∙ half)
-
-      at_leaf : (p n : ℕ) → length t.moments ≤ p → winner_at t p ≡ n → p ≡ length t.moments + n
-      at_leaf p n past wins = grind (arith, nat_tests)
+      raised : (c : ℕ) → p * 2 ≤ c → (c ≡ length t.moments + n) ⊎ (c * 2 ≤ length t.moments + n) → (p ≡ length t.moments + n) ⊎ (p * 2 ≤ length t.moments + n)
+      raised c less (inl is) = inr (omega (arith, less, is))
+      raised c less (inr is) = inr (omega (arith, less, is))
 
       by_place : (length t.moments ≤ p) ⊎ (p < length t.moments)
-          → (winner_at t (p * 2) ≡ n → (p * 2 ≡ length t.moments + n) ⊎ ((k : ℕ) × (halved (suc k) (length t.moments + n) ≡ p * 2)))
-          → (winner_at t (p * 2 + 1) ≡ n → (p * 2 + 1 ≡ length t.moments + n) ⊎ ((k : ℕ) × (halved (suc k) (length t.moments + n) ≡ p * 2 + 1)))
-          → (p ≡ length t.moments + n) ⊎ ((k : ℕ) × (halved (suc k) (length t.moments + n) ≡ p))
-      by_place (inl past) left right = inl (at_leaf p n past wins)
-      by_place (inr inner) left right =
-          by_side (either_of (winner_at t (p * 2)) (winner_at t (p * 2 + 1)) (winner_at t p) n _ (played p one inner) wins)
+          → (winner_at t (p * 2) ≡ n → (p * 2 ≡ length t.moments + n) ⊎ (p * 2 * 2 ≤ length t.moments + n))
+          → (winner_at t (p * 2 + 1) ≡ n → (p * 2 + 1 ≡ length t.moments + n) ⊎ ((p * 2 + 1) * 2 ≤ length t.moments + n))
+          → (p ≡ length t.moments + n) ⊎ (p * 2 ≤ length t.moments + n)
+      by_place (inl past) left right = inl (at_own_place p n past wins)
+      by_place (inr inner) left right = by_side (one_of (winner_at t (p * 2)) (winner_at t (p * 2 + 1)) (winner_at t p) _ (played p one inner))
         where
-          by_side : (winner_at t (p * 2) ≡ n) ⊎ (winner_at t (p * 2 + 1) ≡ n) → (p ≡ length t.moments + n) ⊎ ((k : ℕ) × (halved (suc k) (length t.moments + n) ≡ p))
-          by_side (inl is) = raised (p * 2) (half_of_left p (p * 2) refl) (left is)
-          by_side (inr is) = raised (p * 2 + 1) (half_of_right p (p * 2 + 1) refl) (right is)
+          by_side : (winner_at t (p * 2) ≡ winner_at t p) ⊎ (winner_at t (p * 2 + 1) ≡ winner_at t p) → (p ≡ length t.moments + n) ⊎ (p * 2 ≤ length t.moments + n)
+          by_side (inl is) = raised (p * 2) (omega arith) (left (is ∙ wins))
+          by_side (inr is) = raised (p * 2 + 1) (omega arith) (right (is ∙ wins))
 
-  -- a winner of a place below j, of which no place is above the number's, is another number
-  apart_from : (j c n : ℕ) → 1 ≤ c → c / 2 ≡ j → IsNotAbove j (length t.moments + n) → winner_at t c ≢ n
-  unfolding IsNotAbove halved
-  apart_from j c n one half out wins = from (wins_above (length t.moments + length t.moments) c n (omega arith) one wins)
-    where
-      x : ℕ
-      x = length t.moments + n
+  module _ (n : ℕ) (moment : Option ℕ) (len : length (slice_set t.moments n moment) ≡ length t.moments) where
+    abbrev changed : Earliest
+    changed = record t { moments = slice_set t.moments n moment }
 
-      from : (c ≡ length t.moments + n) ⊎ ((k : ℕ) × (halved (suc k) (length t.moments + n) ≡ c)) → ⊥
-      from (inl is) = out 0 (ap (λ y. y / 2) (sym is) ∙ half)
-      from (inr (k, is)) = out (suc k) (sym (halved-half (suc k) x) ∙ ap (λ y. y / 2) is ∙ half)
+    as_before : (p : ℕ) → winner_at changed p ≡ winner_at t p
+    as_before p = ap (λ l. if nat_lt p l then get_or t.winners p 0 else p - l) len
 
-  -- a new moment of a number leaves all matches as they were but those above its place
-  pub moment_changed : (n : ℕ) (moment : Option ℕ) (j : ℕ) → 1 ≤ j → j < length t.moments → length (slice_set t.moments n moment) ≡ length t.moments → IsNotAbove j (length t.moments + n)
-      → winner_at (record t { moments = slice_set t.moments n moment }) j ≡ later_winner rank (record t { moments = slice_set t.moments n moment }) j
-  moment_changed n moment j one inner len out =
-      same j ∙ played j one inner
-      ∙ (λ i. if is_lt (timer_cmp rank (sym (right_same) i) (sym (left_same) i)) then sym (same (j * 2 + 1)) i else sym (same (j * 2)) i)
-    where
-      u : Earliest
-      u = record t { moments = slice_set t.moments n moment }
+    alike : (p : ℕ) → winner_at changed p ≢ n → timer_at changed (winner_at changed p) ≡ timer_at t (winner_at t p)
+    alike p apart =
+        ap (timer_at changed) (as_before p)
+        ∙ (λ i. (value_at-other t.moments n (winner_at t p) moment (λ e. apart (as_before p ∙ e)) i, winner_at t p))
 
-      same : (p : ℕ) → winner_at u p ≡ winner_at t p
-      same p = ap (λ l. if nat_lt p l then get_or t.winners p 0 else p - l) len
+    stands : (j : ℕ) → 1 ≤ j → j < length t.moments → winner_at changed (j * 2) ≢ n → winner_at changed (j * 2 + 1) ≢ n → winner_at changed j ≡ later_winner rank changed j
+    stands j one inner left right =
+        as_before j ∙ played j one inner
+        ∙ (λ i. if is_lt (timer_cmp rank (sym (alike (j * 2 + 1) right) i) (sym (alike (j * 2) left) i)) then sym (as_before (j * 2 + 1)) i else sym (as_before (j * 2)) i)
 
-      kept_moment : (a : ℕ) → a ≢ n → value_at (slice_set t.moments n moment) a ≡ value_at t.moments a
-      kept_moment a apart = value_at-other t.moments n a moment apart
+    won_before : (j : ℕ) → 1 ≤ j → winner_at changed j ≡ n → (j ≡ length t.moments + n) ⊎ (j * 2 ≤ length t.moments + n)
+    won_before j one wins = wins_before (length t.moments) j n (omega arith) one (sym (as_before j) ∙ wins)
 
-      right_same : timer_at u (winner_at u (j * 2 + 1)) ≡ timer_at t (winner_at t (j * 2 + 1))
-      right_same =
-          ap (timer_at u) (same (j * 2 + 1))
-          ∙ (λ i. (kept_moment (winner_at t (j * 2 + 1)) (apart_from j (j * 2 + 1) n (omega arith) (half_of_right j (j * 2 + 1) refl) out) i, winner_at t (j * 2 + 1)))
-
-      left_same : timer_at u (winner_at u (j * 2)) ≡ timer_at t (winner_at t (j * 2))
-      left_same =
-          ap (timer_at u) (same (j * 2))
-          ∙ (λ i. (kept_moment (winner_at t (j * 2)) (apart_from j (j * 2) n (omega (arith, one)) (half_of_left j (j * 2) refl) out) i, winner_at t (j * 2)))
-
--- a half of a place is above it, and so is each place above that half
-pub not_above_half : (j place : ℕ) → IsNotAbove j place → (place / 2 ≢ j) × IsNotAbove j (place / 2)
-unfolding IsNotAbove halved
-not_above_half j place out = (out 0, λ k. out (suc k))
-
--- no place is above the first
-pub none_above_first : (j place : ℕ) → 1 ≤ j → place ≤ 1 → IsNotAbove j place
-unfolding IsNotAbove halved
-none_above_first j place one first k is =
-    absurd (omega (arith, one, sym is ∙ ap (halved k) (half_small place first) ∙ zeros k))
-  where
-    half_small : (n : ℕ) → n ≤ 1 → n / 2 ≡ 0
-    half_small n h = from (halves n)
+    not_won : (c : ℕ) → 1 ≤ c → length t.moments + n < c → winner_at changed c ≢ n
+    not_won c one late wins = from (won_before c one wins)
       where
-        from : (n ≡ n / 2 * 2) ⊎ (n ≡ n / 2 * 2 + 1) → n / 2 ≡ 0
-        from (inl e) = omega (arith, h, e)
-        from (inr e) = omega (arith, h, e)
+        from : (c ≡ length t.moments + n) ⊎ (c * 2 ≤ length t.moments + n) → ⊥
+        from (inl is) = absurd (omega (arith, is, late))
+        from (inr is) = absurd (omega (arith, is, late))
 
-    zeros : (k : ℕ) → halved k 0 ≡ 0
-    zeros zero = refl
-    zeros (suc k) = zeros k
-
-above_both : (j place : ℕ) → place / 2 ≢ j → IsNotAbove j (place / 2) → IsNotAbove j place
-unfolding IsNotAbove halved
-above_both j place half out zero = half
-above_both j place half out (suc k) = out k
+    -- no match has been played yet
+    pub begun : IsClimbed rank n changed changed (length t.moments + n)
+    begun = record {
+      either = λ j one inner. sides j (one_of (winner_at t (j * 2)) (winner_at t (j * 2 + 1)) (winner_at t j) _ (played j one (subst (λ l. j < l) len inner)));
+      stand = λ j one inner left right. stands j one (subst (λ l. j < l) len inner) left right;
+      won = λ j one less wins. (as_before (length t.moments + n) ∙ own_place n, won_before j one wins);
+      same = λ j less apart. refl;
+      played = λ j one inner late. stands j one (subst (λ l. j < l) len inner) (not_won (j * 2) (omega (arith, one)) late) (not_won (j * 2 + 1) (omega (arith, one)) (omega (arith, late)));
+    }
+      where
+        sides : (j : ℕ) → (winner_at t (j * 2) ≡ winner_at t j) ⊎ (winner_at t (j * 2 + 1) ≡ winner_at t j) → (winner_at changed (j * 2) ≡ winner_at changed j) ⊎ (winner_at changed (j * 2 + 1) ≡ winner_at changed j)
+        sides j (inl is) = inl (as_before (j * 2) ∙ is ∙ sym (as_before j))
+        sides j (inr is) = inr (as_before (j * 2 + 1) ∙ is ∙ sym (as_before j))
 
 -- the two are equal, or not
 same_or_apart : (a b : ℕ) → (a ≡ b) ⊎ (a ≢ b)
@@ -395,24 +349,126 @@ module _ (rank : ℕ → ℕ → Ordering) (t u : Earliest) (place : ℕ) (is : 
           let after : place < j = grind (arith, from, apart) in
           played_there rank t place (later_winner rank t place) j apart (λ e. absurd (omega (arith, after, e))) (λ e. absurd (omega (arith, after, e))) (played j some after (omega (arith, within, len_is)))
 
--- the place above was played, and those above it are left
-pub played_above : (rank : ℕ → ℕ → Ordering) (t u : Earliest) (place : ℕ) → u ≡ record t { winners = slice_set t.winners (place / 2) (later_winner rank t (place / 2)) } → 1 ≤ place / 2 → place / 2 < length t.moments → length t.winners ≡ length t.moments
-    → ((j : ℕ) → 1 ≤ j → j < length t.moments → IsNotAbove j place → winner_at t j ≡ later_winner rank t j)
-    → (j : ℕ) → 1 ≤ j → j < length u.moments → IsNotAbove j (place / 2) → winner_at u j ≡ later_winner rank u j
-played_above rank t u place is one inner places played j some within out = moved rank t u (place / 2) is one inner places j (by (same_or_apart j (place / 2)))
-  where
-    h : ℕ
-    h = place / 2
+module _ (rank : ℕ → ℕ → Ordering) (n : ℕ) (t u : Earliest) (place : ℕ) (climbed : IsClimbed rank n t u place) (moments : u.moments ≡ t.moments) where
+  -- a match of other numbers stands where the winners are as before
+  left : (v : Earliest) → v.moments ≡ t.moments → (j : ℕ) → 1 ≤ j → j < length t.moments → winner_at v j ≡ winner_at t j → winner_at v (j * 2) ≡ winner_at t (j * 2) → winner_at v (j * 2 + 1) ≡ winner_at t (j * 2 + 1)
+      → winner_at t (j * 2) ≢ n → winner_at t (j * 2 + 1) ≢ n → winner_at v j ≡ later_winner rank v j
+  left v alike j one inner here l r not_l not_r = here ∙ climbed.stand j one inner not_l not_r ∙ sym (later_alike rank t v j alike l r)
 
-    v : Earliest
-    v = record t { winners = slice_set t.winners (place / 2) (later_winner rank t (place / 2)) }
+  -- the first place has been played
+  pub ended : place ≤ 1 → IsTournament rank u
+  ended first j one inner = climbed.played j one (subst (λ ms. j < length ms) moments inner) (omega (arith, first, one))
 
-    by : (j ≡ place / 2) ⊎ (j ≢ place / 2) → winner_at v j ≡ later_winner rank v j
-    by (inl e) = subst (λ x. winner_at v x ≡ later_winner rank v x) (sym e) (played_here rank t h one inner places)
-    by (inr apart) =
-        let above = not_above_half j h out in
-        played_there rank t h (later_winner rank t h) j apart (λ e. above.0 (half_of_left j h (sym e))) (λ e. above.0 (half_of_right j h (sym e)))
-        (played j some (omega (arith, within, len_is rank t u h is one inner places)) (above_both j place (λ e. apart (sym e)) out))
+  -- another number wins this place as before, so all matches above stand
+  pub stopped : winner_at u place ≡ winner_at t place → winner_at u place ≢ n → IsTournament rank u
+  stopped as_was apart j one inner = by (split (j * 2) place)
+    where
+      within : j < length t.moments
+      within = subst (λ ms. j < length ms) moments inner
+
+      kept : (c : ℕ) → c < place * 2 → winner_at u c ≡ winner_at t c
+      kept c less = from (same_or_apart c place)
+        where
+          from : (c ≡ place) ⊎ (c ≢ place) → winner_at u c ≡ winner_at t c
+          from (inl is) = subst (λ x. winner_at u x ≡ winner_at t x) (sym is) as_was
+          from (inr other) = climbed.same c less other
+
+      other : (c : ℕ) → 1 ≤ c → c < place * 2 → winner_at t c ≢ n
+      other c some less wins = apart (as_was ∙ (climbed.won c some less wins).0)
+
+      by : (j * 2 ≤ place) ⊎ (place < j * 2) → winner_at u j ≡ later_winner rank u j
+      by (inr late) = climbed.played j one within late
+      by (inl above) =
+          left u moments j one within (kept j (omega (arith, above, one))) (kept (j * 2) (omega (arith, above, one))) (kept (j * 2 + 1) (omega (arith, above, one)))
+          (other (j * 2) (omega (arith, one)) (omega (arith, above, one))) (other (j * 2 + 1) (omega arith) (omega (arith, above, one)))
+
+  module _ (one : 1 ≤ place / 2) (inner : place / 2 < length t.moments) (places : length u.winners ≡ length u.moments) where
+    low : place / 2 * 2 ≤ place
+    low = from (halves place)
+      where
+        from : (place ≡ place / 2 * 2) ⊎ (place ≡ place / 2 * 2 + 1) → place / 2 * 2 ≤ place
+        from (inl e) = omega (arith, e)
+        from (inr e) = omega (arith, e)
+
+    high : place ≤ place / 2 * 2 + 1
+    high = from (halves place)
+      where
+        from : (place ≡ place / 2 * 2) ⊎ (place ≡ place / 2 * 2 + 1) → place ≤ place / 2 * 2 + 1
+        from (inl e) = omega (arith, e)
+        from (inr e) = omega (arith, e)
+
+    -- a place before this one that the number won is at most the half of this one
+    at_half : (j : ℕ) → 1 ≤ j → j < place / 2 * 2 → winner_at t j ≡ n → j ≤ place / 2
+    at_half j some less wins = from (climbed.won j some (omega (arith, less, low)) wins).1
+      where
+        from : (j ≡ place) ⊎ (j * 2 ≤ place) → j ≤ place / 2
+        from (inl is) = absurd (omega (arith, is, less, low))
+        from (inr is) = omega (arith, is, high)
+
+    here : (j : ℕ) → j ≡ place / 2 → winner_at t j ≡ n → (winner_at t (place / 2) ≡ n) × ((j ≡ place / 2) ⊎ (j * 2 ≤ place / 2))
+    here j is wins = (subst (λ x. winner_at t x ≡ n) is wins, inl is)
+
+    won_half : (fuel j : ℕ) → place / 2 ≤ j + fuel → 1 ≤ j → j < place / 2 * 2 → winner_at t j ≡ n → (winner_at t (place / 2) ≡ n) × ((j ≡ place / 2) ⊎ (j * 2 ≤ place / 2))
+    won_half zero j within some less wins =
+        let most = at_half j some less wins in
+        here j (omega (arith, within, most)) wins
+    won_half (suc fuel) j within some less wins =
+        by (same_or_apart j (place / 2))
+        (λ small is. (won_half fuel (j * 2) (omega (arith, within, some)) (omega (arith, some)) (omega (arith, small)) is).0)
+        (λ small is. (won_half fuel (j * 2 + 1) (omega (arith, within, some)) (omega arith) (omega (arith, small)) is).0)
+      where
+        by : (j ≡ place / 2) ⊎ (j ≢ place / 2) → (j < place / 2 → winner_at t (j * 2) ≡ n → winner_at t (place / 2) ≡ n) → (j < place / 2 → winner_at t (j * 2 + 1) ≡ n → winner_at t (place / 2) ≡ n)
+            → (winner_at t (place / 2) ≡ n) × ((j ≡ place / 2) ⊎ (j * 2 ≤ place / 2))
+        by (inl is) l r = here j is wins
+        by (inr apart) l r = from (climbed.either j some (omega (arith, before, inner)))
+          where
+            before : j < place / 2
+            before =
+                let most = at_half j some less wins in
+                grind (arith, most, apart)
+
+            from : (winner_at t (j * 2) ≡ winner_at t j) ⊎ (winner_at t (j * 2 + 1) ≡ winner_at t j) → (winner_at t (place / 2) ≡ n) × ((j ≡ place / 2) ⊎ (j * 2 ≤ place / 2))
+            from (inl is) = (l before (is ∙ wins), inr (at_half (j * 2) (omega (arith, some)) (omega (arith, before)) (is ∙ wins)))
+            from (inr is) =
+                let half = at_half (j * 2 + 1) (omega arith) (omega (arith, before)) (is ∙ wins) in
+                (r before (is ∙ wins), inr (omega (arith, half)))
+
+    pub half_as_was : winner_at u (place / 2) ≡ winner_at t (place / 2)
+    half_as_was = climbed.same (place / 2) (omega (arith, low, one)) (λ e. absurd (omega (arith, e, low, one)))
+
+    abbrev half_played : Earliest
+    half_played = record u { winners = slice_set u.winners (place / 2) (later_winner rank u (place / 2)) }
+
+    same_half : (j : ℕ) → j < place / 2 * 2 → j ≢ place / 2 → winner_at half_played j ≡ winner_at t j
+    same_half j less apart =
+        winner_apart u (place / 2) (later_winner rank u (place / 2)) j apart
+        ∙ climbed.same j (omega (arith, less, low)) (λ e. absurd (omega (arith, e, less, low)))
+
+    played_half : (j : ℕ) → 1 ≤ j → j < length t.moments → place / 2 < j * 2 → winner_at half_played j ≡ later_winner rank half_played j
+    played_half j some within late = by (same_or_apart j (place / 2)) (split (j * 2) place)
+      where
+        by : (j ≡ place / 2) ⊎ (j ≢ place / 2) → (j * 2 ≤ place) ⊎ (place < j * 2) → winner_at half_played j ≡ later_winner rank half_played j
+        by (inl e) where_is =
+            subst (λ x. winner_at half_played x ≡ later_winner rank half_played x) (sym e)
+            (played_here rank u (place / 2) one (subst (λ ms. place / 2 < length ms) (sym moments) inner) places)
+        by (inr apart) (inr after) =
+            played_there rank u (place / 2) (later_winner rank u (place / 2)) j apart (λ e. absurd (omega (arith, e, late))) (λ e. absurd (omega (arith, e, late))) (climbed.played j some within after)
+        by (inr apart) (inl before) =
+            let less : j < place / 2 = grind (arith, before, high, apart) in
+            left half_played moments j some within (same_half j (omega (arith, less)) apart)
+            (same_half (j * 2) (omega (arith, less)) (λ e. absurd (omega (arith, e, late)))) (same_half (j * 2 + 1) (omega (arith, less)) (λ e. absurd (omega (arith, e, late))))
+            (λ wins. absurd (omega (arith, at_half (j * 2) (omega (arith, some)) (omega (arith, less)) wins, late)))
+            (λ wins. absurd (omega (arith, at_half (j * 2 + 1) (omega arith) (omega (arith, less)) wins, late)))
+
+    -- the place above was played
+    pub climbs : (v : Earliest) → v ≡ half_played → IsClimbed rank n t v (place / 2)
+    climbs v is = subst (λ x. IsClimbed rank n t x (place / 2)) (sym is) (record {
+      either = climbed.either;
+      stand = climbed.stand;
+      won = λ j some less wins. won_half (place / 2) j (omega arith) some less wins;
+      same = same_half;
+      played = played_half;
+    })
 
 pub length_set : {A : Type 0} (xs : List A) (n : ℕ) (x : A) → length (slice_set xs n x) ≡ length xs
 length_set [] n x = refl

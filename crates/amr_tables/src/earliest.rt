@@ -11,6 +11,7 @@ use crate::ranking::Ranking;
 use std::alloc::{AllocError, Global};
 use std::cmp::Ordering;
 use std::marker::Model;
+use std::mem;
 
 /// Moments by number, in nanoseconds since 1970; a number may have none. The numbers play a
 /// tournament, which the earliest moment wins: of the places from 1 on, those from the number of
@@ -102,8 +103,8 @@ impl Earliest {
         }
     }
 
-    /// Sets or removes the moment of a number. Plays no match if the number has it already. It takes no
-    /// memory.
+    /// Sets or removes the moment of a number. Plays no match if the number has it already, and none
+    /// above one that another number wins as before. It takes no memory.
     pub fn set<O: Ranking>(&mut self, order: &O, number: usize, moment: Option<u128>)
         requires room { number < length self.old.moments }
         requires kept { IsTournament (O.rank order.now) self.old }
@@ -117,14 +118,18 @@ impl Earliest {
         let mut place = self.moments.len() + number;
         while place > 1 {
             place /= 2;
-            self.play(order, place);
+            let former = self.play(order, place);
+            if former != number && self.winner(place) == former {
+                return;
+            }
         }
     }
 
-    /// Lets the winners below a place play, and notes who wins.
-    fn play<O: Ranking>(&mut self, order: &O, place: usize)
+    /// Lets the winners below a place play, and notes who wins. Returns who won there before.
+    fn play<O: Ranking>(&mut self, order: &O, place: usize) -> usize
         requires first { 1 ≤ place }
         requires inner { place < length self.old.moments }
+        ensures former { result ≡ winner_at self.old place }
         ensures moments { self.new.moments ≡ self.old.moments }
         ensures winners { self.new.winners ≡ slice_set self.old.winners place
             (later_winner (O.rank order.now) self.old place) }
@@ -132,7 +137,8 @@ impl Earliest {
         let left = self.winner(place * 2);
         let right = self.winner(place * 2 + 1);
         let is_right = self.compare(order, right, left) == Ordering::Less;
-        self.winners[place] = if is_right { right } else { left };
+        let winner = if is_right { right } else { left };
+        mem::replace(&mut self.winners[place], winner)
     }
 
     /// Returns the winner of a place.

@@ -1,6 +1,5 @@
-use Rattle.std.proofs.Common.{◌≡◌, ◌≤◌, ◌<◌, ◌+◌, ℕ, length}
-use Rattle.amr_tables.specs.Earliest.{winner_at, later_winner}
-use Rattle.amr_tables.proofs.Playing.{IsNotAbove}
+use Rattle.std.proofs.Common.{◌≡◌, ◌≤◌, ◌<◌, ◌+◌, length}
+use Rattle.amr_tables.proofs.Playing.{IsClimbed}
 use Rattle.amr_tables.proofs.earliest.Earliest.set.Given as goal
 
 abbrev pub invariant-loop-place : goal.invariant-loop-place
@@ -9,7 +8,7 @@ invariant-loop-place g l = record {
   first : 1 ≤ l.place;
   inner : l.place < length l.self.moments + length l.self.moments;
   places : length l.self.winners ≡ length l.self.moments;
-  played : (j : ℕ) → 1 ≤ j → j < length l.self.moments → IsNotAbove j l.place → winner_at l.self j ≡ later_winner (g.O.Ranking.rank l.order) l.self j;
+  climbed : IsClimbed (g.O.Ranking.rank l.order) l.number l.initial.self l.self l.place;
 }
 
 abbrev pub decreases-loop-place : goal.decreases-loop-place
