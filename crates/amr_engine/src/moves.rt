@@ -83,12 +83,8 @@ fn fire(store: &mut Store, quiet_groups: &mut QuietGroups, due: Due) -> Result<b
             Ok(false)
         }
         Timer::GroupFlush(group) => {
-            flush(
-                store,
-                quiet_groups,
-                Moment::from_nanoseconds(moment),
-                &group,
-            )
+            let at = Moment::from_nanoseconds(moment);
+            flush(store, quiet_groups, at, &group)
         }
     }
 }
