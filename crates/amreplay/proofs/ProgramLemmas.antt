@@ -2,6 +2,4 @@ pub mod Unflushed
 pub mod Stopping
 pub mod FirstPage
 pub mod RunLines
-pub mod SettledLines
-pub mod Counting
 pub mod Reading

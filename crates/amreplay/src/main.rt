@@ -11,8 +11,8 @@ mod program;
 
 use crate::lines::{CheckedReader, CheckedWriter};
 use crate::program::{
-    Fault, Form, InputError, check_config, command_of, read_config_file, read_script_file,
-    run_script, run_session, status_of, write_fault,
+    Fault, Form, InputError, check_config, command_of, read_config_file, run_script, run_session,
+    status_of, write_fault,
 };
 use std::alloc::AllocError;
 use std::io::{BufWriter, Error, ErrorKind};
@@ -49,13 +49,6 @@ fn config_bytes(rt: &HostRuntime, path: &str) -> Result<Vec<u8>, Fault> {
     bytes.map_err(|unread| fault_of(unread, Fault::CannotReadConfig))
 }
 
-/// Reads a script file.
-fn script_bytes(rt: &HostRuntime, path: &str) -> Result<Vec<u8>, Fault> {
-    let file = open_file(rt, path).map_err(|unread| fault_of(unread, Fault::CannotReadScript))?;
-    let bytes = read_script_file(rt.alloc(), &mut CheckedReader::new(file));
-    bytes.map_err(|unread| fault_of(unread, Fault::CannotReadScript))
-}
-
 /// Checks the configuration in a file.
 fn check_file(rt: &HostRuntime, config: &str) -> Result<(), Fault> {
     let config = config_bytes(rt, config)?;
@@ -69,14 +62,14 @@ fn check_file(rt: &HostRuntime, config: &str) -> Result<(), Fault> {
 /// Runs the script in one file under the configuration in another.
 fn run_files(rt: &HostRuntime, config: &str, script: &str) -> Result<(), Fault> {
     let config = config_bytes(rt, config)?;
-    let script = script_bytes(rt, script)?;
+    let script = open_file(rt, script).map_err(|error| fault_of(error, Fault::CannotReadScript))?;
     let Ok(out) = BufWriter::new(rt.alloc(), rt.stdout()) else {
         return Err(Fault::Memory);
     };
     run_script(
         rt.alloc(),
         config.as_slice(),
-        script,
+        &mut CheckedReader::new(script),
         &mut CheckedWriter::new(out),
     )
 }
@@ -84,14 +77,14 @@ fn run_files(rt: &HostRuntime, config: &str, script: &str) -> Result<(), Fault> 
 /// Answers the commands on standard input, over a script and a configuration.
 fn session_over(rt: &HostRuntime, config: &str, script: &str) -> Result<(), Fault> {
     let config = config_bytes(rt, config)?;
-    let script = script_bytes(rt, script)?;
+    let script = open_file(rt, script).map_err(|error| fault_of(error, Fault::CannotReadScript))?;
     let Ok(out) = BufWriter::new(rt.alloc(), rt.stdout()) else {
         return Err(Fault::Memory);
     };
     run_session(
         rt.alloc(),
         config.as_slice(),
-        script,
+        &mut CheckedReader::new(script),
         &mut CheckedReader::new(rt.stdin()),
         &mut CheckedWriter::new(out),
     )

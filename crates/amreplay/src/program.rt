@@ -1,5 +1,5 @@
-//! The program, given its arguments and the bytes of its files: checks, runs, sessions, and the
-//! faults that stop them. `main` calls it; nothing here opens a file.
+//! The program, given its arguments and what its files hold: checks, runs, sessions, and the faults
+//! that stop them. `main` calls it; nothing here opens a file.
 
 mod check;
 mod fault;
@@ -11,7 +11,7 @@ mod words;
 
 pub use check::check_config;
 pub use fault::{Fault, status_of, write_fault};
-pub use input::{InputError, read_config_file, read_script_file};
+pub use input::{InputError, read_config_file};
 pub use load::{open_session, read_config};
 pub use run::run_script;
 pub use session::run_session;

@@ -12,7 +12,7 @@ use Rattle.amreplay.specs.declared.program.run.RunError.{RunError}
 use Rattle.amreplay.specs.declared.program.run.RunError.TheVariants.{Memory, CannotWrite}
 use Rattle.amreplay.specs.Program.Runs.{RunLeavesAt}
 use Rattle.amreplay.specs.Program.Files.{Hold, StopLeaves, FilesLeave}
-use Rattle.amreplay.specs.Program.Ends.{StoppedAt, FaultBy, FaultOfReading}
+use Rattle.amreplay.specs.Program.Ends.{StoppedAt, FaultBy, FaultOfReading, FaultOfScript}
 use Rattle.amreplay.specs.Program.Faults.{stop_fault, broken_fault}
 use Rattle.amreplay.specs.Program.Sessions.{incident_with, SessionLeaves}
 
@@ -42,3 +42,13 @@ FaultOfReading-error Writing read read' calls written written' h = h.0
 pub FaultBy-conversation_error : (error : ConversationError) (read read' : Bool) (calls : ℕ) (written written' : Bool) → BreaksBy error read read' calls written written' → FaultBy written written' (broken_fault error)
 FaultBy-conversation_error Reading read read' calls written written' h = h.1
 FaultBy-conversation_error Writing read read' calls written written' h = h.1
+
+-- ---- the reader of the script
+
+pub FaultOfScript-run_error : (failed failed' : Bool) (calls : ℕ) (error : RunError) → failed' ≡ failed → FaultOfScript failed failed' calls (stop_fault error)
+FaultOfScript-run_error failed failed' calls Memory h = h
+FaultOfScript-run_error failed failed' calls CannotWrite h = h
+
+pub FaultOfScript-conversation_error : (failed failed' : Bool) (calls : ℕ) (error : ConversationError) → failed' ≡ failed → FaultOfScript failed failed' calls (broken_fault error)
+FaultOfScript-conversation_error failed failed' calls Reading h = h
+FaultOfScript-conversation_error failed failed' calls Writing h = h

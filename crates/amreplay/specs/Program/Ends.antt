@@ -41,3 +41,18 @@ FaultOfReading failed failed' calls Usage = failed' ≡ failed
 
 abbrev pub ReadsBy : {T : Type 0} → Result T Fault → Bool → Bool → ℕ → Type 0
 ReadsBy r failed failed' calls = MatchResult r (λ _. failed' ≡ failed) (FaultOfReading failed failed' calls)
+
+-- the reader of the script failed, or was called as often as it may be, exactly at the fault that
+-- says so
+abbrev pub FaultOfScript : Bool → Bool → ℕ → Fault → Type 0
+FaultOfScript failed failed' calls (Config refusal) = failed' ≡ failed
+FaultOfScript failed failed' calls (Script fault) = failed' ≡ failed
+FaultOfScript failed failed' calls CannotReadConfig = failed' ≡ failed
+FaultOfScript failed failed' calls CannotReadScript = HasEnded failed' calls
+FaultOfScript failed failed' calls CannotReadCommands = failed' ≡ failed
+FaultOfScript failed failed' calls CannotWrite = failed' ≡ failed
+FaultOfScript failed failed' calls Memory = failed' ≡ failed
+FaultOfScript failed failed' calls Usage = failed' ≡ failed
+
+abbrev pub EndsScriptBy : {T : Type 0} → Result T Fault → Bool → Bool → ℕ → Type 0
+EndsScriptBy r failed failed' calls = MatchResult r (λ _. failed' ≡ failed) (FaultOfScript failed failed' calls)

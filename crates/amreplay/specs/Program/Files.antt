@@ -51,13 +51,13 @@ pub record Hold (config_bytes script_bytes : List ℕ) (held : config.Config) (s
   pub config_read : ConfigFileIs config_bytes (Ok held)
   pub script_read : ScriptIs script_bytes (Ok script)
 
--- a file is refused, the configuration before the script; running out of memory says nothing about
--- them
+-- a file is refused, the configuration before the script; that a script can't be read, or that
+-- memory ran out, says nothing about them
 abbrev pub AreRefused : List ℕ → List ℕ → Fault → Type 0
 AreRefused bytes script_bytes (Config refusal) = ConfigFileIs bytes (Err refusal)
 AreRefused bytes script_bytes (Script fault) = (held : config.Config) × ConfigFileIs bytes (Ok held) × ScriptIs script_bytes (Err fault)
 AreRefused bytes script_bytes CannotReadConfig = ⊥
-AreRefused bytes script_bytes CannotReadScript = ⊥
+AreRefused bytes script_bytes CannotReadScript = Unit {0}
 AreRefused bytes script_bytes CannotReadCommands = ⊥
 AreRefused bytes script_bytes CannotWrite = ⊥
 AreRefused bytes script_bytes Memory = Unit {0}

@@ -1,11 +1,15 @@
-//! Reading the configuration and the script from the bytes of their files. Checks, runs and
-//! sessions begin with this.
-ghost use Rattle.std.specs.Prelude.{◌≡◌, [], option_map, IfOk};
+//! Reading the configuration from the bytes of its file, and the script from its file. Checks, runs
+//! and sessions begin with this.
+ghost use Rattle.std.specs.Prelude.{◌≡◌, ℕ, List, [], option_map, IfOk};
 ghost use Rattle.serde_json.specs.View.{view};
 ghost use Rattle.amreplay.specs.Program.Files.{json_of, ReadsAs, FilesAre, Opens};
+ghost use Rattle.amreplay.specs.Program.Input.{MayHold};
+ghost use Rattle.amreplay.specs.Program.Ends.{EndsScriptBy};
 ghost use Rattle.amr_config.specs.declared.read.error.Refusal.TheVariants.{BadConfig};
 
+use crate::lines::{CheckedReader, ReadFailed};
 use crate::program::fault::Fault;
+use crate::program::input::read_script;
 use amr_config::Config;
 use amr_config::read::{ConfigError, Refusal, load_config};
 use amr_events::Script;
@@ -13,14 +17,21 @@ use amr_labels::Text;
 use amr_replay::Session;
 use serde_json::Value;
 use std::alloc::{AllocError, Global};
+use std::io::Read;
 
 /// The most bytes of a configuration, 1 MiB.
 pub(crate) const LONGEST_CONFIG: usize = 1_048_576;
 
 /// Opens a session of a script under a configuration, with the cursor at the start. If both files
 /// are faulty, the fault is that of the configuration.
-pub fn open_session(alloc: Global, config: &[u8], script: Vec<u8>) -> Result<Session, Fault>
-    ensures { Opens config.now script.items result }
+pub fn open_session<R: Read>(
+    alloc: Global,
+    config: &[u8],
+    script: &mut CheckedReader<R>,
+) -> Result<Session, Fault>
+    ensures opened { (all : List ℕ) × MayHold (R.remaining script.old.reader) all
+        × Opens config.now all result }
+    ensures ended { EndsScriptBy result script.old.failed script.new.failed script.new.calls }
 {
     let (config, script) = read_files(alloc, config, script)?;
     match Session::new(alloc, config, script) {
@@ -29,18 +40,21 @@ pub fn open_session(alloc: Global, config: &[u8], script: Vec<u8>) -> Result<Ses
     }
 }
 
-/// Reads the configuration and then the script, and frees the script's bytes. If both are faulty,
-/// the fault is that of the configuration.
-pub(crate) fn read_files(
+/// Reads the script and the configuration. If both are faulty, the fault is that of the
+/// configuration, unless the script can't be read.
+pub(crate) fn read_files<R: Read>(
     alloc: Global,
     config: &[u8],
-    script: Vec<u8>,
+    script: &mut CheckedReader<R>,
 ) -> Result<(Config, Script), Fault>
-    ensures { FilesAre config.now script.items result }
+    ensures files { (all : List ℕ) × MayHold (R.remaining script.old.reader) all
+        × FilesAre config.now all result }
+    ensures ended { EndsScriptBy result script.old.failed script.new.failed script.new.calls }
 {
-    let config = read_config(alloc, config)?;
-    let script = Script::read(alloc, script.as_slice())?;
-    Ok((config, script))
+    match read_script(alloc, script) {
+        Err(ReadFailed) => Err(Fault::CannotReadScript),
+        Ok(script) => Ok((read_config(alloc, config)?, script?)),
+    }
 }
 
 /// Reads a configuration from the bytes of its file, which must be JSON of at most 1 MiB.

@@ -1,22 +1,23 @@
 //! The command `run`: applies all events of a script and writes their lines. It never goes back, so
 //! it keeps no record and calls the engine itself instead of a session.
-ghost use Rattle.std.specs.Prelude.{◌≡◌, ◌+◌, [], IfOk, OnOk, length, ℕ, string_bytes};
+ghost use Rattle.std.specs.Prelude.{◌≡◌, ◌+◌, List, [], IfOk, OnOk, length, ℕ, string_bytes};
 ghost use Rattle.amreplay.specs.Lines.Printed.{event_lines};
 ghost use Rattle.amreplay.specs.Program.Files.{FilesLeave};
 ghost use Rattle.amreplay.specs.Program.Runs.{Leaves, RunLeaves, LeavesAt};
-ghost use Rattle.amreplay.specs.Program.Ends.{StoppedBy, EndsBy};
+ghost use Rattle.amreplay.specs.Program.Input.{MayHold};
+ghost use Rattle.amreplay.specs.Program.Ends.{StoppedBy, EndsBy, EndsScriptBy};
 ghost use Rattle.amr_engine.specs.Outcomes.{outcome_view};
 ghost use Rattle.amr_engine.specs.Events.{outcome_of, after_event, without_notifications};
 ghost use Rattle.amr_engine.specs.State.State.{start};
 
-use crate::lines::{CheckedWriter, WriteFailed, event_text, flush, write_whole};
+use crate::lines::{CheckedReader, CheckedWriter, WriteFailed, event_text, flush, write_whole};
 use crate::program::fault::Fault;
 use crate::program::load::read_files;
 use amr_engine::{Engine, Outcome};
 use amr_events::Script;
 use amr_events::actions::Event;
 use std::alloc::{AllocError, Global};
-use std::io::Write;
+use std::io::{Read, Write};
 use std::mem::forget;
 use thiserror::Error;
 
@@ -53,18 +54,19 @@ impl From<WriteFailed> for RunError {
 
 /// Runs a script under a configuration, and writes the lines of its events.
 ///
-/// The configuration is read before the script, and nothing is written if one of them is refused.
-/// The script's bytes are freed before the first event is applied. The text of an event is built
-/// before its first byte is written, so if memory runs out the lines of the events before it are
-/// written, and none of its own.
-pub fn run_script<W: Write>(
+/// The whole script is read before its first event is applied, and nothing is written if one of the
+/// files is refused. If both are, the fault is that of the configuration. The text of an event is
+/// built before its first byte is written, so if memory runs out the lines of the events before it
+/// are written, and none of its own.
+pub fn run_script<R: Read, W: Write>(
     alloc: Global,
     config: &[u8],
-    script: Vec<u8>,
+    script: &mut CheckedReader<R>,
     out: &mut CheckedWriter<W>,
 ) -> Result<(), Fault>
-    ensures left { FilesLeave (W.contents out.old.writer) (W.contents out.new.writer)
-        config.now script.items result }
+    ensures left { (all : List ℕ) × MayHold (R.remaining script.old.reader) all
+        × FilesLeave (W.contents out.old.writer) (W.contents out.new.writer) config.now all result }
+    ensures read { EndsScriptBy result script.old.failed script.new.failed script.new.calls }
     ensures ended { EndsBy result out.old.failed out.new.failed }
 {
     let (config, script) = read_files(alloc, config, script)?;

@@ -1,6 +1,8 @@
 //! The command `session`: opens a session over two files and answers commands. The conversation
 //! itself is in `commands`.
-ghost use Rattle.amreplay.specs.Program.Ends.{EndsBy, ReadsBy};
+ghost use Rattle.std.specs.Prelude.{ℕ, List};
+ghost use Rattle.amreplay.specs.Program.Input.{MayHold};
+ghost use Rattle.amreplay.specs.Program.Ends.{EndsBy, ReadsBy, EndsScriptBy};
 ghost use Rattle.amreplay.specs.Program.Sessions.{SessionLeaves};
 
 use crate::commands::converse;
@@ -13,17 +15,19 @@ use std::mem::forget;
 
 /// Reads commands until they end, and answers each over a script and a configuration.
 ///
-/// The configuration is read before the script, and if one of them is refused, no command is read
-/// and nothing is written. The writer is flushed after each command.
-pub fn run_session<R: Read, W: Write>(
+/// If one of the files is refused, no command is read and nothing is written. If both are, the fault
+/// is that of the configuration. The writer is flushed after each command.
+pub fn run_session<S: Read, R: Read, W: Write>(
     alloc: Global,
     config: &[u8],
-    script: Vec<u8>,
+    script: &mut CheckedReader<S>,
     commands: &mut CheckedReader<R>,
     out: &mut CheckedWriter<W>,
 ) -> Result<(), Fault>
-    ensures left { SessionLeaves (R.remaining commands.old.reader) (R.remaining commands.new.reader)
-        (W.contents out.old.writer) (W.contents out.new.writer) config.now script.items result }
+    ensures left { (all : List ℕ) × MayHold (S.remaining script.old.reader) all
+        × SessionLeaves (R.remaining commands.old.reader) (R.remaining commands.new.reader)
+        (W.contents out.old.writer) (W.contents out.new.writer) config.now all result }
+    ensures script { EndsScriptBy result script.old.failed script.new.failed script.new.calls }
     ensures read { ReadsBy result commands.old.failed commands.new.failed commands.new.calls }
     ensures written { EndsBy result out.old.failed out.new.failed }
 {
