@@ -28,7 +28,7 @@ use Rattle.amr_config.specs.Stated.Config.{Config}
 use Rattle.amr_config.specs.Stated.RuleMatches.{rule_matches}
 use Rattle.amr_config.specs.Alike.{RoutingPart, routing_part, sides, AreAlike}
 use Rattle.amr_config.specs.Groups.{groups_of, known_of}
-use Rattle.amr_config.specs.Routing.{route_numbers, parent_of, line_within, line_of, matches_route, is_child, is_cut_off, route_is, first_stated, inherited, grouped_by, chosen, group_of}
+use Rattle.amr_config.specs.Routing.{route_numbers, parent_of, line_within, line_of, matches_route, is_child, is_cut_off, route_is, first_stated, inherited_value, grouped_by, chosen_routes, group_of}
 
 of_mapped : {X Y Z : Type 0} (f : Y → Z) (v : X → Y) (d : Z) (o : Option X) → option_map_or f (option_map v o) d ≡ option_map_or (λ x. f (v x)) o d
 of_mapped f v d None = refl
@@ -64,8 +64,8 @@ module _ (a b : Config) (same : map routing_part a.routes ≡ map routing_part b
     cut_off : (n : ℕ) → is_cut_off a labels n ≡ is_cut_off b labels n
     cut_off n = λ i. list_any (λ m. nat_lt m n && option_map_or (λ parent. children parent m i) (parents n i) false && matches m i && not (continues m i)) (numbers i)
 
-    same_chosen : chosen a labels ≡ chosen b labels
-    unfolding chosen
+    same_chosen : chosen_routes a labels ≡ chosen_routes b labels
+    unfolding chosen_routes
     same_chosen = λ i. filter (λ n. list_all (λ m. matches m i && not (cut_off m i)) (lines n n i) && not (list_any (λ m. children n m i && matches m i) (numbers i))) (numbers i)
 
     same_first : (ns : List ℕ) → first_stated (λ route. route.group_by) a ns ≡ first_stated (λ route. route.group_by) b ns
@@ -73,7 +73,7 @@ module _ (a b : Config) (same : map routing_part a.routes ≡ map routing_part b
     same_first (n ∷ ns) = λ i. option_or (part (λ p. p.group_by) None n i) (same_first ns i)
 
     same_group : (n : ℕ) → group_of a n labels ≡ group_of b n labels
-    unfolding group_of inherited
+    unfolding group_of inherited_value
     same_group n = ap (λ grouping. grouped_by grouping labels) (ap (first_stated (λ route. route.group_by) a) (lines n n) ∙ same_first (line_of b n))
 
     same_groups : groups_of a labels ≡ groups_of b labels

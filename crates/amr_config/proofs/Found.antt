@@ -12,11 +12,11 @@ use Rattle.amr_config.specs.declared.settings.Settings.{Settings}
 use Rattle.amr_config.specs.Paths.{IsAlone, AreOwn}
 use Rattle.amr_config.specs.Receivers.{receiver_at, receiver_named, AreReceivers}
 use Rattle.amr_config.specs.Routing.{HasOwnPath, path_of, receiver_name_of}
-use Rattle.amr_config.specs.Settled.{settings_of, settled}
+use Rattle.amr_config.specs.Settled.{settings_of, settings_of_all}
 use Rattle.amr_config.proofs.Inherited.{length-settled, get_or-settled, inherited_past}
 use Rattle.amr_config.proofs.OwnPaths.{decides_too, decides_no}
 
-module _ (config : Config) (settings : List Settings) (are_settled : settings ≡ settled config) where
+module _ (config : Config) (settings : List Settings) (are_settled : settings ≡ settings_of_all config) where
   as_many : length settings ≡ length config.routes
   as_many = ap length are_settled ∙ length-settled config
 
@@ -39,7 +39,7 @@ module _ (config : Config) where
   own_past n past = decides_no false refl (λ (has : HasOwnPath config n). omega (arith, has.is_there, past))
 
 module _ (config : Config) (settings : List Settings) where
-  pub receiver_found : (receivers : List Receiver) (places : List (Option ℕ)) (n : ℕ) (r : Option (Bor (Option ℕ))) → settings ≡ settled config → AreReceivers receivers settings places → IsItemAt places n r
+  pub receiver_found : (receivers : List Receiver) (places : List (Option ℕ)) (n : ℕ) (r : Option (Bor (Option ℕ))) → settings ≡ settings_of_all config → AreReceivers receivers settings places → IsItemAt places n r
       → MatchOption r (length config.routes ≤ n) (λ found. receiver_at receivers found.now ≡ receiver_named receivers (receiver_name_of config n))
   unfolding settings_of
   receiver_found receivers places n None e are h =

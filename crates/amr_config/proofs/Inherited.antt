@@ -8,18 +8,18 @@ use Rattle.std.proofs.lemmas.Option.{slice_get_past}
 use Rattle.amr_config.specs.declared.stated.route.Route.{Route}
 use Rattle.amr_config.specs.declared.settings.Settings.{Settings}
 use Rattle.amr_config.specs.Stated.Config.{Config}
-use Rattle.amr_config.specs.Routing.{line_within, first_stated, inherited, sorted_matchers, path_of}
-use Rattle.amr_config.specs.Settled.{settings_of, settled}
+use Rattle.amr_config.specs.Routing.{line_within, first_stated, inherited_value, sorted_matchers, path_of}
+use Rattle.amr_config.specs.Settled.{settings_of, settings_of_all}
 
-pub length-settled : (config : Config) → length (settled config) ≡ length config.routes
-unfolding settled
+pub length-settled : (config : Config) → length (settings_of_all config) ≡ length config.routes
+unfolding settings_of_all
 length-settled config = length-map-range_with_len (settings_of config) 0 (length config.routes)
 
-pub get_or-settled : (config : Config) (n : ℕ) (d : Settings) → n < length config.routes → get_or (settled config) n d ≡ settings_of config n
-unfolding settled
+pub get_or-settled : (config : Config) (n : ℕ) (d : Settings) → n < length config.routes → get_or (settings_of_all config) n d ≡ settings_of config n
+unfolding settings_of_all
 get_or-settled config n d h = get_or-map-range_with_len (settings_of config) 0 (length config.routes) n n d h (omega arith)
 
-pub settings_found : (config : Config) (settings : List Settings) (n : ℕ) (r : Option (Bor Settings)) → settings ≡ settled config → IsItemAt settings n r → MatchOption r (length config.routes ≤ n) (λ found. (n < length config.routes) × (found.now ≡ settings_of config n))
+pub settings_found : (config : Config) (settings : List Settings) (n : ℕ) (r : Option (Bor Settings)) → settings ≡ settings_of_all config → IsItemAt settings n r → MatchOption r (length config.routes ≤ n) (λ found. (n < length config.routes) × (found.now ≡ settings_of config n))
 settings_found config settings n None e h =
     let l : length settings ≡ length config.routes = ap length e ∙ length-settled config in
     let past : length settings ≤ n = h.3 in
@@ -36,8 +36,8 @@ no_line config zero n h = refl
 no_line config (suc most) n h =
     ap (λ o. n ∷ option_map_or (λ parent. line_within most config parent) (option_map_or (λ (route : Route). route.parent) o None) []) (slice_get_past config.routes n h)
 
-pub inherited_past : {X : Type 0} (field : Route → Option X) (config : Config) (n : ℕ) → length config.routes ≤ n → inherited field config n ≡ None
-unfolding inherited
+pub inherited_past : {X : Type 0} (field : Route → Option X) (config : Config) (n : ℕ) → length config.routes ≤ n → inherited_value field config n ≡ None
+unfolding inherited_value
 inherited_past field config n h =
     ap (first_stated field config) (no_line config n n h)
     ∙ ap (λ o. option_or (option_map_or field o None) None) (slice_get_past config.routes n h)

@@ -7,7 +7,7 @@ pub mod OwnPaths
 pub mod Places
 pub mod Ranges
 pub mod Receivers
-pub mod Remembered
+pub mod Cached
 pub mod RuleNames
 pub mod Settling
 pub mod Sorting

@@ -23,7 +23,7 @@ use Rattle.amr_config.specs.Stated.Config.{Config}
 use Rattle.amr_config.specs.Paths.{Path, path_hash, IsFirst, IsFirstLike, AreFirsts, AreOwn, AreFirstPlaces, IsAlone, AreAlone}
 use Rattle.amr_config.specs.Routing.{parent_of, line_within, line_of, path_of, sorted_matchers}
 use Rattle.amr_config.specs.declared.settings.Settings.{Settings}
-use Rattle.amr_config.specs.Settled.{settings_of, settled, AreParentsFirst}
+use Rattle.amr_config.specs.Settled.{settings_of, settings_of_all, AreParentsFirst}
 use Rattle.amr_config.proofs.Inherited.{get_or-settled}
 use Rattle.amr_config.proofs.Settling.{path_root, path_child}
 
@@ -90,7 +90,7 @@ path_not_empty config n e =
     let matchers : ℕ → List Matcher = λ m. option_map_or (λ (route : Route). sorted_matchers route.matchers) (slice_get config.routes m) [] in
     omega (arith, line_not_empty config n n, sym (length-map (line_of config n) matchers) ∙ sym (length-reverse (map matchers (line_of config n))) ∙ ap length e)
 
-pub path_settled : (config : Config) (settings : List Settings) (n : ℕ) (its : Settings) → settings ≡ settled config → its ≡ get_or settings n its → n < length config.routes → its.path ≡ path_of config n
+pub path_settled : (config : Config) (settings : List Settings) (n : ℕ) (its : Settings) → settings ≡ settings_of_all config → its ≡ get_or settings n its → n < length config.routes → its.path ≡ path_of config n
 unfolding settings_of
 path_settled config settings n its same is within =
     ap (λ (s : Settings). s.path) (is ∙ ap (λ ss. get_or ss n its) same ∙ get_or-settled config n its within)

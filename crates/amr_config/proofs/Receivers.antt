@@ -13,7 +13,7 @@ use Rattle.amr_config.specs.Stated.Config.{Config}
 use Rattle.amr_config.specs.declared.settings.Settings.{Settings}
 use Rattle.amr_config.specs.Receivers.{receiver_named, receiver_at, ArePlaces, AreReceivers, receiver_parent, place_at}
 use Rattle.amr_config.specs.Routing.{receiver_name_of}
-use Rattle.amr_config.specs.Settled.{settings_of, settled, AreParentsFirst}
+use Rattle.amr_config.specs.Settled.{settings_of, settings_of_all, AreParentsFirst}
 use Rattle.amr_config.proofs.Inherited.{length-settled, get_or-settled}
 use Rattle.amr_config.proofs.Settling.{heir}
 
@@ -32,10 +32,10 @@ name_settled : (config : Config) (n : ℕ) → (settings_of config n).receiver �
 unfolding settings_of
 name_settled config n = refl
 
-pub as_many : (config : Config) (settings : List Settings) → settings ≡ settled config → length settings ≡ length config.routes
+pub as_many : (config : Config) (settings : List Settings) → settings ≡ settings_of_all config → length settings ≡ length config.routes
 as_many config settings e = ap length e ∙ length-settled config
 
-module _ (receivers : List Receiver) (config : Config) (settings : List Settings) (are_settled : settings ≡ settled config) (n : ℕ) (within : n < length config.routes) where
+module _ (receivers : List Receiver) (config : Config) (settings : List Settings) (are_settled : settings ≡ settings_of_all config) (n : ℕ) (within : n < length config.routes) where
   settled_at : (parent : ℕ) → parent < n → slice_get (take n settings) parent ≡ Some (settings_of config parent)
   settled_at parent lt =
       let long : length settings ≡ length config.routes = as_many config settings are_settled in

@@ -11,9 +11,9 @@ use Rattle.amr_config.specs.declared.stated.route.Route.{Route}
 use Rattle.amr_config.specs.declared.settings.Settings.{Settings}
 use Rattle.amr_config.specs.Stated.Config.{Config}
 use Rattle.amr_config.specs.declared.defaults.TheConstants.{GROUP_WAIT_SECONDS, GROUP_INTERVAL_MINUTES, REPEAT_INTERVAL_HOURS}
-use Rattle.amr_config.specs.Routing.{parent_of, line_of, first_stated, inherited, receiver_name_of, active_intervals_of, mute_intervals_of, path_of, sorted_matchers}
+use Rattle.amr_config.specs.Routing.{parent_of, line_of, first_stated, inherited_value, receiver_name_of, active_intervals_of, mute_intervals_of, path_of, sorted_matchers}
 use Rattle.amr_config.specs.Receivers.{receiver_parent}
-use Rattle.amr_config.specs.Settled.{settings_of, settled, settled_to, settled_under, AreParentsFirst}
+use Rattle.amr_config.specs.Settled.{settings_of, settings_of_all, settled_to, settled_under, AreParentsFirst}
 use Rattle.amr_config.proofs.Lines.{line_of-root, line_of-child}
 
 stated_or : {X : Type 0} (a b : Option X) (d : X) → unwrap_or (option_or a b) d ≡ unwrap_or a (unwrap_or b d)
@@ -21,13 +21,13 @@ stated_or None b d = refl
 stated_or (Some x) b d = refl
 
 module _ (config : Config) (first : AreParentsFirst config) (n : ℕ) (route : Route) (here : slice_get config.routes n ≡ Some route) where
-  inherited_root : {X : Type 0} (field : Route → Option X) → parent_of config n ≡ None → inherited field config n ≡ option_or (field route) None
-  unfolding inherited
+  inherited_root : {X : Type 0} (field : Route → Option X) → parent_of config n ≡ None → inherited_value field config n ≡ option_or (field route) None
+  unfolding inherited_value
   inherited_root field e =
       ap (first_stated field config) (line_of-root config first n e) ∙ ap (λ o. option_or (option_map_or field o None) None) here
 
-  inherited_child : {X : Type 0} (field : Route → Option X) (parent : ℕ) → parent_of config n ≡ Some parent → inherited field config n ≡ option_or (field route) (inherited field config parent)
-  unfolding inherited
+  inherited_child : {X : Type 0} (field : Route → Option X) (parent : ℕ) → parent_of config n ≡ Some parent → inherited_value field config n ≡ option_or (field route) (inherited_value field config parent)
+  unfolding inherited_value
   inherited_child field parent e =
       ap (first_stated field config) (line_of-child config first n parent e)
       ∙ ap (λ o. option_or (option_map_or field o None) (first_stated field config (line_of config parent))) here
@@ -45,11 +45,11 @@ module _ (config : Config) (first : AreParentsFirst config) (n : ℕ) (route : R
       ∙ reverse-append (option_map_or (λ (route : Route). sorted_matchers route.matchers) (slice_get config.routes n) [] ∷ []) (map (λ m. option_map_or (λ (route : Route). sorted_matchers route.matchers) (slice_get config.routes m) []) (line_of config parent))
       ∙ ap (λ o. reverse (map (λ m. option_map_or (λ (route : Route). sorted_matchers route.matchers) (slice_get config.routes m) []) (line_of config parent)) ++ option_map_or (λ (route : Route). sorted_matchers route.matchers) o [] ∷ []) here
 
-  value_root : {X : Type 0} (field : Route → Option X) (d : X) → parent_of config n ≡ None → unwrap_or (field route) d ≡ unwrap_or (inherited field config n) d
+  value_root : {X : Type 0} (field : Route → Option X) (d : X) → parent_of config n ≡ None → unwrap_or (field route) d ≡ unwrap_or (inherited_value field config n) d
   value_root field d e = sym (ap (λ o. unwrap_or o d) (inherited_root field e) ∙ stated_or (field route) None d)
 
-  value_child : {X : Type 0} (field : Route → Option X) (d : X) (parent : ℕ) → parent_of config n ≡ Some parent → unwrap_or (field route) (unwrap_or (inherited field config parent) d) ≡ unwrap_or (inherited field config n) d
-  value_child field d parent e = sym (ap (λ o. unwrap_or o d) (inherited_child field parent e) ∙ stated_or (field route) (inherited field config parent) d)
+  value_child : {X : Type 0} (field : Route → Option X) (d : X) (parent : ℕ) → parent_of config n ≡ Some parent → unwrap_or (field route) (unwrap_or (inherited_value field config parent) d) ≡ unwrap_or (inherited_value field config n) d
+  value_child field d parent e = sym (ap (λ o. unwrap_or o d) (inherited_child field parent e) ∙ stated_or (field route) (inherited_value field config parent) d)
 
   own_matchers : route.matchers ≡ option_map_or (λ (r : Route). r.matchers) (slice_get config.routes n) []
   own_matchers = sym (ap (λ o. option_map_or (λ (r : Route). r.matchers) o []) here)
@@ -69,7 +69,7 @@ module _ (config : Config) (first : AreParentsFirst config) (n : ℕ) (route : R
   heir_by : (stated : Option Text) → route.receiver ≡ stated → (parent : ℕ) → option_map_or (λ name. None) stated route.parent ≡ Some parent → (parent < n) × (receiver_name_of config parent ≡ receiver_name_of config n)
   heir_by None is parent e =
       let up : parent_of config n ≡ Some parent = sym own_parent ∙ e in
-      (first n parent up, sym (ap (λ o. unwrap_or o []) (inherited_child (λ r. r.receiver) parent up ∙ ap (λ o. option_or o (inherited (λ r. r.receiver) config parent)) is)))
+      (first n parent up, sym (ap (λ o. unwrap_or o []) (inherited_child (λ r. r.receiver) parent up ∙ ap (λ o. option_or o (inherited_value (λ r. r.receiver) config parent)) is)))
   heir_by (Some name) is parent e = cc
 
   -- a route that inherits its receiver comes after its parent and has its parent's
@@ -120,6 +120,6 @@ settled_more config first n route above made so_far new lt is sf ab md nw =
     nw ∙ ap (λ ss. ss ++ made ∷ []) sf ∙ ap (λ s. map (settings_of config) (range_with_len 0 n) ++ s ∷ []) value
     ∙ sym (map-range_with_len_more (settings_of config) 0 n n (omega arith))
 
-pub settled_all : (config : Config) (n : ℕ) → n ≡ length config.routes → settled_to config n ≡ settled config
-unfolding settled_to settled
+pub settled_all : (config : Config) (n : ℕ) → n ≡ length config.routes → settled_to config n ≡ settings_of_all config
+unfolding settled_to settings_of_all
 settled_all config n e = ap (λ k. map (settings_of config) (range_with_len 0 k)) e

@@ -2,11 +2,11 @@
 use Rattle.std.specs.Prelude.{◌≡◌, ℕ, List, Some, map}
 use Rattle.amr_labels.specs.Labels.{LabelSet, label_set_cmp}
 use Rattle.amr_labels.specs.Map.{Map, get}
-use Rattle.amr_tables.specs.Numbered.{Numbered, shown}
-use Rattle.amr_config.specs.declared.router.Known.{Known}
+use Rattle.amr_tables.specs.Numbered.{Numbered, map_of}
+use Rattle.amr_config.specs.declared.router.CachedRouting.{CachedRouting}
 use Rattle.amr_config.specs.declared.router.RouteGroup.{RouteGroup}
 use Rattle.amr_config.specs.Stated.Config.{Config}
-use Rattle.amr_config.specs.Routing.{chosen, group_of}
+use Rattle.amr_config.specs.Routing.{chosen_routes, group_of}
 use Rattle.amr_config.specs.declared.stated.rule_sides.RuleMatch.{RuleMatch}
 use Rattle.amr_config.specs.Stated.RuleMatches.{rule_matches}
 
@@ -16,19 +16,19 @@ group_at config labels route = record { route = route; labels = group_of config 
 
 -- of each route that takes the alert its group
 unfoldable pub groups_of : Config → LabelSet → List RouteGroup
-groups_of config labels = map (group_at config labels) (chosen config labels)
+groups_of config labels = map (group_at config labels) (chosen_routes config labels)
 
 -- what is to be remembered of a label set
-abbrev pub known_of : Config → LabelSet → Known
+abbrev pub known_of : Config → LabelSet → CachedRouting
 known_of config labels = record { groups = groups_of config labels; rules = rule_matches labels config.rules }
 
 -- what is remembered of each label set is this answer
 abbrev pub Remembers : {X : Type 0} → (LabelSet → X) → Numbered LabelSet X → Type 0
-Remembers answer known = (labels : LabelSet) (found : _) → get (shown label_set_cmp known) labels ≡ Some found → found ≡ answer labels
+Remembers answer cache = (labels : LabelSet) (found : _) → get (map_of label_set_cmp cache) labels ≡ Some found → found ≡ answer labels
 
 -- what is remembered of a label set are its groups, and the sides of the rules that it is on
-abbrev pub IsKnown : Config → Numbered LabelSet Known → Type 0
-IsKnown config known = Remembers (known_of config) known
+abbrev pub IsCacheOf : Config → Numbered LabelSet CachedRouting → Type 0
+IsCacheOf config cache = Remembers (known_of config) cache
 
 -- what is remembered of a label set are the sides of the rules that it is on
 abbrev pub AreSides : Config → Map label_set_cmp (List RuleMatch) → Type 0

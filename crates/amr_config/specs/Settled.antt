@@ -15,7 +15,7 @@ use Rattle.amr_config.specs.Intervals.{AreIntervals}
 use Rattle.amr_config.specs.Paths.{AreOwn}
 use Rattle.amr_config.specs.Receivers.{AreReceivers}
 use Rattle.amr_config.specs.RuleNames.{AreNamesOf}
-use Rattle.amr_config.specs.Routing.{route_numbers, route_is, parent_of, inherited, group_wait_of, group_interval_of, repeat_interval_of, receiver_name_of, active_intervals_of, mute_intervals_of, path_of, sorted_matchers}
+use Rattle.amr_config.specs.Routing.{route_numbers, route_is, parent_of, inherited_value, group_wait_of, group_interval_of, repeat_interval_of, receiver_name_of, active_intervals_of, mute_intervals_of, path_of, sorted_matchers}
 
 -- the settings of the route with this number; the defaults if there is no such route
 unfoldable pub settings_of : Config → ℕ → Settings
@@ -24,7 +24,7 @@ settings_of config n = record {
   matchers = option_map_or (λ route. route.matchers) (slice_get config.routes n) [];
   continues = route_is (λ route. route.continues) config n;
   receiver = receiver_name_of config n;
-  group_by = inherited (λ route. route.group_by) config n;
+  group_by = inherited_value (λ route. route.group_by) config n;
   group_wait = group_wait_of config n;
   group_interval = group_interval_of config n;
   repeat_interval = repeat_interval_of config n;
@@ -34,8 +34,8 @@ settings_of config n = record {
 }
 
 -- the settings of all routes
-unfoldable pub settled : Config → List Settings
-settled config = map (settings_of config) (route_numbers config)
+unfoldable pub settings_of_all : Config → List Settings
+settings_of_all config = map (settings_of config) (route_numbers config)
 
 abbrev pub stated_config : Stated → Config
 stated_config stated = record { routes = stated.routes; receivers = stated.receivers; rules = stated.rules; resolve_timeout = stated.resolve_timeout; time_intervals = stated.time_intervals }
@@ -48,7 +48,7 @@ abbrev pub AreParentsFirst : Config → Type 0
 AreParentsFirst config = (n parent : ℕ) → parent_of config n ≡ Some parent → parent < n
 
 pub record AreSettled (parts : Parts) : Type 0 where
-  pub settings : parts.settings ≡ settled (config_of_parts parts)
+  pub settings : parts.settings ≡ settings_of_all (config_of_parts parts)
   pub parents : AreParentsFirst (config_of_parts parts)
   pub receivers : AreReceivers parts.stated.receivers parts.settings parts.receiver_places
   pub own_paths : AreOwn (config_of_parts parts) parts.own_paths

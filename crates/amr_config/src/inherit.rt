@@ -3,7 +3,7 @@
 //! intervals.
 ghost use Rattle.std.specs.Prelude.{◌≡◌, IfOk, option_and_then, slice_get};
 ghost use Rattle.std.specs.Option.{option_copied};
-ghost use Rattle.amr_config.specs.Settled.{stated_config, settled, settled_under, receiver_under, grouping_under, path_under, AreParentsFirst};
+ghost use Rattle.amr_config.specs.Settled.{stated_config, settings_of_all, settled_under, receiver_under, grouping_under, path_under, AreParentsFirst};
 
 use crate::defaults::{GROUP_INTERVAL_MINUTES, GROUP_WAIT_SECONDS, REPEAT_INTERVAL_HOURS};
 use crate::route_path::RoutePath;
@@ -17,7 +17,7 @@ use std::alloc::{AllocError, Global};
 /// Returns the settings of all routes. A parent comes before its children, so one pass is enough.
 pub(crate) fn inherit(alloc: Global, stated: &Stated) -> Result<Listing<Settings>, AllocError>
     requires { AreParentsFirst (stated_config stated.now) }
-    ensures { IfOk result (λ settings. settings ≡ settled (stated_config stated.now)) }
+    ensures { IfOk result (λ settings. settings ≡ settings_of_all (stated_config stated.now)) }
 {
     let mut settings = Vec::with_capacity(alloc, stated.routes.len())?;
     for route in stated.routes.as_slice() {

@@ -4,7 +4,7 @@
 //! of the configuration, whatever the parents' matchers.
 ghost use Rattle.std.specs.Prelude.{◌≡◌, ◌-◌, [], length, IfOk, option_and_then, slice_get, unwrap_or};
 ghost use Rattle.amr_config.specs.Paths.{AreFirsts, AreFirstPlaces, AreAlone, AreOwn, path_hash};
-ghost use Rattle.amr_config.specs.Settled.{stated_config, settled, AreParentsFirst};
+ghost use Rattle.amr_config.specs.Settled.{stated_config, settings_of_all, AreParentsFirst};
 
 use crate::route_path::RoutePath;
 use crate::settings::Settings;
@@ -25,7 +25,7 @@ pub(crate) fn own_paths(
     settings: &[Settings],
 ) -> Result<Listing<bool>, AllocError>
     requires parents { AreParentsFirst (stated_config stated.now) }
-    requires settings { settings.now ≡ settled (stated_config stated.now) }
+    requires settings { settings.now ≡ settings_of_all (stated_config stated.now) }
     ensures { IfOk result (λ own. AreOwn (stated_config stated.now) own) }
 {
     let firsts = first_routes(alloc, stated, settings)?;
@@ -40,7 +40,7 @@ fn first_routes(
     settings: &[Settings],
 ) -> Result<Vec<usize>, AllocError>
     requires parents { AreParentsFirst (stated_config stated.now) }
-    requires settings { settings.now ≡ settled (stated_config stated.now) }
+    requires settings { settings.now ≡ settings_of_all (stated_config stated.now) }
     ensures { IfOk result (λ firsts.
         AreFirsts (stated_config stated.now) (length stated.now.routes) firsts.items) }
 {

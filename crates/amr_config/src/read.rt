@@ -2,9 +2,9 @@
 //! Alertmanager's configuration reference, and validates it. Scripts and the program load
 //! configurations with `load_config`; the state and the engine take them as they are.
 
+mod defined_intervals;
 mod error;
 mod interval_names;
-mod known_intervals;
 pub mod laws;
 mod load;
 mod members;

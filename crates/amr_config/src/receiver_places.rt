@@ -7,7 +7,7 @@ ghost use Rattle.std.specs.BTreeMap.{get};
 ghost use Rattle.std.specs.Option.{option_map_or};
 ghost use Rattle.amr_labels.specs.Labels.{text_cmp};
 ghost use Rattle.amr_config.specs.Receivers.{ArePlaces, AreReceivers, place_at, receiver_parent};
-ghost use Rattle.amr_config.specs.Settled.{stated_config, settled, AreParentsFirst};
+ghost use Rattle.amr_config.specs.Settled.{stated_config, settings_of_all, AreParentsFirst};
 
 use crate::settings::Settings;
 use crate::stated::{Receiver, Route, Stated};
@@ -23,7 +23,7 @@ pub(crate) fn receiver_places(
     settings: &[Settings],
 ) -> Result<Listing<Option<usize>>, AllocError>
     requires parents { AreParentsFirst (stated_config stated.now) }
-    requires settings { settings.now ≡ settled (stated_config stated.now) }
+    requires settings { settings.now ≡ settings_of_all (stated_config stated.now) }
     ensures { IfOk result (λ places. AreReceivers stated.now.receivers settings.now places) }
 {
     let known = places_by_name(alloc, stated.receivers.as_slice())?;

@@ -10,7 +10,7 @@ use crate::config::Config;
 use crate::group_labels::GroupLabels;
 use crate::routing::chosen_routes;
 use crate::stated::{RuleMatch, rule_matches};
-use amr_labels::matcher::Answers;
+use amr_labels::matcher::MatchCache;
 use amr_labels::{LabelMap, Labels, Listing, Shared};
 use amr_tables::Keyed;
 use std::alloc::{AllocError, Global};
@@ -24,10 +24,10 @@ pub struct Router {
     alloc: Global,
     config: Config,
     /// What the patterns of the matchers answered.
-    answers: Answers,
+    answers: MatchCache,
     /// The group labels that were made, which equal groups share.
     group_labels: GroupLabels,
-    known: Keyed<Labels, Known>,
+    cache: Keyed<Labels, CachedRouting>,
     /// The sides of the rules, by the labels that the rules' matchers name.
     sides: LabelMap<Shared<Listing<RuleMatch>>>,
 }
@@ -35,7 +35,7 @@ pub struct Router {
 /// What is remembered of a label set: its groups, and the sides of the inhibition rules that it is
 /// on.
 #[derive(Drop)]
-pub(crate) struct Known {
+pub(crate) struct CachedRouting {
     pub(crate) groups: Shared<Listing<RouteGroup>>,
     pub(crate) rules: Shared<Listing<RuleMatch>>,
 }
@@ -50,13 +50,13 @@ pub struct RouteGroup {
 
 impl Model for Router {
     ghost use Rattle.amr_config.specs.Stated.Config.{Config};
-    ghost use Rattle.amr_config.specs.Groups.{IsKnown, AreSides};
+    ghost use Rattle.amr_config.specs.Groups.{IsCacheOf, AreSides};
 
     ghost Value = { Config };
 
     ghost view = { λ router. router.config };
 
-    ghost invariant = { λ router. IsKnown router.config router.known
+    ghost invariant = { λ router. IsCacheOf router.config router.cache
         × AreSides router.config router.sides };
 }
 
@@ -68,9 +68,9 @@ impl Router {
         Router {
             alloc,
             config,
-            answers: Answers::new(alloc),
+            answers: MatchCache::new(alloc),
             group_labels: GroupLabels::new(alloc),
-            known: Keyed::new(alloc),
+            cache: Keyed::new(alloc),
             sides: LabelMap::new(alloc),
         }
     }
@@ -88,9 +88,9 @@ impl Router {
         ensures groups { IfOk result (λ groups. groups ≡ groups_of self.old labels.now) }
         ensures same { self.new ≡ self.old }
     {
-        match self.known.get(labels) {
-            Some(known) => known.groups.clone(),
-            None => self.learn(labels),
+        match self.cache.get(labels) {
+            Some(cache) => cache.groups.clone(),
+            None => self.work_out(labels),
         }
     }
 
@@ -99,10 +99,10 @@ impl Router {
     pub fn rule_matches(&self, labels: &Labels) -> Result<Shared<Listing<RuleMatch>>, AllocError>
         ensures { IfOk result (λ found. found ≡ rule_matches labels.now self.now.rules) }
     {
-        match self.known.get(labels) {
-            Some(known) => known.rules.clone(),
+        match self.cache.get(labels) {
+            Some(cache) => cache.rules.clone(),
             None => {
-                let mut answers = Answers::none(self.alloc);
+                let mut answers = MatchCache::none(self.alloc);
                 sides_of(self.alloc, &self.config, &mut answers, labels)
             }
         }
@@ -111,21 +111,21 @@ impl Router {
     /// Swaps what doesn't depend on the configuration with another router: what patterns answered,
     /// and the group labels that were made. If the two configurations are alike, it also swaps the
     /// groups and the sides of each label set. So a reload, and undoing it, lose none of these.
-    pub fn swap_known(&mut self, other: &mut Router)
+    pub fn swap_cache(&mut self, other: &mut Router)
         ensures same { self.new ≡ self.old }
         ensures other { other.new ≡ other.old }
     {
         mem::swap(&mut self.answers, &mut other.answers);
         mem::swap(&mut self.group_labels, &mut other.group_labels);
         if self.config.is_alike(&other.config) {
-            mem::swap(&mut self.known, &mut other.known);
+            mem::swap(&mut self.cache, &mut other.cache);
             mem::swap(&mut self.sides, &mut other.sides);
         }
     }
 
     /// Works out the groups that take an alert with these labels, and remembers them if there is
     /// room.
-    fn learn(&mut self, labels: &Labels) -> Result<Shared<Listing<RouteGroup>>, AllocError>
+    fn work_out(&mut self, labels: &Labels) -> Result<Shared<Listing<RouteGroup>>, AllocError>
         ensures groups { IfOk result (λ groups. groups ≡ groups_of self.old labels.now) }
         ensures same { self.new ≡ self.old }
     {
@@ -137,12 +137,12 @@ impl Router {
             labels,
         )?;
         let groups = Shared::new(self.alloc, found)?;
-        let _forgotten = self.remember(labels, groups.clone()?);
+        let _forgotten = self.cache_groups(labels, groups.clone()?);
         Ok(groups)
     }
 
     /// Remembers the groups of this label set, and the sides of the inhibition rules that it is on.
-    fn remember(
+    fn cache_groups(
         &mut self,
         labels: &Labels,
         groups: Shared<Listing<RouteGroup>>,
@@ -151,8 +151,9 @@ impl Router {
         ensures { self.new ≡ self.old }
     {
         let rules = self.sides_of(labels)?;
-        self.known.make_place(labels.clone()?)?;
-        self.known.displace(labels, Some(Known { groups, rules }));
+        self.cache.make_place(labels.clone()?)?;
+        self.cache
+            .displace(labels, Some(CachedRouting { groups, rules }));
         Ok(())
     }
 
@@ -175,23 +176,23 @@ impl Router {
     {
         match self.sides.get(&kept) {
             Some(sides) => sides.clone(),
-            None => self.learn_sides(kept),
+            None => self.work_out_sides(kept),
         }
     }
 
     /// Works out which sides of the inhibition rules these labels are on, and remembers them if
     /// there is room.
-    fn learn_sides(&mut self, kept: Labels) -> Result<Shared<Listing<RuleMatch>>, AllocError>
+    fn work_out_sides(&mut self, kept: Labels) -> Result<Shared<Listing<RuleMatch>>, AllocError>
         ensures sides { IfOk result (λ found. found ≡ rule_matches kept self.old.rules) }
         ensures same { self.new ≡ self.old }
     {
         let sides = sides_of(self.alloc, &self.config, &mut self.answers, &kept)?;
-        let _forgotten = self.keep_sides(kept, sides.clone()?);
+        let _forgotten = self.cache_sides(kept, sides.clone()?);
         Ok(sides)
     }
 
     /// Remembers which sides of the inhibition rules these labels are on.
-    fn keep_sides(
+    fn cache_sides(
         &mut self,
         kept: Labels,
         sides: Shared<Listing<RuleMatch>>,
@@ -208,7 +209,7 @@ impl Router {
 fn sides_of(
     alloc: Global,
     config: &Config,
-    answers: &mut Answers,
+    answers: &mut MatchCache,
     labels: &Labels,
 ) -> Result<Shared<Listing<RuleMatch>>, AllocError>
     ensures { IfOk result (λ found. found ≡ rule_matches labels.now config.now.rules) }
@@ -221,7 +222,7 @@ fn sides_of(
 fn groups_of(
     alloc: Global,
     config: &Config,
-    answers: &mut Answers,
+    answers: &mut MatchCache,
     group_labels: &mut GroupLabels,
     labels: &Labels,
 ) -> Result<Listing<RouteGroup>, AllocError>

@@ -1,18 +1,18 @@
-//! Routing: which routes take an alert. One pass over the routes in preorder marks each route, and
+//! Routing: which routes take an alert. One pass over the routes in preorder gives each its standing, and
 //! its parent if it matches.
 ghost use Rattle.std.specs.Prelude.{◌≡◌, ◌+◌, ◌<◌, ◌≤◌, length, vec_len, IfOk, OnOk, Some, false};
 ghost use Rattle.amr_labels.specs.Matcher.Matchers.{all_hold};
-ghost use Rattle.amr_config.specs.Routing.{chosen, parent_of, matches_route};
-ghost use Rattle.amr_config.specs.Marks.{marks_at, chosen_numbers, is_chosen_mark};
+ghost use Rattle.amr_config.specs.Routing.{chosen_routes, parent_of, matches_route};
+ghost use Rattle.amr_config.specs.Standings.{standings_at, chosen_numbers, is_chosen_standing};
 
 use crate::config::Config;
 use amr_labels::Labels;
-use amr_labels::matcher::Answers;
+use amr_labels::matcher::MatchCache;
 use std::alloc::{AllocError, Global};
 
 /// What is known of a route when some of the routes after it have been seen.
 #[derive(Clone, Copy)]
-pub(crate) struct Mark {
+pub(crate) struct Standing {
     /// The alert gets to the route, and the route matches it.
     is_open: bool,
     /// A child matches the alert.
@@ -21,12 +21,12 @@ pub(crate) struct Mark {
     is_closed: bool,
 }
 
-impl Mark {
-    /// Returns the mark of a route when it is first seen.
-    fn seen(is_open: bool) -> Mark
+impl Standing {
+    /// Returns the standing of a route when it is first seen.
+    fn new(is_open: bool) -> Standing
         ensures { result ≡ record { is_open = is_open; is_taken = false; is_closed = false } }
     {
-        Mark {
+        Standing {
             is_open,
             is_taken: false,
             is_closed: false,
@@ -35,95 +35,98 @@ impl Mark {
 
     /// Returns whether the route takes the alert, once all routes have been seen.
     fn is_chosen(self) -> bool
-        ensures { result ≡ is_chosen_mark self }
+        ensures { result ≡ is_chosen_standing self }
     {
         self.is_open && !self.is_taken
     }
 }
 
-/// Returns the numbers of the routes that are chosen by these marks.
-fn chosen_numbers(alloc: Global, marks: &[Mark]) -> Result<Vec<usize>, AllocError>
-    ensures { IfOk result (λ places. places.items ≡ chosen_numbers marks.now (length marks.now)) }
+/// Returns the numbers of the routes that are chosen by these standings.
+fn chosen_numbers(alloc: Global, standings: &[Standing]) -> Result<Vec<usize>, AllocError>
+    ensures { IfOk result (λ places. places.items
+        ≡ chosen_numbers standings.now (length standings.now)) }
 {
     let mut places = Vec::new(alloc);
-    for (place, mark) in marks.iter().enumerate() {
-        if mark.is_chosen() {
+    for (place, standing) in standings.iter().enumerate() {
+        if standing.is_chosen() {
             places.push(place)?;
         }
     }
     Ok(places)
 }
 
-/// Returns the marks of all routes.
-fn marks(
+/// Returns the standings of all routes.
+fn standings(
     alloc: Global,
-    answers: &mut Answers,
+    answers: &mut MatchCache,
     config: &Config,
     labels: &Labels,
-) -> Result<Vec<Mark>, AllocError>
-    ensures { IfOk result (λ marks. marks.items
-        ≡ marks_at config.now labels.now (length config.now.routes)) }
+) -> Result<Vec<Standing>, AllocError>
+    ensures { IfOk result (λ standings. standings.items
+        ≡ standings_at config.now labels.now (length config.now.routes)) }
 {
-    let mut marks = Vec::new(alloc);
+    let mut standings = Vec::new(alloc);
     for _route in 0..config.route_count() {
-        mark_next(answers, config, labels, &mut marks)?;
+        note_next(answers, config, labels, &mut standings)?;
     }
-    Ok(marks)
+    Ok(standings)
 }
 
-/// Marks the next route.
-fn mark_next(
-    answers: &mut Answers,
+/// Notes the next route.
+fn note_next(
+    answers: &mut MatchCache,
     config: &Config,
     labels: &Labels,
-    marks: &mut Vec<Mark>,
+    standings: &mut Vec<Standing>,
 ) -> Result<(), AllocError>
-    requires next { vec_len marks.old < length config.now.routes }
-    requires so_far { marks.old.items ≡ marks_at config.now labels.now (vec_len marks.old) }
-    ensures { OnOk result (marks.new.items
-        ≡ marks_at config.now labels.now (vec_len marks.old + 1)) }
+    requires next { vec_len standings.old < length config.now.routes }
+    requires so_far { standings.old.items
+        ≡ standings_at config.now labels.now (vec_len standings.old) }
+    ensures { OnOk result (standings.new.items
+        ≡ standings_at config.now labels.now (vec_len standings.old + 1)) }
 {
-    let settings = config.route(marks.len());
+    let settings = config.route(standings.len());
     match settings.parent {
         None => {
             let is_open = settings.matchers.matches_all(answers, labels)?;
-            marks.push(Mark::seen(is_open))?;
+            standings.push(Standing::new(is_open))?;
             Ok(())
         }
-        Some(parent) => mark_child(answers, config, labels, parent, marks),
+        Some(parent) => note_child(answers, config, labels, parent, standings),
     }
 }
 
-/// Marks the next route, which has a parent.
-fn mark_child(
-    answers: &mut Answers,
+/// Notes the next route, which has a parent.
+fn note_child(
+    answers: &mut MatchCache,
     config: &Config,
     labels: &Labels,
     parent: usize,
-    marks: &mut Vec<Mark>,
+    standings: &mut Vec<Standing>,
 ) -> Result<(), AllocError>
-    requires next { vec_len marks.old < length config.now.routes }
-    requires child { parent_of config.now (vec_len marks.old) ≡ Some parent }
-    requires so_far { marks.old.items ≡ marks_at config.now labels.now (vec_len marks.old) }
-    ensures { OnOk result (marks.new.items
-        ≡ marks_at config.now labels.now (vec_len marks.old + 1)) }
+    requires next { vec_len standings.old < length config.now.routes }
+    requires child { parent_of config.now (vec_len standings.old) ≡ Some parent }
+    requires so_far { standings.old.items
+        ≡ standings_at config.now labels.now (vec_len standings.old) }
+    ensures { OnOk result (standings.new.items
+        ≡ standings_at config.now labels.now (vec_len standings.old + 1)) }
 {
-    let settings = config.route(marks.len());
-    let above = marks[parent];
+    let settings = config.route(standings.len());
+    let above = standings[parent];
     if !above.is_open || above.is_closed {
-        marks.push(Mark::seen(false))?;
+        standings.push(Standing::new(false))?;
         return Ok(());
     }
     if !settings.matchers.matches_all(answers, labels)? {
-        marks.push(Mark::seen(false))?;
+        standings.push(Standing::new(false))?;
         return Ok(());
     }
-    marks[parent] = Mark {
+    standings[parent] = Standing {
         is_open: true,
         is_taken: true,
         is_closed: !settings.continues,
     };
-    marks.push(Mark::seen(true))?;
+    standings.push(Standing::new(true))?;
     Ok(())
 }
 
@@ -134,9 +137,9 @@ impl Config {
     /// child that matches it, unless that child has `continue: true`. If no child of a route
     /// matches, the route takes the alert itself (`route` of Alertmanager's configuration).
     pub fn routes_of(&self, alloc: Global, labels: &Labels) -> Result<Vec<usize>, AllocError>
-        ensures { IfOk result (λ routes. routes.items ≡ chosen self.now labels.now) }
+        ensures { IfOk result (λ routes. routes.items ≡ chosen_routes self.now labels.now) }
     {
-        chosen_routes(alloc, &mut Answers::none(alloc), self, labels)
+        chosen_routes(alloc, &mut MatchCache::none(alloc), self, labels)
     }
 }
 
@@ -144,12 +147,12 @@ impl Config {
 /// asks the patterns of the matchers through the remembered answers.
 pub(crate) fn chosen_routes(
     alloc: Global,
-    answers: &mut Answers,
+    answers: &mut MatchCache,
     config: &Config,
     labels: &Labels,
 ) -> Result<Vec<usize>, AllocError>
-    ensures { IfOk result (λ routes. routes.items ≡ chosen config.now labels.now) }
+    ensures { IfOk result (λ routes. routes.items ≡ chosen_routes config.now labels.now) }
 {
-    let marks = marks(alloc, answers, config, labels)?;
-    chosen_numbers(alloc, marks.as_slice())
+    let standings = standings(alloc, answers, config, labels)?;
+    chosen_numbers(alloc, standings.as_slice())
 }

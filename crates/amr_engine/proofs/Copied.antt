@@ -12,9 +12,9 @@ use Rattle.std.proofs.lemmas.List.Sums.{sum_by-cons}
 use Rattle.amr_labels.specs.Map.{Map, get, insert, entries, empty, len, get-insert, get-empty, get-entries, entries-insert, entries-sorted}
 use Rattle.amr_labels.specs.Labels.{LabelSet, label_set_cmp, label_set_cmp_total}
 use Rattle.amr_config.specs.Stated.Config.{Config}
-use Rattle.amr_config.specs.Routing.{chosen, is_chosen}
+use Rattle.amr_config.specs.Routing.{chosen_routes, is_chosen}
 use Rattle.amr_rules.specs.declared.alert.Alert.{Alert}
-use Rattle.amr_rules.specs.Alerts.{joined}
+use Rattle.amr_rules.specs.Alerts.{alert_to_store}
 use Rattle.amr_engine.specs.declared.state.route_labels.RouteLabels.{RouteLabels}
 use Rattle.amr_engine.specs.State.State.{State, on_route, route_labels_cmp, route_labels_cmp_total, route_labels_cmp-IsAntisymmetric, place_on, place}
 use Rattle.amr_engine.specs.Events.{put, with_config}
@@ -79,20 +79,20 @@ place_on-config labels alert (r ∷ rs) s = place_on-config labels alert rs (pla
 
 pub place-config : (s : State) (alert : LabelSet × Alert) → (place s alert).config ≡ s.config
 unfolding place
-place-config s alert = place_on-config alert.0 alert.1 (chosen s.config alert.0) s
+place-config s alert = place_on-config alert.0 alert.1 (chosen_routes s.config alert.0) s
 
 pub put-config : (s : State) (alert : LabelSet × Alert) → (put s alert).config ≡ s.config
 unfolding put
-put-config s alert = place-config (record s { alerts = insert s.alerts alert.0 (joined s.moment (get s.alerts alert.0) alert.1) }) (alert.0, joined s.moment (get s.alerts alert.0) alert.1)
+put-config s alert = place-config (record s { alerts = insert s.alerts alert.0 (alert_to_store s.moment (get s.alerts alert.0) alert.1) }) (alert.0, alert_to_store s.moment (get s.alerts alert.0) alert.1)
 
-place_len : (s : State) (alert : LabelSet × Alert) → IsFree s alert.0 0 → len (place s alert).placements ≡ len s.placements + length (chosen s.config alert.0)
-unfolding place chosen
+place_len : (s : State) (alert : LabelSet × Alert) → IsFree s alert.0 0 → len (place s alert).placements ≡ len s.placements + length (chosen_routes s.config alert.0)
+unfolding place chosen_routes
 place_len s alert free = placed_len (is_chosen s.config alert.0) alert.0 alert.1 (length s.config.routes) 0 s free
 
 place_free : (s : State) (alert : LabelSet × Alert) (labels : LabelSet) → label_set_cmp alert.0 labels ≡ Less → IsFree s labels 0 → IsFree (place s alert) labels 0
 unfolding place
 place_free s alert labels less free = λ route le.
-    placed_free alert.0 alert.1 (chosen s.config alert.0) s (on_route route labels)
+    placed_free alert.0 alert.1 (chosen_routes s.config alert.0) s (on_route route labels)
     (λ same. let level : Equal ≡ Less = sym (tied_itself label_set_cmp_total alert.0) ∙ ap (label_set_cmp alert.0) (sym same) ∙ less in absurd (cc)) (free route le)
 
 -- no member has the labels of any of these alerts
@@ -123,8 +123,8 @@ placed_all config [] s same sorted free = omega arith
 placed_all config (alert ∷ alerts) s same sorted free =
     let parts = both_parts (below_all label_set_cmp alert.0 alerts) (is_sorted label_set_cmp alerts) sorted in
     placed_all config alerts (place s alert) (place-config s alert ∙ same) parts.1 (rest_free s alert alerts parts.0 free.1)
-    ∙ ap (λ k. k + copies config alerts) (place_len s alert free.0 ∙ ap (λ c. len s.placements + length (chosen c alert.0)) same)
-    ∙ omega (arith, sum_by-cons (λ (a : LabelSet × Alert). length (chosen config a.0)) alert alerts)
+    ∙ ap (λ k. k + copies config alerts) (place_len s alert free.0 ∙ ap (λ c. len s.placements + length (chosen_routes c alert.0)) same)
+    ∙ omega (arith, sum_by-cons (λ (a : LabelSet × Alert). length (chosen_routes config a.0)) alert alerts)
 
 none_placed : (s : State) (config : Config) (alerts : List (LabelSet × Alert)) → AreFree (record s { config = config; placements = empty; timers = empty }) alerts
 unfolding AreFree

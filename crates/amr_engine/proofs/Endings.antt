@@ -11,7 +11,7 @@ use Rattle.amr_engine.specs.Moves.{move, advance}
 use Rattle.amr_engine.specs.Events.{do_event, after_event, outcome_of, outcome_from, skipped_of, judge, finish, after_act, at_moment, on_ok, move_limit}
 use Rattle.amr_engine.specs.Outcomes.{acceptance, refusal}
 use Rattle.amr_engine.specs.Applied.{ComesTo, run_moved}
-use Rattle.amr_engine.specs.Prepared.{IsPrepared, DoesAsPrepared, Stays, performed, skipped_by}
+use Rattle.amr_engine.specs.Prepared.{IsPrepared, DoesAsPrepared, Stays, after_prepared, skipped_by}
 use Rattle.amr_engine.specs.declared.prepare.Prepared as prepare
 use Rattle.amr_events.specs.declared.posts.reason.Reason as code
 use Rattle.amr_engine.proofs.RunsLaws.{run_within-sound}
@@ -115,14 +115,14 @@ module _ (s : State) (event : Event) (at : Moment) (act : Act) (at_is : at ≡ e
   -- too many moves are due
   pub refused_by_moves : (prepared : prepare.Prepared) → DoesAsPrepared s at act prepared → None ≡ run_moved at (advance move_limit at s) → ComesTo s event s (refusal 21)
   refused_by_moves prepared does over =
-      subst (λ (e : Event). ComesTo s e s (refusal 21)) the_event (act_is_over s at act (performed prepared (at_moment at s)) no_label h (does.does (at_moment at s) (at_first s at)) over)
+      subst (λ (e : Event). ComesTo s e s (refusal 21)) the_event (act_is_over s at act (after_prepared prepared (at_moment at s)) no_label h (does.does (at_moment at s) (at_first s at)) over)
 
   -- the action is done after the moves
   pub done_after_moves : (prepared : prepare.Prepared) (count : ℕ) (next done : State) (skipped : List ℕ) → DoesAsPrepared s at act prepared → Some (count, next) ≡ run_moved at (advance move_limit at s)
-      → done ≡ performed prepared next → skipped ≡ skipped_by prepared → ComesTo s event done (acceptance count (drop (length s.notes) done.notes) skipped)
+      → done ≡ after_prepared prepared next → skipped ≡ skipped_by prepared → ComesTo s event done (acceptance count (drop (length s.notes) done.notes) skipped)
   done_after_moves prepared count next done skipped does ran acted left =
       subst (λ (e : Event). ComesTo s e done (acceptance count (drop (length s.notes) done.notes) skipped)) the_event
-      (act_accepted s at act (performed prepared (at_moment at s)) count next done skipped no_label h (does.does (at_moment at s) (at_first s at)) ran
+      (act_accepted s at act (after_prepared prepared (at_moment at s)) count next done skipped no_label h (does.does (at_moment at s) (at_first s at)) ran
       (does.does next (stays s at count next ran) ∙ ap (λ (x : State). Ok x) (sym acted)) (left ∙ does.skips))
 
 -- an event before the clock

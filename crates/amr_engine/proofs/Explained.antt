@@ -8,7 +8,7 @@ use Rattle.amr_labels.specs.Set.{contains}
 use Rattle.amr_labels.specs.Labels.{Text, LabelSet}
 use Rattle.amr_time.specs.Time.{Moment}
 use Rattle.amr_config.specs.declared.stated.receiver.Integration.{Integration}
-use Rattle.amr_config.specs.Routing.{chosen, group_of, path_of, integrations_of, receiver_name_of, is_active_at, is_muted_at}
+use Rattle.amr_config.specs.Routing.{chosen_routes, group_of, path_of, integrations_of, receiver_name_of, is_active_at, is_muted_at}
 use Rattle.amr_rules.specs.declared.alert.Alert.{Alert}
 use Rattle.amr_rules.specs.declared.dedup.LogEntry.{LogEntry}
 use Rattle.amr_rules.specs.Alerts.{is_resolved_at}
@@ -23,7 +23,7 @@ use Rattle.amr_engine.specs.declared.explain.Finding.{Finding}
 use Rattle.amr_engine.specs.declared.explain.Finding.TheVariants.{Waiting, Inhibited, OutsideActive, TimeMuted, Silenced, Told, Due}
 use Rattle.amr_engine.specs.declared.explain.Verdict.{Verdict}
 use Rattle.amr_engine.specs.declared.explain.Verdict.TheVariants.{Unknown, Ended, AtRoute}
-use Rattle.amr_engine.specs.Explain.{waiting, logged, heard, finding, asked, kind_and_place, verdict_at, verdicts_of_group, verdicts_at, verdicts_of_stored, verdicts}
+use Rattle.amr_engine.specs.Explain.{waiting, finding_of_entry, heard, finding, integrations_or_none, kind_and_place, verdict_at, verdicts_of_group, verdicts_at, verdicts_of_stored, verdicts}
 use Rattle.amr_engine.specs.Told.{HasNotification, LogIsNotified, ToldIsNotified}
 use Rattle.amr_engine.proofs.Listed.{none_listed, first_or_rest, from_map, from_flat_map}
 
@@ -80,7 +80,7 @@ module _ (s : State) (labels : LabelSet) (notified : LogIsNotified s) where
       let same : entry.time ≡ at = cc in subst (λ t. HasNotification s.notes t key labels) same (notified key entry labels is fires)
   entry_told key timer at entry false is fires e = absurd (cc)
 
-  log_told : (key : LogKey) (timer : GroupTimer) (at : Moment) (o : Option LogEntry) → get s.log key ≡ o → logged labels timer o ≡ Told at → HasNotification s.notes at key labels
+  log_told : (key : LogKey) (timer : GroupTimer) (at : Moment) (o : Option LogEntry) → get s.log key ≡ o → finding_of_entry labels timer o ≡ Told at → HasNotification s.notes at key labels
   log_told key timer at None is e = absurd (cc)
   log_told key timer at (Some entry) is e = entry_told key timer at entry (contains entry.firing labels) is refl e
 
@@ -122,7 +122,7 @@ module _ (s : State) (labels : LabelSet) (notified : LogIsNotified s) where
   group_told chosen_route None route receiver integration at listed = absurd (none_listed (AtRoute route receiver integration (Told at)) listed)
   group_told chosen_route (Some timer) route receiver integration at listed =
       let group : RouteLabels = on_route chosen_route (group_of s.config chosen_route labels) in
-      let one = from_map (verdict_at s group labels timer) (asked (integrations_of s.config chosen_route)) (AtRoute route receiver integration (Told at)) listed in
+      let one = from_map (verdict_at s group labels timer) (integrations_or_none (integrations_of s.config chosen_route)) (AtRoute route receiver integration (Told at)) listed in
       verdict_told chosen_route timer one.0 route receiver integration at one.2
 
   routes_told : (routes : List ℕ) → ToldIsNotified s labels (flat_map (verdicts_at s labels) routes)
@@ -139,9 +139,9 @@ module _ (s : State) (labels : LabelSet) (notified : LogIsNotified s) where
 
   stored_told : (o : Option Alert) → ToldIsNotified s labels (verdicts_of_stored s labels o)
   stored_told None = no_other Unknown (λ route receiver integration at e. absurd (cc))
-  stored_told (Some alert) = elim (is_resolved_at s.moment alert) as (λ b. ToldIsNotified s labels (if b then Ended ∷ [] else flat_map (verdicts_at s labels) (chosen s.config labels))) [
+  stored_told (Some alert) = elim (is_resolved_at s.moment alert) as (λ b. ToldIsNotified s labels (if b then Ended ∷ [] else flat_map (verdicts_at s labels) (chosen_routes s.config labels))) [
     | true ↦ no_other Ended (λ route receiver integration at e. absurd (cc))
-    | false ↦ routes_told (chosen s.config labels)
+    | false ↦ routes_told (chosen_routes s.config labels)
   ]
 
   pub told_is_notified : ToldIsNotified s labels (verdicts s labels)

@@ -9,7 +9,7 @@ use Rattle.amr_labels.specs.Map.{entries, len}
 use Rattle.amr_labels.specs.Labels.{LabelSet}
 use Rattle.amr_time.specs.Time.{Moment}
 use Rattle.amr_config.specs.Stated.Config.{Config}
-use Rattle.amr_config.specs.Routing.{chosen}
+use Rattle.amr_config.specs.Routing.{chosen_routes}
 use Rattle.amr_rules.specs.declared.alert.Alert.{Alert}
 use Rattle.amr_events.specs.Actions.Events.{Event, Act, is_label}
 use Rattle.amr_events.specs.Actions.Acts.{event_at}
@@ -81,10 +81,10 @@ fold_left f s xs i x less is = at_drop_more (fold f s) xs i x less ∙ ap (λ y.
 
 -- one more alert is inserted into its groups
 pub placed_more : (config was : Config) (alerts : List (LabelSet × Alert)) (i : ℕ) (alert : LabelSet × Alert) (now later bound : ℕ) → now + 2 * copies config (drop i alerts) ≤ bound
-    → i < length alerts → alert ≡ get_or alerts i alert → was ≡ config → later ≤ now + 2 * length (chosen was alert.0) → later + 2 * copies config (drop (i + 1) alerts) ≤ bound
+    → i < length alerts → alert ≡ get_or alerts i alert → was ≡ config → later ≤ now + 2 * length (chosen_routes was alert.0) → later + 2 * copies config (drop (i + 1) alerts) ≤ bound
 placed_more config was alerts i alert now later bound so_far less is same grown =
-    let left : copies config (drop i alerts) ≡ length (chosen config alert.0) + copies config (drop (i + 1) alerts) = one_more (λ a. length (chosen config a.0)) alerts i alert less is in
-    let here : length (chosen was alert.0) ≡ length (chosen config alert.0) = ap (λ c. length (chosen c alert.0)) same in
+    let left : copies config (drop i alerts) ≡ length (chosen_routes config alert.0) + copies config (drop (i + 1) alerts) = one_more (λ a. length (chosen_routes config a.0)) alerts i alert less is in
+    let here : length (chosen_routes was alert.0) ≡ length (chosen_routes config alert.0) = ap (λ c. length (chosen_routes c alert.0)) same in
     omega (arith, left, here, so_far, grown)
 
 -- one more alert is stored

@@ -1,5 +1,5 @@
 pub mod Arriving
 pub mod Sources
-pub mod SilencesKnown
+pub mod CachedSilences
 pub mod CaughtUp
-pub mod ValueMarks
+pub mod ValueBits

@@ -13,10 +13,10 @@ use Rattle.amr_labels.specs.Labels.{LabelSet}
 use Rattle.amr_time.specs.Time.{Moment}
 use Rattle.amr_config.specs.declared.stated.receiver.Integration.{Integration}
 use Rattle.amr_config.specs.Stated.Config.{Config}
-use Rattle.amr_config.specs.Routing.{HasOwnPath, chosen, integrations_of, repeat_interval_of}
+use Rattle.amr_config.specs.Routing.{HasOwnPath, chosen_routes, integrations_of, repeat_interval_of}
 use Rattle.amr_config.specs.Groups.{groups_of, group_at}
 use Rattle.amr_rules.specs.declared.alert.Alert.{Alert}
-use Rattle.amr_rules.specs.Alerts.{joined}
+use Rattle.amr_rules.specs.Alerts.{alert_to_store}
 use Rattle.amr_rules.specs.Dedup.{LabelSets, needs_update}
 use Rattle.amr_rules.specs.Muting.{Alerts}
 use Rattle.amr_rules.specs.Silences.{Silences}
@@ -155,8 +155,8 @@ left_by_post : (s : State) (times : Times) (alert : LabelSet × Alert) (group : 
     → (IsNotifiedIn s group time.period → IsNotifiedIn (events.put s alert) group time.period) × (get times group ≡ Some time)
 unfolding events.put place groups_of
 left_by_post s times alert group time known =
-    let stored : Alert = joined s.moment (get s.alerts alert.0) alert.1 in
-    let after = left_by_places alert.0 stored (chosen s.config alert.0) (record s { alerts = insert s.alerts alert.0 stored }) times group time known in
+    let stored : Alert = alert_to_store s.moment (get s.alerts alert.0) alert.1 in
+    let after = left_by_places alert.0 stored (chosen_routes s.config alert.0) (record s { alerts = insert s.alerts alert.0 stored }) times group time known in
     (λ notified. after.0 (beside_notified s s.moment (insert s.alerts alert.0 stored) s.silences s.timers s.notes group time.period notified), after.1)
 
 -- a post of alerts leaves the groups notified that none of them joins

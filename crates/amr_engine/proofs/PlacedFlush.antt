@@ -11,7 +11,7 @@ use Rattle.amr_labels.specs.Labels.{LabelSet}
 use Rattle.amr_time.specs.Time.{Moment}
 use Rattle.amr_config.specs.declared.stated.receiver.Integration.{Integration}
 use Rattle.amr_config.specs.Stated.Config.{Config}
-use Rattle.amr_config.specs.Routing.{chosen, integrations_of, group_interval_of, repeat_interval_of}
+use Rattle.amr_config.specs.Routing.{chosen_routes, integrations_of, group_interval_of, repeat_interval_of}
 use Rattle.amr_rules.specs.declared.alert.Alert.{Alert}
 use Rattle.amr_rules.specs.Alerts.{is_resolved_at}
 use Rattle.amr_rules.specs.declared.dedup.LogEntry.{LogEntry}
@@ -205,17 +205,17 @@ module _ (at now : Moment) (group : RouteLabels) (s : State) (order : now ≤ at
       let no : true ≡ false = sym over ∙ ap (is_resolved_at now) values ∙ still_resolved now at alert order fires in absurd (cc))
       ms (each_had s.config group s.placements)
 
-  dropped_copied : (labels : LabelSet) (alert : Alert) → get dropped.alerts labels ≡ Some alert → is_resolved_at at alert ≡ false → (route : ℕ) → Contains (chosen dropped.config labels) route
+  dropped_copied : (labels : LabelSet) (alert : Alert) → get dropped.alerts labels ≡ Some alert → is_resolved_at at alert ≡ false → (route : ℕ) → Contains (chosen_routes dropped.config labels) route
       → get dropped.placements (on_route route labels) ≡ Some alert
   dropped_copied labels alert is fires route takes =
       let before : get s.placements (on_route route labels) ≡ Some alert =
       placed.copied labels alert (ap (λ m. get m labels) (sym (dropped_alerts group (resolved_of now ms) s)) ∙ is) fires route
-      (subst (λ (c : Config). Contains (chosen c labels) route) (dropped_config group (resolved_of now ms) s) takes) in
+      (subst (λ (c : Config). Contains (chosen_routes c labels) route) (dropped_config group (resolved_of now ms) s) takes) in
       not_dropped group (resolved_of now ms) s (on_route route labels) alert (stays labels alert route fires before) before
 
-  dropped_chosen : (member : RouteLabels) (copy : Alert) → get dropped.placements member ≡ Some copy → Contains (chosen dropped.config member.labels) member.route
+  dropped_chosen : (member : RouteLabels) (copy : Alert) → get dropped.placements member ≡ Some copy → Contains (chosen_routes dropped.config member.labels) member.route
   dropped_chosen member copy e =
-      subst (λ (c : Config). Contains (chosen c member.labels) member.route) (sym (dropped_config group (resolved_of now ms) s))
+      subst (λ (c : Config). Contains (chosen_routes c member.labels) member.route) (sym (dropped_config group (resolved_of now ms) s))
       (placed.chosen_only member copy (dropped_before group (resolved_of now ms) s member copy e))
 
   dropped_timed : (member : RouteLabels) (copy : Alert) → get dropped.placements member ≡ Some copy → IsTimed dropped (group_key dropped.config member)

@@ -4,7 +4,7 @@ use Rattle.std.specs.List.{Contains}
 use Rattle.std.proofs.Common.{refl, sym, subst, inl, inr}
 use Rattle.amr_labels.specs.Map.{get, entries}
 use Rattle.amr_labels.specs.Labels.{LabelSet}
-use Rattle.amr_config.specs.Routing.{chosen}
+use Rattle.amr_config.specs.Routing.{chosen_routes}
 use Rattle.amr_rules.specs.declared.alert.Alert.{Alert}
 use Rattle.amr_engine.specs.declared.state.notification.GroupTimer.{GroupTimer}
 use Rattle.amr_engine.specs.declared.state.route_labels.RouteLabels.{RouteLabels}
@@ -49,14 +49,14 @@ module _ (s : State) (placed : ArePlaced s) where
         member = contains_image (λ (m : LabelSet × Alert). m.0) (labels, alert) (members_among s.config s.placements group) (among_members s.config group s.placements member alert is refl);
       }
 
-  only_listed : (group : Group) → Contains (groups_of s) group → (labels : LabelSet) → Contains group.members labels → Contains (chosen s.config labels) group.route
+  only_listed : (group : Group) → Contains (groups_of s) group → (labels : LabelSet) → Contains group.members labels → Contains (chosen_routes s.config labels) group.route
   unfolding members
   only_listed group listed labels has =
       let known = from_image (λ (x : RouteLabels × GroupTimer). Unit {0}) (group_seen s) (entries s.timers) group (each_is (entries s.timers)) listed in
       let key : RouteLabels = known.0.0 in
       let member = from_image (IsHad s.config key s.placements) (λ (m : LabelSet × Alert). m.0) (members_among s.config s.placements key) labels (each_had s.config key s.placements)
       (subst (λ (g : Group). Contains g.members labels) (sym known.2) has) in
-      subst (λ (p : LabelSet × ℕ). Contains (chosen s.config p.0) p.1) (λ i. (member.2 i, (known.2 i).route)) (placed.chosen_only (on_route key.route member.0.0) member.0.1 member.1)
+      subst (λ (p : LabelSet × ℕ). Contains (chosen_routes s.config p.0) p.1) (λ i. (member.2 i, (known.2 i).route)) (placed.chosen_only (on_route key.route member.0.0) member.0.1 member.1)
 
   pub are_listed : AreListed s (groups_of s)
   are_listed = record {

@@ -7,9 +7,9 @@ use Rattle.amr_labels.specs.Map.{get, insert, entries, empty, get-empty}
 use Rattle.amr_labels.specs.Labels.{LabelSet, label_set_cmp, label_set_cmp_total, label_set_cmp-IsAntisymmetric}
 use Rattle.amr_time.specs.Time.{Moment, Span}
 use Rattle.amr_config.specs.Stated.Config.{Config}
-use Rattle.amr_config.specs.Routing.{chosen, group_wait_of}
+use Rattle.amr_config.specs.Routing.{chosen_routes, group_wait_of}
 use Rattle.amr_rules.specs.declared.alert.Alert.{Alert}
-use Rattle.amr_rules.specs.Alerts.{joined, is_resolved_at}
+use Rattle.amr_rules.specs.Alerts.{alert_to_store, is_resolved_at}
 use Rattle.amr_engine.specs.declared.state.notification.GroupTimer.{GroupTimer}
 use Rattle.amr_engine.specs.declared.state.route_labels.RouteLabels.{RouteLabels}
 use Rattle.amr_engine.specs.State.State.{State, on_route, route_labels_cmp, route_labels_cmp_total, route_labels_cmp-IsAntisymmetric, group_key, timer_with, place_on, place}
@@ -26,7 +26,7 @@ labels_or_apart = same_or_apart label_set_cmp_total label_set_cmp-IsAntisymmetri
 
 -- what holds of the members of all groups, whatever is stored
 pub record AreInGroups (s : State) : Type 0 where
-  pub chosen_only : (member : RouteLabels) (copy : Alert) → get s.placements member ≡ Some copy → Contains (chosen s.config member.labels) member.route
+  pub chosen_only : (member : RouteLabels) (copy : Alert) → get s.placements member ≡ Some copy → Contains (chosen_routes s.config member.labels) member.route
   pub timed : (member : RouteLabels) (copy : Alert) → get s.placements member ≡ Some copy → IsTimed s (group_key s.config member)
 
 -- the timers of another state
@@ -38,9 +38,9 @@ pub placed_as : (at : Moment) (s t : State) → t.config ≡ s.config → t.aler
 placed_as at s t config alerts placements timers placed = record {
   copied = λ labels alert is fires route takes.
       ap (λ m. get m (on_route route labels)) placements
-      ∙ placed.copied labels alert (ap (λ m. get m labels) (sym alerts) ∙ is) fires route (subst (λ (c : Config). Contains (chosen c labels) route) config takes);
+      ∙ placed.copied labels alert (ap (λ m. get m labels) (sym alerts) ∙ is) fires route (subst (λ (c : Config). Contains (chosen_routes c labels) route) config takes);
   chosen_only = λ member copy is.
-      subst (λ (c : Config). Contains (chosen c member.labels) member.route) (sym config) (placed.chosen_only member copy (ap (λ m. get m member) (sym placements) ∙ is));
+      subst (λ (c : Config). Contains (chosen_routes c member.labels) member.route) (sym config) (placed.chosen_only member copy (ap (λ m. get m member) (sym placements) ∙ is));
   timed = λ member copy is.
       subst (λ (c : Config). IsTimed t (group_key c member)) (sym config)
       (timed_as s t (group_key s.config member) timers (placed.timed member copy (ap (λ m. get m member) (sym placements) ∙ is)));
@@ -79,10 +79,10 @@ module _ (labels : LabelSet) (alert : Alert) (s : State) (route : ℕ) where
   placed_elsewhere : (q : RouteLabels) → eq_by_cmp route_labels_cmp q (on_route route labels) ≡ false → get (place_on labels alert s route).placements q ≡ get s.placements q
   placed_elsewhere q apart = get-insert_apart route_labels_cmp_total route_labels_cmp-IsAntisymmetric s.placements (on_route route labels) alert q apart
 
-  place_on_in_groups : Contains (chosen s.config labels) route → AreInGroups s → AreInGroups (place_on labels alert s route)
+  place_on_in_groups : Contains (chosen_routes s.config labels) route → AreInGroups s → AreInGroups (place_on labels alert s route)
   place_on_in_groups takes before = record {
     chosen_only = λ member copy e. elim (key_or_apart member (on_route route labels)) [
-      | inl same ↦ subst (λ (m : RouteLabels). Contains (chosen s.config m.labels) m.route) (sym same) takes
+      | inl same ↦ subst (λ (m : RouteLabels). Contains (chosen_routes s.config m.labels) m.route) (sym same) takes
       | inr apart ↦ before.chosen_only member copy (sym (placed_elsewhere member apart.1) ∙ e)
     ];
     timed = λ member copy e. elim (key_or_apart member (on_route route labels)) [
@@ -108,7 +108,7 @@ module _ (labels : LabelSet) (alert : Alert) (s : State) (route : ℕ) where
 -- ---- an alert on all its routes
 
 module _ (labels : LabelSet) (alert : Alert) where
-  on_each_in_groups : (rs : List ℕ) (s : State) → Each (Contains (chosen s.config labels)) rs → AreInGroups s → AreInGroups (fold (place_on labels alert) s rs)
+  on_each_in_groups : (rs : List ℕ) (s : State) → Each (Contains (chosen_routes s.config labels)) rs → AreInGroups s → AreInGroups (fold (place_on labels alert) s rs)
   on_each_in_groups [] s take before = before
   on_each_in_groups (r ∷ rs) s take before = on_each_in_groups rs (place_on labels alert s r) take.1 (place_on_in_groups labels alert s r take.0 before)
 
@@ -142,31 +142,31 @@ module _ (labels : LabelSet) (alert : Alert) where
 module _ (s : State) (labels : LabelSet) (alert : Alert) where
   place_in_groups : AreInGroups s → AreInGroups (place s (labels, alert))
   unfolding place
-  place_in_groups = on_each_in_groups labels alert (chosen s.config labels) s (each_contained (chosen s.config labels) (chosen s.config labels) (λ y c. c))
+  place_in_groups = on_each_in_groups labels alert (chosen_routes s.config labels) s (each_contained (chosen_routes s.config labels) (chosen_routes s.config labels) (λ y c. c))
 
   place_still : (n : ℕ) → get s.placements (on_route n labels) ≡ Some alert → get (place s (labels, alert)).placements (on_route n labels) ≡ Some alert
   unfolding place
-  place_still = on_each_still labels alert (chosen s.config labels) s
+  place_still = on_each_still labels alert (chosen_routes s.config labels) s
 
-  place_placed : (n : ℕ) → Contains (chosen s.config labels) n → get (place s (labels, alert)).placements (on_route n labels) ≡ Some alert
+  place_placed : (n : ℕ) → Contains (chosen_routes s.config labels) n → get (place s (labels, alert)).placements (on_route n labels) ≡ Some alert
   unfolding place
-  place_placed = on_each_placed labels alert (chosen s.config labels) s
+  place_placed = on_each_placed labels alert (chosen_routes s.config labels) s
 
   place_others : (q : RouteLabels) → (q.labels ≡ labels → ⊥) → get (place s (labels, alert)).placements q ≡ get s.placements q
   unfolding place
-  place_others = on_each_others labels alert (chosen s.config labels) s
+  place_others = on_each_others labels alert (chosen_routes s.config labels) s
 
   place_alerts : (place s (labels, alert)).alerts ≡ s.alerts
   unfolding place
-  place_alerts = on_each_alerts labels alert (chosen s.config labels) s
+  place_alerts = on_each_alerts labels alert (chosen_routes s.config labels) s
 
   place_config : (place s (labels, alert)).config ≡ s.config
   unfolding place
-  place_config = on_each_config labels alert (chosen s.config labels) s
+  place_config = on_each_config labels alert (chosen_routes s.config labels) s
 
   place_moment : (place s (labels, alert)).moment ≡ s.moment
   unfolding place
-  place_moment = on_each_moment labels alert (chosen s.config labels) s
+  place_moment = on_each_moment labels alert (chosen_routes s.config labels) s
 
 pub in_groups : (at : Moment) (s : State) → IsPlaced at s → AreInGroups s
 in_groups at s placed = record { chosen_only = placed.chosen_only; timed = placed.timed }
@@ -182,13 +182,13 @@ module _ (at : Moment) (s : State) (labels : LabelSet) (stored : Alert) where
 
   -- the alert itself is on its routes, and the others are where they were
   store_copied : IsPlaced at s → (asked : LabelSet) (found : Alert) → get (insert s.alerts labels stored) asked ≡ Some found → is_resolved_at at found ≡ false
-      → (route : ℕ) → Contains (chosen s.config asked) route → get after.placements (on_route route asked) ≡ Some found
+      → (route : ℕ) → Contains (chosen_routes s.config asked) route → get after.placements (on_route route asked) ≡ Some found
   store_copied placed asked found e fires route takes = elim (labels_or_apart asked labels) [
     | inl same ↦
         let value : ◌≡◌ {A = Option Alert} (Some stored) (Some found) =
         sym (get-inserted label_set_cmp_total label_set_cmp-IsAntisymmetric s.alerts labels stored) ∙ ap (get (insert s.alerts labels stored)) (sym same) ∙ e in
         subst (λ (l : LabelSet). get after.placements (on_route route l) ≡ Some found) (sym same)
-        (place_placed with_stored labels stored route (subst (λ (l : LabelSet). Contains (chosen s.config l) route) same takes) ∙ value)
+        (place_placed with_stored labels stored route (subst (λ (l : LabelSet). Contains (chosen_routes s.config l) route) same takes) ∙ value)
     | inr apart ↦
         place_others with_stored labels stored (on_route route asked) apart.0
         ∙ placed.copied asked found (sym (get-insert_apart label_set_cmp_total label_set_cmp-IsAntisymmetric s.alerts labels stored asked apart.1) ∙ e) fires route takes
@@ -198,7 +198,7 @@ module _ (at : Moment) (s : State) (labels : LabelSet) (stored : Alert) where
   stored_is_placed placed = record {
     copied = λ asked found e fires route takes.
         store_copied placed asked found (ap (λ m. get m asked) (sym (place_alerts with_stored labels stored)) ∙ e) fires route
-        (subst (λ (c : Config). Contains (chosen c asked) route) (place_config with_stored labels stored) takes);
+        (subst (λ (c : Config). Contains (chosen_routes c asked) route) (place_config with_stored labels stored) takes);
     chosen_only = then.chosen_only;
     timed = then.timed;
   }
@@ -208,11 +208,11 @@ module _ (at : Moment) (s : State) (labels : LabelSet) (stored : Alert) where
 
 pub put_placed : (at : Moment) (s : State) (alert : LabelSet × Alert) → IsPlaced at s → IsPlaced at (put s alert)
 unfolding put
-put_placed at s alert = stored_is_placed at s alert.0 (joined s.moment (get s.alerts alert.0) alert.1)
+put_placed at s alert = stored_is_placed at s alert.0 (alert_to_store s.moment (get s.alerts alert.0) alert.1)
 
 pub put_moment : (s : State) (alert : LabelSet × Alert) → (put s alert).moment ≡ s.moment
 unfolding put
-put_moment s alert = place_moment (record s { alerts = insert s.alerts alert.0 (joined s.moment (get s.alerts alert.0) alert.1) }) alert.0 (joined s.moment (get s.alerts alert.0) alert.1)
+put_moment s alert = place_moment (record s { alerts = insert s.alerts alert.0 (alert_to_store s.moment (get s.alerts alert.0) alert.1) }) alert.0 (alert_to_store s.moment (get s.alerts alert.0) alert.1)
 
 pub post_placed : (at : Moment) (alerts : List (LabelSet × Alert)) (s : State) → IsPlaced at s → IsPlaced at (fold put s alerts)
 post_placed at [] s placed = placed
@@ -258,11 +258,11 @@ module _ (labels : LabelSet) (alert : Alert) where
   fold_again [] s n agree is = is
   fold_again (e ∷ es) s n agree is = fold_again es (place s e) n agree.1 (placed_again s e n agree.0 is)
 
-  fold_placed : (es : List (LabelSet × Alert)) (s : State) (n : ℕ) → Each Agrees es → IsAmong (labels, alert) es → Contains (chosen s.config labels) n → get (fold place s es).placements (on_route n labels) ≡ Some alert
+  fold_placed : (es : List (LabelSet × Alert)) (s : State) (n : ℕ) → Each Agrees es → IsAmong (labels, alert) es → Contains (chosen_routes s.config labels) n → get (fold place s es).placements (on_route n labels) ≡ Some alert
   fold_placed [] s n agree among takes = absurd among
   fold_placed (e ∷ es) s n agree among takes = elim among [
     | inl same ↦ fold_again es (place s e) n agree.1 (subst (λ (x : LabelSet × Alert). get (place s x).placements (on_route n labels) ≡ Some alert) same (place_placed s labels alert n takes))
-    | inr later ↦ fold_placed es (place s e) n agree.1 later (subst (λ (c : Config). Contains (chosen c labels) n) (sym (place_config s e.0 e.1)) takes)
+    | inr later ↦ fold_placed es (place s e) n agree.1 later (subst (λ (c : Config). Contains (chosen_routes c labels) n) (sym (place_config s e.0 e.1)) takes)
   ]
 
 module _ (at : Moment) (s : State) (config : Config) where
@@ -288,7 +288,7 @@ module _ (at : Moment) (s : State) (config : Config) where
         let stored : get s.alerts labels ≡ Some alert = ap (λ m. get m labels) (sym (fold_alerts (entries s.alerts) emptied)) ∙ is in
         fold_placed labels alert (entries s.alerts) emptied n (entries_agree labels alert stored)
         (among_entries label_set_cmp_total label_set_cmp-IsAntisymmetric s.alerts labels alert stored)
-        (subst (λ (c : Config). Contains (chosen c labels) n) (fold_config (entries s.alerts) emptied) takes);
+        (subst (λ (c : Config). Contains (chosen_routes c labels) n) (fold_config (entries s.alerts) emptied) takes);
     chosen_only = then.chosen_only;
     timed = then.timed;
   }

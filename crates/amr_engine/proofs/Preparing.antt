@@ -15,8 +15,8 @@ use Rattle.amr_events.specs.Actions.Events.{Act}
 use Rattle.amr_rules.specs.declared.alert.Alert.{Alert}
 use Rattle.amr_rules.specs.declared.silence.Silence.{Silence}
 use Rattle.amr_rules.specs.declared.silence_update.SilenceUpdate.{SilenceUpdate}
-use Rattle.amr_rules.specs.Alerts.{completed}
-use Rattle.amr_rules.specs.Silences.{Silences, after_post, after_expiry, expired}
+use Rattle.amr_rules.specs.Alerts.{completed_alert}
+use Rattle.amr_rules.specs.Silences.{Silences, after_post, after_expiry, expired_form}
 use Rattle.amr_rules.specs.Silencing.{with_decision}
 use Rattle.amr_engine.specs.State.State.{State}
 use Rattle.amr_engine.specs.declared.post.Validated.{Validated}
@@ -41,20 +41,20 @@ put_some s (x ∷ v) h = refl
 
 -- no alert of a post is valid
 pub no_valid : (s : State) (at : Moment) (timeout : Span) (posted : List PostedAlert) (valid : Valid) → timeout ≡ s.config.resolve_timeout
-    → valid ≡ filter_map (completed at timeout) posted → (length valid == 0) ≡ true → after_act (at_moment at s) (Act.Post posted) ≡ Err 16
+    → valid ≡ filter_map (completed_alert at timeout) posted → (length valid == 0) ≡ true → after_act (at_moment at s) (Act.Post posted) ≡ Err 16
 unfolding after_act
 no_valid s at timeout posted valid same is none =
-    ap (put_all (at_moment at s)) (ap (λ (t : Span). filter_map (completed at t) posted) (sym same) ∙ sym is ∙ none_left valid none)
+    ap (put_all (at_moment at s)) (ap (λ (t : Span). filter_map (completed_alert at t) posted) (sym same) ∙ sym is ∙ none_left valid none)
 
 -- the alerts that are valid after the moves are those that are valid before them
 same_valid : (s next : State) (at : Moment) (timeout : Span) (posted : List PostedAlert) (valid : Valid) → Stays s at next → timeout ≡ s.config.resolve_timeout
-    → valid ≡ filter_map (completed at timeout) posted → valid_alerts next posted ≡ valid
+    → valid ≡ filter_map (completed_alert at timeout) posted → valid_alerts next posted ≡ valid
 same_valid s next at timeout posted valid stays same is =
-    (λ i. filter_map (completed (stays.moment i) (stays.config i).resolve_timeout) posted) ∙ ap (λ (t : Span). filter_map (completed at t) posted) (sym same) ∙ sym is
+    (λ i. filter_map (completed_alert (stays.moment i) (stays.config i).resolve_timeout) posted) ∙ ap (λ (t : Span). filter_map (completed_alert at t) posted) (sym same) ∙ sym is
 
 -- some alert of a post is valid
 pub some_valid : (s : State) (at : Moment) (timeout : Span) (posted : List PostedAlert) (validated : Validated) → timeout ≡ s.config.resolve_timeout
-    → validated.valid.items ≡ filter_map (completed at timeout) posted → validated.skipped ≡ skipped_from 1 at timeout posted → (length validated.valid.items == 0) ≡ false
+    → validated.valid.items ≡ filter_map (completed_alert at timeout) posted → validated.skipped ≡ skipped_from 1 at timeout posted → (length validated.valid.items == 0) ≡ false
     → DoesAsPrepared s at (Act.Post posted) (prepared.Put validated)
 unfolding after_act
 some_valid s at timeout posted validated same is left some = record {
@@ -86,9 +86,9 @@ some_silence s at posted silence_update own = record {
 }
 
 expires : (at : Moment) (id : ℕ) (silences : Silences) (found : Option Silence) → get silences id ≡ found
-    → after_expiry at id silences ≡ option_map_or (λ silence. Ok (insert silences id (expired at silence))) found (Err 18)
+    → after_expiry at id silences ≡ option_map_or (λ silence. Ok (insert silences id (expired_form at silence))) found (Err 18)
 unfolding after_expiry
-expires at id silences found is = ap (λ (o : Option Silence). option_map_or (λ silence. Ok (insert silences id (expired at silence))) o (Err 18)) is
+expires at id silences found is = ap (λ (o : Option Silence). option_map_or (λ silence. Ok (insert silences id (expired_form at silence))) o (Err 18)) is
 
 -- no silence has the id
 pub no_expiry : (s : State) (at : Moment) (id : ℕ) → get s.silences id ≡ None → after_act (at_moment at s) (Act.Expire id) ≡ Err 18
@@ -96,7 +96,7 @@ unfolding after_act
 no_expiry s at id missing = ap (on_ok (with_silences (at_moment at s))) (expires at id s.silences None missing)
 
 -- a silence is expired
-pub some_expiry : (s : State) (at : Moment) (id : ℕ) (silence ended : Silence) → get s.silences id ≡ Some silence → ended ≡ expired at silence
+pub some_expiry : (s : State) (at : Moment) (id : ℕ) (silence ended : Silence) → get s.silences id ≡ Some silence → ended ≡ expired_form at silence
     → DoesAsPrepared s at (Act.Expire id) (prepared.Expire id ended)
 unfolding after_act
 some_expiry s at id silence ended found is = record {

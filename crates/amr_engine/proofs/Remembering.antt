@@ -32,11 +32,11 @@ use Rattle.amr_engine.specs.declared.quiet.Period.{Period}
 use Rattle.amr_engine.specs.declared.quiet.QuietTime.{QuietTime}
 use Rattle.amr_engine.specs.declared.quiet.QuietGroups.{QuietGroups}
 use Rattle.amr_engine.specs.declared.prepare.Prepared.{Prepared}
-use Rattle.amr_engine.specs.Prepared.{performed}
+use Rattle.amr_engine.specs.Prepared.{after_prepared}
 use Rattle.amr_engine.specs.Events.{put}
 use Rattle.amr_engine.specs.Flush.{Members, let_through, labels_of, log_key_of, flush}
 use Rattle.amr_engine.specs.Quiet.{is_outside, no_alert_ends, no_source_ends, no_silence_turns, all_fire_until, is_untimed, no_repeat_before, is_notified, are_notified, with_timer_reset, IsStill, IsQuiet, IsQuietWith, IsAllNotified, LeavesOthers}
-use Rattle.amr_engine.specs.Remembered.{Times, times_in, remembered, IsNotifiedIn, IsQuietSince, IsTrueTime, IsTrueOf, Outlasts, without_all_joined}
+use Rattle.amr_engine.specs.Remembered.{Times, times_in, quiet_times, IsNotifiedIn, IsQuietSince, IsTrueTime, IsTrueOf, Outlasts, without_all_joined}
 use Rattle.amr_engine.proofs.FewerNotified.{both}
 use Rattle.amr_engine.proofs.QuietLaws.{quiet_flush, notified_flush, stays_quiet}
 use Rattle.amr_engine.proofs.NotifiedStays.{beside_notified, left_notified, other_key, still_known, now_known, left_by_posts}
@@ -45,35 +45,35 @@ use Rattle.amr_engine.proofs.QuietStays.{flush_leaves, quiet_left, still_left}
 -- ---- what is remembered
 
 -- a memory of no group is true of each state
-pub nothing_known : (memory : QuietGroups) → remembered memory ≡ empty → memory.still ≡ None → (s : State) → IsTrueOf memory s
+pub nothing_known : (memory : QuietGroups) → quiet_times memory ≡ empty → memory.still ≡ None → (s : State) → IsTrueOf memory s
 nothing_known memory times still s = record {
   quiet = λ group time known.
-      let none : get (remembered memory) group ≡ None = ap (λ (m : Times). get m group) times ∙ get-empty route_labels_cmp group in
+      let none : get (quiet_times memory) group ≡ None = ap (λ (m : Times). get m group) times ∙ get-empty route_labels_cmp group in
       absurd (cc (known, none));
   still = λ period known. absurd (cc (known, still));
 }
 
 -- one more group that is quiet
-pub one_more : (memory : QuietGroups) (table : Numbered RouteLabels QuietTime) (group : RouteLabels) (time : QuietTime) (s : State) → times_in table ≡ insert (remembered memory) group time
+pub one_more : (memory : QuietGroups) (table : Numbered RouteLabels QuietTime) (group : RouteLabels) (time : QuietTime) (s : State) → times_in table ≡ insert (quiet_times memory) group time
     → IsTrueTime memory.generation s group time.period time.generation → IsTrueOf memory s → IsTrueOf (record memory { times = table }) s
 one_more memory table group time s are is holds = record {
-  quiet = λ other its known. by other its (now_known (remembered memory) group time other its (ap (λ (m : Times). get m other) (sym are) ∙ known));
+  quiet = λ other its known. by other its (now_known (quiet_times memory) group time other its (ap (λ (m : Times). get m other) (sym are) ∙ known));
   still = holds.still;
 }
   where
-    by : (other : RouteLabels) (its : QuietTime) → ((other ≡ group) × (time ≡ its)) ⊎ (get (remembered memory) other ≡ Some its) → IsTrueTime memory.generation s other its.period its.generation
+    by : (other : RouteLabels) (its : QuietTime) → ((other ≡ group) × (time ≡ its)) ⊎ (get (quiet_times memory) other ≡ Some its) → IsTrueTime memory.generation s other its.period its.generation
     by other its (inl same) = subst (λ (x : RouteLabels × QuietTime). IsTrueTime memory.generation s x.0 x.1.period x.1.generation) (λ i. (sym same.0 i, same.1 i)) is
     by other its (inr known) = holds.quiet other its known
 
 -- or of none, if there was no room
-pub same_times : (memory : QuietGroups) (table : Numbered RouteLabels QuietTime) (s : State) → times_in table ≡ remembered memory → IsTrueOf memory s → IsTrueOf (record memory { times = table }) s
+pub same_times : (memory : QuietGroups) (table : Numbered RouteLabels QuietTime) (s : State) → times_in table ≡ quiet_times memory → IsTrueOf memory s → IsTrueOf (record memory { times = table }) s
 same_times memory table s are holds = record {
   quiet = λ group time known. holds.quiet group time (ap (λ (m : Times). get m group) (sym are) ∙ known);
   still = holds.still;
 }
 
 pub kept_if : {T E : Type 0} (r : Result T E) (memory : QuietGroups) (table : Numbered RouteLabels QuietTime) (group : RouteLabels) (time : QuietTime) (s : State)
-    → OnOk r (times_in table ≡ insert (remembered memory) group time) → OnErr r (times_in table ≡ remembered memory)
+    → OnOk r (times_in table ≡ insert (quiet_times memory) group time) → OnErr r (times_in table ≡ quiet_times memory)
     → IsTrueTime memory.generation s group time.period time.generation → IsTrueOf memory s → IsTrueOf (record memory { times = table }) s
 kept_if (Ok x) memory table group time s ok err is holds = one_more memory table group time s ok is holds
 kept_if (Err e) memory table group time s ok err is holds = same_times memory table s err holds
@@ -125,14 +125,14 @@ noted_still s from until noted period first last known still =
 
 -- the flush of a group whose route has a path of its own leaves what is known of other groups
 pub flushed_alone : (memory : QuietGroups) (table : Numbered RouteLabels QuietTime) (s : State) (group : RouteLabels) (at : Moment) → HasOwnPath s.config group.route
-    → times_in table ≡ remove (remembered memory) group → IsTrueOf memory s → IsTrueOf (record memory { times = table }) (flush at group s)
+    → times_in table ≡ remove (quiet_times memory) group → IsTrueOf memory s → IsTrueOf (record memory { times = table }) (flush at group s)
 flushed_alone memory table s flushed at own are holds =
     let t : State = flush at flushed s in
     let left : LeavesOthers flushed s t = flush_leaves flushed at s in
     let same : memory.generation ≤ memory.generation = omega arith in
     record {
       quiet = λ group time known.
-          let still = still_known (remembered memory) flushed group time (ap (λ (m : Times). get m group) (sym are) ∙ known) in
+          let still = still_known (quiet_times memory) flushed group time (ap (λ (m : Times). get m group) (sym are) ∙ known) in
           carried memory.generation memory.generation s t group time.period left.config same
           (λ notified. left_notified s t flushed left group still.0 (other_key s.config group flushed notified.own.is_there own still.0) time.period notified)
           (λ there _. quiet_left flushed s t left group still.0 (other_key s.config group flushed there own still.0) time.period.from time.period.until)
@@ -149,7 +149,7 @@ outlasts_flush memory s flushed at shared there = λ group time known notified.
     (λ integration its e. other_key s.config flushed group there notified.own (λ same. other (sym same)) its integration (sym e)) time.period notified
 
 -- a flush of a group that is remembered as quiet sets the group timer and changes nothing else
-pub known_quiet : (memory : QuietGroups) (s : State) (group : RouteLabels) (at : Moment) (time : QuietTime) → get (remembered memory) group ≡ Some time → time.period.from ≤ at → at < time.period.until
+pub known_quiet : (memory : QuietGroups) (s : State) (group : RouteLabels) (at : Moment) (time : QuietTime) → get (quiet_times memory) group ≡ Some time → time.period.from ≤ at → at < time.period.until
     → (time.generation ≡ None) ⊎ (time.generation ≡ Some memory.generation) → IsTrueOf memory s → flush at group s ≡ with_timer_reset at group s
 known_quiet memory s group at time known not_before before (inl always) holds =
     let notified : IsNotifiedIn s group time.period = subst (IsTrueTime memory.generation s group time.period) always (holds.quiet group time known) in
@@ -160,18 +160,18 @@ known_quiet memory s group at time known not_before before (inr present) holds =
 
 -- ---- a post of alerts
 
-pub joined_true : (memory : QuietGroups) (table : Numbered RouteLabels QuietTime) (s : State) (alerts : List (LabelSet × Alert)) → times_in table ≡ without_all_joined s.config (remembered memory) alerts
+pub joined_true : (memory : QuietGroups) (table : Numbered RouteLabels QuietTime) (s : State) (alerts : List (LabelSet × Alert)) → times_in table ≡ without_all_joined s.config (quiet_times memory) alerts
     → IsTrueOf memory s → IsTrueOf (record memory { times = table }) s
 joined_true memory table s alerts are holds = record {
   quiet = λ group time known.
-      holds.quiet group time (left_by_posts s.config alerts s (remembered memory) refl group time (ap (λ (m : Times). get m group) (sym are) ∙ known)).1;
+      holds.quiet group time (left_by_posts s.config alerts s (quiet_times memory) refl group time (ap (λ (m : Times). get m group) (sym are) ∙ known)).1;
   still = holds.still;
 }
 
-pub joined_outlasts : (memory : QuietGroups) (table : Numbered RouteLabels QuietTime) (s : State) (alerts : List (LabelSet × Alert)) → times_in table ≡ without_all_joined s.config (remembered memory) alerts
+pub joined_outlasts : (memory : QuietGroups) (table : Numbered RouteLabels QuietTime) (s : State) (alerts : List (LabelSet × Alert)) → times_in table ≡ without_all_joined s.config (quiet_times memory) alerts
     → Outlasts (record memory { times = table }) s (fold put s alerts)
 joined_outlasts memory table s alerts are = λ group time known.
-    (left_by_posts s.config alerts s (remembered memory) refl group time (ap (λ (m : Times). get m group) (sym are) ∙ known)).0
+    (left_by_posts s.config alerts s (quiet_times memory) refl group time (ap (λ (m : Times). get m group) (sym are) ∙ known)).0
 
 -- ---- the clock, group timers, notifications, stored alerts and silences
 
@@ -239,9 +239,9 @@ module _ (s : State) (alerts : Alerts) (none : s.config.rules ≡ []) where
 -- ---- steps of the code
 
 -- a memory that forgot what a prepared action may change, after the action
-pub performed_true : {T E : Type 0} (r : Result T E) (memory : QuietGroups) (prepared : Prepared) (s same after : State) → same ≡ s → IsTrueOf memory (performed prepared s)
-    → IfOk r (λ x. after ≡ performed prepared same) → OnOk r (IsTrueOf memory after)
-performed_true (Ok x) memory prepared s same after is holds done = subst (IsTrueOf memory) (sym (done ∙ ap (performed prepared) is)) holds
+pub performed_true : {T E : Type 0} (r : Result T E) (memory : QuietGroups) (prepared : Prepared) (s same after : State) → same ≡ s → IsTrueOf memory (after_prepared prepared s)
+    → IfOk r (λ x. after ≡ after_prepared prepared same) → OnOk r (IsTrueOf memory after)
+performed_true (Ok x) memory prepared s same after is holds done = subst (IsTrueOf memory) (sym (done ∙ ap (after_prepared prepared) is)) holds
 performed_true (Err e) memory prepared s same after is holds done = tt
 
 -- a group timer that is set leaves the memory true

@@ -5,7 +5,7 @@ use Rattle.std.proofs.lemmas.List.{nil_from_length}
 use Rattle.amr_events.specs.Actions.Events.{Event, is_label}
 use Rattle.amr_engine.specs.declared.state.change.Change.{Change}
 use Rattle.amr_engine.specs.State.State.{State}
-use Rattle.amr_engine.specs.State.Kept.{Kept, undone}
+use Rattle.amr_engine.specs.State.Kept.{Kept, before_open_record}
 use Rattle.amr_engine.specs.State.Records.{put_back, befores}
 use Rattle.amr_engine.proofs.StateLemmas.Undoing.{befores_push, length-befores, undone-idle, undone-undone}
 use Rattle.amr_engine.specs.Events.{after_event}
@@ -17,30 +17,30 @@ use Rattle.amr_engine.specs.declared.outcome.Outcome.{Outcome}
 use Rattle.amr_engine.specs.declared.outcome.Outcome.TheVariants.{Accepted, Refused}
 
 abbrev pub IsLeft : Bool → Kept → Kept → Type 0
-IsLeft true tried left = left ≡ undone tried
+IsLeft true tried left = left ≡ before_open_record tried
 IsLeft false tried left = left ≡ tried
 
 -- the store that an event leaves; its open record leads back to the store before
 pub record Settled (event : Event) (begun left : Kept) (outcome : Outcome) : Type 0 where
-  pub undone_is : undone left ≡ begun
+  pub undone_is : before_open_record left ≡ begun
   pub state : left.state ≡ after_event begun.state event
   pub empty : IsEmptyIfRefused outcome left.current
   pub short : length left.current ≤ 4 * event_weight begun.state event left.state
 
-no_current : (a b : Kept) → a ≡ undone b → a.current ≡ []
-unfolding undone
+no_current : (a b : Kept) → a ≡ before_open_record b → a.current ≡ []
+unfolding before_open_record
 no_current a b e = ap (λ (k : Kept). k.current) e
 
-pub settled : (event : Event) (begun tried left : Kept) (outcome : Outcome) → begun.current ≡ [] → Leads begun.state event tried.state outcome → undone tried ≡ undone begun
+pub settled : (event : Event) (begun tried left : Kept) (outcome : Outcome) → begun.current ≡ [] → Leads begun.state event tried.state outcome → before_open_record tried ≡ before_open_record begun
     → IsLightIfAccepted begun event tried outcome → IsLeft (is_refused outcome) tried left → Settled event begun left outcome
 settled event begun tried left (Accepted moves notes skipped) idle leads kept light is = record {
-  undone_is = ap undone is ∙ kept ∙ undone-idle begun idle;
+  undone_is = ap before_open_record is ∙ kept ∙ undone-idle begun idle;
   state = ap (λ (k : Kept). k.state) is ∙ leads.state;
   empty = tt;
   short = subst (λ (k : Kept). length k.current ≤ 4 * event_weight begun.state event k.state) (sym is) (omega (arith, ap length idle, light));
 }
 settled event begun tried left (Refused reason) idle leads kept light is = record {
-  undone_is = ap undone is ∙ undone-undone tried ∙ kept ∙ undone-idle begun idle;
+  undone_is = ap before_open_record is ∙ undone-undone tried ∙ kept ∙ undone-idle begun idle;
   state = ap (λ (k : Kept). k.state) (is ∙ kept ∙ undone-idle begun idle) ∙ leads.state;
   empty = no_current left tried is;
   short = omega (arith, ap length (no_current left tried is));
@@ -52,17 +52,17 @@ label_entryless s after event r short h =
     let none : event_weight s event after ≡ 0 = ap (λ b. if b then 0 else run_weight s event after) h in
     nil_from_length r (omega (arith, none, short))
 
-module _ (begun left : Kept) (e : undone left ≡ begun) where
+module _ (begun left : Kept) (e : before_open_record left ≡ begun) where
   pub room_is : left.room ≡ begun.room
-  unfolding undone
+  unfolding before_open_record
   room_is = ap (λ (k : Kept). k.room) e
 
   pub records_are : left.records ≡ begun.records
-  unfolding undone
+  unfolding before_open_record
   records_are = ap (λ (k : Kept). k.records) e
 
   pub state_back : put_back left.current left.state ≡ begun.state
-  unfolding undone
+  unfolding before_open_record
   state_back = ap (λ (k : Kept). k.state) e
 
   pub has_room : 0 < begun.room → 0 < left.room
@@ -76,22 +76,22 @@ module _ (begun left : Kept) (e : undone left ≡ begun) where
       ∙ (λ i. befores (records_are i) (state_back i) ++ state_back i ∷ [])
 
 -- after a failed event, the store is the one before
-pub put_back_whole : (begun tried after : Kept) → begun.current ≡ [] → undone tried ≡ undone begun → after ≡ undone tried → after ≡ begun
+pub put_back_whole : (begun tried after : Kept) → begun.current ≡ [] → before_open_record tried ≡ before_open_record begun → after ≡ before_open_record tried → after ≡ begun
 put_back_whole begun tried after idle kept is = is ∙ kept ∙ undone-idle begun idle
 
-pub is_idle : (before after : Kept) → after ≡ undone before → after.current ≡ []
+pub is_idle : (before after : Kept) → after ≡ before_open_record before → after.current ≡ []
 is_idle before after is = no_current after before is
 
 -- the last event is undone
-pub past_undone : (before reopened after : Kept) → reopened.state ≡ before.state → before.records ≡ reopened.records ++ reopened.current ∷ [] → after ≡ undone reopened
+pub past_undone : (before reopened after : Kept) → reopened.state ≡ before.state → before.records ≡ reopened.records ++ reopened.current ∷ [] → after ≡ before_open_record reopened
     → befores before.records before.state ≡ befores after.records after.state ++ after.state ∷ []
-unfolding undone
+unfolding before_open_record
 past_undone before reopened after same opened is =
     (λ i. befores (opened i) (sym same i)) ∙ befores_push reopened.records reopened.current reopened.state
     ∙ ap (λ (k : Kept). befores k.records k.state ++ k.state ∷ []) (sym is)
 
-pub records_undone : (reopened after : Kept) → after ≡ undone reopened → after.records ≡ reopened.records
-unfolding undone
+pub records_undone : (reopened after : Kept) → after ≡ before_open_record reopened → after.records ≡ reopened.records
+unfolding before_open_record
 records_undone reopened after is = ap (λ (k : Kept). k.records) is
 
 -- there is a record for each event

@@ -11,7 +11,7 @@ use Rattle.amr_labels.specs.Labels.{LabelSet}
 use Rattle.amr_time.specs.Time.{Moment}
 use Rattle.amr_config.specs.declared.stated.receiver.Integration.{Integration}
 use Rattle.amr_config.specs.Stated.Config.{Config}
-use Rattle.amr_config.specs.Routing.{chosen, integrations_of, repeat_interval_of}
+use Rattle.amr_config.specs.Routing.{chosen_routes, integrations_of, repeat_interval_of}
 use Rattle.amr_rules.specs.declared.alert.Alert.{Alert}
 use Rattle.amr_rules.specs.declared.dedup.LogEntry.{LogEntry}
 use Rattle.amr_rules.specs.Dedup.{needs_update}
@@ -147,7 +147,7 @@ move_holds due s holds = kind_holds due.kind due s holds
 
 place_holds : (s : State) (alert : LabelSet × Alert) → LogIsNotified s → LogIsNotified (place s alert)
 unfolding place
-place_holds s alert holds = fold_holds LogIsNotified (place_on alert.0 alert.1) (λ s route holds. holds) (chosen s.config alert.0) s holds
+place_holds s alert holds = fold_holds LogIsNotified (place_on alert.0 alert.1) (λ s route holds. holds) (chosen_routes s.config alert.0) s holds
 
 put_holds : (s : State) (alert : LabelSet × Alert) → LogIsNotified s → LogIsNotified (put s alert)
 unfolding put

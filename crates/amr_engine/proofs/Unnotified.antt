@@ -3,7 +3,7 @@ use Rattle.std.specs.Prelude.{◌≡◌, ℕ, zero, suc, Bool, true, false, List
 use Rattle.std.specs.Option.{option_map, option_map_or}
 use Rattle.std.specs.List.{fold}
 use Rattle.std.proofs.Common.{refl, sym, ap, ◌∙◌, append_assoc, append-nil}
-use Rattle.amr_config.specs.Routing.{integrations_of, chosen}
+use Rattle.amr_config.specs.Routing.{integrations_of, chosen_routes}
 use Rattle.amr_labels.specs.Labels.{LabelSet}
 use Rattle.amr_labels.specs.Map.{entries, empty}
 use Rattle.amr_time.specs.Time.{Moment}
@@ -129,7 +129,7 @@ module _ (earlier : List Notification) where
 
   place_after : (s : State) (alert : LabelSet × Alert) → place (after s) alert ≡ after (place s alert)
   unfolding place
-  place_after s alert = fold_after (place_on alert.0 alert.1) (λ _ _. refl) (chosen s.config alert.0) s
+  place_after s alert = fold_after (place_on alert.0 alert.1) (λ _ _. refl) (chosen_routes s.config alert.0) s
 
   put_after : (s : State) (alert : LabelSet × Alert) → put (after s) alert ≡ after (put s alert)
   unfolding put

@@ -6,7 +6,7 @@ use Rattle.amr_labels.specs.Map.{get}
 use Rattle.amr_labels.specs.Set.{contains}
 use Rattle.amr_labels.specs.Labels.{Text, LabelSet}
 use Rattle.amr_config.specs.declared.stated.receiver.Integration.{Integration}
-use Rattle.amr_config.specs.Routing.{chosen, group_of, receiver_name_of, integrations_of}
+use Rattle.amr_config.specs.Routing.{chosen_routes, group_of, receiver_name_of, integrations_of}
 use Rattle.amr_rules.specs.declared.alert.Alert.{Alert}
 use Rattle.amr_rules.specs.Alerts.{is_resolved_at}
 use Rattle.amr_rules.specs.declared.dedup.LogEntry.{LogEntry}
@@ -24,13 +24,13 @@ abbrev pub waiting : GroupTimer → Option Finding
 waiting timer = if timer.flushed then None else Some (Waiting timer.next_flush)
 
 -- what the log says at the integration: it was notified of the alert, or the next flush decides
-abbrev pub logged : LabelSet → GroupTimer → Option LogEntry → Finding
-logged labels timer None = Due timer.next_flush
-logged labels timer (Some entry) = if contains entry.firing labels then Told entry.time else Due timer.next_flush
+abbrev pub finding_of_entry : LabelSet → GroupTimer → Option LogEntry → Finding
+finding_of_entry labels timer None = Due timer.next_flush
+finding_of_entry labels timer (Some entry) = if contains entry.firing labels then Told entry.time else Due timer.next_flush
 
 abbrev pub heard : State → RouteLabels → LabelSet → GroupTimer → Option Integration → Finding
 heard s group labels timer None = Nowhere
-heard s group labels timer (Some integration) = logged labels timer (get s.log (log_key_of s.config group integration))
+heard s group labels timer (Some integration) = finding_of_entry labels timer (get s.log (log_key_of s.config group integration))
 
 -- the first that applies: the group waits for its first flush; a stage mutes the alert; what the
 -- log says
@@ -39,9 +39,9 @@ finding s group labels integration timer =
     unwrap_or (option_or (waiting timer) (taken_away s s.moment group.route labels)) (heard s group labels timer integration)
 
 -- each integration of a receiver, or one entry for a receiver without one
-abbrev pub asked : List Integration → List (Option Integration)
-asked [] = None ∷ []
-asked (integration ∷ integrations) = map Some (integration ∷ integrations)
+abbrev pub integrations_or_none : List Integration → List (Option Integration)
+integrations_or_none [] = None ∷ []
+integrations_or_none (integration ∷ integrations) = map Some (integration ∷ integrations)
 
 abbrev pub kind_and_place : Integration → Text × ℕ
 kind_and_place integration = (integration.kind, integration.place)
@@ -52,7 +52,7 @@ verdict_at s group labels timer integration =
 
 -- the answers for a group with this timer
 abbrev pub verdicts_of_group : State → RouteLabels → LabelSet → GroupTimer → List Verdict
-verdicts_of_group s group labels timer = map (verdict_at s group labels timer) (asked (integrations_of s.config group.route))
+verdicts_of_group s group labels timer = map (verdict_at s group labels timer) (integrations_or_none (integrations_of s.config group.route))
 
 -- The answers at a route, for the alert's group there. A group that doesn't exist, and so has no
 -- timer, has none; that of a stored alert that isn't resolved exists (`HasTimers`).
@@ -64,7 +64,7 @@ verdicts_at s labels route =
 abbrev pub verdicts_of_stored : State → LabelSet → Option Alert → List Verdict
 verdicts_of_stored s labels None = Unknown ∷ []
 verdicts_of_stored s labels (Some alert) =
-    if is_resolved_at s.moment alert then Ended ∷ [] else flat_map (verdicts_at s labels) (chosen s.config labels)
+    if is_resolved_at s.moment alert then Ended ∷ [] else flat_map (verdicts_at s labels) (chosen_routes s.config labels)
 
 -- the answers of `explain`, at the clock
 unfoldable pub verdicts : State → LabelSet → List Verdict

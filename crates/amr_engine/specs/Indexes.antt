@@ -1,4 +1,4 @@
 pub mod LabelValues
 pub mod RuleSources
-pub mod SilencesKnown
-pub mod ValueMarks
+pub mod CachedSilences
+pub mod ValueBits

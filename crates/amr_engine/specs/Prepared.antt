@@ -14,12 +14,12 @@ use Rattle.amr_engine.specs.declared.prepare.Prepared.TheVariants.{Put, Silence,
 use Rattle.amr_engine.specs.Events.{after_act, at_moment, put, with_silences, with_config, skipped_of}
 
 -- the state after a prepared action
-abbrev pub performed : prepare.Prepared → State → State
-performed (Put validated) s = fold put s validated.valid.items
-performed (Silence id new_id silence_update) s = with_silences s (update_stored id new_id silence_update s.silences)
-performed (Expire id ended) s = with_silences s (insert s.silences id ended)
-performed (Reload config) s = with_config s config
-performed Tick s = s
+abbrev pub after_prepared : prepare.Prepared → State → State
+after_prepared (Put validated) s = fold put s validated.valid.items
+after_prepared (Silence id new_id silence_update) s = with_silences s (update_stored id new_id silence_update s.silences)
+after_prepared (Expire id ended) s = with_silences s (insert s.silences id ended)
+after_prepared (Reload config) s = with_config s config
+after_prepared Tick s = s
 
 -- the positions of the alerts that a prepared action skips
 abbrev pub skipped_by : prepare.Prepared → List ℕ
@@ -46,7 +46,7 @@ pub record Stays (s : State) (at : Moment) (next : State) : Type 0 where
 
 -- on each state that the moves may leave, the action does what was prepared
 pub record DoesAsPrepared (s : State) (at : Moment) (act : Act) (prepared : prepare.Prepared) : Type 0 where
-  pub does : (next : State) → Stays s at next → after_act next act ≡ Ok (performed prepared next)
+  pub does : (next : State) → Stays s at next → after_act next act ≡ Ok (after_prepared prepared next)
   pub skips : skipped_by prepared ≡ skipped_of (at_moment at s) act
   pub light : (next after : State) → Stays s at next → entries_of prepared next after ≤ 1 + 2 * act_weight next after act
 

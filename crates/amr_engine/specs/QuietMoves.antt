@@ -11,12 +11,12 @@ abbrev pub first_due : State → Option Due
 first_due s = least_due (dues s)
 
 -- the state after the first timer fired
-abbrev pub moved : State → State
-moved s = option_map_or (λ due. move due s) (first_due s) s
+abbrev pub after_first_move : State → State
+after_first_move s = option_map_or (λ due. move due s) (first_due s) s
 
-abbrev pub moved_times : ℕ → State → State
-moved_times zero s = s
-moved_times (suc n) s = moved_times n (moved s)
+abbrev pub after_first_moves : ℕ → State → State
+after_first_moves zero s = s
+after_first_moves (suc n) s = after_first_moves n (after_first_move s)
 
 -- the move only sets a group timer
 abbrev pub OnlySets : State → Due → Type 0
@@ -29,12 +29,12 @@ IsQuietMove s = (due : Due) → first_due s ≡ Some due → OnlySets s due
 -- the moves from a state for which the list says so only set a group timer
 abbrev pub AreQuietMoves : List Bool → State → Type 0
 AreQuietMoves [] s = Unit {0}
-AreQuietMoves (quiet ∷ rest) s = (quiet ≡ true → IsQuietMove s) × AreQuietMoves rest (moved s)
+AreQuietMoves (quiet ∷ rest) s = (quiet ≡ true → IsQuietMove s) × AreQuietMoves rest (after_first_move s)
 
 -- this many moves from a state are noted at most
 abbrev pub most_noted : ℕ
 most_noted = 10_000
 
 -- one more move is noted, if it comes after those that are, and they aren't too many
-abbrev pub noted : ℕ → Bool → List Bool → List Bool
-noted made quiet moves = if (made == length moves) && nat_lt made most_noted then moves ++ quiet ∷ [] else moves
+abbrev pub with_move_noted : ℕ → Bool → List Bool → List Bool
+with_move_noted made quiet moves = if (made == length moves) && nat_lt made most_noted then moves ++ quiet ∷ [] else moves

@@ -10,7 +10,7 @@ use Rattle.amr_config.specs.declared.router.RouteGroup.{RouteGroup}
 use Rattle.amr_rules.specs.declared.alert.Alert.{Alert}
 use Rattle.amr_engine.specs.declared.state.route_labels.RouteLabels.{RouteLabels}
 use Rattle.amr_engine.specs.State.State.{State, on_route, route_labels_cmp, members}
-use Rattle.amr_tables.specs.Numbered.{Numbered, shown}
+use Rattle.amr_tables.specs.Numbered.{Numbered, map_of}
 use Rattle.amr_engine.specs.declared.quiet.Period.{Period}
 use Rattle.amr_engine.specs.declared.quiet.QuietTime.{QuietTime}
 use Rattle.amr_engine.specs.declared.quiet.QuietGroups.{QuietGroups}
@@ -21,10 +21,10 @@ abbrev pub Times : Type 0
 Times = Map route_labels_cmp QuietTime
 
 abbrev pub times_in : Numbered RouteLabels QuietTime → Times
-times_in table = shown route_labels_cmp table
+times_in table = map_of route_labels_cmp table
 
-abbrev pub remembered : QuietGroups → Times
-remembered memory = times_in memory.times
+abbrev pub quiet_times : QuietGroups → Times
+quiet_times memory = times_in memory.times
 
 -- In the period all integrations were notified of all members of the group, so it doesn't matter
 -- what mutes those. No group of another route shares its log entries.
@@ -45,13 +45,13 @@ IsTrueTime present s group period (Some generation) = IsQuietSince present s gro
 
 -- all that is remembered holds in the state
 pub record IsTrueOf (memory : QuietGroups) (s : State) : Type 0 where
-  pub quiet : (group : RouteLabels) (time : QuietTime) → get (remembered memory) group ≡ Some time → IsTrueTime memory.generation s group time.period time.generation
+  pub quiet : (group : RouteLabels) (time : QuietTime) → get (quiet_times memory) group ≡ Some time → IsTrueTime memory.generation s group time.period time.generation
   pub still : (period : Period) → memory.still ≡ Some period → IsStill s period.from period.until
 
 -- what is remembered of groups for all generations still holds in the second state, if it held in
 -- the first
 abbrev pub Outlasts : QuietGroups → State → State → Type 0
-Outlasts memory s t = (group : RouteLabels) (time : QuietTime) → get (remembered memory) group ≡ Some time → IsNotifiedIn s group time.period → IsNotifiedIn t group time.period
+Outlasts memory s t = (group : RouteLabels) (time : QuietTime) → get (quiet_times memory) group ≡ Some time → IsNotifiedIn s group time.period → IsNotifiedIn t group time.period
 
 -- without the group
 abbrev pub without_group : Times → RouteGroup → Times

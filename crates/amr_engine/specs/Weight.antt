@@ -6,7 +6,7 @@ use Rattle.amr_labels.specs.Map.{len}
 use Rattle.amr_labels.specs.Labels.{LabelSet}
 use Rattle.amr_time.specs.Time.{Moment}
 use Rattle.amr_config.specs.Stated.Config.{Config}
-use Rattle.amr_config.specs.Routing.{chosen, integrations_of}
+use Rattle.amr_config.specs.Routing.{chosen_routes, integrations_of}
 use Rattle.amr_rules.specs.declared.alert.Alert.{Alert}
 use Rattle.amr_events.specs.Actions.Events.{Act, Event, is_label}
 use Rattle.amr_engine.specs.declared.state.due.Kind.{Kind}
@@ -49,7 +49,7 @@ reload_entries before after = 1 + groups_weight before + 2 * groups_weight after
 
 -- what a valid alert may displace: itself, and on each chosen route a member and a timer
 abbrev pub alert_weight : Config → LabelSet → ℕ
-alert_weight config labels = 1 + 2 * length (chosen config labels)
+alert_weight config labels = 1 + 2 * length (chosen_routes config labels)
 
 abbrev pub alerts_weight : Config → List (LabelSet × Alert) → ℕ
 alerts_weight config = sum_by (λ alert. alert_weight config alert.0)
@@ -78,4 +78,4 @@ event_weight s event after = if is_label event.act then 0 else run_weight s even
 
 -- how many members alerts become, each on its chosen routes
 abbrev pub copies : Config → List (LabelSet × Alert) → ℕ
-copies config = sum_by (λ alert. length (chosen config alert.0))
+copies config = sum_by (λ alert. length (chosen_routes config alert.0))

@@ -3,13 +3,13 @@
 //! the event is refused or memory runs out. Nothing here undoes a change.
 ghost use Rattle.std.specs.Prelude.{◌≡◌, ◌≤◌, ◌+◌, ◌*◌, OnOk, IfOk, length, drop};
 ghost use Rattle.amr_time.specs.Time.{latest_read};
-ghost use Rattle.amr_engine.specs.State.Kept.{GrownBy, undone};
+ghost use Rattle.amr_engine.specs.State.Kept.{GrownBy, before_open_record};
 ghost use Rattle.amr_engine.specs.Remembered.{IsTrueOf};
 ghost use Rattle.amr_engine.specs.Moves.{advance, moves_to};
 ghost use Rattle.amr_engine.specs.Events.{move_limit};
 ghost use Rattle.amr_engine.specs.Outcomes.{acceptance, outcome_view};
 ghost use Rattle.amr_engine.specs.Applied.{Leads, IsDone, run_moved};
-ghost use Rattle.amr_engine.specs.Prepared.{performed, skipped_by, entries_of};
+ghost use Rattle.amr_engine.specs.Prepared.{after_prepared, skipped_by, entries_of};
 ghost use Rattle.amr_engine.specs.Weight.{first_weight};
 ghost use Rattle.amr_engine.specs.QuietMoves.{AreQuietMoves};
 ghost use Rattle.amr_engine.specs.Kept.{IsLightIfDone, IsLightIfAccepted};
@@ -43,7 +43,7 @@ pub(crate) fn attempt(
     requires quiet { AreQuietMoves quiet_moves.old store.old.state }
     ensures outcome { IfOk result
         (λ outcome. Leads store.old.state event.now store.new.state outcome) }
-    ensures kept { undone store.new ≡ undone store.old }
+    ensures kept { before_open_record store.new ≡ before_open_record store.old }
     ensures light { IfOk result (λ outcome.
         IsLightIfAccepted store.old event.now store.new outcome) }
     ensures memory { OnOk result (IsTrueOf quiet_groups.new store.new.state) }
@@ -76,7 +76,7 @@ fn apply_in_order(
     requires memory { IsTrueOf quiet_groups.old store.old.state }
     requires quiet { AreQuietMoves quiet_moves.old store.old.state }
     ensures done { IfOk result (λ done. IsDone store.old.state event.now store.new.state done) }
-    ensures kept { undone store.new ≡ undone store.old }
+    ensures kept { before_open_record store.new ≡ before_open_record store.old }
     ensures light { IfOk result (λ done. IsLightIfDone store.old event.now store.new done) }
     ensures memory { OnOk result (IsTrueOf quiet_groups.new store.new.state) }
     ensures quiet { AreQuietMoves quiet_moves.new store.old.state }
@@ -115,7 +115,7 @@ fn advance_to(
     requires quiet { AreQuietMoves quiet_moves.old store.old.state }
     ensures made { IfOk result (λ made. moves_to store.new.state made
         ≡ run_moved at (advance move_limit at store.old.state)) }
-    ensures kept { undone store.new ≡ undone store.old }
+    ensures kept { before_open_record store.new ≡ before_open_record store.old }
     ensures grown { OnOk result (GrownBy (1 + 2 * first_weight move_limit at store.old.state)
         store.old store.new) }
     ensures memory { OnOk result (IsTrueOf quiet_groups.new store.new.state) }
@@ -127,16 +127,17 @@ fn advance_to(
 }
 
 /// Performs a prepared action. Returns the positions of the alerts that it skips, from 1. The
-/// memory of quiet groups first forgets what the action may change.
+/// cache of quiet groups first forgets what the action may change.
 fn perform(
     store: &mut Store,
     quiet_groups: &mut QuietGroups,
     prepared: Prepared,
 ) -> Result<Listing<usize>, AllocError>
     requires { IsTrueOf quiet_groups.old store.old.state }
-    ensures done { IfOk result (λ skipped. store.new.state ≡ performed prepared store.old.state) }
+    ensures done { IfOk result (λ skipped. store.new.state
+        ≡ after_prepared prepared store.old.state) }
     ensures skipped { IfOk result (λ skipped. skipped ≡ skipped_by prepared) }
-    ensures kept { undone store.new ≡ undone store.old }
+    ensures kept { before_open_record store.new ≡ before_open_record store.old }
     ensures grown { OnOk result (GrownBy (entries_of prepared store.old.state store.new.state)
         store.old store.new) }
     ensures memory { OnOk result (IsTrueOf quiet_groups.new store.new.state) }
@@ -148,9 +149,10 @@ fn perform(
 /// Changes the store by a prepared action. Returns the positions of the alerts that the action
 /// skips, from 1.
 fn change(store: &mut Store, prepared: Prepared) -> Result<Listing<usize>, AllocError>
-    ensures done { IfOk result (λ skipped. store.new.state ≡ performed prepared store.old.state) }
+    ensures done { IfOk result (λ skipped. store.new.state
+        ≡ after_prepared prepared store.old.state) }
     ensures skipped { IfOk result (λ skipped. skipped ≡ skipped_by prepared) }
-    ensures kept { undone store.new ≡ undone store.old }
+    ensures kept { before_open_record store.new ≡ before_open_record store.old }
     ensures grown { OnOk result (GrownBy (entries_of prepared store.old.state store.new.state)
         store.old store.new) }
 {

@@ -184,14 +184,14 @@ impl Engine {
 
     /// Works out which alerts can inhibit one with these labels, so that `explain` needn't look for
     /// them among all stored alerts. A flush does so for its members, too.
-    pub fn learn_sources(&mut self, labels: &Labels) -> Result<(), AllocError>
+    pub fn cache_sources(&mut self, labels: &Labels) -> Result<(), AllocError>
         ensures { self.new ≡ self.old }
     {
         if self.store.config().rules().is_empty() {
             return Ok(());
         }
         let matched = self.store.rule_matches(labels)?;
-        self.store.learn_sources(matched.get().as_slice())
+        self.store.cache_sources(matched.get().as_slice())
     }
 
     /// Explains why an alert with these labels was or wasn't in a notification. It returns one

@@ -3,8 +3,8 @@
 ghost use Rattle.std.specs.Prelude.{◌≡◌, ◌++◌, IfOk, OnOk, option_map};
 ghost use Rattle.std.specs.Option.{option_copied};
 ghost use Rattle.std.specs.List.{flat_map};
-ghost use Rattle.amr_config.specs.Routing.{chosen};
-ghost use Rattle.amr_engine.specs.Explain.{waiting, logged, heard, finding, kind_and_place, verdict_at, verdicts_of_group, verdicts_at, verdicts_of_stored, verdicts};
+ghost use Rattle.amr_config.specs.Routing.{chosen_routes};
+ghost use Rattle.amr_engine.specs.Explain.{waiting, finding_of_entry, heard, finding, kind_and_place, verdict_at, verdicts_of_group, verdicts_at, verdicts_of_stored, verdicts};
 
 use crate::flush::log_key;
 use crate::stages::taken_away;
@@ -89,7 +89,7 @@ fn verdicts_of_stored(
 fn verdicts_of_routes(store: &Store, labels: &Labels) -> Result<Vec<Verdict>, AllocError>
     ensures { IfOk result (λ found. found.items
         ≡ flat_map (verdicts_at store.now.state labels.now)
-        (chosen store.now.state.config labels.now)) }
+        (chosen_routes store.now.state.config labels.now)) }
 {
     let routes = store.config().routes_of(store.alloc(), labels)?;
     let mut found = Vec::new(store.alloc());
@@ -215,7 +215,7 @@ fn heard(
 /// Returns what the log entry says: the integration was notified that the alert fires, or the next
 /// flush decides.
 fn logged(labels: &Labels, timer: &GroupTimer, entry: Option<&LogEntry>) -> Finding
-    ensures { result ≡ logged labels.now timer.now (option_copied entry.entry) }
+    ensures { result ≡ finding_of_entry labels.now timer.now (option_copied entry.entry) }
 {
     match entry {
         Some(entry) if entry.firing.get(labels).is_some() => Finding::Told { at: entry.time },

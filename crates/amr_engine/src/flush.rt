@@ -1,7 +1,7 @@
 //! The flush of a group, as in Alertmanager's dispatcher and its notification pipeline: set the
 //! group timer, mute members, run the dedup check for each integration, notify, and drop resolved
 //! members. `moves.rt` calls `flush` when a group timer fires. Most flushes change nothing but the
-//! timer, and are recognized: by the memory of quiet groups (`quiet.rt`) or by what is asked here.
+//! timer, and are recognized: by the cache of quiet groups (`quiet.rt`) or by what is asked here.
 ghost use Rattle.std.specs.Prelude.{◌≡◌, ◌≤◌, ◌+◌, ◌*◌, ◌++◌, true, map, length, OnOk, IfOk};
 ghost use Rattle.std.specs.List.{fold, list_all};
 ghost use Rattle.std.specs.Option.{option_to_list};
@@ -10,7 +10,7 @@ ghost use Rattle.amr_config.specs.Routing.{group_interval_of, integrations_of};
 ghost use Rattle.amr_time.specs.Time.{latest_read};
 ghost use Rattle.amr_rules.specs.Alerts.{is_resolved_at};
 ghost use Rattle.amr_engine.specs.State.State as state;
-ghost use Rattle.amr_engine.specs.State.Kept.{GrownBy, undone};
+ghost use Rattle.amr_engine.specs.State.Kept.{GrownBy, before_open_record};
 ghost use Rattle.amr_engine.specs.Flush.{let_through, firing_of, resolved_of, labels_of, log_key_of, notified_firing, notified_resolved, notifications_of, notify_all, set_timer, drop_member, drop_resolved, run_pipeline, flush};
 ghost use Rattle.amr_engine.specs.Quiet.{with_timer_reset, IsStill};
 ghost use Rattle.amr_engine.specs.Remembered.{IsTrueOf};
@@ -43,7 +43,7 @@ struct Partition {
 ghost use Rattle.amr_engine.specs.Partition.{IsPartition, IsGroupOf, entry_of, notified_by, notified_with};
 
 /// Flushes a group at a moment. For a group that is known to be quiet, or found so, it only sets the
-/// group timer. It asks the memory first, then whether all integrations were notified of all
+/// group timer. It asks the cache first, then whether all integrations were notified of all
 /// members, and only then what mutes the members. Returns whether the flush is known to have set the
 /// group timer alone.
 pub(crate) fn flush(
@@ -57,7 +57,7 @@ pub(crate) fn flush(
     ensures ok { OnOk result (store.new.state ≡ flush at group.now store.old.state) }
     ensures quiet { IfOk result (λ quiet. quiet ≡ true
         → flush at group.now store.old.state ≡ with_timer_reset at group.now store.old.state) }
-    ensures kept { undone store.new ≡ undone store.old }
+    ensures kept { before_open_record store.new ≡ before_open_record store.old }
     ensures grown { GrownBy (2 * flush_weight store.old.state group.now) store.old store.new }
     ensures memory { OnOk result (IsTrueOf quiet_groups.new store.new.state) }
 {
@@ -88,7 +88,7 @@ fn flush_unnotified(
     ensures ok { OnOk result (store.new.state ≡ flush at group.now store.old.state) }
     ensures quiet { IfOk result (λ quiet. quiet ≡ true
         → flush at group.now store.old.state ≡ with_timer_reset at group.now store.old.state) }
-    ensures kept { undone store.new ≡ undone store.old }
+    ensures kept { before_open_record store.new ≡ before_open_record store.old }
     ensures grown { GrownBy (2 * flush_weight store.old.state group.now) store.old store.new }
     ensures memory { OnOk result (IsTrueOf quiet_groups.new store.new.state) }
 {
@@ -189,7 +189,7 @@ fn flush_in_full(
     requires members { members.now ≡ state.members store.old.state group.now }
     requires through { through.now ≡ let_through store.old.state at group.now.route members.now }
     ensures ok { OnOk result (store.new.state ≡ flush at group.now store.old.state) }
-    ensures kept { undone store.new ≡ undone store.old }
+    ensures kept { before_open_record store.new ≡ before_open_record store.old }
     ensures grown { GrownBy (2 * flush_weight store.old.state group.now) store.old store.new }
 {
     reset_timer(store, at, group)?;
@@ -210,7 +210,7 @@ pub(crate) fn reset_timer(
           next_flush = at + group_interval_of store.old.state.config group.now.route;
           flushed = true;
         }) store.old.state) }
-    ensures kept { undone store.new ≡ undone store.old }
+    ensures kept { before_open_record store.new ≡ before_open_record store.old }
     ensures grown { GrownBy 1 store.old store.new }
 {
     let interval = store.config().group_interval(group.route);
@@ -230,7 +230,7 @@ fn run_pipeline(
     requires group { IsGroupOf store.old.state.config group.now members.now }
     ensures ok { OnOk result (store.new.state
         ≡ run_pipeline at group.now members.now store.old.state) }
-    ensures kept { undone store.new ≡ undone store.old }
+    ensures kept { before_open_record store.new ≡ before_open_record store.old }
     ensures grown { GrownBy (1 + 2 * turns store.old.state group.now + length members.now)
         store.old store.new }
 {
@@ -251,7 +251,7 @@ fn notify_all(
 ) -> Result<(), AllocError>
     ensures ok { OnOk result (store.new.state
         ≡ notify_all at group.now through.now store.old.state) }
-    ensures kept { undone store.new ≡ undone store.old }
+    ensures kept { before_open_record store.new ≡ before_open_record store.old }
     ensures grown { GrownBy (2 * turns store.old.state group.now) store.old store.new }
 {
     if through.is_empty() {
@@ -314,7 +314,7 @@ fn notify_each(
     ensures ok { OnOk result (store.new.state
         ≡ fold (notified_by at group.now partition) store.old.state
         (integrations_of store.old.state.config group.now.route)) }
-    ensures kept { undone store.new ≡ undone store.old }
+    ensures kept { before_open_record store.new ≡ before_open_record store.old }
     ensures grown { GrownBy (2 * turns store.old.state group.now) store.old store.new }
 {
     let config = store.config().clone()?;
@@ -342,7 +342,7 @@ fn notify_others(
 ) -> Result<(), AllocError>
     ensures ok { OnOk result (store.new.state
         ≡ fold (notified_by at group.now partition.now) store.old.state others.now) }
-    ensures kept { undone store.new ≡ undone store.old }
+    ensures kept { before_open_record store.new ≡ before_open_record store.old }
     ensures grown { GrownBy (2 * length others.now) store.old store.new }
 {
     let firing = partition.firing.as_slice();
@@ -366,7 +366,7 @@ fn notify(
 ) -> Result<(), AllocError>
     ensures ok { OnOk result (store.new.state
         ≡ notified_with group.now firing.now resolved.now entry store.old.state integration.now) }
-    ensures kept { undone store.new ≡ undone store.old }
+    ensures kept { before_open_record store.new ≡ before_open_record store.old }
     ensures grown { GrownBy 2 store.old store.new }
 {
     let at = entry.time;
@@ -486,7 +486,7 @@ fn notified_resolved(
 fn append(store: &mut Store, notification: Option<Notification>) -> Result<(), AllocError>
     ensures ok { OnOk result (store.new.state
         ≡ record store.old.state { notes = store.old.state.notes ++ option_to_list notification }) }
-    ensures kept { undone store.new ≡ undone store.old }
+    ensures kept { before_open_record store.new ≡ before_open_record store.old }
     ensures grown { GrownBy 1 store.old store.new }
 {
     match notification {
@@ -507,7 +507,7 @@ fn drop_resolved(
     requires { IsGroupOf store.old.state.config group.now members.now }
     ensures ok { OnOk result (store.new.state
         ≡ drop_resolved at group.now members.now store.old.state) }
-    ensures kept { undone store.new ≡ undone store.old }
+    ensures kept { before_open_record store.new ≡ before_open_record store.old }
     ensures grown { GrownBy (1 + length members.now) store.old store.new }
 {
     drop_each_resolved(store, at, group, members)?;
@@ -527,7 +527,7 @@ fn drop_each_resolved(
     requires { IsGroupOf store.old.state.config group.now members.now }
     ensures ok { OnOk result (store.new.state
         ≡ fold (drop_member group.now) store.old.state (resolved_of at members.now)) }
-    ensures kept { undone store.new ≡ undone store.old }
+    ensures kept { before_open_record store.new ≡ before_open_record store.old }
     ensures grown { GrownBy (length members.now) store.old store.new }
 {
     for (labels, alert) in members {
@@ -555,7 +555,7 @@ fn are_resolved(at: Moment, members: &[Member]) -> bool
 fn mark_empty(store: &mut Store, at: Moment, group: &RouteLabels) -> Result<(), AllocError>
     ensures ok { OnOk result (store.new.state
         ≡ set_timer group.now (λ timer. record timer { empty_since = Some at }) store.old.state) }
-    ensures kept { undone store.new ≡ undone store.old }
+    ensures kept { before_open_record store.new ≡ before_open_record store.old }
     ensures grown { GrownBy 1 store.old store.new }
 {
     match store.timers().get(group).copied() {

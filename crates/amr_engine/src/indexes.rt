@@ -3,12 +3,12 @@
 //! state has one of each.
 
 mod alert_table;
-mod known_periods;
+mod cached_periods;
 mod label_values;
 mod rule_source;
 mod silence_change;
 mod silence_table;
-mod value_marks;
+mod value_bits;
 
 pub use alert_table::AlertTable;
 pub use silence_table::SilenceTable;

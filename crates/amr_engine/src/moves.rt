@@ -2,7 +2,7 @@
 //! the removal of an alert, the removal of a group, or the flush of a group (`flush.rt`).
 ghost use Rattle.std.specs.Prelude.{◌≡◌, ◌≤◌, ◌*◌, true, OnOk, IfOk};
 ghost use Rattle.amr_time.specs.Time.{latest_read};
-ghost use Rattle.amr_engine.specs.State.Kept.{GrownBy, undone};
+ghost use Rattle.amr_engine.specs.State.Kept.{GrownBy, before_open_record};
 ghost use Rattle.amr_engine.specs.Remembered.{IsTrueOf};
 ghost use Rattle.amr_engine.specs.Moves.{move, advance, counted_run, moves_to};
 ghost use Rattle.amr_engine.specs.Events.{move_limit};
@@ -35,7 +35,7 @@ pub(crate) fn advance(
     requires quiet { AreQuietMoves quiet_moves.old store.old.state }
     ensures ok { IfOk result (λ made. moves_to store.new.state made
         ≡ counted_run (advance move_limit at store.old.state)) }
-    ensures kept { undone store.new ≡ undone store.old }
+    ensures kept { before_open_record store.new ≡ before_open_record store.old }
     ensures grown { OnOk result (GrownBy (2 * first_weight move_limit at store.old.state)
         store.old store.new) }
     ensures memory { OnOk result (IsTrueOf quiet_groups.new store.new.state) }
@@ -67,7 +67,7 @@ fn fire(store: &mut Store, quiet_groups: &mut QuietGroups, due: Due) -> Result<b
     requires memory { IsTrueOf quiet_groups.old store.old.state }
     ensures ok { OnOk result (store.new.state ≡ move due store.old.state) }
     ensures quiet { IfOk result (λ quiet. quiet ≡ true → OnlySets store.old.state due) }
-    ensures kept { undone store.new ≡ undone store.old }
+    ensures kept { before_open_record store.new ≡ before_open_record store.old }
     ensures grown { GrownBy (2 * move_weight store.old.state due due.kind) store.old store.new }
     ensures memory { OnOk result (IsTrueOf quiet_groups.new store.new.state) }
 {
@@ -102,7 +102,7 @@ fn make(
     requires quiet { is_quiet ≡ true → OnlySets store.old.state due }
     ensures ok { OnOk result (store.new.state ≡ move due store.old.state) }
     ensures quiet { IfOk result (λ quiet. quiet ≡ true → OnlySets store.old.state due) }
-    ensures kept { undone store.new ≡ undone store.old }
+    ensures kept { before_open_record store.new ≡ before_open_record store.old }
     ensures grown { GrownBy (2 * move_weight store.old.state due due.kind) store.old store.new }
     ensures memory { OnOk result (IsTrueOf quiet_groups.new store.new.state) }
 {

@@ -4,8 +4,8 @@ ghost use Rattle.std.specs.Prelude.{◌≡◌, ◌+◌, ◌<◌, OnOk, IfOk};
 ghost use Rattle.std.specs.List.{fold, filter_map};
 ghost use Rattle.amr_labels.specs.Map as map;
 ghost use Rattle.amr_time.specs.Time.{before_year_10000};
-ghost use Rattle.amr_rules.specs.Alerts.{completed, joined};
-ghost use Rattle.amr_engine.specs.State.Kept.{GrownBy, undone};
+ghost use Rattle.amr_rules.specs.Alerts.{completed_alert, alert_to_store};
+ghost use Rattle.amr_engine.specs.State.Kept.{GrownBy, before_open_record};
 ghost use Rattle.amr_engine.specs.Events.{put, skipped_from};
 ghost use Rattle.amr_engine.specs.Weight.{alert_weight, alerts_weight};
 
@@ -33,7 +33,7 @@ pub(crate) fn validate(
 ) -> Result<Validated, AllocError>
     requires { now + timeout < before_year_10000 }
     ensures valid { IfOk result (λ validated. validated.valid.items
-        ≡ filter_map (completed now timeout) posted.now) }
+        ≡ filter_map (completed_alert now timeout) posted.now) }
     ensures skipped { IfOk result (λ validated. validated.skipped
         ≡ skipped_from 1 now timeout posted.now) }
 {
@@ -50,10 +50,10 @@ pub(crate) fn validate(
 
 /// Returns the alert to store: the new alert, merged with the stored alert of the same labels if
 /// one exists.
-#[tactic(auto, unfolding(amr_rules::specs::Alerts::joined))]
+#[tactic(auto, unfolding(amr_rules::specs::Alerts::alert_to_store))]
 fn joined(store: &Store, labels: &Labels, alert: Alert) -> Alert
     ensures { result
-        ≡ joined store.now.state.moment (map.get store.now.state.alerts labels.now) alert }
+        ≡ alert_to_store store.now.state.moment (map.get store.now.state.alerts labels.now) alert }
 {
     match store.alerts().get(labels) {
         Some(stored) => merge(store.moment(), stored, alert),
@@ -65,7 +65,7 @@ fn joined(store: &Store, labels: &Labels, alert: Alert) -> Alert
 #[tactic(auto, unfolding(crate::specs::Events::put))]
 fn put(store: &mut Store, labels: &Labels, alert: Alert) -> Result<(), AllocError>
     ensures ok { OnOk result (store.new.state ≡ put store.old.state (labels.now, alert)) }
-    ensures kept { undone store.new ≡ undone store.old }
+    ensures kept { before_open_record store.new ≡ before_open_record store.old }
     ensures grown { GrownBy (alert_weight store.old.state.config labels.now) store.old store.new }
 {
     let stored = joined(store, labels, alert);
@@ -77,7 +77,7 @@ fn put(store: &mut Store, labels: &Labels, alert: Alert) -> Result<(), AllocErro
 /// Stores the valid alerts, in order.
 pub(crate) fn put_all(store: &mut Store, valid: &[(Labels, Alert)]) -> Result<(), AllocError>
     ensures ok { OnOk result (store.new.state ≡ fold put store.old.state valid.now) }
-    ensures kept { undone store.new ≡ undone store.old }
+    ensures kept { before_open_record store.new ≡ before_open_record store.old }
     ensures grown { GrownBy (alerts_weight store.old.state.config valid.now) store.old store.new }
 {
     for (labels, alert) in valid {

@@ -1,6 +1,6 @@
-//! The memory of the groups whose flushes only set the group timer, and until when. Most moves of a
+//! The cache of the groups whose flushes only set the group timer, and until when. Most moves of a
 //! long replay are such flushes. `flush.rt` asks it before a flush and notes in it what it finds.
-//! The memory is no part of the state: it only knows what the state implies, and it forgets a group
+//! The cache is no part of the state: it only knows what the state implies, and it forgets a group
 //! for which there is no room.
 ghost use Rattle.std.specs.Prelude.{◌≡◌, ◌≤◌, ◌<◌, true, OnOk, OnErr, IfSome};
 ghost use Rattle.std.specs.List.{fold};
@@ -11,7 +11,7 @@ ghost use Rattle.amr_engine.specs.State.State as state;
 ghost use Rattle.amr_engine.specs.Flush.{flush};
 ghost use Rattle.amr_engine.specs.Quiet.{with_timer_reset, IsStill, IsQuiet, IsAllNotified};
 ghost use Rattle.amr_engine.specs.Events.{put};
-ghost use Rattle.amr_engine.specs.Prepared.{performed};
+ghost use Rattle.amr_engine.specs.Prepared.{after_prepared};
 
 use crate::prepare::Prepared;
 use crate::scan_budget::ScanBudget;
@@ -75,10 +75,10 @@ pub(crate) struct QuietGroups {
     budget: ScanBudget,
 }
 
-ghost use Rattle.amr_engine.specs.Remembered.{times_in, remembered, without_joined, without_all_joined, Outlasts, IsTrueOf};
+ghost use Rattle.amr_engine.specs.Remembered.{times_in, quiet_times, without_joined, without_all_joined, Outlasts, IsTrueOf};
 
 impl QuietGroups {
-    /// Returns a memory of no group.
+    /// Returns a cache of no group.
     pub(crate) fn new(alloc: Global) -> QuietGroups
         ensures { (s : State) → IsTrueOf result s }
     {
@@ -223,7 +223,7 @@ impl QuietGroups {
     /// alert joins, and silences change nothing for any of those.
     pub(crate) fn forget_changed(&mut self, store: &mut Store, prepared: &Prepared)
         requires { IsTrueOf self.old store.old.state }
-        ensures memory { IsTrueOf self.new (performed prepared.now store.old.state) }
+        ensures memory { IsTrueOf self.new (after_prepared prepared.now store.old.state) }
         ensures same { store.new ≡ store.old }
     {
         match prepared {

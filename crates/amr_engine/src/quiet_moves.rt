@@ -2,7 +2,7 @@
 //! of those up to a later one, whatever the event is. So a session notes them at each place of its
 //! cursor, and makes them faster if it passes an event again or tries another one there.
 ghost use Rattle.std.specs.Prelude.{◌≡◌, false, [], ◌∷◌, ◌++◌, length, get_or, OnOk, OnErr};
-ghost use Rattle.amr_engine.specs.QuietMoves.{noted};
+ghost use Rattle.amr_engine.specs.QuietMoves.{with_move_noted};
 
 use std::alloc::{AllocError, Global};
 use std::marker::Model;
@@ -53,7 +53,7 @@ impl QuietMoves {
     /// Notes of the next move whether it only sets a group timer, unless it was noted before or
     /// `MOST_NOTED` moves come before it.
     pub(crate) fn note(&mut self, made: usize, quiet: bool) -> Result<(), AllocError>
-        ensures ok { OnOk result (self.new ≡ noted made quiet self.old) }
+        ensures ok { OnOk result (self.new ≡ with_move_noted made quiet self.old) }
         ensures err { OnErr result (self.new ≡ self.old) }
     {
         if made == self.moves.len() && made < MOST_NOTED {

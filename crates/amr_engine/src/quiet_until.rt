@@ -57,7 +57,8 @@ pub(crate) fn all_notified_until(
     requires { members.now ≡ state.members store.now.state group.now }
     ensures { IfOk result (λ found. IfSome found
         (λ end. (at < end)
-        × IsAllNotified store.now.state group.now at end (state.members store.now.state group.now))) }
+        × IsAllNotified store.now.state group.now at end
+        (state.members store.now.state group.now))) }
 {
     let until = first_end(members, u128::MAX);
     if until <= at.nanoseconds() {

@@ -3,7 +3,7 @@
 ghost use Rattle.std.specs.Prelude.{◌≡◌, ◌*◌, OnOk};
 ghost use Rattle.std.specs.List.{fold};
 ghost use Rattle.amr_engine.specs.State.State.{place};
-ghost use Rattle.amr_engine.specs.State.Kept.{GrownBy, undone};
+ghost use Rattle.amr_engine.specs.State.Kept.{GrownBy, before_open_record};
 ghost use Rattle.amr_engine.specs.Events.{with_config};
 ghost use Rattle.amr_engine.specs.Weight.{copies, reload_entries};
 
@@ -18,7 +18,7 @@ use std::alloc::AllocError;
 #[tactic(auto, unfolding(crate::specs::Events::with_config))]
 pub(crate) fn reload(store: &mut Store, config: Config) -> Result<(), AllocError>
     ensures ok { OnOk result (store.new.state ≡ with_config store.old.state config) }
-    ensures kept { undone store.new ≡ undone store.old }
+    ensures kept { before_open_record store.new ≡ before_open_record store.old }
     ensures grown { OnOk result (GrownBy (reload_entries store.old.state store.new.state)
         store.old store.new) }
 {
@@ -30,7 +30,7 @@ pub(crate) fn reload(store: &mut Store, config: Config) -> Result<(), AllocError
 /// Inserts alerts into the groups of their chosen routes, in order.
 fn place_all(store: &mut Store, alerts: &[(Labels, Alert)]) -> Result<(), AllocError>
     ensures ok { OnOk result (store.new.state ≡ fold place store.old.state alerts.now) }
-    ensures kept { undone store.new ≡ undone store.old }
+    ensures kept { before_open_record store.new ≡ before_open_record store.old }
     ensures grown { GrownBy (2 * copies store.old.state.config alerts.now) store.old store.new }
 {
     for (labels, alert) in alerts {

@@ -3,7 +3,7 @@
 ghost use Rattle.std.specs.Prelude.{◌≡◌, OnOk};
 ghost use Rattle.amr_rules.specs.Silences.{stored_under};
 ghost use Rattle.amr_rules.specs.Silencing.{update_stored};
-ghost use Rattle.amr_engine.specs.State.Kept.{GrownBy, undone};
+ghost use Rattle.amr_engine.specs.State.Kept.{GrownBy, before_open_record};
 ghost use Rattle.amr_engine.specs.Events.{with_silences};
 
 use crate::state::{Change, Store};
@@ -22,7 +22,7 @@ pub(crate) fn store_update(
     ensures ok { OnOk result (store.new.state
         ≡ with_silences store.old.state
         (update_stored id new_id silence_update store.old.state.silences)) }
-    ensures kept { undone store.new ≡ undone store.old }
+    ensures kept { before_open_record store.new ≡ before_open_record store.old }
     ensures grown { GrownBy 2 store.old store.new }
 {
     match silence_update {
@@ -42,7 +42,7 @@ fn store_under(
 ) -> Result<(), AllocError>
     ensures ok { OnOk result (store.new.state
         ≡ with_silences store.old.state (stored_under id silence store.old.state.silences)) }
-    ensures kept { undone store.new ≡ undone store.old }
+    ensures kept { before_open_record store.new ≡ before_open_record store.old }
     ensures grown { GrownBy 1 store.old store.new }
 {
     match (id, silence) {

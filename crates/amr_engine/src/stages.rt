@@ -42,9 +42,9 @@ pub(crate) fn let_through(
     ensures same { store.new ≡ store.old }
 {
     let mut through = Vec::with_capacity(store.alloc(), members.len())?;
-    learn_silences(store, at, members)?;
+    cache_silences(store, at, members)?;
     for (labels, alert) in members {
-        if taken_away_learning(store, at, route, labels)?.is_none() {
+        if taken_away_cached(store, at, route, labels)?.is_none() {
             through.push((labels.clone()?, alert.clone()?))?;
         }
     }
@@ -53,14 +53,14 @@ pub(crate) fn let_through(
 
 /// Works out which silences match the labels of members, where that isn't known. Without silences it
 /// copies no labels.
-fn learn_silences(store: &mut Store, at: Moment, members: &[Member]) -> Result<(), AllocError>
+fn cache_silences(store: &mut Store, at: Moment, members: &[Member]) -> Result<(), AllocError>
     ensures { store.new ≡ store.old }
 {
     if store.silences().values().next().is_none() {
         return Ok(());
     }
     let label_sets = label_sets_of(store.alloc(), members)?;
-    store.learn_silences(at, label_sets.as_slice())
+    store.cache_silences(at, label_sets.as_slice())
 }
 
 /// Returns the label sets of members.
@@ -76,7 +76,7 @@ fn label_sets_of(alloc: Global, members: &[Member]) -> Result<Vec<Labels>, Alloc
 
 /// Returns what `taken_away` returns. It learns first which label sets can be sources of the rules
 /// that have these labels as a target, so it looks up only once which rules these are.
-fn taken_away_learning(
+fn taken_away_cached(
     store: &mut Store,
     at: Moment,
     route: usize,
@@ -86,7 +86,7 @@ fn taken_away_learning(
         ≡ taken_away store.old.state at route labels.now) }
     ensures same { store.new ≡ store.old }
 {
-    let inhibited = inhibition_learning(store, at, labels)?;
+    let inhibited = inhibition_cached(store, at, labels)?;
     first_stage(store, at, route, labels, inhibited)
 }
 
@@ -136,7 +136,7 @@ fn inhibition(
 
 /// Returns what `inhibition` returns. It learns first which label sets can be sources of the rules
 /// that have these labels as a target. Without rules it looks nothing up.
-fn inhibition_learning(
+fn inhibition_cached(
     store: &mut Store,
     at: Moment,
     labels: &Labels,
@@ -149,7 +149,7 @@ fn inhibition_learning(
         return Ok(None);
     }
     let matched = store.rule_matches(labels)?;
-    store.learn_sources(matched.get().as_slice())?;
+    store.cache_sources(matched.get().as_slice())?;
     inhibition_by(store, at, matched.get().as_slice(), labels)
 }
 

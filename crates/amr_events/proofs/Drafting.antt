@@ -9,7 +9,7 @@ use Rattle.amr_labels.specs.Map.{from_entries}
 use Rattle.amr_labels.specs.Labels.{Text}
 use Rattle.amr_time.specs.Time.{Moment}
 use Rattle.amr_events.specs.Actions.Events.{Annotations}
-use Rattle.amr_config.specs.Read.Members.{present}
+use Rattle.amr_config.specs.Read.Members.{unless_null}
 use Rattle.amr_events.specs.Shapes.{◌>>=◌, texts_in}
 use Rattle.amr_events.specs.Posted.{time_at, time_in, annotations_at, annotations_in, alert_of}
 use Rattle.amr_events.specs.Tokens.{IsDraft}
@@ -20,16 +20,16 @@ other a b apart same = false≢true (sym apart ∙ (bytes_eq-Decides a b).1 same
 
 same_time : (key other_key : Text) (d : Data) (found : Members) (time : Option Moment) → bytes_eq other_key key ≡ false → time_in other_key (object found) ≡ Some time → time_in other_key (object (put key d found)) ≡ Some time
 unfolding time_in
-same_time key other_key d found time apart is = ap (λ o. time_at (present o)) (get_member-put_other other_key key d found (other other_key key apart)) ∙ is
+same_time key other_key d found time apart is = ap (λ o. time_at (unless_null o)) (get_member-put_other other_key key d found (other other_key key apart)) ∙ is
 
-new_time : (key : Text) (d : Data) (found : Members) (time : Option Moment) → time_at (present (Some d)) ≡ Some time → time_in key (object (put key d found)) ≡ Some time
+new_time : (key : Text) (d : Data) (found : Members) (time : Option Moment) → time_at (unless_null (Some d)) ≡ Some time → time_in key (object (put key d found)) ≡ Some time
 unfolding time_in
-new_time key d found time is = ap (λ o. time_at (present o)) (get_member-put key d found) ∙ is
+new_time key d found time is = ap (λ o. time_at (unless_null o)) (get_member-put key d found) ∙ is
 
 same_annotations : (key : Text) (d : Data) (found : Members) (annotations : Annotations) → bytes_eq (codes "annotations") key ≡ false → annotations_in (object found) ≡ Some annotations → annotations_in (object (put key d found)) ≡ Some annotations
 unfolding annotations_in
 same_annotations key d found annotations apart is =
-    ap (λ o. option_map (λ texts. from_entries (reverse texts)) (annotations_at (present o))) (get_member-put_other (codes "annotations") key d found (other _ key apart)) ∙ is
+    ap (λ o. option_map (λ texts. from_entries (reverse texts)) (annotations_at (unless_null o))) (get_member-put_other (codes "annotations") key d found (other _ key apart)) ∙ is
 
 same_labels : (key : Text) (d : Data) (found : Members) (labels : Option (List (Text × Text))) → bytes_eq (codes "labels") key ≡ false
     → IfSome labels (λ labels. (get_member (codes "labels") found >>= texts_in) ≡ Some labels) → IfSome labels (λ labels. (get_member (codes "labels") (put key d found) >>= texts_in) ≡ Some labels)
@@ -37,7 +37,7 @@ same_labels key d found None apart is = tt
 same_labels key d found (Some labels) apart is = ap (λ o. o >>= texts_in) (get_member-put_other (codes "labels") key d found (other _ key apart)) ∙ is
 
 -- an object of texts is present
-texts_present : (d : Data) (texts : List (Text × Text)) → texts_in d ≡ Some texts → annotations_at (present (Some d)) ≡ Some texts
+texts_present : (d : Data) (texts : List (Text × Text)) → texts_in d ≡ Some texts → annotations_at (unless_null (Some d)) ≡ Some texts
 unfolding texts_in
 texts_present null texts is = absurd (let no : ⊥ = cc in no)
 texts_present (boolean b) texts is = is
@@ -60,13 +60,13 @@ module _ (found : Members) (draft : Draft) (is : IsDraft found draft) (d : Data)
   with_annotations texts stated = record {
     labels = same_labels (codes "annotations") d found _ refl is.labels;
     annotations =
-        ap (λ o. option_map (λ texts. from_entries (reverse texts)) (annotations_at (present o))) (get_member-put (codes "annotations") d found)
+        ap (λ o. option_map (λ texts. from_entries (reverse texts)) (annotations_at (unless_null o))) (get_member-put (codes "annotations") d found)
         ∙ ap (option_map (λ texts. from_entries (reverse texts))) (texts_present d texts stated);
     starts_at = same_time (codes "annotations") (codes "startsAt") d found _ refl is.starts_at;
     ends_at = same_time (codes "annotations") (codes "endsAt") d found _ refl is.ends_at;
   }
 
-  pub with_start : (time : Option Moment) → time_at (present (Some d)) ≡ Some time → IsDraft (put (codes "startsAt") d found) (record draft { starts_at = time })
+  pub with_start : (time : Option Moment) → time_at (unless_null (Some d)) ≡ Some time → IsDraft (put (codes "startsAt") d found) (record draft { starts_at = time })
   with_start time stated = record {
     labels = same_labels (codes "startsAt") d found _ refl is.labels;
     annotations = same_annotations (codes "startsAt") d found _ refl is.annotations;
@@ -74,7 +74,7 @@ module _ (found : Members) (draft : Draft) (is : IsDraft found draft) (d : Data)
     ends_at = same_time (codes "startsAt") (codes "endsAt") d found _ refl is.ends_at;
   }
 
-  pub with_end : (time : Option Moment) → time_at (present (Some d)) ≡ Some time → IsDraft (put (codes "endsAt") d found) (record draft { ends_at = time })
+  pub with_end : (time : Option Moment) → time_at (unless_null (Some d)) ≡ Some time → IsDraft (put (codes "endsAt") d found) (record draft { ends_at = time })
   with_end time stated = record {
     labels = same_labels (codes "endsAt") d found _ refl is.labels;
     annotations = same_annotations (codes "endsAt") d found _ refl is.annotations;

@@ -10,7 +10,7 @@ use Rattle.amr_time.specs.MomentRead as moments
 use Rattle.amr_time.specs.MomentRead.{moment_at, in_range}
 use Rattle.amr_events.specs.Actions.Events.{Act, Event}
 use Rattle.amr_events.specs.Actions.Events as events
-use Rattle.amr_config.specs.Read.Members.{present}
+use Rattle.amr_config.specs.Read.Members.{unless_null}
 use Rattle.amr_events.specs.Shapes.{◌>>=◌, each_item, texts_in, moment_under}
 use Rattle.amr_events.specs.Posted.{is_missing, time_of, time_at, time_in, annotations_in, alert_of, alerts_of}
 use Rattle.amr_events.specs.PostedSilences.{id_at, named_id_in, new_id_in, if_named, matchers_of, silence_of}
@@ -93,7 +93,7 @@ moment_under-bound key d m e =
 
 time_in-bound : (key : List ℕ) (d : Data) (o : Option Moment) → time_in key d ≡ Some o → IfSome o IsStatable
 unfolding time_in
-time_in-bound key d o e = time_at-bound (present (get key d)) o e
+time_in-bound key d o e = time_at-bound (unless_null (get key d)) o e
 
 alert_of-bound : (d : Data) (alert : PostedAlert) → alert_of d ≡ Some alert → AlertIsStatable alert
 unfolding alert_of

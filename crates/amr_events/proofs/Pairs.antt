@@ -6,7 +6,7 @@ use Rattle.std.specs.Ordering.{ordering_reverse}
 use Rattle.serde_json.specs.Data.{string, object, Members, no_members, member, put}
 use Rattle.amr_labels.specs.Labels.{Text, text_cmp}
 use Rattle.amr_events.specs.Shapes.{◌>>=◌, each_member, named_text, texts_in}
-use Rattle.amr_events.specs.Tokens.{IsAfter, spelled}
+use Rattle.amr_events.specs.Tokens.{IsAfter, lent_texts}
 
 abbrev pub Pairs : Type 0
 Pairs = List (Text × Text)
@@ -57,7 +57,7 @@ module _ (pairs : Pairs) (new : Text × Text) (ascend : Ascend pairs) (after : I
   pub put_last_text : put new.0 (string new.1) (text_members pairs) ≡ text_members (pairs ++ new ∷ [])
   put_last_text = put_before pairs new (before_last new.0 pairs ascend after)
 
-pub spelled_push : (texts : List (Bor Text × Bor Text)) (new : Bor Text × Bor Text) → spelled (texts ++ new ∷ []) ≡ spelled texts ++ (new.0.now, new.1.now) ∷ []
+pub spelled_push : (texts : List (Bor Text × Bor Text)) (new : Bor Text × Bor Text) → lent_texts (texts ++ new ∷ []) ≡ lent_texts texts ++ (new.0.now, new.1.now) ∷ []
 spelled_push [] new = refl
 spelled_push (text ∷ texts) new = ap (λ rest. (text.0.now, text.1.now) ∷ rest) (spelled_push texts new)
 

@@ -9,7 +9,7 @@ use Rattle.amr_labels.specs.Labels.{Text}
 use Rattle.amr_time.specs.Time.{Moment}
 use Rattle.amr_time.specs.MomentRead.{moment_at}
 use Rattle.amr_events.specs.Actions.Events.{Annotations}
-use Rattle.amr_config.specs.Read.Members.{present}
+use Rattle.amr_config.specs.Read.Members.{unless_null}
 use Rattle.amr_events.specs.Shapes.{◌>>=◌, each_item, texts_in}
 use Rattle.amr_events.specs.declared.posts.posted_alert.PostedAlert.{PostedAlert}
 
@@ -40,7 +40,7 @@ time_at (Some d) = as_str d >>= time_of
 
 -- the time under a key; it may be missing
 unfoldable pub time_in : List ℕ → Data → Option (Option Moment)
-time_in key alert = time_at (present (get key alert))
+time_in key alert = time_at (unless_null (get key alert))
 
 abbrev pub annotations_at : Option Data → Option (List (Text × Text))
 annotations_at None = Some []
@@ -48,7 +48,7 @@ annotations_at (Some d) = texts_in d
 
 -- if an annotation is repeated, the last counts
 unfoldable pub annotations_in : Data → Option Annotations
-annotations_in alert = option_map (λ texts. from_entries (reverse texts)) (annotations_at (present (get (codes "annotations") alert)))
+annotations_in alert = option_map (λ texts. from_entries (reverse texts)) (annotations_at (unless_null (get (codes "annotations") alert)))
 
 unfoldable pub alert_of : Data → Option PostedAlert
 alert_of alert = do

@@ -8,7 +8,7 @@ use Rattle.amr_labels.specs.Matcher.Matchers.{Matcher}
 use Rattle.amr_labels.specs.declared.matcher.Operator.{Operator}
 use Rattle.amr_labels.specs.declared.matcher.Operator.TheVariants.{Equal, NotEqual, Matches, NotMatches}
 use Rattle.amr_events.specs.Posts.Ids.{id_of}
-use Rattle.amr_config.specs.Read.Members.{present}
+use Rattle.amr_config.specs.Read.Members.{unless_null}
 use Rattle.amr_events.specs.Shapes.{◌>>=◌, each_item, text_under, flag_under, moment_under}
 use Rattle.amr_events.specs.declared.posts.posted_silence.PostedSilence.{PostedSilence}
 
@@ -51,7 +51,7 @@ named_id_at (Some d) = as_str d >>= named_id
 
 -- the silence that the post updates, if it names one
 unfoldable pub named_id_in : Data → Option (Option ℕ)
-named_id_in silence = named_id_at (present (get (codes "id") silence))
+named_id_in silence = named_id_at (unless_null (get (codes "id") silence))
 
 -- the id for a new silence
 unfoldable pub new_id_in : Data → Option ℕ

@@ -20,8 +20,8 @@ pub record States (Is : Data → Type 0) (depth : ℕ) (tokens rest : List Token
   pub such : Is stated
 
 -- names and texts that are lent
-abbrev pub spelled : List (Bor Text × Bor Text) → List (Text × Text)
-spelled = map (λ pair. (pair.0.now, pair.1.now))
+abbrev pub lent_texts : List (Bor Text × Bor Text) → List (Text × Text)
+lent_texts = map (λ pair. (pair.0.now, pair.1.now))
 
 -- What was read of an alert is what these members of its object state.
 pub record IsDraft (found : Members) (draft : Draft) : Type 0 where

@@ -7,7 +7,7 @@ ghost use Rattle.amr_events.specs.Drafts.{so_far, nothing, begins_with as begins
 use crate::actions::Event;
 use crate::error::{Fault, LineError, ScriptError};
 use crate::line::read_line;
-use crate::seen_texts::SeenTexts;
+use crate::text_cache::TextCache;
 use crate::version::{Version, is_header};
 use json::Scratch;
 use std::alloc::{AllocError, Global};
@@ -27,7 +27,7 @@ pub(crate) struct Draft {
     pub(crate) number: u64,
     alloc: Global,
     scratch: Scratch,
-    seen: SeenTexts,
+    cache: TextCache,
 }
 
 impl Draft {
@@ -42,7 +42,7 @@ impl Draft {
             number: 1,
             alloc,
             scratch: Scratch::new(alloc),
-            seen: SeenTexts::new(alloc),
+            cache: TextCache::new(alloc),
         }
     }
 
@@ -83,7 +83,7 @@ impl Draft {
             self.alloc,
             self.version,
             &mut self.scratch,
-            &mut self.seen,
+            &mut self.cache,
             line,
         );
         match event {

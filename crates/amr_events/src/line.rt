@@ -16,8 +16,8 @@ use crate::post_line::read_post;
 use crate::posted::alerts;
 use crate::posted_silence::{id, silence};
 use crate::posts::Reason;
-use crate::seen_texts::SeenTexts;
 use crate::shapes::moment;
+use crate::text_cache::TextCache;
 use crate::version::Version;
 use amr_config::Config;
 use amr_config::read::{ConfigError, config_of};
@@ -36,8 +36,8 @@ pub(crate) fn read_single_line(
         (event_of_line version line.now) }
 {
     let mut scratch = Scratch::new(alloc);
-    let mut seen = SeenTexts::new(alloc);
-    read_line(alloc, version, &mut scratch, &mut seen, line)
+    let mut cache = TextCache::new(alloc);
+    read_line(alloc, version, &mut scratch, &mut cache, line)
 }
 
 /// Reads the event of a line. It shares the texts of its alerts with those that were seen. A line
@@ -47,17 +47,17 @@ pub(crate) fn read_line(
     alloc: Global,
     version: Version,
     scratch: &mut Scratch,
-    seen: &mut SeenTexts,
+    cache: &mut TextCache,
     line: &[u8],
 ) -> Result<Event, LineError>
     ensures { ReadsSuch (λ event. LineIs version line.now event) result
         (event_of_line version line.now) }
 {
-    if let Some(event) = read_post(alloc, scratch, seen, line)? {
+    if let Some(event) = read_post(alloc, scratch, cache, line)? {
         return Ok(event);
     }
     let stated = json(alloc, line)?;
-    event(alloc, version, seen, &stated)
+    event(alloc, version, cache, &stated)
 }
 
 /// Reads an event from its JSON value.
@@ -65,7 +65,7 @@ pub(crate) fn read_line(
 fn event(
     alloc: Global,
     version: Version,
-    seen: &mut SeenTexts,
+    cache: &mut TextCache,
     line: &Value,
 ) -> Result<Event, LineError>
     requires { depth (view line.now) ≤ max_depth }
@@ -73,7 +73,7 @@ fn event(
         (event_in version (view line.now)) }
 {
     let at = moment(line, "at")?;
-    let act = act(alloc, version, seen, line)?;
+    let act = act(alloc, version, cache, line)?;
     Ok(Event::new(at, act))
 }
 
@@ -82,7 +82,7 @@ fn event(
 fn act(
     alloc: Global,
     version: Version,
-    seen: &mut SeenTexts,
+    cache: &mut TextCache,
     line: &Value,
 ) -> Result<Act, LineError>
     requires { depth (view line.now) ≤ max_depth }
@@ -93,16 +93,16 @@ fn act(
         return Err(LineError::Faulty);
     }
     if let Some(stated) = line.get("alerts") {
-        return Ok(Act::Post(alerts(alloc, seen, stated)?));
+        return Ok(Act::Post(alerts(alloc, cache, stated)?));
     }
     if let Some(stated) = line.get("silence") {
-        return Ok(Act::Silence(silence(alloc, seen.patterns_for_line(), line, stated)?));
+        return Ok(Act::Silence(silence(alloc, cache.patterns_for_line(), line, stated)?));
     }
     if let Some(stated) = line.get("expire") {
         return Ok(Act::Expire(id(stated)?));
     }
     if let Some(stated) = line.get("reload") {
-        return Ok(Act::Reload(reload(alloc, seen, stated)?));
+        return Ok(Act::Reload(reload(alloc, cache, stated)?));
     }
     if let Some(stated) = line.get("tick") {
         tick(stated)?;
@@ -135,19 +135,19 @@ fn label(alloc: Global, value: &Value) -> Result<Text, LineError>
 /// configuration with that of an equal value that was read before.
 fn reload(
     alloc: Global,
-    seen: &mut SeenTexts,
+    cache: &mut TextCache,
     value: &Value,
 ) -> Result<Result<Config, Reason>, AllocError>
     requires { depth (view value.now) ≤ max_depth }
     ensures { IfOk result (λ read. ReloadIs (view value.now) (by_number read)) }
 {
     let text = value.to_string(alloc)?;
-    if let Some(known) = seen.reloads.get(text.as_str())? {
+    if let Some(known) = cache.reloads.get(text.as_str())? {
         return Ok(Ok(known));
     }
-    match config_of(alloc, seen.patterns_for_line(), value) {
+    match config_of(alloc, cache.patterns_for_line(), value) {
         Ok(config) => {
-            seen.reloads.keep(text, &config)?;
+            cache.reloads.keep(text, &config)?;
             Ok(Ok(config))
         }
         Err(ConfigError::Refused(refusal)) => Ok(Err(Reason::BadReload(refusal.cause()))),

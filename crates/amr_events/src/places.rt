@@ -1,5 +1,5 @@
 //! Values at places that follow from numbers made of them, so that a value is found again by few
-//! comparisons. `seen_texts.rt` keeps the texts and the labels of a script so.
+//! comparisons. `text_cache.rt` keeps the texts and the labels of a script so.
 
 use std::alloc::{AllocError, Global};
 use std::mem;

@@ -15,7 +15,7 @@ use crate::posted_tokens::{
     closes_object, has_key, opens_array, opens_object, string, usual_alert,
 };
 use crate::posts::PostedAlert;
-use crate::seen_texts::SeenTexts;
+use crate::text_cache::TextCache;
 use amr_labels::Listing;
 use amr_time::{Moment, read_moment};
 use json::{Reader, Scratch};
@@ -28,7 +28,7 @@ use std::str;
 pub(crate) fn read_post(
     alloc: Global,
     scratch: &mut Scratch,
-    seen: &mut SeenTexts,
+    cache: &mut TextCache,
     line: &[u8],
 ) -> Result<Option<Event>, AllocError>
     ensures { IfOk result (λ read. IfSome read (λ event.
@@ -38,7 +38,7 @@ pub(crate) fn read_post(
         return Ok(None);
     };
     let mut reader = Reader::new(text, scratch)?;
-    let event = post(alloc, seen, &mut reader)?;
+    let event = post(alloc, cache, &mut reader)?;
     if reader.next().is_some() {
         return Ok(None);
     }
@@ -48,7 +48,7 @@ pub(crate) fn read_post(
 /// Reads an object with a moment and posted alerts.
 fn post(
     alloc: Global,
-    seen: &mut SeenTexts,
+    cache: &mut TextCache,
     reader: &mut Reader<'_>,
 ) -> Result<Option<Event>, AllocError>
     ensures { IfOk result (λ read. IfSome read (λ event.
@@ -63,7 +63,7 @@ fn post(
     if !has_key(reader, "alerts") {
         return Ok(None);
     }
-    let Some(alerts) = usual_alerts(alloc, seen, reader)? else {
+    let Some(alerts) = usual_alerts(alloc, cache, reader)? else {
         return Ok(None);
     };
     if !closes_object(reader) {
@@ -88,7 +88,7 @@ fn usual_moment(reader: &mut Reader<'_>) -> Option<Moment>
 /// Reads a list of posted alerts, in order.
 fn usual_alerts(
     alloc: Global,
-    seen: &mut SeenTexts,
+    cache: &mut TextCache,
     reader: &mut Reader<'_>,
 ) -> Result<Option<Listing<PostedAlert>>, AllocError>
     ensures read { IfOk result (λ read. IfSome read (λ alerts. (depth : ℕ) → 3 ≤ depth
@@ -101,7 +101,7 @@ fn usual_alerts(
     }
     let mut alerts = Vec::new(alloc);
     while !reader.take_end_array() {
-        match usual_alert(alloc, seen, reader)? {
+        match usual_alert(alloc, cache, reader)? {
             Some(alert) => alerts.push(alert)?,
             None => return Ok(None),
         }

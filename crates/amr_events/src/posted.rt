@@ -4,13 +4,13 @@ ghost use Rattle.std.specs.Prelude.{◌≡◌, option_map, IfOk};
 ghost use Rattle.std.specs.Result.{result_ok};
 ghost use Rattle.serde_json.specs.View.{view};
 ghost use Rattle.amr_events.specs.Answers.{Reads};
-ghost use Rattle.amr_events.specs.Tokens.{spelled};
+ghost use Rattle.amr_events.specs.Tokens.{lent_texts};
 ghost use Rattle.amr_events.specs.Posted.{is_missing as is_missing_text, time_of, time_in, annotations_in, alert_of, alerts_of};
 
 use crate::error::LineError;
 use crate::posts::PostedAlert;
-use crate::seen_texts::SeenTexts;
 use crate::shapes::{member, texts};
+use crate::text_cache::TextCache;
 use amr_labels::{Listing, Text, TextMap};
 use amr_time::{BadTime, Moment, read_moment};
 use serde_json::Value;
@@ -34,7 +34,7 @@ const MISSING_MARKS: [&str; 10] = [
 #[tactic(auto, unfolding(crate::specs::Posted::alerts_of))]
 pub(crate) fn alerts(
     alloc: Global,
-    seen: &mut SeenTexts,
+    cache: &mut TextCache,
     value: &Value,
 ) -> Result<Listing<PostedAlert>, LineError>
     ensures { Reads (λ alerts. alerts) result (alerts_of (view value.now)) }
@@ -42,20 +42,20 @@ pub(crate) fn alerts(
     let items = value.as_array().ok_or(LineError::Faulty)?;
     let mut alerts = Vec::with_capacity(alloc, items.len())?;
     for item in items {
-        alerts.push(alert(alloc, seen, item)?)?;
+        alerts.push(alert(alloc, cache, item)?)?;
     }
     Ok(Listing::from_vec(alerts))
 }
 
 /// Reads a posted alert.
 #[tactic(auto, unfolding(crate::specs::Posted::alert_of))]
-fn alert(alloc: Global, seen: &mut SeenTexts, alert: &Value) -> Result<PostedAlert, LineError>
+fn alert(alloc: Global, cache: &mut TextCache, alert: &Value) -> Result<PostedAlert, LineError>
     ensures { Reads (λ a. a) result (alert_of (view alert.now)) }
 {
     let stated = alert.get("labels").ok_or(LineError::Faulty)?;
     let texts = texts(alloc, stated)?;
-    let labels = seen.labels_of(alloc, lent(alloc, texts.as_slice())?.as_slice())?;
-    let annotations = annotations(alloc, seen, alert)?;
+    let labels = cache.labels_of(alloc, lent(alloc, texts.as_slice())?.as_slice())?;
+    let annotations = annotations(alloc, cache, alert)?;
     let starts_at = time(alert, "startsAt")?;
     let ends_at = time(alert, "endsAt")?;
     Ok(PostedAlert {
@@ -68,19 +68,19 @@ fn alert(alloc: Global, seen: &mut SeenTexts, alert: &Value) -> Result<PostedAle
 
 /// Reads the annotations of an alert; there may be none.
 #[tactic(auto, unfolding(crate::specs::Posted::annotations_in))]
-fn annotations(alloc: Global, seen: &mut SeenTexts, alert: &Value) -> Result<TextMap, LineError>
+fn annotations(alloc: Global, cache: &mut TextCache, alert: &Value) -> Result<TextMap, LineError>
     ensures { Reads (λ a. a) result (annotations_in (view alert.now)) }
 {
     let texts = match member(alert, "annotations") {
         Some(value) => texts(alloc, value)?,
         None => Vec::new(alloc),
     };
-    Ok(seen.annotations_of(alloc, lent(alloc, texts.as_slice())?.as_slice())?)
+    Ok(cache.annotations_of(alloc, lent(alloc, texts.as_slice())?.as_slice())?)
 }
 
 /// Lends names and texts.
 fn lent<'a>(alloc: Global, texts: &'a [(Text, Text)]) -> Result<Vec<(&'a str, &'a str)>, AllocError>
-    ensures { IfOk result (λ lent. spelled lent.items ≡ texts.now) }
+    ensures { IfOk result (λ lent. lent_texts lent.items ≡ texts.now) }
 {
     let mut lent = Vec::with_capacity(alloc, texts.len())?;
     for (name, text) in texts {

@@ -7,7 +7,7 @@ ghost use Rattle.serde_json.specs.Find.{get};
 ghost use Rattle.amr_labels.specs.Labels.{is_empty};
 ghost use Rattle.amr_labels.specs.Matcher.MatcherRefusals.{MayBeRefused};
 ghost use Rattle.amr_labels.specs.declared.matcher.pattern.MatcherError.TheVariants.{BadPattern};
-ghost use Rattle.amr_config.specs.Read.Members.{present};
+ghost use Rattle.amr_config.specs.Read.Members.{unless_null};
 ghost use Rattle.amr_events.specs.Answers.{Reads, ReadsBut};
 ghost use Rattle.amr_events.specs.PostedSilences.{operator_by, matcher_of, matchers_of, if_named, id_at, named_id as named_id_of, named_id_at, named_id_in, new_id_in, silence_of};
 ghost use Rattle.amr_events.specs.Refused.{MatchersAre, SilenceIs};

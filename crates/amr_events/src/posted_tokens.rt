@@ -5,13 +5,13 @@ ghost use Rattle.json.specs.Token as token;
 ghost use Rattle.json.specs.Json.{read_key};
 ghost use Rattle.amr_events.specs.Shapes.{texts_in};
 ghost use Rattle.serde_json.specs.Data.{object, Members};
-ghost use Rattle.amr_config.specs.Read.Members.{present};
+ghost use Rattle.amr_config.specs.Read.Members.{unless_null};
 ghost use Rattle.amr_events.specs.Posted.{alert_of, time_at};
-ghost use Rattle.amr_events.specs.Tokens.{States, IsDraft, Adds, IsAfter, spelled};
+ghost use Rattle.amr_events.specs.Tokens.{States, IsDraft, Adds, IsAfter, lent_texts};
 
 use crate::posted::time_of;
 use crate::posts::{PostedAlert, PostedLabels};
-use crate::seen_texts::SeenTexts;
+use crate::text_cache::TextCache;
 use amr_labels::TextMap;
 use amr_time::Moment;
 use json::{Reader, Token};
@@ -112,7 +112,7 @@ impl Draft {
 /// Reads a posted alert.
 pub(crate) fn usual_alert(
     alloc: Global,
-    seen: &mut SeenTexts,
+    cache: &mut TextCache,
     reader: &mut Reader<'_>,
 ) -> Result<Option<PostedAlert>, AllocError>
     ensures read { IfOk result (λ read. IfSome read (λ alert. (depth : ℕ) → 2 ≤ depth
@@ -123,12 +123,12 @@ pub(crate) fn usual_alert(
     if !opens_object(reader) {
         return Ok(None);
     }
-    let mut draft = Draft::new(seen.no_texts(alloc)?);
+    let mut draft = Draft::new(cache.no_texts(alloc)?);
     loop {
         match reader.next_key() {
             Err(_) => return Ok(None),
             Ok(None) => return Ok(draft.finish()),
-            Ok(Some(key)) => match read_member(alloc, seen, reader, key, draft)? {
+            Ok(Some(key)) => match read_member(alloc, cache, reader, key, draft)? {
                 Some(more) => draft = more,
                 None => return Ok(None),
             },
@@ -139,7 +139,7 @@ pub(crate) fn usual_alert(
 /// Reads the member of an alert under a key, and returns the draft with it.
 fn read_member(
     alloc: Global,
-    seen: &mut SeenTexts,
+    cache: &mut TextCache,
     reader: &mut Reader<'_>,
     key: &str,
     draft: Draft,
@@ -150,8 +150,8 @@ fn read_member(
         length reader.new < length reader.old)) }
 {
     match key {
-        "labels" => read_labels(alloc, seen, reader, draft),
-        "annotations" => read_annotations(alloc, seen, reader, draft),
+        "labels" => read_labels(alloc, cache, reader, draft),
+        "annotations" => read_annotations(alloc, cache, reader, draft),
         "startsAt" => Ok(read_start(reader, draft)),
         "endsAt" => Ok(read_end(reader, draft)),
         _ => Ok(None),
@@ -161,7 +161,7 @@ fn read_member(
 /// Reads the labels of an alert.
 fn read_labels(
     alloc: Global,
-    seen: &mut SeenTexts,
+    cache: &mut TextCache,
     reader: &mut Reader<'_>,
     draft: Draft,
 ) -> Result<Option<Draft>, AllocError>
@@ -172,7 +172,7 @@ fn read_labels(
 {
     match usual_texts(alloc, reader)? {
         Some(texts) => {
-            let labels = seen.labels_of(alloc, texts.as_slice())?;
+            let labels = cache.labels_of(alloc, texts.as_slice())?;
             Ok(Some(draft.with_labels(labels)))
         }
         None => Ok(None),
@@ -182,7 +182,7 @@ fn read_labels(
 /// Reads the annotations of an alert.
 fn read_annotations(
     alloc: Global,
-    seen: &mut SeenTexts,
+    cache: &mut TextCache,
     reader: &mut Reader<'_>,
     draft: Draft,
 ) -> Result<Option<Draft>, AllocError>
@@ -193,7 +193,7 @@ fn read_annotations(
 {
     match usual_texts(alloc, reader)? {
         Some(texts) => {
-            let annotations = seen.annotations_of(alloc, texts.as_slice())?;
+            let annotations = cache.annotations_of(alloc, texts.as_slice())?;
             Ok(Some(draft.with_annotations(annotations)))
         }
         None => Ok(None),
@@ -223,7 +223,7 @@ fn read_end(reader: &mut Reader<'_>, draft: Draft) -> Option<Draft>
 /// Reads a time, which may be missing.
 fn usual_time(reader: &mut Reader<'_>) -> Option<Option<Moment>>
     ensures read { IfSome result (λ time. (depth : ℕ)
-        → States (λ d. time_at (present (Some d)) ≡ Some time) depth reader.old reader.new) }
+        → States (λ d. time_at (unless_null (Some d)) ≡ Some time) depth reader.old reader.new) }
     ensures shorter { IfSome result (λ _. length reader.new < length reader.old) }
 {
     match time_of(string(reader)?) {
@@ -238,7 +238,7 @@ fn usual_texts<'a>(
     reader: &mut Reader<'a>,
 ) -> Result<Option<Vec<(&'a str, &'a str)>>, AllocError>
     ensures read { IfOk result (λ read. IfSome read (λ pairs. (depth : ℕ) → 1 ≤ depth
-        → States (λ d. texts_in d ≡ Some (spelled pairs.items)) depth reader.old reader.new)) }
+        → States (λ d. texts_in d ≡ Some (lent_texts pairs.items)) depth reader.old reader.new)) }
     ensures shorter { IfOk result (λ read. IfSome read (λ _.
         length reader.new < length reader.old)) }
 {
@@ -265,7 +265,7 @@ fn usual_texts<'a>(
 
 /// Returns whether a name is after the last of these.
 fn is_after(name: &str, texts: &[(&str, &str)]) -> bool
-    ensures { result ≡ true → IsAfter name.now (spelled texts.now) }
+    ensures { result ≡ true → IsAfter name.now (lent_texts texts.now) }
 {
     match texts.last() {
         Some((last, _)) => *last < name,

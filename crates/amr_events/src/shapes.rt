@@ -5,7 +5,7 @@ ghost use Rattle.serde_json.specs.View.{view};
 ghost use Rattle.serde_json.specs.Find.{get};
 ghost use Rattle.amr_events.specs.Answers.{Reads};
 ghost use Rattle.amr_time.specs.Time.{latest_read};
-ghost use Rattle.amr_config.specs.Read.Members.{present};
+ghost use Rattle.amr_config.specs.Read.Members.{unless_null};
 ghost use Rattle.amr_events.specs.Shapes.{named_text, texts_in, text_under, flag_under, moment_under};
 
 use crate::error::LineError;
@@ -16,7 +16,7 @@ use std::alloc::Global;
 
 /// Returns the member of an object under a key, unless it is `null`.
 pub(crate) fn member<'v>(value: &'v Value, key: &str) -> Option<&'v Value>
-    ensures { option_map (λ v. view v.now) result ≡ present (get key.now (view value.now)) }
+    ensures { option_map (λ v. view v.now) result ≡ unless_null (get key.now (view value.now)) }
 {
     match value.get(key) {
         Some(Value::Null) => None,

@@ -1,6 +1,6 @@
 pub mod Ascending
 pub mod Firsts
-pub mod Marks
+pub mod Heads
 pub mod Pairs
 pub mod Proper
 pub mod Searches

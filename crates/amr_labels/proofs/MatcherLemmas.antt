@@ -2,7 +2,7 @@ pub mod Asking
 pub mod Finds
 pub mod WithoutGroups
 pub mod BetweenCharacters
-pub mod Remembered
+pub mod CachedMatches
 pub mod BuiltPatterns
 pub mod MatcherRuns
 pub mod MatcherKinds

@@ -6,7 +6,7 @@ ghost use Rattle.std.specs.Ordering.{eq_by_cmp};
 ghost use Rattle.amr_labels.specs.Labels.{text_cmp, label_set_cmp};
 ghost use Rattle.amr_labels.specs.SortKey.{key_of_text, key_of_label, sort_key, has_zero, label_has_zero, has_zeros};
 ghost use Rattle.amr_labels.specs.Hashes.{text_sip_hash, label_set_hash};
-ghost use Rattle.amr_labels.specs.Mark.{text_mark, headed};
+ghost use Rattle.amr_labels.specs.Head.{text_head, with_head};
 ghost use Rattle.amr_labels.specs.ObjectText.{plain_object};
 
 use crate::object_text::object_text;
@@ -27,7 +27,7 @@ pub(crate) struct KeyedTexts {
     key: Option<String>,
     /// A number made of the head of the sort key, or 0 if there is none. If two of them differ, the
     /// sort key with the lesser one is the lesser, so many comparisons don't need the keys.
-    mark: u64,
+    head: u64,
     /// A hash of the sort key.
     hash_value: usize,
     /// All names and values as an object, or `None` if one of them can't stand between quotes as it
@@ -42,7 +42,7 @@ impl Model for KeyedTexts {
     ghost use Rattle.amr_labels.specs.Labels.{text_cmp};
     ghost use Rattle.amr_labels.specs.SortKey.{sort_key, has_zeros};
     ghost use Rattle.amr_labels.specs.Hashes.{label_set_hash};
-    ghost use Rattle.amr_labels.specs.Mark.{text_mark};
+    ghost use Rattle.amr_labels.specs.Head.{text_head};
     ghost use Rattle.amr_labels.specs.ObjectText.{are_plain, object_text};
 
     ghost Value = { map.Map text_cmp (List ℕ) };
@@ -58,7 +58,7 @@ impl Model for KeyedTexts {
         × IfSome keyed.printed (λ text. (string_bytes text ≡ object_text (map.entries keyed.texts))
         × (are_plain (map.entries keyed.texts) ≡ true))
         × IfNone keyed.printed (are_plain (map.entries keyed.texts) ≡ false)
-        × IfSome keyed.key (λ key. keyed.mark ≡ text_mark (string_bytes key)) };
+        × IfSome keyed.key (λ key. keyed.head ≡ text_head (string_bytes key)) };
 }
 
 impl KeyedTexts {
@@ -74,15 +74,15 @@ impl KeyedTexts {
         } else {
             Some(joined)
         };
-        let mark = match &key {
-            Some(key) => mark_of(key.as_str()),
+        let head = match &key {
+            Some(key) => head_of(key.as_str()),
             None => 0,
         };
         let printed = object_text(alloc, texts.entries())?;
         Ok(KeyedTexts {
             texts,
             key,
-            mark,
+            head,
             hash_value,
             printed,
         })
@@ -119,7 +119,7 @@ impl KeyedTexts {
     {
         match (&self.key, &other.key) {
             (Some(key), Some(other_key)) => {
-                keys_cmp(self.mark, key.as_str(), other.mark, other_key.as_str())
+                keys_cmp(self.head, key.as_str(), other.head, other_key.as_str())
             }
             _ => self.texts.entries().cmp(other.texts.entries()),
         }
@@ -196,22 +196,22 @@ fn push_text(key: &mut String, text: &Text) -> Result<(), AllocError>
     key.push('\0')
 }
 
-/// Compares sort keys, given their marks.
-fn keys_cmp(mark: u64, key: &str, other_mark: u64, other_key: &str) -> Ordering
-    requires own { mark ≡ text_mark key.now }
-    requires other { other_mark ≡ text_mark other_key.now }
+/// Compares sort keys, given their heads.
+fn keys_cmp(head: u64, key: &str, other_head: u64, other_key: &str) -> Ordering
+    requires own { head ≡ text_head key.now }
+    requires other { other_head ≡ text_head other_key.now }
     ensures { result ≡ text_cmp key.now other_key.now }
 {
-    if mark == other_mark {
+    if head == other_head {
         key.cmp(other_key)
     } else {
-        mark.cmp(&other_mark)
+        head.cmp(&other_head)
     }
 }
 
-/// Returns the mark of a sort key.
-fn mark_of(key: &str) -> u64
-    ensures { result ≡ text_mark key.now }
+/// Returns the head of a sort key.
+fn head_of(key: &str) -> u64
+    ensures { result ≡ text_head key.now }
 {
     let usual_name = "alertname\0";
     match key.as_bytes().strip_prefix(usual_name.as_bytes()) {
@@ -224,7 +224,7 @@ fn mark_of(key: &str) -> u64
 /// Returns the number whose bytes are this one and the first seven of a text, with zeros after its
 /// end.
 fn headed(first: u8, text: &[u8]) -> u64
-    ensures { result ≡ headed 7 first text.now }
+    ensures { result ≡ with_head 7 first text.now }
 {
     u64::from_be_bytes([
         first,

@@ -1,10 +1,10 @@
 //! Label matchers, lists of them, and reading them from texts. Routes, inhibition rules and
 //! silences have matchers. A pattern is built once, when its matcher is read.
 
-mod answers;
 mod candidates;
 mod comparison;
 pub mod laws;
+mod match_cache;
 mod matcher;
 mod matcher_reader;
 mod matcher_steps;
@@ -15,7 +15,7 @@ mod patterns;
 mod search;
 mod ungrouped;
 
-pub use answers::Answers;
+pub use match_cache::MatchCache;
 pub use matcher::Matcher;
 pub use matchers::Matchers;
 pub use parse::ParseError;

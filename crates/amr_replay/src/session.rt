@@ -314,15 +314,15 @@ impl Session {
 
     /// Works out which alerts can inhibit one with these labels, so that `explain` needn't look for
     /// them among all stored alerts.
-    pub fn learn_sources(&mut self, labels: &Labels) -> Result<(), AllocError>
+    pub fn cache_sources(&mut self, labels: &Labels) -> Result<(), AllocError>
         ensures { self.new ≡ self.old }
     {
-        self.engine.learn_sources(labels)
+        self.engine.cache_sources(labels)
     }
 
     /// Explains why an alert with these labels was or wasn't in a notification, at the cursor. An
     /// alert explained as `Told` is in a notification of the transcript. It is much faster on a large
-    /// state if `learn_sources` was called before.
+    /// state if `cache_sources` was called before.
     pub fn explain(&self, labels: &Labels) -> Result<Vec<Verdict>, AllocError>
         ensures explained { IfOk result (λ found. found.items
             ≡ verdicts self.now.state labels.now) }

@@ -37,8 +37,8 @@ abbrev pub unexpired_of : Moment → List (ℕ × Silence) → List (ℕ × Sile
 unexpired_of from listed = filter (λ stored. not (is_expired_at from stored.1)) listed
 
 -- the silences that aren't expired at this moment, in the order of ids
-abbrev pub unexpired : Moment → Silences → List (ℕ × Silence)
-unexpired from silences = unexpired_of from (entries silences)
+abbrev pub unexpired_silences : Moment → Silences → List (ℕ × Silence)
+unexpired_silences from silences = unexpired_of from (entries silences)
 
 -- a row for each of these silences that isn't expired at this moment
 abbrev pub rows_among : Moment → List LabelSet → List (ℕ × Silence) → List SilenceRow

@@ -41,7 +41,7 @@ impl Exact for Alert {
     ghost exact = { λ x y same. same };
 }
 
-ghost use Rattle.amr_rules.specs.Alerts.{completed, joined, is_resolved_at, with_times, overlaps, old_end_counts, merged};
+ghost use Rattle.amr_rules.specs.Alerts.{completed_alert, alert_to_store, is_resolved_at, with_times, overlaps, old_end_counts, merged_alert};
 
 impl Alert {
     /// Returns whether the alert is resolved at a moment: at its end and from then on.
@@ -71,14 +71,14 @@ fn with_times(now: Moment, timeout: Span, posted: &PostedAlert) -> Result<Alert,
 /// Returns the labels and the alert of a post. Returns `None` if the post isn't valid: it has no
 /// label, or an empty label name, or it ends before it starts (postable alerts of Alertmanager's
 /// API v2).
-#[tactic(auto, unfolding(crate::specs::Alerts::completed))]
+#[tactic(auto, unfolding(crate::specs::Alerts::completed_alert))]
 pub fn complete_alert(
     now: Moment,
     timeout: Span,
     posted: &PostedAlert,
 ) -> Result<Option<(Labels, Alert)>, AllocError>
     requires { now + timeout < before_year_10000 }
-    ensures { IfOk result (λ alert. alert ≡ completed now timeout posted.now) }
+    ensures { IfOk result (λ alert. alert ≡ completed_alert now timeout posted.now) }
 {
     let alert = with_times(now, timeout, posted)?;
     match posted.labels.label_set() {
@@ -132,9 +132,9 @@ fn later(a: Moment, b: Moment) -> Moment
 /// Merges a new alert with the stored one of the same labels. If they overlap, the result has the
 /// earlier start, and the later end if the stored end counts; otherwise the new alert replaces the
 /// old. Annotations are always those of the new alert.
-#[tactic(auto, unfolding(crate::specs::Alerts::joined))]
+#[tactic(auto, unfolding(crate::specs::Alerts::alert_to_store))]
 pub fn merge(now: Moment, stored: &Alert, new: Alert) -> Alert
-    ensures { result ≡ joined now (Some stored.now) new }
+    ensures { result ≡ alert_to_store now (Some stored.now) new }
 {
     let mut new = new;
     if overlaps(stored, &new) {

@@ -8,7 +8,7 @@ ghost use Rattle.std.specs.Ordering.{nat_cmp};
 ghost use Rattle.std.specs.Map.Iter.{deref_pair};
 ghost use Rattle.amr_labels.specs.Matcher.Matchers.{all_hold};
 ghost use Rattle.amr_config.specs.Stated.RuleMatches.{rule_match, rule_matches};
-ghost use Rattle.amr_tables.specs.Numbered.{shown};
+ghost use Rattle.amr_tables.specs.Numbered.{map_of};
 ghost use Rattle.amr_rules.specs.Muting.{has_value, agree_on, is_agreeing, first_source, rule_mutes, is_inhibited, inhibitor_by, inhibition_from, silences_labels, is_silenced, silencer_of};
 
 use crate::alert::Alert;
@@ -16,7 +16,7 @@ use crate::alert_store::AlertStore;
 use crate::silence::Silence;
 use amr_config::stated::{InhibitRule, RuleMatch};
 use amr_events::posts::SilenceId;
-use amr_labels::matcher::Answers;
+use amr_labels::matcher::MatchCache;
 use amr_labels::{Labels, Text};
 use amr_tables::Keyed;
 use amr_time::Moment;
@@ -31,8 +31,8 @@ pub fn silenced_by(
     labels: &Labels,
 ) -> Result<Option<SilenceId>, AllocError>
     ensures named { IfOk result (λ found. found
-        ≡ silencer_of now labels.now (shown nat_cmp silences.now)) }
-    ensures exactly { IfOk result (λ found. is_silenced (shown nat_cmp silences.now) now labels.now
+        ≡ silencer_of now labels.now (map_of nat_cmp silences.now)) }
+    ensures exactly { IfOk result (λ found. is_silenced (map_of nat_cmp silences.now) now labels.now
         ≡ is_some found) }
 {
     let stored = silences.sorted(alloc)?;
@@ -58,7 +58,7 @@ fn silences_labels(
     }
     silence
         .matchers
-        .matches_all(&mut Answers::none(alloc), labels)
+        .matches_all(&mut MatchCache::none(alloc), labels)
 }
 
 /// Returns what inhibits labels at a moment: the index of the first rule that does, from 0, and the
@@ -162,7 +162,9 @@ fn mutes_target(
     if !is_source {
         return Ok(true);
     }
-    let is_target = rule.target.matches_all(&mut Answers::none(alloc), source)?;
+    let is_target = rule
+        .target
+        .matches_all(&mut MatchCache::none(alloc), source)?;
     Ok(!is_target)
 }
 
@@ -179,7 +181,8 @@ pub fn is_agreeing(
     if !agree_on(rule.equal.as_slice(), source, target) {
         return Ok(false);
     }
-    rule.source.matches_all(&mut Answers::none(alloc), source)
+    rule.source
+        .matches_all(&mut MatchCache::none(alloc), source)
 }
 
 /// Returns whether each of these labels (`equal` of an inhibition rule) has the same value in both

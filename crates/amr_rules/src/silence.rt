@@ -32,7 +32,7 @@ impl Exact for Silence {
     ghost exact = { λ x y same. same };
 }
 
-ghost use Rattle.amr_rules.specs.Silences.{is_pending_at, is_active_at, is_expired_at, expired};
+ghost use Rattle.amr_rules.specs.Silences.{is_pending_at, is_active_at, is_expired_at, expired_form};
 
 impl Silence {
     /// Returns whether the silence hasn't started yet.
@@ -60,7 +60,7 @@ impl Silence {
 /// Expires a silence: an active one ends now, a pending one starts and ends now, and an expired one
 /// doesn't change.
 pub fn silence_expire(now: Moment, silence: Silence) -> Silence
-    ensures { result ≡ expired now silence }
+    ensures { result ≡ expired_form now silence }
 {
     let mut silence = silence;
     if !silence.is_expired_at(now) {

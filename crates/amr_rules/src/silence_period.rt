@@ -3,14 +3,14 @@
 ghost use Rattle.std.specs.Prelude.{◌≡◌, ◌≤◌, IfOk};
 ghost use Rattle.std.specs.Ordering.{nat_cmp};
 ghost use Rattle.amr_labels.specs.Labels.{LabelSet};
-ghost use Rattle.amr_tables.specs.Numbered.{shown};
+ghost use Rattle.amr_tables.specs.Numbered.{map_of};
 ghost use Rattle.amr_time.specs.Time.{Moment};
 ghost use Rattle.amr_rules.specs.Muting.{silencer_of};
 ghost use Rattle.amr_rules.specs.Silences.{Silences};
 
 use crate::silence::Silence;
 use amr_events::posts::SilenceId;
-use amr_labels::matcher::Answers;
+use amr_labels::matcher::MatchCache;
 use amr_labels::{Labels, Listing};
 use amr_tables::Keyed;
 use amr_time::Moment;
@@ -25,7 +25,7 @@ pub struct SilencePeriod {
     pub ends_at: Moment,
 }
 
-ghost use Rattle.amr_rules.specs.SilencePeriods.{may_silence, covers, periods_among, silence_periods, silenced_in, unexpired};
+ghost use Rattle.amr_rules.specs.SilencePeriods.{may_silence, covers, periods_among, silence_periods, silenced_in, unexpired_silences};
 
 impl SilencePeriod {
     /// Returns whether the silence is active at a moment.
@@ -43,7 +43,8 @@ pub fn unexpired(
     silences: &Keyed<SilenceId, Silence>,
     from: Moment,
 ) -> Result<Vec<(SilenceId, Silence)>, AllocError>
-    ensures { IfOk result (λ listed. listed.items ≡ unexpired from (shown nat_cmp silences.now)) }
+    ensures { IfOk result (λ listed. listed.items
+        ≡ unexpired_silences from (map_of nat_cmp silences.now)) }
 {
     let stored = silences.sorted(alloc)?;
     let mut listed = Vec::new(alloc);
@@ -59,7 +60,7 @@ pub fn unexpired(
 /// periods. It asks the patterns of the matchers through the remembered answers.
 pub fn silence_periods(
     alloc: Global,
-    answers: &mut Answers,
+    answers: &mut MatchCache,
     listed: &[(SilenceId, Silence)],
     from: Moment,
     labels: &Labels,
@@ -67,7 +68,7 @@ pub fn silence_periods(
     ensures among { IfOk result (λ periods. periods
         ≡ periods_among from labels.now listed.now) }
     ensures all { IfOk result (λ periods. (earlier : Moment) (silences : Silences)
-        → earlier ≤ from → listed.now ≡ unexpired earlier silences
+        → earlier ≤ from → listed.now ≡ unexpired_silences earlier silences
         → periods ≡ silence_periods from labels.now silences) }
 {
     let mut periods = Listing::new(alloc);
@@ -85,7 +86,7 @@ pub fn silence_periods(
 
 /// Returns whether a silence matches labels and isn't expired at a moment.
 fn may_silence(
-    answers: &mut Answers,
+    answers: &mut MatchCache,
     from: Moment,
     silence: &Silence,
     labels: &Labels,

@@ -20,7 +20,7 @@ pub struct SilenceRow {
     pub matches: Listing<bool>,
 }
 
-ghost use Rattle.amr_rules.specs.SilencePeriods.{row_of, rows_among, silence_rows, matches_at, periods_at, silence_periods, unexpired};
+ghost use Rattle.amr_rules.specs.SilencePeriods.{row_of, rows_among, silence_rows, matches_at, periods_at, silence_periods, unexpired_silences};
 
 /// Asks each of these silences that isn't expired at a moment whether it matches these label sets.
 /// It prepares a search for each pattern, which serves all label sets.
@@ -33,7 +33,7 @@ pub fn silence_rows(
     ensures among { IfOk result (λ rows. rows.items
         ≡ rows_among from label_sets.now listed.now) }
     ensures all { IfOk result (λ rows. (earlier : Moment) (silences : Silences)
-        → earlier ≤ from → listed.now ≡ unexpired earlier silences
+        → earlier ≤ from → listed.now ≡ unexpired_silences earlier silences
         → rows.items ≡ silence_rows from label_sets.now silences) }
 {
     let mut rows = Vec::new(alloc);

@@ -4,7 +4,7 @@
 ghost use Rattle.std.specs.Prelude.{◌≡◌, IfOk};
 ghost use Rattle.std.specs.Option.{option_copied};
 ghost use Rattle.std.specs.Ordering.{nat_cmp};
-ghost use Rattle.amr_tables.specs.Numbered.{shown};
+ghost use Rattle.amr_tables.specs.Numbered.{map_of};
 ghost use Rattle.amr_rules.specs.Silences.{named_silence, with_update, after_post};
 ghost use Rattle.amr_rules.specs.Silencing.{after_decision};
 
@@ -25,8 +25,8 @@ pub fn set_silence(
     silences: &Keyed<SilenceId, Silence>,
 ) -> Result<Result<SilenceUpdate, Reason>, AllocError>
     ensures { IfOk result
-        (λ decision. after_decision posted.now (shown nat_cmp silences.now) decision
-        ≡ after_post now posted.now (shown nat_cmp silences.now)) }
+        (λ decision. after_decision posted.now (map_of nat_cmp silences.now) decision
+        ≡ after_post now posted.now (map_of nat_cmp silences.now)) }
 {
     let old = named(silences, posted);
     match decided_post(alloc, now, posted, old)? {
@@ -43,7 +43,7 @@ pub fn set_silence(
 
 /// Returns the stored silence that a post names, if it names one.
 fn named<'a>(silences: &'a Keyed<SilenceId, Silence>, posted: &PostedSilence) -> Option<&'a Silence>
-    ensures { option_copied result ≡ named_silence posted.now (shown nat_cmp silences.now) }
+    ensures { option_copied result ≡ named_silence posted.now (map_of nat_cmp silences.now) }
 {
     silences.get(&posted.id?)
 }
@@ -54,8 +54,8 @@ fn with_free_id(
     posted: &PostedSilence,
     silence_update: SilenceUpdate,
 ) -> Result<SilenceUpdate, Reason>
-    ensures { after_decision posted.now (shown nat_cmp silences.now) result
-        ≡ with_update posted.now (shown nat_cmp silences.now) silence_update }
+    ensures { after_decision posted.now (map_of nat_cmp silences.now) result
+        ≡ with_update posted.now (map_of nat_cmp silences.now) silence_update }
 {
     match silence_update {
         SilenceUpdate::InPlace(silence) => Ok(SilenceUpdate::InPlace(silence)),

@@ -8,9 +8,9 @@ use Rattle.std.specs.List.{filter_map, cons_option, list_all}
 use Rattle.std.proofs.lemmas.List.{take_more, map-append}
 use Rattle.std.proofs.lemmas.List.Elements.{filter_map-append}
 use Rattle.amr_labels.proofs.Sorted.{both, first, second}
-use Rattle.amr_labels.specs.Map.{entries, from_sorted, checked, empty}
-use Rattle.amr_tables.specs.Places.{value_at, present}
-use Rattle.amr_tables.specs.Numbered.{Numbered, entry_at, numbered_key, shown}
+use Rattle.amr_labels.specs.Map.{entries, from_sorted, if_sorted, empty}
+use Rattle.amr_tables.specs.Places.{value_at, values_of}
+use Rattle.amr_tables.specs.Numbered.{Numbered, entry_at, numbered_key, map_of}
 
 module _ {K V : Type 0} (cells : List (Option V)) where
   -- one key more
@@ -28,7 +28,7 @@ module _ {K V : Type 0} (cells : List (Option V)) where
 
 -- ---- what holds of each value holds of each entry
 
-value_passes : {V : Type 0} (p : V → Bool) (cells : List (Option V)) (n : ℕ) (value : V) → T (list_all p (present cells)) → value_at cells n ≡ Some value → T (p value)
+value_passes : {V : Type 0} (p : V → Bool) (cells : List (Option V)) (n : ℕ) (value : V) → T (list_all p (values_of cells)) → value_at cells n ≡ Some value → T (p value)
 value_passes p [] n value all is = absurd (true≢false (sym (ap is_some is)))
 value_passes p (None ∷ cells) zero value all is = absurd (true≢false (sym (ap is_some is)))
 value_passes p (None ∷ cells) (suc n) value all is = value_passes p cells n value all is
@@ -40,19 +40,19 @@ module _ {K V : Type 0} (p : V → Bool) where
   one_more key None rest passes all = all
   one_more key (Some value) rest passes all = both _ _ (passes value refl) all
 
-  covers : (cells : List (Option V)) (keys : List (K × ℕ)) → T (list_all p (present cells)) → T (list_all (λ entry. p entry.1) (filter_map (entry_at cells) keys))
+  covers : (cells : List (Option V)) (keys : List (K × ℕ)) → T (list_all p (values_of cells)) → T (list_all (λ entry. p entry.1) (filter_map (entry_at cells) keys))
   covers cells [] all = tt
   covers cells (key ∷ keys) all =
       one_more key.0 (value_at cells key.1) _ (λ value is. value_passes p cells key.1 value all is) (covers cells keys all)
 
 module _ {K V : Type 0} (R : K → K → Ordering) where
-  of_entries : (P : List (K × V) → Type 0) (es : List (K × V)) (b : Bool) (e : is_sorted R es ≡ b) → P es → P [] → P (entries (checked es b e empty))
-  unfolding entries checked empty
+  of_entries : (P : List (K × V) → Type 0) (es : List (K × V)) (b : Bool) (e : is_sorted R es ≡ b) → P es → P [] → P (entries (if_sorted es b e empty))
+  unfolding entries if_sorted empty
   of_entries P es true e all none = all
   of_entries P es false e all none = none
 
   -- what holds of all values of a table holds of all values of the map that it shows
-  pub present_covers : (p : V → Bool) (t : Numbered K V) → T (list_all p (present t.cells)) → T (list_all (λ entry. p entry.1) (entries (shown R t)))
-  unfolding shown from_sorted
+  pub present_covers : (p : V → Bool) (t : Numbered K V) → T (list_all p (values_of t.cells)) → T (list_all (λ entry. p entry.1) (entries (map_of R t)))
+  unfolding map_of from_sorted
   present_covers p t all =
       of_entries (λ es. T (list_all (λ entry. p entry.1) es)) (filter_map (entry_at t.cells) t.numbers) _ refl (covers p t.cells t.numbers all) tt

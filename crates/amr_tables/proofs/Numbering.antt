@@ -15,7 +15,7 @@ use Rattle.amr_labels.specs.Map.{from_sorted, entries, get, empty, same_map, sam
 use Rattle.amr_labels.specs.Map as map
 use Rattle.amr_tables.specs.Places.{value_at}
 use Rattle.amr_tables.specs.Marked.{is_marked}
-use Rattle.amr_tables.specs.Numbered.{Numbered, entry_at, has_place, is_entered, shown, IsNumbering}
+use Rattle.amr_tables.specs.Numbered.{Numbered, entry_at, has_place, is_entered, map_of, IsNumbering}
 
 either_way : {A : Type 0} (b : Bool) (x : A) → x ≡ cond b x x
 either_way true x = refl
@@ -72,15 +72,15 @@ module _ {K V : Type 0} (R : K → K → Ordering) where
   sorted-entries cells [] h = tt
   sorted-entries cells (e ∷ es) h = sorted-cons e.0 (value_at cells e.1) _ (below-entries cells e.0 es (first _ _ h)) (sorted-entries cells es (second _ _ h))
 
-  pub entries-shown : (t : Numbered K V) → IsNumbering R t → entries (shown R t) ≡ filter_map (entry_at t.cells) t.numbers
-  unfolding shown
+  pub entries-shown : (t : Numbered K V) → IsNumbering R t → entries (map_of R t) ≡ filter_map (entry_at t.cells) t.numbers
+  unfolding map_of
   entries-shown t is = entries-from_sorted R _ (sorted-entries t.cells t.numbers is.sorted)
 
-  pub get-shown : IsTotalOrder R → (t : Numbered K V) (q : K) → IsNumbering R t → get (shown R t) q ≡ option_and_then (value_at t.cells) (find R q t.numbers)
-  get-shown o t q is = get-entries (shown R t) q ∙ ap (find R q) (entries-shown t is) ∙ find-entries o t.cells q t.numbers is.sorted
+  pub get-shown : IsTotalOrder R → (t : Numbered K V) (q : K) → IsNumbering R t → get (map_of R t) q ≡ option_and_then (value_at t.cells) (find R q t.numbers)
+  get-shown o t q is = get-entries (map_of R t) q ∙ ap (find R q) (entries-shown t is) ∙ find-entries o t.cells q t.numbers is.sorted
 
-  pub shown-none : (cells : List (Option V)) (marks : List Bool) → shown R (record { numbers = []; cells = cells; marks = marks }) ≡ empty
-  unfolding shown entries empty
+  pub shown-none : (cells : List (Option V)) (marks : List Bool) → map_of R (record { numbers = []; cells = cells; marks = marks }) ≡ empty
+  unfolding map_of entries empty
   shown-none cells marks = same_entries_map _ _ (entries-from_sorted R [] tt)
 
 -- ---- a value at another place
@@ -206,13 +206,13 @@ module _ {K V : Type 0} {R : K → K → Ordering} (o : IsTotalOrder R) where
         spare = λ m h. is.spare m (omega arith);
       }
 
-  pub shown-displaced : IsAntisymmetric R → (t : Numbered K V) (k : K) (n : ℕ) (v : Option V) → IsNumbering R t → find R k t.numbers ≡ Some n → shown R (record t { cells = slice_set t.cells n v }) ≡ map.set (shown R t) k v
+  pub shown-displaced : IsAntisymmetric R → (t : Numbered K V) (k : K) (n : ℕ) (v : Option V) → IsNumbering R t → find R k t.numbers ≡ Some n → map_of R (record t { cells = slice_set t.cells n v }) ≡ map.set (map_of R t) k v
   shown-displaced exact t k n v is at = same_map o exact _ _ (λ q.
       get-shown R o (record t { cells = slice_set t.cells n v }) q (displaced_is t n v is)
       ∙ and_then_is (value_at (slice_set t.cells n v)) (find R q t.numbers)
       ∙ turned o t.numbers k q n None v (value_at (slice_set t.cells n v)) (value_at t.cells) at (λ m _ ne. value_apart t.cells n m v ne) (value_set t.cells n v (is.within k n at)) is.apart
       ∙ ap (cond (eq_by_cmp R q k) v) (sym (get-shown R o t q is ∙ and_then_is (value_at t.cells) (find R q t.numbers)))
-      ∙ sym (get-set o (shown R t) k v q))
+      ∙ sym (get-set o (map_of R t) k v q))
 
   pub marked_is : (t : Numbered K V) (n : ℕ) → n < length t.cells → IsNumbering R t → IsNumbering R (record t { marks = slice_set t.marks n true })
   marked_is t n lt is =
@@ -271,8 +271,8 @@ module _ {K V : Type 0} {R : K → K → Ordering} (o : IsTotalOrder R) where
     spare = λ m h. is.spare m (omega arith);
   }
 
-  pub shown-grown : (t : Numbered K V) (cells : List (Option V)) (marks : List Bool) → ((n : ℕ) → value_at cells n ≡ value_at t.cells n) → shown R (record t { cells = cells; marks = marks }) ≡ shown R t
-  unfolding shown
+  pub shown-grown : (t : Numbered K V) (cells : List (Option V)) (marks : List Bool) → ((n : ℕ) → value_at cells n ≡ value_at t.cells n) → map_of R (record t { cells = cells; marks = marks }) ≡ map_of R t
+  unfolding map_of
   shown-grown t cells marks same = ap (from_sorted {R = R}) (filter_map-same (entry_at cells) (entry_at t.cells) t.numbers (λ e. ap (option_map (λ v. (e.0, v))) (same e.1)))
 
   -- a key more, whose place has no value
@@ -304,8 +304,8 @@ module _ {K V : Type 0} {R : K → K → Ordering} (o : IsTotalOrder R) where
         spare = is.spare;
       }
 
-  pub shown-added : (t : Numbered K V) (k : K) (n : ℕ) → find R k t.numbers ≡ None → value_at t.cells n ≡ None → shown R (record t { numbers = put R k n t.numbers }) ≡ shown R t
-  unfolding shown
+  pub shown-added : (t : Numbered K V) (k : K) (n : ℕ) → find R k t.numbers ≡ None → value_at t.cells n ≡ None → map_of R (record t { numbers = put R k n t.numbers }) ≡ map_of R t
+  unfolding map_of
   shown-added t k n none no_value = ap (from_sorted {R = R}) (filter_map-put R (entry_at t.cells) k n t.numbers (ap (option_map (λ v. (k, v))) no_value) none)
 
   pub entered-added : (t : Numbered K V) (k q : K) (n : ℕ) → find R k t.numbers ≡ None → is_marked t.marks n ≡ false → is_entered R (record t { numbers = put R k n t.numbers }) q ≡ is_entered R t q
@@ -351,7 +351,7 @@ module _ {K V : Type 0} (R : K → K → Ordering) where
   -- what stays the same where a key gets a place
   pub record Grows (t u : Numbered K V) : Type 0 where
     pub numbering : IsNumbering R u
-    pub same : shown R u ≡ shown R t
+    pub same : map_of R u ≡ map_of R t
     pub entered : (q : K) → is_entered R u q ≡ is_entered R t q
     pub placed : (q : K) → IsTrue (has_place R t q) → IsTrue (has_place R u q)
 

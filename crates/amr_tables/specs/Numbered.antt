@@ -80,8 +80,8 @@ module _ {K V : Type 0} where
     is_entered t key = option_map_or (is_marked t.marks) (number_of t key) false
 
     -- the finite map that the table shows
-    unfoldable pub shown : Numbered K V → Map R V
-    shown t = from_sorted (filter_map (entry_at t.cells) t.numbers)
+    unfoldable pub map_of : Numbered K V → Map R V
+    map_of t = from_sorted (filter_map (entry_at t.cells) t.numbers)
 
     -- no place is lost
     abbrev pub KeepsPlaces : Numbered K V → Numbered K V → Type 0
@@ -97,7 +97,7 @@ module _ {K V : Type 0} where
 
     -- the value is that of the key with this number
     abbrev pub IsValueOf : Numbered K V → ℕ → Option V → Type 0
-    IsValueOf t n value = (key : K) → number_of t key ≡ Some n → value ≡ get (shown t) key
+    IsValueOf t n value = (key : K) → number_of t key ≡ Some n → value ≡ get (map_of t) key
 
     -- a key has this number
     abbrev pub IsNumber : Numbered K V → ℕ → Type 0
@@ -110,7 +110,7 @@ module _ {K V : Type 0} where
     -- the key with this number has the value in the second table, or none, and each other key keeps
     -- its own
     abbrev pub IsSetAt : Numbered K V → ℕ → Option V → Numbered K V → Type 0
-    IsSetAt old n value changed = (key : K) → number_of old key ≡ Some n → shown changed ≡ set (shown old) key value
+    IsSetAt old n value changed = (key : K) → number_of old key ≡ Some n → map_of changed ≡ set (map_of old) key value
 
     -- the same keys have places
     abbrev pub SamePlaces : Numbered K V → Numbered K V → Type 0

@@ -6,8 +6,8 @@ ghost use Rattle.std.specs.Map.Iter.{deref_pair};
 ghost use Rattle.std.specs.Option.{option_copied};
 ghost use Rattle.std.specs.FinMap.{IsAntisymmetric};
 ghost use Rattle.amr_labels.specs.Map as map;
-ghost use Rattle.amr_tables.specs.Places.{value_at, present};
-ghost use Rattle.amr_tables.specs.Numbered.{shown, has_place, next_number, number_of, KeepsPlaces, GetsPlace, GetsNumber, IsValueOf, IsNumber, IsMarkOf, IsSetAt, EntersAt, SamePlaces, SameEntered, NoneEntered, IsNumbering, key_at};
+ghost use Rattle.amr_tables.specs.Places.{value_at, values_of};
+ghost use Rattle.amr_tables.specs.Numbered.{map_of, has_place, next_number, number_of, KeepsPlaces, GetsPlace, GetsNumber, IsValueOf, IsNumber, IsMarkOf, IsSetAt, EntersAt, SamePlaces, SameEntered, NoneEntered, IsNumbering, key_at};
 
 use crate::marks::Marks;
 use crate::numbers::Numbers;
@@ -59,7 +59,7 @@ impl<K: Key, V> Model for Keyed<K, V> {
 impl<K: Key + Drop, V: Drop> Keyed<K, V> {
     /// Builds a table without keys.
     pub fn new(alloc: Global) -> Keyed<K, V>
-        ensures shown { shown K.cmp result ≡ map.empty }
+        ensures shown { map_of K.cmp result ≡ map.empty }
         ensures entered { NoneEntered K.cmp result }
         ensures keys { result.numbers ≡ [] }
     {
@@ -72,7 +72,7 @@ impl<K: Key + Drop, V: Drop> Keyed<K, V> {
 
     /// Returns the value of a key.
     pub fn get(&self, key: &K) -> Option<&V>
-        ensures { option_copied result ≡ map.get (shown K.cmp self.now) key.now }
+        ensures { option_copied result ≡ map.get (map_of K.cmp self.now) key.now }
     {
         match self.numbers.get(key) {
             None => None,
@@ -84,7 +84,7 @@ impl<K: Key + Drop, V: Drop> Keyed<K, V> {
     /// listings.
     pub fn sorted(&self, alloc: Global) -> Result<Vec<(&K, &V)>, AllocError>
         ensures { IfOk result (λ found. map deref_pair found.items
-            ≡ map.entries (shown K.cmp self.now)) }
+            ≡ map.entries (map_of K.cmp self.now)) }
     {
         let numbers = self.numbers.sorted(alloc)?;
         let mut found = Vec::with_capacity(alloc, numbers.len())?;
@@ -98,7 +98,7 @@ impl<K: Key + Drop, V: Drop> Keyed<K, V> {
 
     /// Returns the values, in the order in which their keys came. It takes no memory.
     pub fn values(&self) -> Values<'_, V>
-        ensures { result ≡ present self.now.cells }
+        ensures { result ≡ values_of self.now.cells }
     {
         Values {
             cells: self.slots.as_slice(),
@@ -116,7 +116,7 @@ impl<K: Key + Drop, V: Drop> Keyed<K, V> {
     /// look for the key again.
     pub fn look_up_number(&self, key: &K) -> (Option<usize>, Option<&V>)
         ensures number { result.0 ≡ number_of K.cmp self.now key.now }
-        ensures value { option_copied result.1 ≡ map.get (shown K.cmp self.now) key.now }
+        ensures value { option_copied result.1 ≡ map.get (map_of K.cmp self.now) key.now }
         ensures placed { IsTrue (is_some result.1) → IsTrue (is_some result.0) }
     {
         match self.numbers.get(key) {
@@ -161,7 +161,7 @@ impl<K: Key + Drop, V: Drop> Keyed<K, V> {
     pub fn make_place(&mut self, key: K) -> Result<(), AllocError>
         ensures made { OnOk result (IsTrue (has_place K.cmp self.new key)) }
         ensures places { KeepsPlaces K.cmp self.old self.new }
-        ensures shown { shown K.cmp self.new ≡ shown K.cmp self.old }
+        ensures shown { map_of K.cmp self.new ≡ map_of K.cmp self.old }
         ensures entered { SameEntered K.cmp self.old self.new }
         ensures no_other { OnOk result (GetsPlace K.cmp self.old self.new key) }
         ensures numbers { IsTrue (has_place K.cmp self.old key)
@@ -185,8 +185,8 @@ impl<K: Key + Drop, V: Drop> Keyed<K, V> {
     /// memory.
     pub fn displace(&mut self, key: &K, value: Option<V>) -> Option<V>
         requires { IsTrue (has_place K.cmp self.old key.now) }
-        ensures answer { result ≡ map.get (shown K.cmp self.old) key.now }
-        ensures shown { shown K.cmp self.new ≡ map.set (shown K.cmp self.old) key.now value }
+        ensures answer { result ≡ map.get (map_of K.cmp self.old) key.now }
+        ensures shown { map_of K.cmp self.new ≡ map.set (map_of K.cmp self.old) key.now value }
         ensures places { SamePlaces K.cmp self.old self.new }
         ensures entered { SameEntered K.cmp self.old self.new }
         ensures keys { self.new.numbers ≡ self.old.numbers }
@@ -218,7 +218,7 @@ impl<K: Key + Drop, V: Drop> Keyed<K, V> {
     /// Clears the marks of all places. It takes no memory.
     pub fn clear_entered(&mut self)
         ensures entered { NoneEntered K.cmp self.new }
-        ensures shown { shown K.cmp self.new ≡ shown K.cmp self.old }
+        ensures shown { map_of K.cmp self.new ≡ map_of K.cmp self.old }
         ensures places { SamePlaces K.cmp self.old self.new }
         ensures keys { self.new.numbers ≡ self.old.numbers }
     {

@@ -13,11 +13,11 @@ pub struct Values<'a, V> {
 
 impl<'a, V> Model for Values<'a, V> {
     ghost use Rattle.std.specs.Prelude.{List};
-    ghost use Rattle.amr_tables.specs.Places.{present};
+    ghost use Rattle.amr_tables.specs.Places.{values_of};
 
     ghost Value = { List V };
 
-    ghost view = { λ values. present values.cells.now };
+    ghost view = { λ values. values_of values.cells.now };
 }
 
 impl<'a, V> Iterator for Values<'a, V> {

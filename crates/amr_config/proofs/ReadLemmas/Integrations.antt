@@ -19,7 +19,7 @@ use Rattle.serde_json.specs.Data.{Data, null, boolean, number, string, array, ob
 use Rattle.amr_labels.specs.Labels.{Text, text_cmp}
 use Rattle.amr_config.specs.declared.stated.receiver.Integration.{Integration}
 use Rattle.amr_config.specs.declared.stated.receiver.Receiver.{Receiver}
-use Rattle.amr_config.specs.Read.Members.{present, optional, stated, needed, or_faulty, flag_at, items_at, members_at}
+use Rattle.amr_config.specs.Read.Members.{unless_null, optional, optional_member, required_member, or_faulty, flag_at, items_at, members_at}
 use Rattle.amr_config.specs.Read.Paths.{under, item_path}
 use Rattle.amr_config.specs.Read.ReadReceivers.{default_of, entry_into, entries_at, is_on_side, kind_key, stated_entries, with_entries, entries_under, kind_into, kinds_at, name_at, receiver_at, receiver_into, receivers_list, receivers_at}
 use Rattle.amr_config.proofs.ReadLemmas.Preorder.{ok_same, bind_ok}
@@ -87,7 +87,7 @@ entry_adds : (kind : Text) (path : List ℕ) (i : ℕ) (d : Data) (before after 
 unfolding entry_into
 entry_adds kind path i d before after e =
     let whole = bind_ok (members_at (item_path path i) d) _ after e in
-    let said = bind_ok (stated flag_at (item_path path i) (codes "send_resolved") d) _ after whole.2 in
+    let said = bind_ok (optional_member flag_at (item_path path i) (codes "send_resolved") d) _ after whole.2 in
     let sends = bind_ok (or_faulty (item_path path i) (option_or said.0 (default_of kind))) _ after said.2 in
     (record { kind = kind; place = i; send_resolved = sends.0 }, refl, refl, sym (ok_same _ after sends.2))
 
@@ -109,8 +109,8 @@ all_placed kind path d out e =
 stated_placed : (kind : Text) (path : List ℕ) (d : Data) (out : List Integration) → (stated_entries kind path d).value ≡ Ok out → Placed kind 0 out
 unfolding stated_entries
 stated_placed kind path d out e =
-    let found = bind_ok (optional (entries_at kind path) (present (Some d))) _ out e in
-    go (present (Some d)) found.0 found.1 (sym (ok_same _ out found.2))
+    let found = bind_ok (optional (entries_at kind path) (unless_null (Some d))) _ out e in
+    go (unless_null (Some d)) found.0 found.1 (sym (ok_same _ out found.2))
   where
     go : (o : Option Data) (found : Option (List Integration)) → (optional (entries_at kind path) o).value ≡ Ok found → out ≡ unwrap_or found [] → Placed kind 0 out
     go None found e is =
@@ -300,7 +300,7 @@ receiver_in_order : (path : List ℕ) (d : Data) (receiver : Receiver) → HasOr
 unfolding receiver_at kinds_at
 receiver_in_order path d receiver order e =
     let first = bind_ok (kinds_at true path d []) _ receiver e in
-    let name = bind_ok (needed name_at path (codes "name") d) _ receiver first.2 in
+    let name = bind_ok (required_member name_at path (codes "name") d) _ receiver first.2 in
     let all = bind_ok (kinds_at false path d first.0) _ receiver name.2 in
     let members = bind_ok (members_at path d) _ first.0 first.1 in
     let again = bind_ok (members_at path d) _ all.0 all.1 in
@@ -353,7 +353,7 @@ found_ordered key (member k v ms) d order e =
       | inr later ↦ found_ordered key ms d order.1 later
     ]
 
-present_is : (o : Option Data) (d : Data) → present o ≡ Some d → o ≡ Some d
+present_is : (o : Option Data) (d : Data) → unless_null o ≡ Some d → o ≡ Some d
 present_is None d e = e
 present_is (Some null) d e = absurd (none-some d e)
 present_is (Some (boolean b)) d e = e
@@ -377,7 +377,7 @@ member_ordered key d v order e = go d order (present_is (get key d) v e)
 pub receivers_in_order : (d : Data) (receivers : List Receiver) → HasOrderedKeys d → (receivers_at d).value ≡ Ok receivers → AreReceiversInOrder receivers
 unfolding receivers_at receivers_list
 receivers_in_order d receivers order e =
-    let found = bind_ok (stated receivers_list [] (codes "receivers") d) _ receivers e in
+    let found = bind_ok (optional_member receivers_list [] (codes "receivers") d) _ receivers e in
     go (member_of (codes "receivers") d) refl found.0 found.1 (sym (ok_same _ receivers found.2))
   where
     go : (o : Option Data) → member_of (codes "receivers") d ≡ o → (found : Option (List Receiver)) → (optional (receivers_list (codes "receivers")) o).value ≡ Ok found → receivers ≡ unwrap_or found [] → AreReceiversInOrder receivers

@@ -7,7 +7,7 @@ use Rattle.amr_labels.specs.Labels.{Text}
 use Rattle.amr_config.specs.declared.read.error.Refusal.{Refusal}
 use Rattle.amr_config.specs.declared.read.error.Refusal.TheVariants.{BadConfig}
 use Rattle.amr_config.specs.Read.Paths.{under, item_path}
-use Rattle.amr_config.specs.Read.Members.{member_of, optional, required, stated, needed, or_faulty, text_at, flag_at, items_at, members_at}
+use Rattle.amr_config.specs.Read.Members.{member_of, optional, required_value, optional_member, required_member, or_faulty, text_at, flag_at, items_at, members_at}
 use Rattle.amr_config.specs.Read.Readings.{Reading, give, faulty, next, value_after, patterns_after, items_in_turn}
 use Rattle.amr_config.specs.Read.Table.{IsText, IsFlag, StatesEach, StatesIf, States, HasAt}
 use Rattle.amr_config.specs.Read.Faults.{Finding, Fault, Pattern, first_fault, patterns_before, unless_some, unless, text_found, flag_found, object_found, each_found, items_found, list_found, if_there, at, if_there_or, needed_at}
@@ -120,14 +120,14 @@ pub judged_optional : {A : Type 0} (reads : Data → Reading A) (found : Data �
 judged_optional reads found Is None h = judged_ok None (StatesIf Is None) tt
 judged_optional reads found Is (Some d) h = judged_map (reads d) (λ x. Some x) (found d) (Is d) (StatesIf Is (Some d)) (h d) (λ x is. is)
 
-pub judged_stated : {A : Type 0} (shape : List ℕ → Data → Reading A) (found : List ℕ → Data → List Finding) (Is : Data → A → Type 0) (path : List ℕ) (key : Text) (d : Data) → ((v : Data) → Judged (shape (under path key) v) (found (under path key) v) (Is v)) → Judged (stated shape path key d) (at found path key d) (States Is key d)
+pub judged_stated : {A : Type 0} (shape : List ℕ → Data → Reading A) (found : List ℕ → Data → List Finding) (Is : Data → A → Type 0) (path : List ℕ) (key : Text) (d : Data) → ((v : Data) → Judged (shape (under path key) v) (found (under path key) v) (Is v)) → Judged (optional_member shape path key d) (at found path key d) (States Is key d)
 judged_stated shape found Is path key d h = judged_optional (shape (under path key)) (found (under path key)) Is (member_of key d) h
 
-judged_required : {A : Type 0} (path : List ℕ) (reads : Data → Reading A) (found : Data → List Finding) (Is : Data → A → Type 0) (o : Option Data) → ((d : Data) → Judged (reads d) (found d) (Is d)) → Judged (required path reads o) (if_there_or (Fault path ∷ []) found o) (λ x. (v : Data) × (o ≡ Some v) × Is v x)
+judged_required : {A : Type 0} (path : List ℕ) (reads : Data → Reading A) (found : Data → List Finding) (Is : Data → A → Type 0) (o : Option Data) → ((d : Data) → Judged (reads d) (found d) (Is d)) → Judged (required_value path reads o) (if_there_or (Fault path ∷ []) found o) (λ x. (v : Data) × (o ≡ Some v) × Is v x)
 judged_required path reads found Is None h = judged_fault path _
 judged_required path reads found Is (Some d) h = judged_as (reads d) (found d) (Is d) _ (h d) (λ x is. (d, refl, is))
 
-pub judged_needed : {A : Type 0} (shape : List ℕ → Data → Reading A) (found : List ℕ → Data → List Finding) (Is : Data → A → Type 0) (path : List ℕ) (key : Text) (d : Data) → ((v : Data) → Judged (shape (under path key) v) (found (under path key) v) (Is v)) → Judged (needed shape path key d) (needed_at found path key d) (HasAt Is key d)
+pub judged_needed : {A : Type 0} (shape : List ℕ → Data → Reading A) (found : List ℕ → Data → List Finding) (Is : Data → A → Type 0) (path : List ℕ) (key : Text) (d : Data) → ((v : Data) → Judged (shape (under path key) v) (found (under path key) v) (Is v)) → Judged (required_member shape path key d) (needed_at found path key d) (HasAt Is key d)
 judged_needed shape found Is path key d h = judged_required (under path key) (shape (under path key)) (found (under path key)) Is (member_of key d) h
 
 -- ---- shapes

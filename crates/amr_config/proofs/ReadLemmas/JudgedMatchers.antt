@@ -14,7 +14,7 @@ use Rattle.amr_labels.specs.declared.matcher.Operator.{Operator}
 use Rattle.amr_labels.specs.declared.matcher.Operator.TheVariants.{Equal, Matches}
 use Rattle.amr_config.specs.declared.stated.rule.InhibitRule.{InhibitRule}
 use Rattle.amr_config.specs.Read.Paths.{under, item_path}
-use Rattle.amr_config.specs.Read.Members.{present, member_of, or_faulty, texts_at}
+use Rattle.amr_config.specs.Read.Members.{unless_null, member_of, or_faulty, texts_at}
 use Rattle.amr_config.specs.Read.Readings.{Reading, give, faulty, next, matchers_met, if_present, items_in_turn, members_in_turn}
 use Rattle.amr_config.specs.Read.ReadMatchers.{matcher_at, stated_into, matcher_into, members_into, object_into, spelled_at, spelled_into, texts_into, list_into, matchers_at}
 use Rattle.amr_config.specs.Read.ReadRules.{rule_at, rule_into, rules_list, rules_at}
@@ -63,9 +63,9 @@ walk_value operator path name d matchers =
     by_findings _ _ _ _ (ap (λ o. if length name == 0 then Fault path ∷ [] else option_map_or (λ value. patterns_found path (value_matcher operator name value ∷ [])) o []) (sym is))
     (judged_map (matcher_at operator path name value) (λ more. matchers ++ more) (if length name == 0 then Fault path ∷ [] else patterns_found path (value_matcher operator name value ∷ [])) _ (AddsMatcher operator name (Some d) matchers) (walk_matcher operator path name value) (λ more same. (value, is, ap (λ l. matchers ++ l) same))))
 
-walk_member : (operator : Operator) (path : List ℕ) (name : Text) (d : Data) (matchers : List Matcher) → Judged (matcher_into operator path name d matchers) (if_there (value_found operator name (under path name)) (present (Some d))) (AddsMatcher operator name (present (Some d)) matchers)
+walk_member : (operator : Operator) (path : List ℕ) (name : Text) (d : Data) (matchers : List Matcher) → Judged (matcher_into operator path name d matchers) (if_there (value_found operator name (under path name)) (unless_null (Some d))) (AddsMatcher operator name (unless_null (Some d)) matchers)
 unfolding matcher_into
-walk_member operator path name d matchers = go (present (Some d))
+walk_member operator path name d matchers = go (unless_null (Some d))
   where
     go : (o : Option Data) → Judged (if_present (stated_into operator (under path name) name) o matchers) (if_there (value_found operator name (under path name)) o) (AddsMatcher operator name o matchers)
     go None = judged_ok matchers _ refl
@@ -77,8 +77,8 @@ AddsMatchers operator ms before after = (more : List Matcher) × (after ≡ befo
 abbrev MatcherFirst : Operator → Text → Option Data → Members → List Matcher → Type 0
 MatcherFirst operator name o ms matchers = (later : List Matcher) × MatcherOf operator name o matchers later × MatchersOf operator ms later
 
-adds_matchers : (operator : Operator) (name : Text) (d : Data) (ms : Members) (before one after : List Matcher) → AddsMatcher operator name (present (Some d)) before one → AddsMatchers operator ms one after → AddsMatchers operator (member name d ms) before after
-adds_matchers operator name d ms before one after first (later, adds, of) = go (present (Some d)) first
+adds_matchers : (operator : Operator) (name : Text) (d : Data) (ms : Members) (before one after : List Matcher) → AddsMatcher operator name (unless_null (Some d)) before one → AddsMatchers operator ms one after → AddsMatchers operator (member name d ms) before after
+adds_matchers operator name d ms before one after first (later, adds, of) = go (unless_null (Some d)) first
   where
     go : (o : Option Data) → AddsMatcher operator name o before one → (more : List Matcher) × (after ≡ before ++ more) × MatcherFirst operator name o ms more
     go None same = (later, adds ∙ ap (λ l. l ++ later) same, (later, refl, of))

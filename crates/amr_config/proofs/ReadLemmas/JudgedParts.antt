@@ -15,7 +15,7 @@ use Rattle.amr_time.specs.declared.intervals.IntervalMember.{IntervalMember}
 use Rattle.amr_config.specs.declared.stated.interval.NamedInterval.{NamedInterval}
 use Rattle.amr_config.specs.declared.read.read_intervals.Field.TheVariants.{Weekdays, Months, Years}
 use Rattle.amr_config.specs.Read.Paths.{under, item_path}
-use Rattle.amr_config.specs.Read.Members.{member_of, stated, or_faulty, text_at, span_at, text_into, texts_at}
+use Rattle.amr_config.specs.Read.Members.{member_of, optional_member, or_faulty, text_at, span_at, text_into, texts_at}
 use Rattle.amr_config.specs.Read.Readings.{give, faulty, items_in_turn}
 use Rattle.amr_config.specs.Read.ReadIntervals.{range_in, day_range_in, range_into, ranges_at, time_of, times_from, time_range_at, time_range_into, times_at, is_utc, location_at, interval_member_at, interval_member_into, interval_members_at, is_taken, new_name_at, interval_at, interval_into, intervals_from, intervals_at, is_defined, name_into, names_at}
 use Rattle.amr_config.specs.Read.Timeout.{timeout_in, timeout_at}
@@ -87,7 +87,7 @@ judged_location path d =
     judged_spelled (λ text. if is_utc text then give true else faulty path) (λ o. unless path (option_map_or is_utc o false)) path d (IsLocation d) refl (λ text is.
     judged_if (is_utc text) true path (IsLocation d) (λ utc. tt))
 
-judged_ranges_under : {A : Type 0} (reads : Data → Option A) (path key : List ℕ) (d : Data) → Judged (stated (ranges_at reads) path key d) (at (list_found (range_found reads)) path key d) (States (IsListOf (IsRange reads)) key d)
+judged_ranges_under : {A : Type 0} (reads : Data → Option A) (path key : List ℕ) (d : Data) → Judged (optional_member (ranges_at reads) path key d) (at (list_found (range_found reads)) path key d) (States (IsListOf (IsRange reads)) key d)
 judged_ranges_under reads path key d = judged_stated (ranges_at reads) (list_found (range_found reads)) (IsListOf (IsRange reads)) path key d (judged_ranges reads (under path key))
 
 judged_interval_member : (path : List ℕ) (d : Data) → Judged (interval_member_at path d) (interval_member_found path d) (IsIntervalMember d)

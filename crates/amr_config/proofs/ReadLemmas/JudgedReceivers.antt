@@ -16,7 +16,7 @@ use Rattle.amr_labels.specs.Labels.{Text, text_cmp}
 use Rattle.amr_config.specs.declared.stated.receiver.Integration.{Integration}
 use Rattle.amr_config.specs.declared.stated.receiver.Receiver.{Receiver}
 use Rattle.amr_config.specs.Read.Paths.{under, item_path}
-use Rattle.amr_config.specs.Read.Members.{present, member_of, stated, or_faulty, flag_at}
+use Rattle.amr_config.specs.Read.Members.{unless_null, member_of, optional_member, or_faulty, flag_at}
 use Rattle.amr_config.specs.Read.Readings.{give, faulty, next, members_in_turn}
 use Rattle.amr_config.specs.Read.ReadReceivers.{default_of, entry_into, entries_at, is_on_side, kind_key, stated_entries, with_entries, entries_under, kind_into, kinds_at, name_at, receiver_at, receiver_into, receivers_list, receivers_at}
 use Rattle.amr_config.specs.Read.Table.{IsText, IsFlag, IsListOf, StatesEach, StatesIf, StatesOr, HasAt, IsIntegration, AreIntegrations, IsMember, StatesIntegration, IsReceiver}
@@ -50,12 +50,12 @@ judged_entries kind path d = judged_list (entry_into kind path) (entry_found kin
 
 -- the entries of a member that may be null
 abbrev HasEntries : Text → Data → List Integration → Type 0
-HasEntries kind d integrations = (found : Option (List Integration)) × StatesIf (AreIntegrations kind) (present (Some d)) found × (integrations ≡ unwrap_or found [])
+HasEntries kind d integrations = (found : Option (List Integration)) × StatesIf (AreIntegrations kind) (unless_null (Some d)) found × (integrations ≡ unwrap_or found [])
 
-judged_stated_entries : (kind : Text) (path : List ℕ) (d : Data) → Judged (stated_entries kind path d) (if_there (list_found (entry_found kind) path) (present (Some d))) (HasEntries kind d)
+judged_stated_entries : (kind : Text) (path : List ℕ) (d : Data) → Judged (stated_entries kind path d) (if_there (list_found (entry_found kind) path) (unless_null (Some d))) (HasEntries kind d)
 unfolding stated_entries
 judged_stated_entries kind path d =
-    judged_map _ (λ found. unwrap_or found []) _ _ _ (judged_optional (entries_at kind path) (list_found (entry_found kind) path) (AreIntegrations kind) (present (Some d)) (judged_entries kind path)) (λ found states. (found, states, refl))
+    judged_map _ (λ found. unwrap_or found []) _ _ _ (judged_optional (entries_at kind path) (list_found (entry_found kind) path) (AreIntegrations kind) (unless_null (Some d)) (judged_entries kind path)) (λ found states. (found, states, refl))
 
 -- what a member on a side does to the integrations
 abbrev KindFrom : Option Text → Data → List Integration → List Integration → Type 0
@@ -236,7 +236,7 @@ of_entry kind i (item d ds) (y ∷ ys) (suc n) e are at =
 
 -- ---- a receiver
 
-entries_there : (kind : Text) (v : Data) (xs : List Integration) → StatesIf (AreIntegrations kind) (present (Some v)) (Some xs) → AreIntegrations kind v xs
+entries_there : (kind : Text) (v : Data) (xs : List Integration) → StatesIf (AreIntegrations kind) (unless_null (Some v)) (Some xs) → AreIntegrations kind v xs
 entries_there kind null xs h = absurd h
 entries_there kind (boolean b) xs h = h
 entries_there kind (number n) xs h = h
@@ -244,7 +244,7 @@ entries_there kind (string s) xs h = h
 entries_there kind (array ds) xs h = h
 entries_there kind (object ms) xs h = h
 
-entries_not_missing : (kind : Text) (v : Data) (ds : Items) → as_array v ≡ Some ds → StatesIf (AreIntegrations kind) (present (Some v)) None → ⊥
+entries_not_missing : (kind : Text) (v : Data) (ds : Items) → as_array v ≡ Some ds → StatesIf (AreIntegrations kind) (unless_null (Some v)) None → ⊥
 entries_not_missing kind null ds e h = none-some ds e
 entries_not_missing kind (boolean b) ds e h = h
 entries_not_missing kind (number n) ds e h = h

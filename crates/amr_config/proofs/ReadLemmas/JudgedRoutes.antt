@@ -10,7 +10,7 @@ use Rattle.amr_time.specs.SpanRead.{span_of}
 use Rattle.amr_config.specs.declared.stated.route.Route.{Route}
 use Rattle.amr_config.specs.declared.stated.rule.InhibitRule.{InhibitRule}
 use Rattle.amr_config.specs.Read.Paths.{under, item_path}
-use Rattle.amr_config.specs.Read.Members.{member_of, optional, stated, or_faulty, text_at, flag_at, items_at, span_at, texts_at, any_item, list_in}
+use Rattle.amr_config.specs.Read.Members.{member_of, optional, optional_member, or_faulty, text_at, flag_at, items_at, span_at, texts_at, any_item, list_in}
 use Rattle.amr_config.specs.Read.ReadIntervals.{names_at}
 use Rattle.amr_config.specs.Read.Readings.{give, next, items_in_turn}
 use Rattle.amr_config.specs.Read.RouteParts.{grouping_stated, children_at, is_deeper, is_too_deep}
@@ -51,10 +51,10 @@ own_found whole path d =
 abbrev IsRouteOf : Data → Option ℕ → Data → Route → Type 0
 IsRouteOf whole parent d route = (route.parent ≡ parent) × IsRoute whole d route
 
-walk_stated_names : (whole : Data) (path : List ℕ) (key : Text) (d : Data) → Judged (stated (names_at whole) path key d) (at (list_found (defined_name_found whole)) path key d) (States (IsListOf (IsDefinedName whole)) key d)
+walk_stated_names : (whole : Data) (path : List ℕ) (key : Text) (d : Data) → Judged (optional_member (names_at whole) path key d) (at (list_found (defined_name_found whole)) path key d) (States (IsListOf (IsDefinedName whole)) key d)
 walk_stated_names whole path key d = judged_stated (names_at whole) (list_found (defined_name_found whole)) (IsListOf (IsDefinedName whole)) path key d (judged_names whole _)
 
-walk_stated_span : (path : List ℕ) (key : Text) (d : Data) → Judged (stated span_at path key d) (at (spelled_found span_of) path key d) (States IsDuration key d)
+walk_stated_span : (path : List ℕ) (key : Text) (d : Data) → Judged (optional_member span_at path key d) (at (spelled_found span_of) path key d) (States IsDuration key d)
 walk_stated_span path key d = judged_stated span_at (spelled_found span_of) IsDuration path key d (judged_span _)
 
 walk_one : (whole : Data) (path : List ℕ) (parent : Option ℕ) (d : Data) → Judged (route_at whole path parent d) (own_found whole path d) (IsRouteOf whole parent d)

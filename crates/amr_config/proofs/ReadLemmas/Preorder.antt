@@ -9,7 +9,7 @@ use Rattle.amr_config.specs.declared.read.error.Refusal.{Refusal}
 use Rattle.amr_config.specs.declared.stated.route.Route.{Route}
 use Rattle.amr_config.specs.declared.stated.stated.Stated.{Stated}
 use Rattle.amr_config.specs.Read.Paths.{under, item_path}
-use Rattle.amr_config.specs.Read.Members.{member_of, stated, members_at, text_at, flag_at, span_at, texts_at}
+use Rattle.amr_config.specs.Read.Members.{member_of, optional_member, members_at, text_at, flag_at, span_at, texts_at}
 use Rattle.amr_config.specs.Read.ReadIntervals.{intervals_at, names_at}
 use Rattle.amr_config.specs.Read.Readings.{Reading, next, value_after, items_in_turn}
 use Rattle.amr_config.specs.Read.Timeout.{timeout_at}
@@ -57,15 +57,15 @@ route_parent : (whole : Data) (path : List ℕ) (parent : Option ℕ) (d : Data)
 unfolding route_at
 route_parent whole path parent d route e =
     let object = bind_ok (members_at path d) _ route e in
-    let active = bind_ok (stated (names_at whole) path (codes "active_time_intervals") d) _ route object.2 in
-    let continues = bind_ok (stated flag_at path (codes "continue") d) _ route active.2 in
-    let group_by = bind_ok (stated texts_at path (codes "group_by") d) _ route continues.2 in
-    let group_interval = bind_ok (stated span_at path (codes "group_interval") d) _ route group_by.2 in
-    let group_wait = bind_ok (stated span_at path (codes "group_wait") d) _ route group_interval.2 in
+    let active = bind_ok (optional_member (names_at whole) path (codes "active_time_intervals") d) _ route object.2 in
+    let continues = bind_ok (optional_member flag_at path (codes "continue") d) _ route active.2 in
+    let group_by = bind_ok (optional_member texts_at path (codes "group_by") d) _ route continues.2 in
+    let group_interval = bind_ok (optional_member span_at path (codes "group_interval") d) _ route group_by.2 in
+    let group_wait = bind_ok (optional_member span_at path (codes "group_wait") d) _ route group_interval.2 in
     let matchers = bind_ok (matchers_at path (codes "match") (codes "match_re") (codes "matchers") d) _ route group_wait.2 in
-    let mute = bind_ok (stated (names_at whole) path (codes "mute_time_intervals") d) _ route matchers.2 in
-    let receiver = bind_ok (stated text_at path (codes "receiver") d) _ route mute.2 in
-    let repeat_interval = bind_ok (stated span_at path (codes "repeat_interval") d) _ route receiver.2 in
+    let mute = bind_ok (optional_member (names_at whole) path (codes "mute_time_intervals") d) _ route matchers.2 in
+    let receiver = bind_ok (optional_member text_at path (codes "receiver") d) _ route mute.2 in
+    let repeat_interval = bind_ok (optional_member span_at path (codes "repeat_interval") d) _ route receiver.2 in
     sym (ap (λ (r : Route). r.parent) (ok_same _ route repeat_interval.2))
 
 pub own_adds : (whole : Data) (path : List ℕ) (parent : Option ℕ) (d : Data) (routes own : List Route) → (own_into whole path parent d routes).value ≡ Ok own → (route : Route) × (route.parent ≡ parent) × (own ≡ routes ++ route ∷ [])

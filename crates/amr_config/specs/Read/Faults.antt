@@ -15,7 +15,7 @@ use Rattle.amr_time.specs.IntervalTexts.{time_at, end_time_at}
 use Rattle.amr_time.specs.SpanRead.{span_of}
 use Rattle.amr_config.specs.declared.read.read_intervals.Field.TheVariants.{Weekdays, Months, Years}
 use Rattle.amr_config.specs.Read.Paths.{under, item_path}
-use Rattle.amr_config.specs.Read.Members.{present, member_of}
+use Rattle.amr_config.specs.Read.Members.{unless_null, member_of}
 use Rattle.amr_config.specs.Read.ReadIntervals.{range_in, day_range_in, is_defined, is_utc}
 use Rattle.amr_config.specs.Read.ReadReceivers.{default_of, is_on_side, kind_key}
 
@@ -108,7 +108,7 @@ value_found operator name path d =
 
 abbrev pub values_found : Operator → List ℕ → Members → List Finding
 values_found operator path no_members = []
-values_found operator path (member name d ms) = if_there (value_found operator name (under path name)) (present (Some d)) ++ values_found operator path ms
+values_found operator path (member name d ms) = if_there (value_found operator name (under path name)) (unless_null (Some d)) ++ values_found operator path ms
 
 abbrev pub members_found : Operator → List ℕ → Option Members → List Finding
 members_found operator path None = Fault path ∷ []
@@ -206,7 +206,7 @@ entry_found kind path d =
 
 abbrev pub entries_found : List ℕ → Data → Option Text → List Finding
 entries_found path d None = []
-entries_found path d (Some kind) = if_there (list_found (entry_found kind) path) (present (Some d))
+entries_found path d (Some kind) = if_there (list_found (entry_found kind) path) (unless_null (Some d))
 
 -- the entries under the keys that sort before `name`, or after it
 abbrev pub kinds_found : Bool → List ℕ → Members → List Finding

@@ -8,17 +8,17 @@ use Rattle.amr_labels.specs.Labels.{Text}
 use Rattle.amr_config.specs.Read.Paths.{under, item_path}
 use Rattle.amr_config.specs.Read.Readings.{Reading, give, faulty, ◌>>=◌, items_in_turn}
 
-abbrev pub present : Option Data → Option Data
-present None = None
-present (Some null) = None
-present (Some (boolean b)) = Some (boolean b)
-present (Some (number n)) = Some (number n)
-present (Some (string s)) = Some (string s)
-present (Some (array ds)) = Some (array ds)
-present (Some (object ms)) = Some (object ms)
+abbrev pub unless_null : Option Data → Option Data
+unless_null None = None
+unless_null (Some null) = None
+unless_null (Some (boolean b)) = Some (boolean b)
+unless_null (Some (number n)) = Some (number n)
+unless_null (Some (string s)) = Some (string s)
+unless_null (Some (array ds)) = Some (array ds)
+unless_null (Some (object ms)) = Some (object ms)
 
 unfoldable pub member_of : List ℕ → Data → Option Data
-member_of key d = present (get key d)
+member_of key d = unless_null (get key d)
 
 -- a member that may be absent
 abbrev pub optional : {A : Type 0} → (Data → Reading A) → Option Data → Reading (Option A)
@@ -26,17 +26,17 @@ optional reads None = give None
 optional reads (Some d) = reads d >>= λ x. give (Some x)
 
 -- a member of this shape under a key; it may be absent
-abbrev pub stated : {A : Type 0} → (List ℕ → Data → Reading A) → List ℕ → List ℕ → Data → Reading (Option A)
-stated shape path key d = optional (shape (under path key)) (member_of key d)
+abbrev pub optional_member : {A : Type 0} → (List ℕ → Data → Reading A) → List ℕ → List ℕ → Data → Reading (Option A)
+optional_member shape path key d = optional (shape (under path key)) (member_of key d)
 
 -- a member that must be present
-abbrev pub required : {A : Type 0} → List ℕ → (Data → Reading A) → Option Data → Reading A
-required path reads None = faulty path
-required path reads (Some d) = reads d
+abbrev pub required_value : {A : Type 0} → List ℕ → (Data → Reading A) → Option Data → Reading A
+required_value path reads None = faulty path
+required_value path reads (Some d) = reads d
 
 -- a member of this shape under a key; it must be present
-abbrev pub needed : {A : Type 0} → (List ℕ → Data → Reading A) → List ℕ → List ℕ → Data → Reading A
-needed shape path key d = required (under path key) (shape (under path key)) (member_of key d)
+abbrev pub required_member : {A : Type 0} → (List ℕ → Data → Reading A) → List ℕ → List ℕ → Data → Reading A
+required_member shape path key d = required_value (under path key) (shape (under path key)) (member_of key d)
 
 abbrev pub or_faulty : {A : Type 0} → List ℕ → Option A → Reading A
 or_faulty path None = faulty path

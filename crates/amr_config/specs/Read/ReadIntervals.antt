@@ -15,7 +15,7 @@ use Rattle.amr_config.specs.declared.stated.interval.NamedInterval.{NamedInterva
 use Rattle.amr_config.specs.declared.read.read_intervals.Field.{Field}
 use Rattle.amr_config.specs.declared.read.read_intervals.Field.TheVariants.{Weekdays, Months, Years}
 use Rattle.amr_config.specs.Read.Paths.{item_path}
-use Rattle.amr_config.specs.Read.Members.{any_item, list_in, member_of, stated, needed, or_faulty, text_at, items_at, members_at}
+use Rattle.amr_config.specs.Read.Members.{any_item, list_in, member_of, optional_member, required_member, or_faulty, text_at, items_at, members_at}
 use Rattle.amr_config.specs.Read.Readings.{Reading, give, faulty, ◌>>=◌, items_in_turn}
 
 -- ---- ranges
@@ -53,8 +53,8 @@ times_from path start end = if nat_lt start end then give (record { start = star
 unfoldable pub time_range_at : List ℕ → Data → Reading TimeRange
 time_range_at path d = do
   whole ← members_at path d
-  end ← needed (time_of end_time_at) path (codes "end_time") d
-  start ← needed (time_of time_at) path (codes "start_time") d
+  end ← required_member (time_of end_time_at) path (codes "end_time") d
+  start ← required_member (time_of time_at) path (codes "start_time") d
   times_from path start end
 
 unfoldable pub time_range_into : List ℕ → ℕ → Data → List TimeRange → Reading (List TimeRange)
@@ -75,12 +75,12 @@ location_at path d = text_at path d >>= λ text. if is_utc text then give true e
 unfoldable pub interval_member_at : List ℕ → Data → Reading IntervalMember
 interval_member_at path d = do
   whole ← members_at path d
-  days_of_month ← stated (ranges_at day_range_in) path (codes "days_of_month") d
-  location ← stated location_at path (codes "location") d
-  months ← stated (ranges_at (range_in Months)) path (codes "months") d
-  times ← stated times_at path (codes "times") d
-  weekdays ← stated (ranges_at (range_in Weekdays)) path (codes "weekdays") d
-  years ← stated (ranges_at (range_in Years)) path (codes "years") d
+  days_of_month ← optional_member (ranges_at day_range_in) path (codes "days_of_month") d
+  location ← optional_member location_at path (codes "location") d
+  months ← optional_member (ranges_at (range_in Months)) path (codes "months") d
+  times ← optional_member times_at path (codes "times") d
+  weekdays ← optional_member (ranges_at (range_in Weekdays)) path (codes "weekdays") d
+  years ← optional_member (ranges_at (range_in Years)) path (codes "years") d
   give (record { times = times; weekdays = weekdays; days_of_month = days_of_month; months = months; years = years })
 
 unfoldable pub interval_member_into : List ℕ → ℕ → Data → List IntervalMember → Reading (List IntervalMember)
@@ -100,8 +100,8 @@ new_name_at intervals path d = text_at path d >>= λ name. if is_taken name inte
 unfoldable pub interval_at : List NamedInterval → List ℕ → Data → Reading NamedInterval
 interval_at intervals path d = do
   whole ← members_at path d
-  name ← needed (new_name_at intervals) path (codes "name") d
-  members ← needed interval_members_at path (codes "time_intervals") d
+  name ← required_member (new_name_at intervals) path (codes "name") d
+  members ← required_member interval_members_at path (codes "time_intervals") d
   give (record { name = name; interval = record { members = members } })
 
 unfoldable pub interval_into : List ℕ → ℕ → Data → List NamedInterval → Reading (List NamedInterval)

@@ -7,7 +7,7 @@ use Rattle.amr_labels.specs.Matcher.MatcherReading.{matchers_of}
 use Rattle.amr_labels.specs.declared.matcher.Operator.{Operator}
 use Rattle.amr_labels.specs.declared.matcher.Operator.TheVariants.{Equal, Matches}
 use Rattle.amr_config.specs.Read.Paths.{under, item_path}
-use Rattle.amr_config.specs.Read.Members.{present, member_of, text_at, items_at, members_at}
+use Rattle.amr_config.specs.Read.Members.{unless_null, member_of, text_at, items_at, members_at}
 use Rattle.amr_config.specs.Read.Readings.{Reading, give, faulty, ◌>>=◌, matchers_met, if_present, items_in_turn, members_in_turn}
 
 -- the matcher of a label's name and value; the name must not be empty
@@ -23,7 +23,7 @@ stated_into operator path name d matchers = do
 
 -- a member of an object of labels, added to the matchers before it
 unfoldable pub matcher_into : Operator → List ℕ → Text → Data → List Matcher → Reading (List Matcher)
-matcher_into operator path name d matchers = if_present (stated_into operator (under path name) name) (present (Some d)) matchers
+matcher_into operator path name d matchers = if_present (stated_into operator (under path name) name) (unless_null (Some d)) matchers
 
 -- an object of labels, by name
 unfoldable pub members_into : Operator → List ℕ → Data → List Matcher → Reading (List Matcher)

@@ -8,7 +8,7 @@ use Rattle.amr_labels.specs.Labels.{Text, text_cmp}
 use Rattle.amr_config.specs.declared.stated.receiver.Integration.{Integration}
 use Rattle.amr_config.specs.declared.stated.receiver.Receiver.{Receiver}
 use Rattle.amr_config.specs.Read.Paths.{under, item_path}
-use Rattle.amr_config.specs.Read.Members.{present, optional, stated, needed, or_faulty, text_at, flag_at, items_at, members_at}
+use Rattle.amr_config.specs.Read.Members.{unless_null, optional, optional_member, required_member, or_faulty, text_at, flag_at, items_at, members_at}
 use Rattle.amr_config.specs.Read.Readings.{Reading, give, faulty, ◌>>=◌, items_in_turn, members_in_turn}
 
 abbrev pub same_text : Text → Text → Bool
@@ -31,7 +31,7 @@ default_of kind = if is_sender kind then Some true else (if is_keeper kind then 
 unfoldable pub entry_into : Text → List ℕ → ℕ → Data → List Integration → Reading (List Integration)
 entry_into kind path i d integrations = do
   whole ← members_at (item_path path i) d
-  said ← stated flag_at (item_path path i) (codes "send_resolved") d
+  said ← optional_member flag_at (item_path path i) (codes "send_resolved") d
   sends ← or_faulty (item_path path i) (option_or said (default_of kind))
   give (integrations ++ record { kind = kind; place = i; send_resolved = sends } ∷ [])
 
@@ -48,7 +48,7 @@ kind_key key = if ends_with nat_eq key (codes "_configs") then Some (take (lengt
 
 -- the entries of a member, which may be null
 unfoldable pub stated_entries : Text → List ℕ → Data → Reading (List Integration)
-stated_entries kind path d = optional (entries_at kind path) (present (Some d)) >>= λ found. give (unwrap_or found [])
+stated_entries kind path d = optional (entries_at kind path) (unless_null (Some d)) >>= λ found. give (unwrap_or found [])
 
 -- the integrations of one name, inserted before the first of a greater name
 abbrev pub with_entries : List Integration → Text → List Integration → List Integration
@@ -80,7 +80,7 @@ name_at path d = text_at path d >>= λ text. if length text == 0 then faulty pat
 unfoldable pub receiver_at : List ℕ → Data → Reading Receiver
 receiver_at path d = do
   first ← kinds_at true path d []
-  name ← needed name_at path (codes "name") d
+  name ← required_member name_at path (codes "name") d
   all ← kinds_at false path d first
   give (record { name = name; integrations = all })
 
@@ -92,4 +92,4 @@ receivers_list path d = items_at path d >>= λ ds. items_in_turn (receiver_into 
 
 -- the receivers of a whole configuration; the member may be absent
 unfoldable pub receivers_at : Data → Reading (List Receiver)
-receivers_at d = stated receivers_list [] (codes "receivers") d >>= λ found. give (unwrap_or found [])
+receivers_at d = optional_member receivers_list [] (codes "receivers") d >>= λ found. give (unwrap_or found [])

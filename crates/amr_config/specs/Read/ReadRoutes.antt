@@ -5,7 +5,7 @@ use Rattle.amr_config.specs.declared.read.error.Refusal.TheVariants.{Other}
 use Rattle.amr_config.specs.declared.read.error.Cause.TheVariants.{TooDeep}
 use Rattle.amr_config.specs.declared.stated.route.Route.{Route}
 use Rattle.amr_config.specs.Read.Paths.{under, item_path}
-use Rattle.amr_config.specs.Read.Members.{member_of, stated, members_at, text_at, flag_at, span_at, texts_at}
+use Rattle.amr_config.specs.Read.Members.{member_of, optional_member, members_at, text_at, flag_at, span_at, texts_at}
 use Rattle.amr_config.specs.Read.Readings.{Reading, plain, give, faulty, ◌>>=◌, items_in_turn}
 use Rattle.amr_config.specs.Read.ReadMatchers.{matchers_at}
 use Rattle.amr_config.specs.Read.ReadIntervals.{names_at}
@@ -15,15 +15,15 @@ use Rattle.amr_config.specs.Read.RouteParts.{grouping_stated, children_at}
 unfoldable pub route_at : Data → List ℕ → Option ℕ → Data → Reading Route
 route_at whole path parent d = do
   members ← members_at path d
-  active ← stated (names_at whole) path (codes "active_time_intervals") d
-  continues ← stated flag_at path (codes "continue") d
-  group_by ← stated texts_at path (codes "group_by") d
-  group_interval ← stated span_at path (codes "group_interval") d
-  group_wait ← stated span_at path (codes "group_wait") d
+  active ← optional_member (names_at whole) path (codes "active_time_intervals") d
+  continues ← optional_member flag_at path (codes "continue") d
+  group_by ← optional_member texts_at path (codes "group_by") d
+  group_interval ← optional_member span_at path (codes "group_interval") d
+  group_wait ← optional_member span_at path (codes "group_wait") d
   matchers ← matchers_at path (codes "match") (codes "match_re") (codes "matchers") d
-  mute ← stated (names_at whole) path (codes "mute_time_intervals") d
-  receiver ← stated text_at path (codes "receiver") d
-  repeat_interval ← stated span_at path (codes "repeat_interval") d
+  mute ← optional_member (names_at whole) path (codes "mute_time_intervals") d
+  receiver ← optional_member text_at path (codes "receiver") d
+  repeat_interval ← optional_member span_at path (codes "repeat_interval") d
   give (record { parent = parent; matchers = matchers; continues = unwrap_or continues false; receiver = receiver; group_by = grouping_stated group_by; group_wait = group_wait; group_interval = group_interval; repeat_interval = repeat_interval; active_time_intervals = unwrap_or active []; mute_time_intervals = unwrap_or mute [] })
 
 -- a route with what it states itself, added to the routes before it

@@ -3,14 +3,14 @@ use Rattle.std.specs.Prelude.{ℕ, List, [], ◌∷◌, ◌++◌, codes, unwrap_
 use Rattle.serde_json.specs.Data.{Data}
 use Rattle.amr_config.specs.declared.stated.rule.InhibitRule.{InhibitRule}
 use Rattle.amr_config.specs.Read.Paths.{item_path}
-use Rattle.amr_config.specs.Read.Members.{stated, items_at, members_at, texts_at}
+use Rattle.amr_config.specs.Read.Members.{optional_member, items_at, members_at, texts_at}
 use Rattle.amr_config.specs.Read.Readings.{Reading, give, ◌>>=◌, items_in_turn}
 use Rattle.amr_config.specs.Read.ReadMatchers.{matchers_at}
 
 unfoldable pub rule_at : List ℕ → Data → Reading InhibitRule
 rule_at path d = do
   whole ← members_at path d
-  equal ← stated texts_at path (codes "equal") d
+  equal ← optional_member texts_at path (codes "equal") d
   source ← matchers_at path (codes "source_match") (codes "source_match_re") (codes "source_matchers") d
   target ← matchers_at path (codes "target_match") (codes "target_match_re") (codes "target_matchers") d
   give (record { source = source; target = target; equal = unwrap_or equal [] })
@@ -24,4 +24,4 @@ rules_list path d = items_at path d >>= λ ds. items_in_turn (rule_into path) 0 
 
 -- the rules of a whole configuration; the member may be absent
 unfoldable pub rules_at : Data → Reading (List InhibitRule)
-rules_at d = stated rules_list [] (codes "inhibit_rules") d >>= λ found. give (unwrap_or found [])
+rules_at d = optional_member rules_list [] (codes "inhibit_rules") d >>= λ found. give (unwrap_or found [])

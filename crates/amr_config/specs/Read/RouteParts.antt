@@ -6,7 +6,7 @@ use Rattle.serde_json.specs.Data.{Data, Items, no_items}
 use Rattle.amr_labels.specs.Labels.{Text, text_cmp}
 use Rattle.amr_config.specs.declared.stated.route.Grouping.{Grouping}
 use Rattle.amr_config.specs.declared.stated.route.Grouping.TheVariants.{AllLabels, Named}
-use Rattle.amr_config.specs.Read.Members.{member_of, items_at, stated, any_item, list_in}
+use Rattle.amr_config.specs.Read.Members.{member_of, items_at, optional_member, any_item, list_in}
 use Rattle.amr_config.specs.Read.Readings.{Reading, give, ◌>>=◌}
 
 -- `["..."]`
@@ -25,7 +25,7 @@ grouping_stated (Some names) = Some (grouping_of names)
 
 -- the list of child routes, which may be absent
 unfoldable pub children_at : List ℕ → Data → Reading Items
-children_at path d = stated items_at path (codes "routes") d >>= λ found. give (unwrap_or found no_items)
+children_at path d = optional_member items_at path (codes "routes") d >>= λ found. give (unwrap_or found no_items)
 
 -- ---- levels
 

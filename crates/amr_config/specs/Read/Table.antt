@@ -22,7 +22,7 @@ use Rattle.amr_config.specs.declared.stated.route.Grouping.{Grouping}
 use Rattle.amr_config.specs.declared.stated.route.Route.{Route}
 use Rattle.amr_config.specs.declared.stated.rule.InhibitRule.{InhibitRule}
 use Rattle.amr_config.specs.declared.stated.stated.Stated.{Stated}
-use Rattle.amr_config.specs.Read.Members.{present, member_of}
+use Rattle.amr_config.specs.Read.Members.{unless_null, member_of}
 use Rattle.amr_config.specs.Read.ReadIntervals.{range_in, day_range_in, is_defined}
 use Rattle.amr_config.specs.Read.ReadReceivers.{default_of, kind_key}
 use Rattle.amr_config.specs.Read.RouteParts.{grouping_of}
@@ -78,7 +78,7 @@ MatcherOf operator name (Some d) matchers later = (value : Text) × IsText d val
 
 abbrev pub MatchersOf : Operator → Members → List Matcher → Type 0
 MatchersOf operator no_members matchers = matchers ≡ []
-MatchersOf operator (member name d ms) matchers = (later : List Matcher) × MatcherOf operator name (present (Some d)) matchers later × MatchersOf operator ms later
+MatchersOf operator (member name d ms) matchers = (later : List Matcher) × MatcherOf operator name (unless_null (Some d)) matchers later × MatchersOf operator ms later
 
 -- an object of texts, each a matcher of its key and its text
 abbrev pub IsMatchObject : Operator → Data → List Matcher → Type 0

@@ -6,7 +6,7 @@
 ghost use Rattle.serde_json.specs.View.{view};
 ghost use Rattle.amr_config.specs.Read.Paths.{place_path};
 ghost use Rattle.amr_config.specs.Read.Answers.{Gives, Changes};
-ghost use Rattle.amr_config.specs.Read.Members.{stated};
+ghost use Rattle.amr_config.specs.Read.Members.{optional_member};
 ghost use Rattle.amr_config.specs.Read.ReadIntervals.{name_into, names_at};
 
 use crate::read::error::ConfigError;
@@ -27,7 +27,7 @@ pub(crate) fn names_member(
     key: &str,
 ) -> Result<Option<Listing<Text>>, ConfigError>
     ensures { Gives (λ s. s) result
-        (stated (names_at (view whole.now.value.now)) (place_path place.now) key.now
+        (optional_member (names_at (view whole.now.value.now)) (place_path place.now) key.now
         (view value.now)) }
 {
     match member(value, key) {

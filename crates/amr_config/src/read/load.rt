@@ -29,13 +29,13 @@ pub fn load_config(alloc: Global, value: &Value) -> Result<Config, ConfigError>
 /// Returns the configuration of a JSON value, as `load_config` does. Its matchers share their
 /// patterns with the matchers that were made before with these.
 #[tactic(auto, unfolding(crate::specs::Read::Reading::reading_of, crate::specs::Read::Readings::next))]
-pub fn config_of(alloc: Global, seen: &mut Patterns, value: &Value) -> Result<Config, ConfigError>
+pub fn config_of(alloc: Global, built: &mut Patterns, value: &Value) -> Result<Config, ConfigError>
     ensures { Answers (λ config. config) result (ConfigIs (view value.now)) }
 {
     if is_too_deep(value) {
         return Err(ConfigError::Refused(Refusal::Other(Cause::TooDeep)));
     }
-    let stated = walk(alloc, seen, value)?;
+    let stated = walk(alloc, built, value)?;
     if let Some(refusal) = refusal(alloc, &stated)? {
         return Err(ConfigError::Refused(refusal));
     }

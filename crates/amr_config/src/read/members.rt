@@ -8,7 +8,7 @@ ghost use Rattle.amr_labels.specs.Labels.{text_cmp};
 ghost use Rattle.serde_json.specs.View.{view, items_view};
 ghost use Rattle.amr_config.specs.Read.Paths.{place_path};
 ghost use Rattle.amr_config.specs.Read.Answers.{Gives, Changes};
-ghost use Rattle.amr_config.specs.Read.Members.{member_of, stated, text_at, flag_at, items_at, span_at, text_into, texts_at};
+ghost use Rattle.amr_config.specs.Read.Members.{member_of, optional_member, text_at, flag_at, items_at, span_at, text_into, texts_at};
 
 use crate::read::error::ConfigError;
 use crate::read::place::Place;
@@ -125,7 +125,7 @@ pub(crate) fn flag_member(
     key: &str,
 ) -> Result<Option<bool>, ConfigError>
     ensures { Gives (λ b. b) result
-        (stated flag_at (place_path place.now) key.now (view value.now)) }
+        (optional_member flag_at (place_path place.now) key.now (view value.now)) }
 {
     match member(value, key) {
         Some(found) => Ok(Some(flag(alloc, &Place::Member(place, key), found)?)),
@@ -141,7 +141,7 @@ pub(crate) fn span_member(
     key: &str,
 ) -> Result<Option<Span>, ConfigError>
     ensures { Gives (λ b. b) result
-        (stated span_at (place_path place.now) key.now (view value.now)) }
+        (optional_member span_at (place_path place.now) key.now (view value.now)) }
 {
     match member(value, key) {
         Some(found) => Ok(Some(span(alloc, &Place::Member(place, key), found)?)),
@@ -157,7 +157,7 @@ pub(crate) fn text_member(
     key: &str,
 ) -> Result<Option<Text>, ConfigError>
     ensures { Gives (λ s. s) result
-        (stated text_at (place_path place.now) key.now (view value.now)) }
+        (optional_member text_at (place_path place.now) key.now (view value.now)) }
 {
     match member(value, key) {
         Some(found) => {
@@ -176,7 +176,7 @@ pub(crate) fn texts_member(
     key: &str,
 ) -> Result<Option<Listing<Text>>, ConfigError>
     ensures { Gives (λ s. s) result
-        (stated texts_at (place_path place.now) key.now (view value.now)) }
+        (optional_member texts_at (place_path place.now) key.now (view value.now)) }
 {
     match member(value, key) {
         Some(found) => Ok(Some(texts(alloc, &Place::Member(place, key), found)?)),

@@ -12,9 +12,9 @@ use std::collections::BTreeSet;
 pub(crate) fn are_apart(alloc: Global, names: &[Text]) -> Result<bool, AllocError>
     ensures { IfOk result (λ apart. apart ≡ are_different names.now) }
 {
-    let mut seen = BTreeSet::new(alloc);
+    let mut built = BTreeSet::new(alloc);
     for place in (0..names.len()).rev() {
-        if !seen.insert(names[place].clone()?)? {
+        if !built.insert(names[place].clone()?)? {
             return Ok(false);
         }
     }

@@ -3,7 +3,7 @@
 ghost use Rattle.std.specs.Prelude.{◌≡◌, [], codes};
 ghost use Rattle.serde_json.specs.View.{view};
 ghost use Rattle.amr_config.specs.Read.Answers.{Gives, Reads};
-ghost use Rattle.amr_config.specs.Read.Members.{stated};
+ghost use Rattle.amr_config.specs.Read.Members.{optional_member};
 ghost use Rattle.amr_config.specs.Read.Paths.{place_path};
 ghost use Rattle.amr_config.specs.Read.Timeout.{timeout_in, timeout_stated, timeout_at};
 ghost use Rattle.amr_config.specs.Read.Walking.{walked_at};
@@ -25,14 +25,18 @@ use std::alloc::Global;
 /// with the path of the first faulty value. It builds each pattern when it meets it, unless it was
 /// seen before. Callers check `is_too_deep` first; the depth limit here only bounds the recursion.
 #[tactic(auto, unfolding(crate::specs::Read::Walking::walked_at, crate::specs::Read::Readings::next))]
-pub(crate) fn walk(alloc: Global, seen: &mut Patterns, value: &Value) -> Result<Stated, ConfigError>
+pub(crate) fn walk(
+    alloc: Global,
+    built: &mut Patterns,
+    value: &Value,
+) -> Result<Stated, ConfigError>
     ensures { Reads (λ stated. stated) result (walked_at (view value.now)) }
 {
     let resolve_timeout = read_timeout(alloc, value)?;
-    let rules = read_rules(alloc, seen, value)?;
+    let rules = read_rules(alloc, built, value)?;
     let mute = read_mute_time_intervals(alloc, value)?;
     let receivers = read_receivers(alloc, value)?;
-    let routes = read_routes(alloc, seen, value)?;
+    let routes = read_routes(alloc, built, value)?;
     let time_intervals = read_intervals(alloc, value, "time_intervals", mute)?;
     Ok(Stated {
         routes,
@@ -69,7 +73,8 @@ fn stated_timeout(timeout: Option<Option<Span>>) -> Span
 /// Reads `resolve_timeout` of `global`; `None` if there is no `global`.
 #[tactic(auto, unfolding(crate::specs::Read::Readings::next))]
 fn timeout_member(alloc: Global, value: &Value) -> Result<Option<Option<Span>>, ConfigError>
-    ensures { Gives (λ o. o) result (stated timeout_in [] (codes "global") (view value.now)) }
+    ensures { Gives (λ o. o) result
+        (optional_member timeout_in [] (codes "global") (view value.now)) }
 {
     match member(value, "global") {
         Some(found) => {

@@ -9,11 +9,11 @@ ghost use Rattle.amr_time.specs.IntervalTexts.{time_at, end_time_at};
 ghost use Rattle.amr_config.specs.Read.Paths.{place_path};
 ghost use Rattle.amr_config.specs.declared.read.read_intervals.Field.TheVariants.{Months, Years};
 ghost use Rattle.amr_config.specs.Read.Answers.{Gives, Changes};
-ghost use Rattle.amr_config.specs.Read.Members.{stated};
+ghost use Rattle.amr_config.specs.Read.Members.{optional_member};
 ghost use Rattle.amr_config.specs.Read.ReadIntervals.{range_in, day_range_in, range_into, ranges_at, time_of, time_range_at, time_range_into, times_at, location_at, interval_member_at, interval_member_into, interval_members_at, new_name_at, interval_at, interval_into, intervals_from, intervals_at};
 
+use crate::read::defined_intervals::DefinedIntervals;
 use crate::read::error::ConfigError;
-use crate::read::known_intervals::KnownIntervals;
 use crate::read::members::{items, member, same, text};
 use crate::read::place::Place;
 use crate::stated::NamedInterval;
@@ -63,7 +63,7 @@ fn with_intervals(
         (intervals_from (place_path place.now) (Some (view value.now)) intervals) }
 {
     let items = items(alloc, place, value)?;
-    let mut known = KnownIntervals::new(alloc, intervals)?;
+    let mut known = DefinedIntervals::new(alloc, intervals)?;
     for (index, item) in items.iter().enumerate() {
         known = add_interval(alloc, place, index, item, known)?;
     }
@@ -77,8 +77,8 @@ fn add_interval(
     place: &Place,
     index: usize,
     value: &Value,
-    known: KnownIntervals,
-) -> Result<KnownIntervals, ConfigError>
+    known: DefinedIntervals,
+) -> Result<DefinedIntervals, ConfigError>
     ensures { Gives (λ known. known.intervals) result
         (interval_into (place_path place.now) index (view value.now) known.intervals) }
 {
@@ -93,7 +93,7 @@ fn interval(
     alloc: Global,
     place: &Place,
     value: &Value,
-    before: &KnownIntervals,
+    before: &DefinedIntervals,
 ) -> Result<NamedInterval, ConfigError>
     ensures { Gives (λ i. i) result
         (interval_at before.now.intervals (place_path place.now) (view value.now)) }
@@ -123,7 +123,7 @@ fn new_name(
     alloc: Global,
     place: &Place,
     value: &Value,
-    before: &KnownIntervals,
+    before: &DefinedIntervals,
 ) -> Result<Text, ConfigError>
     ensures { Gives (λ name. name) result
         (new_name_at before.now.intervals (place_path place.now) (view value.now)) }
@@ -205,7 +205,7 @@ fn location_member(
     key: &str,
 ) -> Result<Option<bool>, ConfigError>
     ensures { Gives (λ l. l) result
-        (stated location_at (place_path place.now) key.now (view value.now)) }
+        (optional_member location_at (place_path place.now) key.now (view value.now)) }
 {
     match member(value, key) {
         Some(found) => Ok(Some(location(alloc, &Place::Member(place, key), found)?)),
@@ -287,7 +287,8 @@ fn ranges_member(
     key: &str,
 ) -> Result<Option<Listing<Range>>, ConfigError>
     ensures { Gives (λ rs. rs) result
-        (stated (ranges_at (range_in field)) (place_path place.now) key.now (view value.now)) }
+        (optional_member (ranges_at (range_in field)) (place_path place.now) key.now
+        (view value.now)) }
 {
     match member(value, key) {
         Some(found) => Ok(Some(ranges(alloc, field, &Place::Member(place, key), found)?)),
@@ -344,7 +345,7 @@ fn days_member(
     key: &str,
 ) -> Result<Option<Listing<DayRange>>, ConfigError>
     ensures { Gives (λ rs. rs) result
-        (stated (ranges_at day_range_in) (place_path place.now) key.now (view value.now)) }
+        (optional_member (ranges_at day_range_in) (place_path place.now) key.now (view value.now)) }
 {
     match member(value, key) {
         Some(found) => Ok(Some(day_ranges(alloc, &Place::Member(place, key), found)?)),
@@ -395,7 +396,7 @@ fn times_member(
     key: &str,
 ) -> Result<Option<Listing<TimeRange>>, ConfigError>
     ensures { Gives (λ rs. rs) result
-        (stated times_at (place_path place.now) key.now (view value.now)) }
+        (optional_member times_at (place_path place.now) key.now (view value.now)) }
 {
     match member(value, key) {
         Some(found) => Ok(Some(times(alloc, &Place::Member(place, key), found)?)),

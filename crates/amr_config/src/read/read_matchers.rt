@@ -21,7 +21,7 @@ use std::alloc::{AllocError, Global};
 #[tactic(auto, unfolding(crate::specs::Read::ReadMatchers::matchers_at, crate::specs::Read::Readings::next))]
 pub(crate) fn read_matchers(
     alloc: Global,
-    seen: &mut Patterns,
+    built: &mut Patterns,
     place: &Place,
     equal: &str,
     patterns: &str,
@@ -34,7 +34,7 @@ pub(crate) fn read_matchers(
     let mut matchers = Vec::new(alloc);
     add_object(
         alloc,
-        seen,
+        built,
         Operator::Equal,
         place,
         value,
@@ -43,14 +43,14 @@ pub(crate) fn read_matchers(
     )?;
     add_object(
         alloc,
-        seen,
+        built,
         Operator::Matches,
         place,
         value,
         patterns,
         &mut matchers,
     )?;
-    add_list(alloc, seen, place, value, texts, &mut matchers)?;
+    add_list(alloc, built, place, value, texts, &mut matchers)?;
     Ok(Matchers::from_vec(alloc, matchers)?)
 }
 
@@ -58,7 +58,7 @@ pub(crate) fn read_matchers(
 #[tactic(auto, unfolding(crate::specs::Read::ReadMatchers::list_into))]
 fn add_list(
     alloc: Global,
-    seen: &mut Patterns,
+    built: &mut Patterns,
     place: &Place,
     value: &Value,
     key: &str,
@@ -68,7 +68,7 @@ fn add_list(
         (list_into (place_path place.now) key.now (view value.now) matchers.old.items) }
 {
     match member(value, key) {
-        Some(found) => add_texts(alloc, seen, &Place::Member(place, key), found, matchers),
+        Some(found) => add_texts(alloc, built, &Place::Member(place, key), found, matchers),
         None => Ok(()),
     }
 }
@@ -77,7 +77,7 @@ fn add_list(
 #[tactic(auto, unfolding(crate::specs::Read::ReadMatchers::texts_into, crate::specs::Read::Readings::next))]
 fn add_texts(
     alloc: Global,
-    seen: &mut Patterns,
+    built: &mut Patterns,
     place: &Place,
     value: &Value,
     matchers: &mut Vec<Matcher>,
@@ -87,7 +87,7 @@ fn add_texts(
 {
     let items = items(alloc, place, value)?;
     for (index, item) in items.iter().enumerate() {
-        add_text(alloc, seen, place, index, item, matchers)?;
+        add_text(alloc, built, place, index, item, matchers)?;
     }
     Ok(())
 }
@@ -96,7 +96,7 @@ fn add_texts(
 #[tactic(auto, unfolding(crate::specs::Read::ReadMatchers::spelled_into, crate::specs::Read::Readings::next))]
 fn add_text(
     alloc: Global,
-    seen: &mut Patterns,
+    built: &mut Patterns,
     place: &Place,
     index: usize,
     value: &Value,
@@ -107,7 +107,7 @@ fn add_text(
 {
     let here = Place::Item(place, index);
     let text = text(alloc, &here, value)?;
-    let more = spelled(alloc, seen, &here, text)?;
+    let more = spelled(alloc, built, &here, text)?;
     add_all(matchers, more.as_slice())?;
     Ok(())
 }
@@ -125,13 +125,13 @@ fn add_all(matchers: &mut Vec<Matcher>, more: &[Matcher]) -> Result<(), AllocErr
 /// Parses the text of matchers at a path.
 fn spelled(
     alloc: Global,
-    seen: &mut Patterns,
+    built: &mut Patterns,
     place: &Place,
     text: &str,
 ) -> Result<Matchers, ConfigError>
     ensures { Reads (λ ms. ms) result (spelled_at (place_path place.now) (matchers_of text.now)) }
 {
-    match seen.matchers_of(alloc, text) {
+    match built.matchers_of(alloc, text) {
         Ok(matchers) => Ok(matchers),
         Err(ParseError::Memory) => Err(ConfigError::Memory),
         Err(ParseError::BadMatcher { at: _ }) => Err(place.faulty(alloc)),
@@ -143,7 +143,7 @@ fn spelled(
 #[tactic(auto, unfolding(crate::specs::Read::ReadMatchers::object_into))]
 fn add_object(
     alloc: Global,
-    seen: &mut Patterns,
+    built: &mut Patterns,
     operator: Operator,
     place: &Place,
     value: &Value,
@@ -156,7 +156,7 @@ fn add_object(
     match member(value, key) {
         Some(found) => add_members(
             alloc,
-            seen,
+            built,
             operator,
             &Place::Member(place, key),
             found,
@@ -170,7 +170,7 @@ fn add_object(
 #[tactic(auto, unfolding(crate::specs::Read::ReadMatchers::members_into, crate::specs::Read::Readings::next))]
 fn add_members(
     alloc: Global,
-    seen: &mut Patterns,
+    built: &mut Patterns,
     operator: Operator,
     place: &Place,
     value: &Value,
@@ -183,7 +183,7 @@ fn add_members(
         return Err(place.faulty(alloc));
     };
     for (key, value) in members {
-        add_member(alloc, seen, operator, place, key.as_str(), value, matchers)?;
+        add_member(alloc, built, operator, place, key.as_str(), value, matchers)?;
     }
     Ok(())
 }
@@ -192,7 +192,7 @@ fn add_members(
 #[tactic(auto, unfolding(crate::specs::Read::ReadMatchers::matcher_into, crate::specs::Read::Readings::next))]
 fn add_member(
     alloc: Global,
-    seen: &mut Patterns,
+    built: &mut Patterns,
     operator: Operator,
     place: &Place,
     name: &str,
@@ -208,7 +208,7 @@ fn add_member(
     }
     add_stated(
         alloc,
-        seen,
+        built,
         operator,
         &Place::Member(place, name),
         name,
@@ -221,7 +221,7 @@ fn add_member(
 #[tactic(auto, unfolding(crate::specs::Read::ReadMatchers::stated_into, crate::specs::Read::Readings::next))]
 fn add_stated(
     alloc: Global,
-    seen: &mut Patterns,
+    built: &mut Patterns,
     operator: Operator,
     place: &Place,
     name: &str,
@@ -232,7 +232,7 @@ fn add_stated(
         (stated_into operator (place_path place.now) name.now (view value.now) matchers.old.items) }
 {
     let value = text(alloc, place, value)?;
-    let made = matcher(alloc, seen, operator, place, name, value)?;
+    let made = matcher(alloc, built, operator, place, name, value)?;
     matchers.push(made)?;
     Ok(())
 }
@@ -242,7 +242,7 @@ fn add_stated(
 #[tactic(auto, unfolding(crate::specs::Read::ReadMatchers::matcher_at))]
 fn matcher(
     alloc: Global,
-    seen: &mut Patterns,
+    built: &mut Patterns,
     operator: Operator,
     place: &Place,
     name: &str,
@@ -256,7 +256,7 @@ fn matcher(
     }
     let name = Text::from_str(alloc, name)?;
     let value = Text::from_str(alloc, value)?;
-    match Matcher::new(seen, name, operator, value) {
+    match Matcher::new(built, name, operator, value) {
         Ok(matcher) => Ok(matcher),
         Err(MatcherError::Memory) => Err(ConfigError::Memory),
         Err(MatcherError::BadPattern) => Err(place.faulty(alloc)),

@@ -27,7 +27,7 @@ use std::alloc::{AllocError, Global};
 #[tactic(auto, unfolding(crate::specs::Read::ReadRoutes::routes_at, crate::specs::Read::Readings::next))]
 pub(crate) fn read_routes(
     alloc: Global,
-    seen: &mut Patterns,
+    built: &mut Patterns,
     value: &Value,
 ) -> Result<Listing<Route>, ConfigError>
     ensures { Reads (λ rs. rs) result (routes_at (view value.now)) }
@@ -39,7 +39,7 @@ pub(crate) fn read_routes(
     };
     let mut routes = Listing::new(alloc);
     let whole = Whole::new(alloc, value)?;
-    add_route(alloc, seen, &whole, 32, &here, None, route, &mut routes)?;
+    add_route(alloc, built, &whole, 32, &here, None, route, &mut routes)?;
     Ok(routes)
 }
 
@@ -77,7 +77,7 @@ fn is_deeper(left: u32, value: &Value) -> bool
 /// Appends a route and those below it in preorder, down to `left` levels.
 fn add_route(
     alloc: Global,
-    seen: &mut Patterns,
+    built: &mut Patterns,
     whole: &Whole,
     left: u32,
     place: &Place,
@@ -93,13 +93,13 @@ fn add_route(
         return Err(ConfigError::Refused(Refusal::Other(Cause::TooDeep)));
     }
     let index = routes.len();
-    add_own(alloc, seen, whole, place, parent, value, routes)?;
+    add_own(alloc, built, whole, place, parent, value, routes)?;
     let children = children(alloc, place, value)?;
     let below = Place::Member(&*place, "routes");
     for (i, child) in children.iter().enumerate() {
         add_route(
             alloc,
-            seen,
+            built,
             whole,
             left - 1,
             &Place::Item(&below, i),
@@ -127,7 +127,7 @@ fn children<'v>(alloc: Global, place: &Place, value: &'v Value) -> Result<&'v [V
 #[tactic(auto, unfolding(crate::specs::Read::ReadRoutes::own_into, crate::specs::Read::Readings::next))]
 fn add_own(
     alloc: Global,
-    seen: &mut Patterns,
+    built: &mut Patterns,
     whole: &Whole,
     place: &Place,
     parent: Option<usize>,
@@ -138,7 +138,7 @@ fn add_own(
         (own_into (view whole.now.value.now) (place_path place.now) parent (view value.now)
         routes.old) }
 {
-    let route = read_route(alloc, seen, whole, place, parent, value)?;
+    let route = read_route(alloc, built, whole, place, parent, value)?;
     routes.push(route)?;
     Ok(())
 }
@@ -147,7 +147,7 @@ fn add_own(
 #[tactic(auto, unfolding(crate::specs::Read::ReadRoutes::route_at, crate::specs::Read::Readings::next))]
 fn read_route(
     alloc: Global,
-    seen: &mut Patterns,
+    built: &mut Patterns,
     whole: &Whole,
     place: &Place,
     parent: Option<usize>,
@@ -164,7 +164,7 @@ fn read_route(
     let group_by = texts_member(alloc, place, value, "group_by")?;
     let group_interval = span_member(alloc, place, value, "group_interval")?;
     let group_wait = span_member(alloc, place, value, "group_wait")?;
-    let matchers = read_matchers(alloc, seen, place, "match", "match_re", "matchers", value)?;
+    let matchers = read_matchers(alloc, built, place, "match", "match_re", "matchers", value)?;
     let mute = names_member(alloc, whole, place, value, "mute_time_intervals")?;
     let receiver = text_member(alloc, place, value, "receiver")?;
     let repeat_interval = span_member(alloc, place, value, "repeat_interval")?;

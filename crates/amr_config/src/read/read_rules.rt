@@ -20,7 +20,7 @@ use std::alloc::Global;
 #[tactic(auto, unfolding(crate::specs::Read::ReadRules::rules_at))]
 pub(crate) fn read_rules(
     alloc: Global,
-    seen: &mut Patterns,
+    built: &mut Patterns,
     value: &Value,
 ) -> Result<Listing<InhibitRule>, ConfigError>
     ensures { Reads (λ rules. rules) result (rules_at (view value.now)) }
@@ -28,7 +28,7 @@ pub(crate) fn read_rules(
     match member(value, "inhibit_rules") {
         Some(found) => rules(
             alloc,
-            seen,
+            built,
             &Place::Member(&Place::Top, "inhibit_rules"),
             found,
         ),
@@ -40,7 +40,7 @@ pub(crate) fn read_rules(
 #[tactic(auto, unfolding(crate::specs::Read::ReadRules::rules_list, crate::specs::Read::Readings::next))]
 fn rules(
     alloc: Global,
-    seen: &mut Patterns,
+    built: &mut Patterns,
     place: &Place,
     value: &Value,
 ) -> Result<Listing<InhibitRule>, ConfigError>
@@ -49,7 +49,7 @@ fn rules(
     let items = items(alloc, place, value)?;
     let mut rules = Listing::new(alloc);
     for (index, item) in items.iter().enumerate() {
-        add_rule(alloc, seen, place, index, item, &mut rules)?;
+        add_rule(alloc, built, place, index, item, &mut rules)?;
     }
     Ok(rules)
 }
@@ -58,7 +58,7 @@ fn rules(
 #[tactic(auto, unfolding(crate::specs::Read::ReadRules::rule_into, crate::specs::Read::Readings::next))]
 fn add_rule(
     alloc: Global,
-    seen: &mut Patterns,
+    built: &mut Patterns,
     place: &Place,
     index: usize,
     value: &Value,
@@ -67,7 +67,7 @@ fn add_rule(
     ensures { ReadsInto (λ rules. rules) result rules.new
         (rule_into (place_path place.now) index (view value.now) rules.old) }
 {
-    let rule = read_rule(alloc, seen, &Place::Item(place, index), value)?;
+    let rule = read_rule(alloc, built, &Place::Item(place, index), value)?;
     rules.push(rule)?;
     Ok(())
 }
@@ -76,7 +76,7 @@ fn add_rule(
 #[tactic(auto, unfolding(crate::specs::Read::ReadRules::rule_at, crate::specs::Read::Readings::next))]
 fn read_rule(
     alloc: Global,
-    seen: &mut Patterns,
+    built: &mut Patterns,
     place: &Place,
     value: &Value,
 ) -> Result<InhibitRule, ConfigError>
@@ -88,7 +88,7 @@ fn read_rule(
     let equal = texts_member(alloc, place, value, "equal")?;
     let source = read_matchers(
         alloc,
-        seen,
+        built,
         place,
         "source_match",
         "source_match_re",
@@ -97,7 +97,7 @@ fn read_rule(
     )?;
     let target = read_matchers(
         alloc,
-        seen,
+        built,
         place,
         "target_match",
         "target_match_re",

@@ -5,7 +5,7 @@ ghost use Rattle.std.specs.Prelude.{◌≡◌, IfOk};
 ghost use Rattle.amr_config.specs.Stated.RuleMatches.{rule_match, rule_matches};
 
 use crate::stated::rule::InhibitRule;
-use amr_labels::matcher::Answers;
+use amr_labels::matcher::MatchCache;
 use amr_labels::{Labels, Listing};
 use std::alloc::{AllocError, Global};
 
@@ -21,7 +21,7 @@ pub struct RuleMatch {
 #[tactic(auto, unfolding(crate::specs::Stated::RuleMatches::rule_matches))]
 pub fn rule_matches(
     alloc: Global,
-    answers: &mut Answers,
+    answers: &mut MatchCache,
     rules: &[InhibitRule],
     labels: &Labels,
 ) -> Result<Listing<RuleMatch>, AllocError>
@@ -36,7 +36,7 @@ pub fn rule_matches(
 
 /// Works out which sides of an inhibition rule a label set is on.
 fn rule_match(
-    answers: &mut Answers,
+    answers: &mut MatchCache,
     rule: &InhibitRule,
     labels: &Labels,
 ) -> Result<RuleMatch, AllocError>

@@ -8,7 +8,7 @@ use Rattle.amr_labels.specs.Map.{get, set, empty, get-set, get-empty}
 use Rattle.amr_labels.specs.Labels.{LabelSet, label_set_cmp, label_set_cmp_total, label_set_cmp-IsAntisymmetric}
 use Rattle.amr_rules.specs.declared.alert.Alert.{Alert}
 use Rattle.amr_rules.specs.Muting.{Alerts}
-use Rattle.amr_tables.specs.Numbered.{Numbered, shown, has_place, KeepsPlaces, SamePlaces}
+use Rattle.amr_tables.specs.Numbered.{Numbered, map_of, has_place, KeepsPlaces, SamePlaces}
 use Rattle.amr_engine.specs.Indexes.RuleSources.{AllArrived, IsFollowed}
 
 pub nothing_arrived : (t : Numbered LabelSet Alert) (arrived : List LabelSet) → t.numbers ≡ [] → AllArrived t arrived
@@ -21,27 +21,27 @@ arrived_same t u arrived is same labels h = is labels (subst IsTrue (same labels
 -- ---- stored alerts have places
 
 abbrev IsStored : Numbered LabelSet Alert → LabelSet → Type 0
-IsStored t labels = IsTrue (is_some (get (shown label_set_cmp t) labels))
+IsStored t labels = IsTrue (is_some (get (map_of label_set_cmp t) labels))
 
 same_labels : (a b : LabelSet) → eq_by_cmp label_set_cmp a b ≡ true → a ≡ b
 same_labels a b e = tells_apart label_set_cmp-IsAntisymmetric a b e
 
 module _ (t u : Numbered LabelSet Alert) (stored : (labels : LabelSet) → IsStored t labels → IsTrue (has_place label_set_cmp t labels)) (kept : KeepsPlaces label_set_cmp t u) where
-  pub stored_same : shown label_set_cmp u ≡ shown label_set_cmp t → (labels : LabelSet) → IsStored u labels → IsTrue (has_place label_set_cmp u labels)
+  pub stored_same : map_of label_set_cmp u ≡ map_of label_set_cmp t → (labels : LabelSet) → IsStored u labels → IsTrue (has_place label_set_cmp u labels)
   stored_same same labels h = kept labels (stored labels (subst (λ (m : Alerts). IsTrue (is_some (get m labels))) same h))
 
-  pub stored_set : (k : LabelSet) (alert : Option Alert) → IsTrue (has_place label_set_cmp u k) → shown label_set_cmp u ≡ set (shown label_set_cmp t) k alert
+  pub stored_set : (k : LabelSet) (alert : Option Alert) → IsTrue (has_place label_set_cmp u k) → map_of label_set_cmp u ≡ set (map_of label_set_cmp t) k alert
       → (labels : LabelSet) → IsStored u labels → IsTrue (has_place label_set_cmp u labels)
   stored_set k alert at shows labels h =
-      let is_set : get (shown label_set_cmp u) labels ≡ cond (eq_by_cmp label_set_cmp labels k) alert (get (shown label_set_cmp t) labels) = ap (λ (m : Alerts). get m labels) shows ∙ get-set label_set_cmp_total (shown label_set_cmp t) k alert labels in
-      elim (eq_by_cmp label_set_cmp labels k) as (λ b. eq_by_cmp label_set_cmp labels k ≡ b → IsTrue (is_some (cond b alert (get (shown label_set_cmp t) labels))) → IsTrue (has_place label_set_cmp u labels)) [
+      let is_set : get (map_of label_set_cmp u) labels ≡ cond (eq_by_cmp label_set_cmp labels k) alert (get (map_of label_set_cmp t) labels) = ap (λ (m : Alerts). get m labels) shows ∙ get-set label_set_cmp_total (map_of label_set_cmp t) k alert labels in
+      elim (eq_by_cmp label_set_cmp labels k) as (λ b. eq_by_cmp label_set_cmp labels k ≡ b → IsTrue (is_some (cond b alert (get (map_of label_set_cmp t) labels))) → IsTrue (has_place label_set_cmp u labels)) [
         | true ↦ λ e _. subst (λ l. IsTrue (has_place label_set_cmp u l)) (sym (same_labels labels k e)) at
         | false ↦ λ _ h. kept labels (stored labels h)
       ] refl (subst (λ x. IsTrue (is_some x)) is_set h)
 
 -- ---- what follows the table
 
-pub nothing_followed : (t : Numbered LabelSet Alert) (arrived : List LabelSet) → t.numbers ≡ [] → shown label_set_cmp t ≡ empty → IsFollowed t arrived
+pub nothing_followed : (t : Numbered LabelSet Alert) (arrived : List LabelSet) → t.numbers ≡ [] → map_of label_set_cmp t ≡ empty → IsFollowed t arrived
 nothing_followed t arrived none shows = record {
   stored = λ labels h. absurd (true≢false (sym h ∙ ap (λ (m : Alerts). is_some (get m labels)) shows ∙ ap is_some (get-empty label_set_cmp labels)));
   arrived = nothing_arrived t arrived none;
@@ -52,7 +52,7 @@ keeps t u same key h = subst IsTrue (sym (same key)) h
 
 module _ (t u : Numbered LabelSet Alert) (arrived : List LabelSet) (is : IsFollowed t arrived) where
   -- an alert is set or removed at a place
-  pub followed_set : (k : LabelSet) (alert : Option Alert) → SamePlaces label_set_cmp t u → IsTrue (has_place label_set_cmp t k) → shown label_set_cmp u ≡ set (shown label_set_cmp t) k alert → IsFollowed u arrived
+  pub followed_set : (k : LabelSet) (alert : Option Alert) → SamePlaces label_set_cmp t u → IsTrue (has_place label_set_cmp t k) → map_of label_set_cmp u ≡ set (map_of label_set_cmp t) k alert → IsFollowed u arrived
   followed_set k alert same at shows = record {
     stored = stored_set t u is.stored (keeps t u same) k alert (subst IsTrue (sym (same k)) at) shows;
     arrived = arrived_same t u arrived is.arrived same;

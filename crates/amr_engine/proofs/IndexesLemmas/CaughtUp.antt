@@ -21,12 +21,12 @@ use Rattle.amr_rules.specs.declared.silence.Silence.{Silence}
 use Rattle.amr_rules.specs.declared.silence_period.SilencePeriod.{SilencePeriod}
 use Rattle.amr_rules.specs.Silences.{Silences}
 use Rattle.amr_rules.specs.SilencePeriods.{may_silence, period_of, silence_periods}
-use Rattle.amr_engine.specs.declared.indexes.known_periods.KnownPeriods.{KnownPeriods}
+use Rattle.amr_engine.specs.declared.indexes.cached_periods.CachedPeriods.{CachedPeriods}
 use Rattle.amr_engine.specs.declared.indexes.silence_change.SilenceChange.{SilenceChange}
-use Rattle.amr_engine.specs.Indexes.ValueMarks.{value_marks, required_marks}
-use Rattle.amr_engine.specs.Indexes.SilencesKnown.{lists, picked, PicksNone, is_below, is_above, ends_after, without, with_period, noted, period_from, change_of, may_concern, is_idle, next_concern, passed_by, changed_ids, AreNoted, IsKnown}
-use Rattle.amr_engine.proofs.IndexesLemmas.SilencesKnown.{filters_swap, id_at}
-use Rattle.amr_engine.proofs.IndexesLemmas.ValueMarks.{matching_marked}
+use Rattle.amr_engine.specs.Indexes.ValueBits.{value_bits, required_bits}
+use Rattle.amr_engine.specs.Indexes.CachedSilences.{lists, periods_picked, PicksNone, is_below, is_above, ends_after, without_silence, with_period, with_silence_noted, period_from, change_of, may_concern, is_idle, next_concern, passed_by, changed_ids, AreNoted, IsCached}
+use Rattle.amr_engine.proofs.IndexesLemmas.CachedSilences.{filters_swap, id_at}
+use Rattle.amr_engine.proofs.IndexesLemmas.ValueBits.{matching_marked}
 
 -- ---- two tests, one after the other
 
@@ -71,13 +71,13 @@ above_apart false Less = refl
 above_apart false Equal = refl
 above_apart false Greater = refl
 
-picked_below : (test : ℕ → Bool) (id : ℕ) (periods : List SilencePeriod) → picked test (filter (is_below id) periods) ≡ filter (is_below id) (picked (but_one test id) periods)
+picked_below : (test : ℕ → Bool) (id : ℕ) (periods : List SilencePeriod) → periods_picked test (filter (is_below id) periods) ≡ filter (is_below id) (periods_picked (but_one test id) periods)
 picked_below test id periods =
     filters_alike (λ (p : SilencePeriod). test p.id) (is_below id) (is_below id) (λ (p : SilencePeriod). but_one test id p.id)
     (λ p. subst (λ (o : Ordering). (is_lt o && test p.id) ≡ ((test p.id && not (is_eq (nat_cmp id p.id))) && is_lt o)) (sym (nat_cmp_total.antisymm p.id id))
     (below_apart (test p.id) (nat_cmp id p.id))) periods
 
-picked_above : (test : ℕ → Bool) (id : ℕ) (periods : List SilencePeriod) → picked test (filter (is_above id) periods) ≡ filter (is_above id) (picked (but_one test id) periods)
+picked_above : (test : ℕ → Bool) (id : ℕ) (periods : List SilencePeriod) → periods_picked test (filter (is_above id) periods) ≡ filter (is_above id) (periods_picked (but_one test id) periods)
 picked_above test id periods =
     filters_alike (λ (p : SilencePeriod). test p.id) (is_above id) (is_above id) (λ (p : SilencePeriod). but_one test id p.id)
     (λ p. above_apart (test p.id) (nat_cmp id p.id)) periods
@@ -86,12 +86,12 @@ picked_above test id periods =
 abbrev among : (ℕ → Bool) → SilencePeriod → List SilencePeriod → List SilencePeriod
 among test period periods = filter (is_below period.id) periods ++ cond (test period.id) (period ∷ filter (is_above period.id) periods) (filter (is_above period.id) periods)
 
-picked_with : (test : ℕ → Bool) (period : SilencePeriod) (periods : List SilencePeriod) → picked test (with_period period periods) ≡ among test period (picked (but_one test period.id) periods)
+picked_with : (test : ℕ → Bool) (period : SilencePeriod) (periods : List SilencePeriod) → periods_picked test (with_period period periods) ≡ among test period (periods_picked (but_one test period.id) periods)
 picked_with test period periods =
     filter-append (λ (p : SilencePeriod). test p.id) (filter (is_below period.id) periods) (period ∷ filter (is_above period.id) periods)
     ∙ (λ i. picked_below test period.id periods i ++ cond (test period.id) (period ∷ picked_above test period.id periods i) (picked_above test period.id periods i))
 
-picked_without : (test : ℕ → Bool) (id : ℕ) (periods : List SilencePeriod) → picked test (without id periods) ≡ picked (but_one test id) periods
+picked_without : (test : ℕ → Bool) (id : ℕ) (periods : List SilencePeriod) → periods_picked test (without_silence id periods) ≡ periods_picked (but_one test id) periods
 picked_without test id periods =
     filter_both (λ (p : SilencePeriod). test p.id) (λ (p : SilencePeriod). not (eq_by_cmp nat_cmp id p.id)) periods
     ∙ filter_same (λ (p : SilencePeriod). not (eq_by_cmp nat_cmp id p.id) && test p.id) (λ (p : SilencePeriod). but_one test id p.id)
@@ -150,17 +150,17 @@ module _ (from : Moment) (labels : LabelSet) where
       ap (filter (is_below id)) (sym (all_above id es h))
       ∙ none_apart (is_below id) (is_above id) (λ (p : SilencePeriod). ap (λ (o : Ordering). is_lt (nat_cmp id p.id) && is_lt o) (nat_cmp_total.antisymm p.id id) ∙ above_below (nat_cmp id p.id)) (of_all es)
 
-  none_left_out : (id : ℕ) (es : List (ℕ × Silence)) → T (below_all nat_cmp id es) → without id (of_all es) ≡ of_all es
+  none_left_out : (id : ℕ) (es : List (ℕ × Silence)) → T (below_all nat_cmp id es) → without_silence id (of_all es) ≡ of_all es
   none_left_out id es h =
-      ap (without id) (sym (all_above id es h))
+      ap (without_silence id) (sym (all_above id es h))
       ∙ filter_both (λ (p : SilencePeriod). not (eq_by_cmp nat_cmp id p.id)) (is_above id) (of_all es)
       ∙ filter_same (λ (p : SilencePeriod). is_above id p && not (eq_by_cmp nat_cmp id p.id)) (is_above id) (λ p. above_other (nat_cmp id p.id)) (of_all es)
       ∙ all_above id es h
 
   -- a period with a lower id stays first
   first_below : (id : ℕ) (q : Option SilencePeriod) (x : SilencePeriod) (L : List SilencePeriod) → ((p : SilencePeriod) → q ≡ Some p → p.id ≡ id) → nat_cmp id x.id ≡ Greater
-      → noted id q (x ∷ L) ≡ x ∷ noted id q L
-  first_below id None x L same is = ap (λ (o : Ordering). cond (not (is_eq o)) (x ∷ without id L) (without id L)) is
+      → with_silence_noted id q (x ∷ L) ≡ x ∷ with_silence_noted id q L
+  first_below id None x L same is = ap (λ (o : Ordering). cond (not (is_eq o)) (x ∷ without_silence id L) (without_silence id L)) is
   first_below id (Some p) x L same is =
       let of_p : p.id ≡ id = same p refl in
       let over : nat_cmp p.id x.id ≡ Greater = subst (λ (n : ℕ). nat_cmp n x.id ≡ Greater) (sym of_p) is in
@@ -175,82 +175,82 @@ module _ (from : Moment) (labels : LabelSet) where
   ] e
 
   keeps_first : (id : ℕ) (found : Option Silence) (may : Bool) (e : ℕ × Silence) (K : List (ℕ × Silence)) → nat_cmp id e.0 ≡ Greater
-      → noted id (period_from from labels id found) (map period_of K) ≡ map period_of K
-      → noted id (period_from from labels id found) (map period_of (cond may (e ∷ K) K)) ≡ map period_of (cond may (e ∷ K) K)
+      → with_silence_noted id (period_from from labels id found) (map period_of K) ≡ map period_of K
+      → with_silence_noted id (period_from from labels id found) (map period_of (cond may (e ∷ K) K)) ≡ map period_of (cond may (e ∷ K) K)
   keeps_first id found true e K is rest = first_below id (period_from from labels id found) (period_of e) (map period_of K) (own_id id found) is ∙ ap (λ l. period_of e ∷ l) rest
   keeps_first id found false e K is rest = rest
 
   -- the silence itself comes first
   is_first : (may : Bool) (e : ℕ × Silence) (es : List (ℕ × Silence)) → T (below_all nat_cmp e.0 es)
-      → noted e.0 (cond may (Some (period_of e)) None) (map period_of (cond may (e ∷ filter (λ (stored : ℕ × Silence). may_silence from labels stored.1) es) (filter (λ (stored : ℕ × Silence). may_silence from labels stored.1) es)))
+      → with_silence_noted e.0 (cond may (Some (period_of e)) None) (map period_of (cond may (e ∷ filter (λ (stored : ℕ × Silence). may_silence from labels stored.1) es) (filter (λ (stored : ℕ × Silence). may_silence from labels stored.1) es)))
       ≡ map period_of (cond may (e ∷ filter (λ (stored : ℕ × Silence). may_silence from labels stored.1) es) (filter (λ (stored : ℕ × Silence). may_silence from labels stored.1) es))
   is_first true e es h =
       let own : nat_cmp e.0 e.0 ≡ Equal = tied_itself nat_cmp_total e.0 in
       (λ i. cond (is_lt (own i)) (period_of e ∷ none_below e.0 es h i) (none_below e.0 es h i) ++ period_of e ∷ cond (is_lt (own i)) (period_of e ∷ all_above e.0 es h i) (all_above e.0 es h i))
   is_first false e es h = none_left_out e.0 es h
 
-  own_period : (id : ℕ) (es : List (ℕ × Silence)) → T (is_sorted nat_cmp es) → noted id (period_from from labels id (find nat_cmp id es)) (of_all es) ≡ of_all es
+  own_period : (id : ℕ) (es : List (ℕ × Silence)) → T (is_sorted nat_cmp es) → with_silence_noted id (period_from from labels id (find nat_cmp id es)) (of_all es) ≡ of_all es
   own_period id [] h = refl
   own_period id (e ∷ es) h =
-      elim (nat_cmp id e.0) as (λ o. nat_cmp id e.0 ≡ o → noted id (period_from from labels id (cond (is_eq o) (Some e.1) (find nat_cmp id es))) (of_all (e ∷ es)) ≡ of_all (e ∷ es)) [
+      elim (nat_cmp id e.0) as (λ o. nat_cmp id e.0 ≡ o → with_silence_noted id (period_from from labels id (cond (is_eq o) (Some e.1) (find nat_cmp id es))) (of_all (e ∷ es)) ≡ of_all (e ∷ es)) [
         | Less ↦ λ is.
             let above : T (below_all nat_cmp id es) = lower id e.0 is es (first _ _ h) in
-            ap (λ (o : Option Silence). noted id (period_from from labels id o) (of_all (e ∷ es))) (find_above id es above)
+            ap (λ (o : Option Silence). with_silence_noted id (period_from from labels id o) (of_all (e ∷ es))) (find_above id es above)
             ∙ none_left_out id (e ∷ es) (both (is_lt (nat_cmp id e.0)) (below_all nat_cmp id es) (subst (λ (o : Ordering). T (is_lt o)) (sym is) tt) above)
         | Equal ↦ λ is.
-            subst (λ (n : ℕ). noted n (period_from from labels n (Some e.1)) (of_all (e ∷ es)) ≡ of_all (e ∷ es)) (sym (nat_cmp-IsAntisymmetric id e.0 is))
+            subst (λ (n : ℕ). with_silence_noted n (period_from from labels n (Some e.1)) (of_all (e ∷ es)) ≡ of_all (e ∷ es)) (sym (nat_cmp-IsAntisymmetric id e.0 is))
             (is_first (may_silence from labels e.1) e es (first _ _ h))
         | Greater ↦ λ is.
             keeps_first id (find nat_cmp id es) (may_silence from labels e.1) e (filter (λ (stored : ℕ × Silence). may_silence from labels stored.1) es) is (own_period id es (second _ _ h))
       ] refl
 
-  has_own : (id : ℕ) (silences : Silences) → noted id (period_from from labels id (get silences id)) (silence_periods from labels silences) ≡ silence_periods from labels silences
+  has_own : (id : ℕ) (silences : Silences) → with_silence_noted id (period_from from labels id (get silences id)) (silence_periods from labels silences) ≡ silence_periods from labels silences
   has_own id silences =
-      ap (λ (o : Option Silence). noted id (period_from from labels id o) (silence_periods from labels silences)) (get-entries silences id)
+      ap (λ (o : Option Silence). with_silence_noted id (period_from from labels id o) (silence_periods from labels silences)) (get-entries silences id)
       ∙ own_period id (entries silences) (entries-sorted silences)
 
 -- what a test picks after a silence was noted follows from what it picks of the others
 noted_alike : (test : ℕ → Bool) (id : ℕ) (q : Option SilencePeriod) (a b : List SilencePeriod) → ((p : SilencePeriod) → q ≡ Some p → p.id ≡ id)
-    → picked (but_one test id) a ≡ picked (but_one test id) b → picked test (noted id q a) ≡ picked test (noted id q b)
+    → periods_picked (but_one test id) a ≡ periods_picked (but_one test id) b → periods_picked test (with_silence_noted id q a) ≡ periods_picked test (with_silence_noted id q b)
 noted_alike test id None a b same e = picked_without test id a ∙ e ∙ sym (picked_without test id b)
 noted_alike test id (Some p) a b same e =
-    let there : picked (but_one test p.id) a ≡ picked (but_one test p.id) b = subst (λ (n : ℕ). picked (but_one test n) a ≡ picked (but_one test n) b) (sym (same p refl)) e in
+    let there : periods_picked (but_one test p.id) a ≡ periods_picked (but_one test p.id) b = subst (λ (n : ℕ). periods_picked (but_one test n) a ≡ periods_picked (but_one test n) b) (sym (same p refl)) e in
     picked_with test p a ∙ ap (among test p) there ∙ sym (picked_with test p b)
 
 and_false : (b : Bool) → (b && false) ≡ false
 and_false true = refl
 and_false false = refl
 
-seen_or_later : (seen i : ℕ) → seen ≤ i → (seen == i) ≡ false → seen + 1 ≤ i
-seen_or_later seen i le apart = grind (arith, nat_tests)
+seen_or_later : (version i : ℕ) → version ≤ i → (version == i) ≡ false → version + 1 ≤ i
+seen_or_later version i le apart = grind (arith, nat_tests)
 
-is_seen : (seen i : ℕ) → (seen == i) ≡ true → seen ≡ i
-is_seen seen i same = grind (arith, nat_tests)
+is_seen : (version i : ℕ) → (version == i) ≡ true → version ≡ i
+is_seen version i same = grind (arith, nat_tests)
 
 -- a test that picks no silence that changed later picks but for this one none that changed
-later_picks : (changes : List ℕ) (seen id : ℕ) (test : ℕ → Bool) → id ≡ get_or changes seen 0 → PicksNone test changes (seen + 1) → PicksNone (but_one test id) changes seen
-later_picks changes seen id test is_id none = λ i le lt.
-    elim (seen == i) as (λ b. (seen == i) ≡ b → but_one test id (get_or changes i 0) ≡ false) [
+later_picks : (changes : List ℕ) (version id : ℕ) (test : ℕ → Bool) → id ≡ get_or changes version 0 → PicksNone test changes (version + 1) → PicksNone (but_one test id) changes version
+later_picks changes version id test is_id none = λ i le lt.
+    elim (version == i) as (λ b. (version == i) ≡ b → but_one test id (get_or changes i 0) ≡ false) [
       | true ↦ λ same.
-          let own : id ≡ get_or changes i 0 = is_id ∙ ap (λ (n : ℕ). get_or changes n 0) (is_seen seen i same) in
+          let own : id ≡ get_or changes i 0 = is_id ∙ ap (λ (n : ℕ). get_or changes n 0) (is_seen version i same) in
           ap (λ (n : ℕ). but_one test id n) (sym own) ∙ ap (λ (o : Ordering). test id && not (is_eq o)) (tied_itself nat_cmp_total id) ∙ and_false (test id)
-      | false ↦ λ apart. ap (λ (b : Bool). b && not (eq_by_cmp nat_cmp id (get_or changes i 0))) (none i (seen_or_later seen i le apart) lt)
+      | false ↦ λ apart. ap (λ (b : Bool). b && not (eq_by_cmp nat_cmp id (get_or changes i 0))) (none i (seen_or_later version i le apart) lt)
     ] refl
 
 -- the next change of a silence is taken in
-taken_in : (silences : Silences) (changes : List ℕ) (found : KnownPeriods) (id : ℕ) (after : KnownPeriods) → IsKnown silences changes found → found.seen < length changes
-    → id ≡ get_or changes found.seen 0
-    → after ≡ record found { seen = found.seen + 1; periods = noted id (period_from found.from found.labels id (get silences id)) found.periods }
-    → IsKnown silences changes after
+taken_in : (silences : Silences) (changes : List ℕ) (found : CachedPeriods) (id : ℕ) (after : CachedPeriods) → IsCached silences changes found → found.version < length changes
+    → id ≡ get_or changes found.version 0
+    → after ≡ record found { version = found.version + 1; periods = with_silence_noted id (period_from found.from found.labels id (get silences id)) found.periods }
+    → IsCached silences changes after
 taken_in silences changes found id after known more is_id is =
     let q : Option SilencePeriod = period_from found.from found.labels id (get silences id) in
     let present : List SilencePeriod = silence_periods found.from found.labels silences in
-    subst (λ (k : KnownPeriods). IsKnown silences changes k) (sym is) (record {
-      seen = omega arith;
-      marks = known.marks;
+    subst (λ (k : CachedPeriods). IsCached silences changes k) (sym is) (record {
+      version = omega arith;
+      bits = known.bits;
       others = λ test none.
-          noted_alike test id q found.periods present (own_id found.from found.labels id (get silences id)) (known.others (but_one test id) (later_picks changes found.seen id test is_id none))
-          ∙ ap (picked test) (has_own found.from found.labels id silences);
+          noted_alike test id q found.periods present (own_id found.from found.labels id (get silences id)) (known.others (but_one test id) (later_picks changes found.version id test is_id none))
+          ∙ ap (periods_picked test) (has_own found.from found.labels id silences);
     })
 
 -- ---- a change of a silence that can't mute the labels
@@ -267,20 +267,20 @@ equals_same : (a b : ℕ) → a ≡ b → (a == b) ≡ true
 equals_same a b same = grind (arith, nat_tests)
 
 -- it has no period that isn't over
-no_period : (from : Moment) (labels : LabelSet) (marks id : ℕ) (found : Option Silence) → marks ≡ value_marks labels → may_concern from marks (change_of id found) ≡ false
+no_period : (from : Moment) (labels : LabelSet) (bits id : ℕ) (found : Option Silence) → bits ≡ value_bits labels → may_concern from bits (change_of id found) ≡ false
     → period_from from labels id found ≡ None
-no_period from labels marks id None marked passed = refl
-no_period from labels marks id (Some silence) marked passed =
-    let asked : all_hold silence.matchers labels ≡ true → (bit_or marks (required_marks silence.matchers) == marks) ≡ true = λ all.
-    equals_same _ _ (ap (λ (n : ℕ). bit_or n (required_marks silence.matchers)) marked ∙ matching_marked labels silence.matchers all ∙ sym marked) in
+no_period from labels bits id None marked passed = refl
+no_period from labels bits id (Some silence) marked passed =
+    let asked : all_hold silence.matchers labels ≡ true → (bit_or bits (required_bits silence.matchers) == bits) ≡ true = λ all.
+    equals_same _ _ (ap (λ (n : ℕ). bit_or n (required_bits silence.matchers)) marked ∙ matching_marked labels silence.matchers all ∙ sym marked) in
     ap (λ (b : Bool). cond b (Some (period_of (id, silence))) None)
-    (not_both from silence.ends_at (all_hold silence.matchers labels) (bit_or marks (required_marks silence.matchers) == marks) asked passed)
+    (not_both from silence.ends_at (all_hold silence.matchers labels) (bit_or bits (required_bits silence.matchers) == bits) asked passed)
 
 and_true : (b : Bool) → (b && true) ≡ b
 and_true true = refl
 and_true false = refl
 
-but_none : (test : ℕ → Bool) (id : ℕ) (periods : List SilencePeriod) → test id ≡ false → picked (but_one test id) periods ≡ picked test periods
+but_none : (test : ℕ → Bool) (id : ℕ) (periods : List SilencePeriod) → test id ≡ false → periods_picked (but_one test id) periods ≡ periods_picked test periods
 but_none test id periods unpicked = filter_same (λ (p : SilencePeriod). but_one test id p.id) (λ (p : SilencePeriod). test p.id) (λ p.
     elim (nat_cmp id p.id) as (λ o. nat_cmp id p.id ≡ o → (test p.id && not (is_eq o)) ≡ test p.id) [
       | Less ↦ λ is. and_true (test p.id)
@@ -291,29 +291,29 @@ but_none test id periods unpicked = filter_same (λ (p : SilencePeriod). but_one
     ] refl) periods
 
 -- its period is left out, whether it changed again later or not
-passed_over : (silences : Silences) (changes : List SilenceChange) (found : KnownPeriods) (change : SilenceChange) (after : KnownPeriods) → AreNoted silences changes
-    → IsKnown silences (changed_ids changes) found → found.seen < length changes → get_or changes found.seen change ≡ change → may_concern found.from found.marks change ≡ false
-    → after ≡ record found { seen = found.seen + 1; periods = without change.id found.periods }
-    → IsKnown silences (changed_ids changes) after
+passed_over : (silences : Silences) (changes : List SilenceChange) (found : CachedPeriods) (change : SilenceChange) (after : CachedPeriods) → AreNoted silences changes
+    → IsCached silences (changed_ids changes) found → found.version < length changes → get_or changes found.version change ≡ change → may_concern found.from found.bits change ≡ false
+    → after ≡ record found { version = found.version + 1; periods = without_silence change.id found.periods }
+    → IsCached silences (changed_ids changes) after
 passed_over silences changes found change after noted_so known more is_change passed is =
     let id : ℕ = change.id in
     let present : List SilencePeriod = silence_periods found.from found.labels silences in
     let count : length (changed_ids changes) ≡ length changes = length-map changes (λ (c : SilenceChange). c.id) in
-    let is_id : id ≡ get_or (changed_ids changes) found.seen 0 = sym (id_at changes found.seen change more is_change) in
-    let left_present : (test : ℕ → Bool) → PicksNone test (changed_ids changes) (found.seen + 1) → picked test (without id present) ≡ picked test present = λ test none.
-    elim (test id) as (λ b. test id ≡ b → picked test (without id present) ≡ picked test present) [
+    let is_id : id ≡ get_or (changed_ids changes) found.version 0 = sym (id_at changes found.version change more is_change) in
+    let left_present : (test : ℕ → Bool) → PicksNone test (changed_ids changes) (found.version + 1) → periods_picked test (without_silence id present) ≡ periods_picked test present = λ test none.
+    elim (test id) as (λ b. test id ≡ b → periods_picked test (without_silence id present) ≡ periods_picked test present) [
       | true ↦ λ picks.
-          let own : change ≡ change_of id (get silences id) = noted_so.latest found.seen change test more is_change picks none in
+          let own : change ≡ change_of id (get silences id) = noted_so.latest found.version change test more is_change picks none in
           let over : period_from found.from found.labels id (get silences id) ≡ None =
-          no_period found.from found.labels found.marks id (get silences id) known.marks (ap (may_concern found.from found.marks) (sym own) ∙ passed) in
-          ap (λ (q : Option SilencePeriod). picked test (noted id q present)) (sym over) ∙ ap (picked test) (has_own found.from found.labels id silences)
+          no_period found.from found.labels found.bits id (get silences id) known.bits (ap (may_concern found.from found.bits) (sym own) ∙ passed) in
+          ap (λ (q : Option SilencePeriod). periods_picked test (with_silence_noted id q present)) (sym over) ∙ ap (periods_picked test) (has_own found.from found.labels id silences)
       | false ↦ λ unpicked. picked_without test id present ∙ but_none test id present unpicked
     ] refl in
-    subst (λ (k : KnownPeriods). IsKnown silences (changed_ids changes) k) (sym is) (record {
-      seen = omega arith;
-      marks = known.marks;
+    subst (λ (k : CachedPeriods). IsCached silences (changed_ids changes) k) (sym is) (record {
+      version = omega arith;
+      bits = known.bits;
       others = λ test none.
-          picked_without test id found.periods ∙ known.others (but_one test id) (later_picks (changed_ids changes) found.seen id test is_id none)
+          picked_without test id found.periods ∙ known.others (but_one test id) (later_picks (changed_ids changes) found.version id test is_id none)
           ∙ sym (picked_without test id present) ∙ left_present test none;
     })
 
@@ -328,58 +328,58 @@ is_passed : (b : Bool) → not b ≡ true → b ≡ false
 is_passed true e = sym e
 is_passed false e = refl
 
-passed_some : (silences : Silences) (changes : List SilenceChange) (found : KnownPeriods) (n : ℕ) → AreNoted silences changes → IsKnown silences (changed_ids changes) found → found.periods ≡ []
-    → n ≤ prefix_len (is_idle found.from found.marks) (drop found.seen changes) → IsKnown silences (changed_ids changes) (record found { seen = found.seen + n })
+passed_some : (silences : Silences) (changes : List SilenceChange) (found : CachedPeriods) (n : ℕ) → AreNoted silences changes → IsCached silences (changed_ids changes) found → found.periods ≡ []
+    → n ≤ prefix_len (is_idle found.from found.bits) (drop found.version changes) → IsCached silences (changed_ids changes) (record found { version = found.version + n })
 passed_some silences changes found zero noted_so known none le =
-    let same : found.seen ≡ found.seen + 0 = omega arith in
-    subst (λ (seen : ℕ). IsKnown silences (changed_ids changes) (record found { seen = seen })) same known
+    let same : found.version ≡ found.version + 0 = omega arith in
+    subst (λ (version : ℕ). IsCached silences (changed_ids changes) (record found { version = version })) same known
 passed_some silences changes found (suc n) noted_so known none le =
-    let idle : SilenceChange → Bool = is_idle found.from found.marks in
-    let left : List SilenceChange = drop found.seen changes in
+    let idle : SilenceChange → Bool = is_idle found.from found.bits in
+    let left : List SilenceChange = drop found.version changes in
     let at_most : prefix_len idle left ≤ length left = prefix_len-le-length idle left in
-    let count : length left ≡ length changes - found.seen = length-drop found.seen changes in
+    let count : length left ≡ length changes - found.version = length-drop found.version changes in
     let before : n < prefix_len idle left = omega arith in
-    let more : found.seen + n < length changes = omega arith in
-    let change : SilenceChange = get_or changes (found.seen + n) (change_of 0 None) in
-    let is : get_or changes (found.seen + n) change ≡ change = get_or_default changes (found.seen + n) change (change_of 0 None) more in
-    let passes : idle change ≡ true = ap idle (sym (get_or-drop found.seen changes n (change_of 0 None))) ∙ prefix_len_passes idle left n (change_of 0 None) before in
-    let kept : found.periods ≡ without change.id found.periods = none ∙ sym (ap (without change.id) none) in
-    let step : found.seen + suc n ≡ found.seen + n + 1 = omega arith in
-    passed_over silences changes (record found { seen = found.seen + n }) change (record found { seen = found.seen + suc n }) noted_so
-    (passed_some silences changes found n noted_so known none (omega arith)) more is (is_passed (may_concern found.from found.marks change) passes) (λ i. record found { seen = step i; periods = kept i })
+    let more : found.version + n < length changes = omega arith in
+    let change : SilenceChange = get_or changes (found.version + n) (change_of 0 None) in
+    let is : get_or changes (found.version + n) change ≡ change = get_or_default changes (found.version + n) change (change_of 0 None) more in
+    let passes : idle change ≡ true = ap idle (sym (get_or-drop found.version changes n (change_of 0 None))) ∙ prefix_len_passes idle left n (change_of 0 None) before in
+    let kept : found.periods ≡ without_silence change.id found.periods = none ∙ sym (ap (without_silence change.id) none) in
+    let step : found.version + suc n ≡ found.version + n + 1 = omega arith in
+    passed_over silences changes (record found { version = found.version + n }) change (record found { version = found.version + suc n }) noted_so
+    (passed_some silences changes found n noted_so known none (omega arith)) more is (is_passed (may_concern found.from found.bits change) passes) (λ i. record found { version = step i; periods = kept i })
 
-pub passed_on : (changes : List SilenceChange) (found : KnownPeriods) → found.seen ≤ (passed_by changes found).seen
+pub passed_on : (changes : List SilenceChange) (found : CachedPeriods) → found.version ≤ (passed_by changes found).version
 passed_on changes found =
-    elim (length found.periods == 0) as (λ b. found.seen ≤ cond b (next_concern found.from found.marks changes found.seen) found.seen) [
+    elim (length found.periods == 0) as (λ b. found.version ≤ cond b (next_concern found.from found.bits changes found.version) found.version) [
       | true ↦ omega arith
       | false ↦ omega arith
     ]
 
-pub all_passed : (silences : Silences) (changes : List SilenceChange) (found after : KnownPeriods) → AreNoted silences changes → IsKnown silences (changed_ids changes) found
-    → after ≡ passed_by changes found → IsKnown silences (changed_ids changes) after
+pub all_passed : (silences : Silences) (changes : List SilenceChange) (found after : CachedPeriods) → AreNoted silences changes → IsCached silences (changed_ids changes) found
+    → after ≡ passed_by changes found → IsCached silences (changed_ids changes) after
 all_passed silences changes found after noted_so known is =
-    subst (λ (k : KnownPeriods). IsKnown silences (changed_ids changes) k) (sym is)
+    subst (λ (k : CachedPeriods). IsCached silences (changed_ids changes) k) (sym is)
     (elim (length found.periods == 0) as (λ b. (length found.periods == 0) ≡ b
-    → IsKnown silences (changed_ids changes) (record found { seen = cond b (next_concern found.from found.marks changes found.seen) found.seen })) [
-      | true ↦ λ empty. passed_some silences changes found (prefix_len (is_idle found.from found.marks) (drop found.seen changes)) noted_so known (no_periods found.periods empty) (omega arith)
+    → IsCached silences (changed_ids changes) (record found { version = cond b (next_concern found.from found.bits changes found.version) found.version })) [
+      | true ↦ λ empty. passed_some silences changes found (prefix_len (is_idle found.from found.bits) (drop found.version changes)) noted_so known (no_periods found.periods empty) (omega arith)
       | false ↦ λ some. known
     ] refl)
 
 -- the next change is taken in, or passed over
-pub caught_up : (silences : Silences) (changes : List SilenceChange) (found : KnownPeriods) (change : SilenceChange) (after : KnownPeriods) → AreNoted silences changes
-    → IsKnown silences (changed_ids changes) found → found.seen < length changes → get_or changes found.seen change ≡ change
+pub caught_up : (silences : Silences) (changes : List SilenceChange) (found : CachedPeriods) (change : SilenceChange) (after : CachedPeriods) → AreNoted silences changes
+    → IsCached silences (changed_ids changes) found → found.version < length changes → get_or changes found.version change ≡ change
     → after ≡ record found {
-      seen = found.seen + 1;
-      periods = if may_concern found.from found.marks change then noted change.id (period_from found.from found.labels change.id (get silences change.id)) found.periods
-          else without change.id found.periods;
-    } → IsKnown silences (changed_ids changes) after
+      version = found.version + 1;
+      periods = if may_concern found.from found.bits change then with_silence_noted change.id (period_from found.from found.labels change.id (get silences change.id)) found.periods
+          else without_silence change.id found.periods;
+    } → IsCached silences (changed_ids changes) after
 caught_up silences changes found change after noted_so known more is_change is =
     let count : length (changed_ids changes) ≡ length changes = length-map changes (λ (c : SilenceChange). c.id) in
-    let within : found.seen < length (changed_ids changes) = omega arith in
-    let taken : List SilencePeriod = noted change.id (period_from found.from found.labels change.id (get silences change.id)) found.periods in
-    elim (may_concern found.from found.marks change) as (λ b. may_concern found.from found.marks change ≡ b
-    → after ≡ record found { seen = found.seen + 1; periods = cond b taken (without change.id found.periods) } → IsKnown silences (changed_ids changes) after) [
-      | true ↦ λ may is. taken_in silences (changed_ids changes) found change.id after known within (sym (id_at changes found.seen change more is_change)) is
+    let within : found.version < length (changed_ids changes) = omega arith in
+    let taken : List SilencePeriod = with_silence_noted change.id (period_from found.from found.labels change.id (get silences change.id)) found.periods in
+    elim (may_concern found.from found.bits change) as (λ b. may_concern found.from found.bits change ≡ b
+    → after ≡ record found { version = found.version + 1; periods = cond b taken (without_silence change.id found.periods) } → IsCached silences (changed_ids changes) after) [
+      | true ↦ λ may is. taken_in silences (changed_ids changes) found change.id after known within (sym (id_at changes found.version change more is_change)) is
       | false ↦ λ passed is. passed_over silences changes found change after noted_so known more is_change passed is
     ] refl is
 
@@ -396,25 +396,25 @@ later_periods at from labels silences le =
     ∙ filter_same (λ (stored : ℕ × Silence). nat_lt at stored.1.ends_at && may_silence from labels stored.1) (λ (stored : ℕ × Silence). may_silence at labels stored.1)
     (λ stored. ended_left_out stored.1.ends_at at from (all_hold stored.1.matchers labels) le) (entries silences))
 
-pub left_out : (silences : Silences) (changes : List ℕ) (found after : KnownPeriods) (at : Moment) → IsKnown silences changes found → found.from ≤ at
-    → after ≡ record found { from = at; periods = filter (ends_after at) found.periods } → IsKnown silences changes after
+pub left_out : (silences : Silences) (changes : List ℕ) (found after : CachedPeriods) (at : Moment) → IsCached silences changes found → found.from ≤ at
+    → after ≡ record found { from = at; periods = filter (ends_after at) found.periods } → IsCached silences changes after
 left_out silences changes found after at known le is =
-    let swap : (test : ℕ → Bool) (periods : List SilencePeriod) → picked test (filter (ends_after at) periods) ≡ filter (ends_after at) (picked test periods) = λ test periods.
+    let swap : (test : ℕ → Bool) (periods : List SilencePeriod) → periods_picked test (filter (ends_after at) periods) ≡ filter (ends_after at) (periods_picked test periods) = λ test periods.
     filters_alike (λ (p : SilencePeriod). test p.id) (ends_after at) (ends_after at) (λ (p : SilencePeriod). test p.id) (λ p. and_turned (ends_after at p) (test p.id)) periods in
-    subst (λ (k : KnownPeriods). IsKnown silences changes k) (sym is) (record {
-      seen = known.seen;
-      marks = known.marks;
+    subst (λ (k : CachedPeriods). IsCached silences changes k) (sym is) (record {
+      version = known.version;
+      bits = known.bits;
       others = λ test none.
           swap test found.periods ∙ ap (filter (ends_after at)) (known.others test none) ∙ sym (swap test (silence_periods found.from found.labels silences))
-          ∙ ap (picked test) (later_periods at found.from found.labels silences le);
+          ∙ ap (periods_picked test) (later_periods at found.from found.labels silences le);
     })
 
 -- ---- a list that has no period of the silence
 
-pub not_listed : (id : ℕ) (periods : List SilencePeriod) → lists periods id ≡ false → without id periods ≡ periods
+pub not_listed : (id : ℕ) (periods : List SilencePeriod) → lists periods id ≡ false → without_silence id periods ≡ periods
 not_listed id [] none = refl
 not_listed id (p ∷ ps) none =
-    elim (eq_by_cmp nat_cmp id p.id) as (λ b. (b || lists ps id) ≡ false → cond (not b) (p ∷ without id ps) (without id ps) ≡ p ∷ ps) [
+    elim (eq_by_cmp nat_cmp id p.id) as (λ b. (b || lists ps id) ≡ false → cond (not b) (p ∷ without_silence id ps) (without_silence id ps) ≡ p ∷ ps) [
       | true ↦ λ e. absurd (cc e)
       | false ↦ λ e. ap (λ l. p ∷ l) (not_listed id ps e)
     ] none

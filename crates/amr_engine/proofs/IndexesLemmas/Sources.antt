@@ -14,17 +14,17 @@ use Rattle.std.proofs.lemmas.Bool.{true≢false}
 use Rattle.std.proofs.lemmas.List.{take_all, nil_from_length}
 use Rattle.std.proofs.lemmas.List.Folds.{list_any_more}
 use Rattle.std.proofs.lemmas.Map.Views.{tells_apart}
-use Rattle.amr_labels.specs.Map.{get, set, insert, empty, entries, from_sorted, checked, get-empty, get-insert, get-set, get-entries, entries-sorted}
+use Rattle.amr_labels.specs.Map.{get, set, insert, empty, entries, from_sorted, if_sorted, get-empty, get-insert, get-set, get-entries, entries-sorted}
 use Rattle.amr_labels.specs.Set.{Set, contains, items}
 use Rattle.amr_labels.specs.Labels.{Text, text_cmp, text_cmp-IsAntisymmetric, LabelSet, label_set_cmp, label_set_cmp_total, label_set_cmp-IsAntisymmetric, value_of}
 use Rattle.amr_labels.specs.Matcher.Matchers.{Matcher, all_hold, matcher_cmp, matcher_cmp_total, matcher_cmp-IsAntisymmetric}
 use Rattle.amr_config.specs.declared.stated.rule.InhibitRule.{InhibitRule}
 use Rattle.amr_rules.specs.declared.alert.Alert.{Alert}
 use Rattle.amr_rules.specs.Muting.{Alerts, agree_on, sources_of}
-use Rattle.amr_tables.specs.Numbered.{shown, next_number, entry_at}
+use Rattle.amr_tables.specs.Numbered.{map_of, next_number, entry_at}
 use Rattle.amr_tables.specs.Members.{has}
 use Rattle.amr_engine.specs.declared.indexes.rule_source.SourceSide.{SourceSide}
-use Rattle.amr_engine.specs.declared.indexes.rule_source.KnownSide.{KnownSide}
+use Rattle.amr_engine.specs.declared.indexes.rule_source.CachedSide.{CachedSide}
 use Rattle.amr_engine.specs.Indexes.LabelValues.{values_cmp, values_cmp_total, values_cmp-IsAntisymmetric, label_values}
 use Rattle.amr_engine.specs.Indexes.RuleSources.{ByValues, is_in, is_under, is_source, ListsSide, IsSideOf, IsPut, IsListedToo, ListsSame, ListsAgreeing, stored_of}
 
@@ -61,29 +61,29 @@ in_or_empty None other = ap is_some (get-empty label_set_cmp other)
 in_or_empty (Some listed) other = refl
 
 module _ (old gone changed : ByValues) (values : List Text) (listed : Set label_set_cmp)
-    (takes : shown values_cmp gone ≡ set (shown values_cmp old) values None) (puts : shown values_cmp changed ≡ set (shown values_cmp gone) values (Some listed)) where
-  replaced : (under : List Text) → get (shown values_cmp changed) under ≡ cond (eq_by_cmp values_cmp under values) (Some listed) (get (shown values_cmp old) under)
+    (takes : map_of values_cmp gone ≡ set (map_of values_cmp old) values None) (puts : map_of values_cmp changed ≡ set (map_of values_cmp gone) values (Some listed)) where
+  replaced : (under : List Text) → get (map_of values_cmp changed) under ≡ cond (eq_by_cmp values_cmp under values) (Some listed) (get (map_of values_cmp old) under)
   replaced under =
-      ap (λ m. get m under) puts ∙ get-set values_cmp_total (shown values_cmp gone) values (Some listed) under
+      ap (λ m. get m under) puts ∙ get-set values_cmp_total (map_of values_cmp gone) values (Some listed) under
       ∙ ap (λ m. cond (eq_by_cmp values_cmp under values) (Some listed) (get m under)) takes
-      ∙ ap (cond (eq_by_cmp values_cmp under values) (Some listed)) (get-set values_cmp_total (shown values_cmp old) values None under)
-      ∙ twice (eq_by_cmp values_cmp under values) (Some listed) None (get (shown values_cmp old) under)
+      ∙ ap (cond (eq_by_cmp values_cmp under values) (Some listed)) (get-set values_cmp_total (map_of values_cmp old) values None under)
+      ∙ twice (eq_by_cmp values_cmp under values) (Some listed) None (get (map_of values_cmp old) under)
 
-  module _ (was : Set label_set_cmp) (were : was ≡ unwrap_or (get (shown values_cmp old) values) empty) where
+  module _ (was : Set label_set_cmp) (were : was ≡ unwrap_or (get (map_of values_cmp old) values) empty) where
     was_under : (under : List Text) (other : LabelSet) → eq_by_cmp values_cmp under values ≡ true → contains was other ≡ is_under old under other
     was_under under other same =
-        ap (λ m. contains m other) were ∙ in_or_empty (get (shown values_cmp old) values) other
+        ap (λ m. contains m other) were ∙ in_or_empty (get (map_of values_cmp old) values) other
         ∙ ap (λ v. is_under old v other) (sym (tells_apart values_cmp-IsAntisymmetric under values same))
 
     one_more : (labels : LabelSet) → listed ≡ insert was labels tt → (under : List Text) (other : LabelSet) (same : Bool) → eq_by_cmp values_cmp under values ≡ same
-        → is_in (cond same (Some listed) (get (shown values_cmp old) under)) other ≡ ((same && eq_by_cmp label_set_cmp other labels) || is_under old under other)
+        → is_in (cond same (Some listed) (get (map_of values_cmp old) under)) other ≡ ((same && eq_by_cmp label_set_cmp other labels) || is_under old under other)
     one_more labels grown under other true same =
         ap (λ m. contains m other) grown ∙ ap is_some (get-insert label_set_cmp_total was labels tt other)
         ∙ some_or (eq_by_cmp label_set_cmp other labels) (get was other) ∙ ap (λ b. eq_by_cmp label_set_cmp other labels || b) (was_under under other same)
     one_more labels grown under other false same = refl
 
     no_more : listed ≡ was → (under : List Text) (other : LabelSet) (same : Bool) → eq_by_cmp values_cmp under values ≡ same
-        → is_in (cond same (Some listed) (get (shown values_cmp old) under)) other ≡ is_under old under other
+        → is_in (cond same (Some listed) (get (map_of values_cmp old) under)) other ≡ is_under old under other
     no_more kept under other true same = ap (λ m. contains m other) kept ∙ was_under under other same
     no_more kept under other false same = refl
 
@@ -126,24 +126,24 @@ put_is side labels q values h false e =
     other_put (all_hold side.source labels) (eq_by_cmp values_cmp values (label_values side.equal.items labels)) h (is_source side q values)
 
 -- a side that takes in the next label set lists those of one label set more
-pub side_seen : (arrived : List LabelSet) (old put new : KnownSide) (labels : LabelSet) → ListsSide arrived old → old.seen < length arrived → labels ≡ get_or arrived old.seen labels
-    → IsPut labels old put → put.side ≡ old.side → new.side ≡ put.side → new.seen ≡ old.seen + 1 → new.sources ≡ put.sources → ListsSide arrived new
-side_seen arrived old put new labels is lt at puts side side_too seen sources = record {
-  within = omega (arith, lt, seen);
+pub side_seen : (arrived : List LabelSet) (old put new : CachedSide) (labels : LabelSet) → ListsSide arrived old → old.covered < length arrived → labels ≡ get_or arrived old.covered labels
+    → IsPut labels old put → put.side ≡ old.side → new.side ≡ put.side → new.covered ≡ old.covered + 1 → new.sources ≡ put.sources → ListsSide arrived new
+side_seen arrived old put new labels is lt at puts side side_too covered sources = record {
+  within = omega (arith, lt, covered);
   exact = λ values q.
       ap (λ (l : ByValues). is_under l values q) sources ∙ puts values q
       ∙ ap (λ b. (all_hold old.side.source labels && (eq_by_cmp values_cmp values (label_values old.side.equal.items labels) && eq_by_cmp label_set_cmp q labels)) || b) (is.exact values q)
-      ∙ put_is old.side labels q values (has label_set_cmp (take old.seen arrived) q) (eq_by_cmp label_set_cmp q labels) refl
-      ∙ ap (λ x. (has label_set_cmp (take old.seen arrived) q || eq_by_cmp label_set_cmp q x) && is_source old.side q values) at
-      ∙ ap (λ b. b && is_source old.side q values) (sym (list_any_more (eq_by_cmp label_set_cmp q) arrived old.seen labels lt))
-      ∙ (λ i. has label_set_cmp (take (sym seen i) arrived) q && is_source (sym (side_too ∙ side) i) q values);
+      ∙ put_is old.side labels q values (has label_set_cmp (take old.covered arrived) q) (eq_by_cmp label_set_cmp q labels) refl
+      ∙ ap (λ x. (has label_set_cmp (take old.covered arrived) q || eq_by_cmp label_set_cmp q x) && is_source old.side q values) at
+      ∙ ap (λ b. b && is_source old.side q values) (sym (list_any_more (eq_by_cmp label_set_cmp q) arrived old.covered labels lt))
+      ∙ (λ i. has label_set_cmp (take (sym covered i) arrived) q && is_source (sym (side_too ∙ side) i) q values);
 }
 
 -- a side at which nothing changed but that label sets were listed in vain
-pub side_same : (arrived : List LabelSet) (old new : KnownSide) → ListsSide arrived old → ListsSame old.sources new.sources → new.side ≡ old.side → new.seen ≡ old.seen → ListsSide arrived new
-side_same arrived old new is same side seen = record {
-  within = omega (arith, is.within, seen);
-  exact = λ values q. same values q ∙ is.exact values q ∙ (λ i. has label_set_cmp (take (sym seen i) arrived) q && is_source (sym side i) q values);
+pub side_same : (arrived : List LabelSet) (old new : CachedSide) → ListsSide arrived old → ListsSame old.sources new.sources → new.side ≡ old.side → new.covered ≡ old.covered → ListsSide arrived new
+side_same arrived old new is same side covered = record {
+  within = omega (arith, is.within, covered);
+  exact = λ values q. same values q ∙ is.exact values q ∙ (λ i. has label_set_cmp (take (sym covered i) arrived) q && is_source (sym side i) q values);
 }
 
 -- nothing is listed under any values where there is no place
@@ -151,20 +151,20 @@ no_entries : (keys : List (List Text × ℕ)) → filter_map (entry_at {V = Set 
 no_entries [] = refl
 no_entries (key ∷ keys) = no_entries keys
 
-pub none_listed : (sources : ByValues) (values : List Text) → next_number sources ≡ 0 → None ≡ get (shown values_cmp sources) values
-unfolding shown get from_sorted checked
+pub none_listed : (sources : ByValues) (values : List Text) → next_number sources ≡ 0 → None ≡ get (map_of values_cmp sources) values
+unfolding map_of get from_sorted if_sorted
 none_listed sources values none =
     sym (ap (λ es. get (from_sorted {R = values_cmp} es) values) (ap (λ cells. filter_map (entry_at cells) sources.numbers) (nil_from_length sources.cells none) ∙ no_entries sources.numbers))
 
 -- a side of which nothing is known yet
-pub side_new : (arrived : List LabelSet) (known : KnownSide) → known.seen ≡ 0 → shown values_cmp known.sources ≡ empty → ListsSide arrived known
-side_new arrived known seen none = record {
-  within = omega (arith, seen);
-  exact = λ values q. ap (λ m. is_in (get m values) q) none ∙ ap (λ found. is_in found q) (get-empty values_cmp values) ∙ (λ i. has label_set_cmp (take (sym seen i) arrived) q && is_source known.side q values);
+pub side_new : (arrived : List LabelSet) (known : CachedSide) → known.covered ≡ 0 → map_of values_cmp known.sources ≡ empty → ListsSide arrived known
+side_new arrived known covered none = record {
+  within = omega (arith, covered);
+  exact = λ values q. ap (λ m. is_in (get m values) q) none ∙ ap (λ found. is_in found q) (get-empty values_cmp values) ∙ (λ i. has label_set_cmp (take (sym covered i) arrived) q && is_source known.side q values);
 }
 
 -- a label set that matches the side is put at it
-pub is_put : (old changed : KnownSide) (labels : LabelSet) (values : List Text) → all_hold old.side.source labels ≡ true → values ≡ label_values old.side.equal.items labels → IsListedToo values labels old.sources changed.sources
+pub is_put : (old changed : CachedSide) (labels : LabelSet) (values : List Text) → all_hold old.side.source labels ≡ true → values ≡ label_values old.side.equal.items labels → IsListedToo values labels old.sources changed.sources
     → IsPut labels old changed
 is_put old changed labels values matches are too under other =
     too under other
@@ -178,13 +178,13 @@ agrees_by_values (name ∷ names) a b =
     eq_then (text_cmp (value_of a name) (value_of b name)) (values_cmp (label_values names a) (label_values names b))
     ∙ ap (λ x. eq_by_cmp text_cmp (value_of a name) (value_of b name) && x) (agrees_by_values names a b)
 
--- a side that has seen all label sets lists those that agree with the target under its values
-pub side_agreeing : (arrived : List LabelSet) (known : KnownSide) (rule : InhibitRule) (target : LabelSet) (values : List Text) (found : Option (Set label_set_cmp)) → ListsSide arrived known → IsSideOf known.side rule
-    → length arrived ≤ known.seen → values ≡ label_values rule.equal target → found ≡ get (shown values_cmp known.sources) values → ListsAgreeing rule target arrived found
-side_agreeing arrived known rule target values found is of seen are lists = λ q.
+-- a side that has covered all label sets lists those that agree with the target under its values
+pub side_agreeing : (arrived : List LabelSet) (known : CachedSide) (rule : InhibitRule) (target : LabelSet) (values : List Text) (found : Option (Set label_set_cmp)) → ListsSide arrived known → IsSideOf known.side rule
+    → length arrived ≤ known.covered → values ≡ label_values rule.equal target → found ≡ get (map_of values_cmp known.sources) values → ListsAgreeing rule target arrived found
+side_agreeing arrived known rule target values found is of covered are lists = λ q.
     let o = values_cmp_total in
     ap (λ f. is_in f q) lists ∙ is.exact values q
-    ∙ ap (λ l. has label_set_cmp l q && is_source known.side q values) (take_all known.seen arrived seen)
+    ∙ ap (λ l. has label_set_cmp l q && is_source known.side q values) (take_all known.covered arrived covered)
     ∙ (λ i. has label_set_cmp arrived q && (all_hold (of.source i) q && eq_by_cmp values_cmp (are i) (label_values (of.equal i) q)))
     ∙ ap (λ b. has label_set_cmp arrived q && (all_hold rule.source q && b)) ((eq_by_cmp_equiv o).symm (label_values rule.equal target) (label_values rule.equal q) ∙ agrees_by_values rule.equal q target)
 

@@ -9,7 +9,7 @@ use Rattle.amr_engine.specs.declared.state.membership.Membership.{Membership}
 use Rattle.amr_engine.specs.declared.state.change.Change.{Change}
 use Rattle.amr_engine.specs.declared.state.change.Change.TheVariants.{OfMoment, OfConfig, OfAlert, OfSilence, OfMember, OfTimer, OfLog, OfNotes}
 use Rattle.amr_engine.specs.State.State.{State, member_on_route, group_key}
-use Rattle.amr_engine.specs.State.Records.{changed, put_back, has_entry, same_place}
+use Rattle.amr_engine.specs.State.Records.{after_change, put_back, has_entry, same_place}
 use Rattle.amr_engine.specs.State.Fitting.{FitsOne, Fits, is_config, since_config}
 use Rattle.amr_engine.proofs.StateLemmas.Undoing.{put_back-push, covered, or_right, has_entry-after}
 
@@ -19,7 +19,7 @@ use Rattle.amr_engine.proofs.StateLemmas.Undoing.{put_back-push, covered, or_rig
 abbrev pub AreAlike : State → State → Type 0
 AreAlike s t = (s.config ≡ t.config) × (s.placements ≡ t.placements)
 
-alike_one : (e : Change) (s t : State) → AreAlike s t → AreAlike (changed s e) (changed t e)
+alike_one : (e : Change) (s t : State) → AreAlike s t → AreAlike (after_change s e) (after_change t e)
 alike_one (OfMoment moment) s t h = h
 alike_one (OfConfig config) s t h = (refl, h.1)
 alike_one (OfAlert labels alert) s t h = h
@@ -55,19 +55,19 @@ pub fits-none : (es : List Change) (s : State) → es ≡ [] → Fits es s
 unfolding Fits
 fits-none es s none = subst (λ l. Fits l s) (sym none) tt
 
-pub fits-push : (es : List Change) (e : Change) (s : State) → Fits es (changed s e) → FitsOne s e → Fits (es ++ e ∷ []) s
+pub fits-push : (es : List Change) (e : Change) (s : State) → Fits es (after_change s e) → FitsOne s e → Fits (es ++ e ∷ []) s
 unfolding Fits put_back
 fits-push [] e s before last = (tt, last)
 fits-push (x ∷ es) e s before last = (fits-push es e s before.0 last, subst (λ t. FitsOne t x) (sym (put_back-push es e s)) before.1)
 
-pub fits-pop : (es : List Change) (e : Change) (s : State) → Fits (es ++ e ∷ []) s → Fits es (changed s e) × FitsOne s e
+pub fits-pop : (es : List Change) (e : Change) (s : State) → Fits (es ++ e ∷ []) s → Fits es (after_change s e) × FitsOne s e
 unfolding Fits put_back
 fits-pop [] e s h = (tt, h.1)
 fits-pop (x ∷ es) e s h = let rest = fits-pop es e s h.0 in ((rest.0, subst (λ t. FitsOne t x) (put_back-push es e s) h.1), rest.1)
 
 -- what an entry gives by being put back is alike to what was there before
-pub fits-pushed : (es : List Change) (e : Change) (s t : State) → AreAlike s (changed t e) → FitsOne t e → Fits es s → Fits (es ++ e ∷ []) t
-fits-pushed es e s t alike last fits = fits-push es e t (fits-alike es s (changed t e) alike fits) last
+pub fits-pushed : (es : List Change) (e : Change) (s t : State) → AreAlike s (after_change t e) → FitsOne t e → Fits es s → Fits (es ++ e ∷ []) t
+fits-pushed es e s t alike last fits = fits-push es e t (fits-alike es s (after_change t e) alike fits) last
 
 -- the first entries are dropped
 pub fits-rest : (before es : List Change) (s : State) → Fits (before ++ es) s → Fits es s
@@ -129,18 +129,18 @@ fits-members (OfNotes count ∷ es) s t none same fits = (fits-members es s t no
 
 -- nor does a member that is entered after the last of them
 fits-since : (es : List Change) (member : Membership) (alert : Option Alert) (s : State) → has_entry (since_config es) (OfMember member alert) ≡ true
-    → Fits es s → Fits es (changed s (OfMember member alert))
+    → Fits es s → Fits es (after_change s (OfMember member alert))
 unfolding Fits since_config
 fits-since [] member alert s h fits = fits
 fits-since (x ∷ es) member alert s h fits =
     let change : Change = OfMember member alert in
-    elim (list_any is_config (x ∷ es)) as (λ b. list_any is_config (x ∷ es) ≡ b → has_entry (cond b (since_config es) (x ∷ es)) change ≡ true → Fits (x ∷ es) (changed s change)) [
+    elim (list_any is_config (x ∷ es)) as (λ b. list_any is_config (x ∷ es) ≡ b → has_entry (cond b (since_config es) (x ∷ es)) change ≡ true → Fits (x ∷ es) (after_change s change)) [
       | true ↦ λ _ t. (fits-since es member alert s t fits.0, subst (λ u. FitsOne u x) (sym (covered es change s tt (has_entry-since es change t))) fits.1)
-      | false ↦ λ none _. fits-members (x ∷ es) s (changed s change) none refl fits
+      | false ↦ λ none _. fits-members (x ∷ es) s (after_change s change) none refl fits
     ] refl h
 
 pub fits-covered : (before es : List Change) (member : Membership) (alert : Option Alert) (s : State) → has_entry (since_config es) (OfMember member alert) ≡ true
-    → Fits (before ++ es) s → Fits (before ++ es) (changed s (OfMember member alert))
+    → Fits (before ++ es) s → Fits (before ++ es) (after_change s (OfMember member alert))
 unfolding Fits
 fits-covered [] es member alert s h fits = fits-since es member alert s h fits
 fits-covered (x ∷ before) es member alert s h fits =

@@ -11,7 +11,7 @@ use Rattle.std.proofs.Common.{ap, sym, refl, ◌∙◌}
 use Rattle.amr_labels.specs.Map.{Map, get, insert, get-insert, get_tied, same_map}
 use Rattle.amr_labels.specs.Labels.{LabelSet}
 use Rattle.amr_config.specs.Stated.Config.{Config}
-use Rattle.amr_config.specs.Routing.{chosen, group_wait_of}
+use Rattle.amr_config.specs.Routing.{chosen_routes, group_wait_of}
 use Rattle.amr_config.specs.Groups.{groups_of, group_at}
 use Rattle.amr_config.specs.declared.router.RouteGroup.{RouteGroup}
 use Rattle.amr_rules.specs.declared.alert.Alert.{Alert}
@@ -50,17 +50,17 @@ routes_of_made : (config : Config) (labels : LabelSet) (routes : List ℕ) → m
 routes_of_made config labels [] = refl
 routes_of_made config labels (n ∷ ns) = ap (λ t. n ∷ t) (routes_of_made config labels ns)
 
-pub routes_of_groups : (config : Config) (labels : LabelSet) → map (λ (group : RouteGroup). group.route) (groups_of config labels) ≡ chosen config labels
+pub routes_of_groups : (config : Config) (labels : LabelSet) → map (λ (group : RouteGroup). group.route) (groups_of config labels) ≡ chosen_routes config labels
 unfolding groups_of
-routes_of_groups config labels = routes_of_made config labels (chosen config labels)
+routes_of_groups config labels = routes_of_made config labels (chosen_routes config labels)
 
 made_count : (config : Config) (labels : LabelSet) (routes : List ℕ) → length (map (group_at config labels) routes) ≡ length routes
 made_count config labels [] = refl
 made_count config labels (n ∷ ns) = ap suc (made_count config labels ns)
 
-pub count_of_groups : (config : Config) (labels : LabelSet) → length (groups_of config labels) ≡ length (chosen config labels)
+pub count_of_groups : (config : Config) (labels : LabelSet) → length (groups_of config labels) ≡ length (chosen_routes config labels)
 unfolding groups_of
-count_of_groups config labels = made_count config labels (chosen config labels)
+count_of_groups config labels = made_count config labels (chosen_routes config labels)
 
 made_among : (config : Config) (labels : LabelSet) (routes : List ℕ) (n : ℕ) (group : RouteGroup) → slice_get (map (group_at config labels) routes) n ≡ Some group → group ≡ group_at config labels group.route
 made_among config labels [] n group e = cc
@@ -69,4 +69,4 @@ made_among config labels (r ∷ rs) (suc n) group e = made_among config labels r
 
 pub group_among : (config : Config) (labels : LabelSet) (n : ℕ) (group : RouteGroup) → slice_get (groups_of config labels) n ≡ Some group → group ≡ group_at config labels group.route
 unfolding groups_of
-group_among config labels n group = made_among config labels (chosen config labels) n group
+group_among config labels n group = made_among config labels (chosen_routes config labels) n group

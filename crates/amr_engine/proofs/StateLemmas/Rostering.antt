@@ -23,7 +23,7 @@ use Rattle.amr_rules.specs.declared.alert.Alert.{Alert}
 use Rattle.amr_tables.specs.Places.{value_at}
 use Rattle.amr_tables.specs.Laws.{at_law, others_law}
 use Rattle.amr_tables.specs.Members.{has}
-use Rattle.amr_tables.specs.Numbered.{Numbered, shown, number_of, has_place, next_number, key_at, GetsNumber, IsNumber, IsNumbering}
+use Rattle.amr_tables.specs.Numbered.{Numbered, map_of, number_of, has_place, next_number, key_at, GetsNumber, IsNumber, IsNumbering}
 use Rattle.amr_tables.specs.Grouped.{Grouped, group_at, AreNumbersOf}
 use Rattle.amr_tables.proofs.Naming.{key_at_number}
 use Rattle.amr_tables.proofs.Sorting.{same_from_members}
@@ -131,7 +131,7 @@ set_again (x ∷ xs) (suc n) v h e = ap (λ (ys : List (Option ℕ)). x ∷ ys) 
 
 module _ (config : Config) (a : Numbered RouteLabels Alert) (gs : Numbered RouteLabels (Unit {0})) (m : Grouped) (is : IsGrouped config a gs m) where
   -- the same members, with room for more
-  pub grouped_same : (b : Numbered RouteLabels Alert) (hs : Numbered RouteLabels (Unit {0})) (k : Grouped) → b.numbers ≡ a.numbers → shown route_labels_cmp b ≡ shown route_labels_cmp a → hs.numbers ≡ gs.numbers → shown route_labels_cmp hs ≡ shown route_labels_cmp gs
+  pub grouped_same : (b : Numbered RouteLabels Alert) (hs : Numbered RouteLabels (Unit {0})) (k : Grouped) → b.numbers ≡ a.numbers → map_of route_labels_cmp b ≡ map_of route_labels_cmp a → hs.numbers ≡ gs.numbers → map_of route_labels_cmp hs ≡ map_of route_labels_cmp gs
       → ((n : ℕ) → group_at k n ≡ group_at m n) → length m.groups ≤ length k.groups → m.count ≤ k.count → IsGrouped config b hs k
   unfolding has_place
   grouped_same b hs k numbers shows groups same_groups same longer more = record {
@@ -147,12 +147,12 @@ module _ (config : Config) (a : Numbered RouteLabels Alert) (gs : Numbered Route
 
   -- a member has come, has changed, or has left
   pub grouped_set : (b : Numbered RouteLabels Alert) (k : Grouped) (key : RouteLabels) (n g : ℕ) (w : Option Alert) → number_of route_labels_cmp a key ≡ Some n → number_of route_labels_cmp gs (group_key config key) ≡ Some g
-      → b.numbers ≡ a.numbers → shown route_labels_cmp b ≡ set (shown route_labels_cmp a) key w → k.groups ≡ slice_set m.groups n (option_map (λ _. g) w) → k.count ≡ m.count → IsGrouped config b gs k
+      → b.numbers ≡ a.numbers → map_of route_labels_cmp b ≡ set (map_of route_labels_cmp a) key w → k.groups ≡ slice_set m.groups n (option_map (λ _. g) w) → k.count ≡ m.count → IsGrouped config b gs k
   grouped_set b k key n g w at in_g numbers shows groups count = record {
     numbered = numbered_set route_labels_cmp_total route_labels_cmp-IsAntisymmetric a b key n w at numbers shows is.numbered;
     groups_numbered = is.groups_numbered;
     grouped = λ other x there. by_key other x (ap (find route_labels_cmp other) (sym numbers) ∙ there);
-    known = λ other h. elim (eq_by_cmp route_labels_cmp other key) as (λ y. eq_by_cmp route_labels_cmp other key ≡ y → IsTrue (is_some (cond y w (get (shown route_labels_cmp a) other))) → IsTrue (has_place route_labels_cmp gs (group_key config other))) [
+    known = λ other h. elim (eq_by_cmp route_labels_cmp other key) as (λ y. eq_by_cmp route_labels_cmp other key ≡ y → IsTrue (is_some (cond y w (get (map_of route_labels_cmp a) other))) → IsTrue (has_place route_labels_cmp gs (group_key config other))) [
       | true ↦ λ same _. subst (λ (x : RouteLabels). IsTrue (has_place route_labels_cmp gs (group_key config x))) (sym (tied_key key other same)) (number_place gs (group_key config key) g in_g)
       | false ↦ λ _ there. is.known other there
     ] refl (subst (λ x. IsTrue (is_some x)) (value other) h);
@@ -164,8 +164,8 @@ module _ (config : Config) (a : Numbered RouteLabels Alert) (gs : Numbered Route
     group_room = λ group x there. omega (arith, count, is.group_room group x there);
   }
     where
-      value : (other : RouteLabels) → get (shown route_labels_cmp b) other ≡ cond (eq_by_cmp route_labels_cmp other key) w (get (shown route_labels_cmp a) other)
-      value other = ap (λ (s : Map route_labels_cmp Alert). get s other) shows ∙ get-set route_labels_cmp_total (shown route_labels_cmp a) key w other
+      value : (other : RouteLabels) → get (map_of route_labels_cmp b) other ≡ cond (eq_by_cmp route_labels_cmp other key) w (get (map_of route_labels_cmp a) other)
+      value other = ap (λ (s : Map route_labels_cmp Alert). get s other) shows ∙ get-set route_labels_cmp_total (map_of route_labels_cmp a) key w other
 
       within : IsTrue (nat_lt n (length m.groups))
       within = let room = is.room key n at in grind (arith, nat_tests)
@@ -180,9 +180,9 @@ module _ (config : Config) (a : Numbered RouteLabels Alert) (gs : Numbered Route
       there_now : group_at k n ≡ option_map (λ _. g) w
       there_now = ap (λ gs. value_at gs n) groups ∙ at_law m.groups n (option_map (λ _. g) w) within
 
-      by_key : (other : RouteLabels) (x : ℕ) → number_of route_labels_cmp a other ≡ Some x → group_at k x ≡ group_number config gs other (get (shown route_labels_cmp b) other)
+      by_key : (other : RouteLabels) (x : ℕ) → number_of route_labels_cmp a other ≡ Some x → group_at k x ≡ group_number config gs other (get (map_of route_labels_cmp b) other)
       by_key other x there =
-          elim (eq_by_cmp route_labels_cmp other key) as (λ y. eq_by_cmp route_labels_cmp other key ≡ y → group_at k x ≡ group_number config gs other (cond y w (get (shown route_labels_cmp a) other))) [
+          elim (eq_by_cmp route_labels_cmp other key) as (λ y. eq_by_cmp route_labels_cmp other key ≡ y → group_at k x ≡ group_number config gs other (cond y w (get (map_of route_labels_cmp a) other))) [
             | true ↦ λ same.
                 let e : other ≡ key = tied_key key other same in
                 let number : n ≡ x = some_same n x (sym at ∙ ap (number_of route_labels_cmp a) (sym e) ∙ there) in
@@ -194,9 +194,9 @@ module _ (config : Config) (a : Numbered RouteLabels Alert) (gs : Numbered Route
 
   -- a member has changed, or is still none
   pub grouped_stays : (b : Numbered RouteLabels Alert) (key : RouteLabels) (n g : ℕ) (w : Option Alert) → number_of route_labels_cmp a key ≡ Some n → number_of route_labels_cmp gs (group_key config key) ≡ Some g
-      → b.numbers ≡ a.numbers → shown route_labels_cmp b ≡ set (shown route_labels_cmp a) key w → is_some (get (shown route_labels_cmp a) key) ≡ is_some w → IsGrouped config b gs m
+      → b.numbers ≡ a.numbers → map_of route_labels_cmp b ≡ set (map_of route_labels_cmp a) key w → is_some (get (map_of route_labels_cmp a) key) ≡ is_some w → IsGrouped config b gs m
   grouped_stays b key n g w at in_g numbers shows stays =
-      grouped_set b m key n g w at in_g numbers shows (sym (set_again m.groups n (option_map (λ _. g) w) (is.room key n at) (is.grouped key n at ∙ same (get (shown route_labels_cmp a) key) w stays))) refl
+      grouped_set b m key n g w at in_g numbers shows (sym (set_again m.groups n (option_map (λ _. g) w) (is.room key n at) (is.grouped key n at ∙ same (get (map_of route_labels_cmp a) key) w stays))) refl
     where
       same : (o p : Option Alert) → is_some o ≡ is_some p → group_number config gs key o ≡ option_map (λ _. g) p
       same None None e = refl
@@ -205,11 +205,11 @@ module _ (config : Config) (a : Numbered RouteLabels Alert) (gs : Numbered Route
       same (Some x) (Some y) e = in_g
 
   -- a place for a member is made
-  pub grouped_placed : (b : Numbered RouteLabels Alert) (k : RouteLabels) → IsNumbering route_labels_cmp a → number_of route_labels_cmp a k ≡ None → GetsNumber route_labels_cmp a b k (next_number a) → shown route_labels_cmp b ≡ shown route_labels_cmp a → next_number a < length m.groups → IsGrouped config b gs m
+  pub grouped_placed : (b : Numbered RouteLabels Alert) (k : RouteLabels) → IsNumbering route_labels_cmp a → number_of route_labels_cmp a k ≡ None → GetsNumber route_labels_cmp a b k (next_number a) → map_of route_labels_cmp b ≡ map_of route_labels_cmp a → next_number a < length m.groups → IsGrouped config b gs m
   grouped_placed b k numbering new gets shows room = record {
     numbered = numbered_placed route_labels_cmp_total route_labels_cmp-IsAntisymmetric a b k (next_number a) gets numbering.within shows is.numbered;
     groups_numbered = is.groups_numbered;
-    grouped = λ key n at. by_number a b k (next_number a) gets (λ key n. group_at m n ≡ group_number config gs key (get (shown route_labels_cmp a) key))
+    grouped = λ key n at. by_number a b k (next_number a) gets (λ key n. group_at m n ≡ group_number config gs key (get (map_of route_labels_cmp a) key))
         (nobody ∙ ap (group_number config gs k) (sym no_value)) is.grouped key n at ∙ ap (λ (s : Map route_labels_cmp Alert). group_number config gs key (get s key)) (sym shows);
     known = λ key h. is.known key (subst (λ (s : Map route_labels_cmp Alert). IsTrue (is_some (get s key))) shows h);
     named = λ n g at. let by = is.named n g at in (by.0, kept_number a b k (next_number a) new gets by.0 n by.1);
@@ -221,8 +221,8 @@ module _ (config : Config) (a : Numbered RouteLabels Alert) (gs : Numbered Route
       none_of None h = refl
       none_of (Some x) h = absurd (h refl)
 
-      no_value : get (shown route_labels_cmp a) k ≡ None
-      no_value = none_of (get (shown route_labels_cmp a) k) (λ h. no_place a k new (is.numbered.placed k h))
+      no_value : get (map_of route_labels_cmp a) k ≡ None
+      no_value = none_of (get (map_of route_labels_cmp a) k) (λ h. no_place a k new (is.numbered.placed k h))
 
       nobody : group_at m (next_number a) ≡ None
       nobody = none_of (group_at m (next_number a)) (λ h.
@@ -232,11 +232,11 @@ module _ (config : Config) (a : Numbered RouteLabels Alert) (gs : Numbered Route
           omega (arith, less))
 
   -- a group gets a number
-  pub group_placed : (hs : Numbered RouteLabels (Unit {0})) (k : RouteLabels) → IsNumbering route_labels_cmp gs → number_of route_labels_cmp gs k ≡ None → GetsNumber route_labels_cmp gs hs k (next_number gs) → shown route_labels_cmp hs ≡ shown route_labels_cmp gs → next_number gs < m.count → IsGrouped config a hs m
+  pub group_placed : (hs : Numbered RouteLabels (Unit {0})) (k : RouteLabels) → IsNumbering route_labels_cmp gs → number_of route_labels_cmp gs k ≡ None → GetsNumber route_labels_cmp gs hs k (next_number gs) → map_of route_labels_cmp hs ≡ map_of route_labels_cmp gs → next_number gs < m.count → IsGrouped config a hs m
   group_placed hs k numbering new gets shows room = record {
     numbered = is.numbered;
     groups_numbered = numbered_placed route_labels_cmp_total route_labels_cmp-IsAntisymmetric gs hs k (next_number gs) gets numbering.within shows is.groups_numbered;
-    grouped = λ key n at. is.grouped key n at ∙ same_group key (get (shown route_labels_cmp a) key) (is.known key);
+    grouped = λ key n at. is.grouped key n at ∙ same_group key (get (map_of route_labels_cmp a) key) (is.known key);
     known = λ key h. let by = place_number gs (group_key config key) (is.known key h) in number_place hs (group_key config key) by.0 (kept_number gs hs k (next_number gs) new gets (group_key config key) by.0 by.1);
     named = is.named;
     room = is.room;
@@ -248,7 +248,7 @@ module _ (config : Config) (a : Numbered RouteLabels Alert) (gs : Numbered Route
       same_group key (Some x) h = let by = place_number gs (group_key config key) (h refl) in by.1 ∙ sym (kept_number gs hs k (next_number gs) new gets (group_key config key) by.0 by.1)
 
   -- without members, any configuration may be in force
-  pub grouped_again : (after : Config) → shown route_labels_cmp a ≡ empty → IsGrouped after a gs m
+  pub grouped_again : (after : Config) → map_of route_labels_cmp a ≡ empty → IsGrouped after a gs m
   grouped_again after none = record {
     numbered = is.numbered;
     groups_numbered = is.groups_numbered;
@@ -259,10 +259,10 @@ module _ (config : Config) (a : Numbered RouteLabels Alert) (gs : Numbered Route
     group_room = is.group_room;
   }
     where
-      nobody : (key : RouteLabels) → get (shown route_labels_cmp a) key ≡ None
+      nobody : (key : RouteLabels) → get (map_of route_labels_cmp a) key ≡ None
       nobody key = ap (λ (s : Map route_labels_cmp Alert). get s key) none ∙ get-empty route_labels_cmp key
 
-pub grouped_first : (config : Config) (a : Numbered RouteLabels Alert) (gs : Numbered RouteLabels (Unit {0})) (m : Grouped) → a.numbers ≡ [] → shown route_labels_cmp a ≡ empty → gs.numbers ≡ [] → shown route_labels_cmp gs ≡ empty → m.groups ≡ [] → IsGrouped config a gs m
+pub grouped_first : (config : Config) (a : Numbered RouteLabels Alert) (gs : Numbered RouteLabels (Unit {0})) (m : Grouped) → a.numbers ≡ [] → map_of route_labels_cmp a ≡ empty → gs.numbers ≡ [] → map_of route_labels_cmp gs ≡ empty → m.groups ≡ [] → IsGrouped config a gs m
 grouped_first config a gs m none no_members no_groups no_values nothing = record {
   numbered = none_numbered route_labels_cmp_total route_labels_cmp-IsAntisymmetric a none no_members;
   groups_numbered = none_numbered route_labels_cmp_total route_labels_cmp-IsAntisymmetric gs no_groups no_values;
@@ -281,14 +281,14 @@ module _ (config : Config) (a : Numbered RouteLabels Alert) (gs : Numbered Route
   grouped_at key (Some x) e = (refl, is.groups_numbered.apart (group_key config key) group g e at)
 
   -- who has a number in the group is a member of it
-  pub member_of : (n : ℕ) → group_at m n ≡ Some g → (key : RouteLabels) × (number_of route_labels_cmp a key ≡ Some n) × (IsTrue (is_some (get (shown route_labels_cmp a) key)) × (group_key config key ≡ group))
-  member_of n there = let by = is.named n g there in (by.0, by.1, grouped_at by.0 (get (shown route_labels_cmp a) by.0) (sym (is.grouped by.0 n by.1) ∙ there))
+  pub member_of : (n : ℕ) → group_at m n ≡ Some g → (key : RouteLabels) × (number_of route_labels_cmp a key ≡ Some n) × (IsTrue (is_some (get (map_of route_labels_cmp a) key)) × (group_key config key ≡ group))
+  member_of n there = let by = is.named n g there in (by.0, by.1, grouped_at by.0 (get (map_of route_labels_cmp a) by.0) (sym (is.grouped by.0 n by.1) ∙ there))
 
   -- a member of the group has a number in it
-  pub number_in : (key : RouteLabels) → IsTrue (is_some (get (shown route_labels_cmp a) key)) → group_key config key ≡ group → (n : ℕ) × (number_of route_labels_cmp a key ≡ Some n) × (group_at m n ≡ Some g)
+  pub number_in : (key : RouteLabels) → IsTrue (is_some (get (map_of route_labels_cmp a) key)) → group_key config key ≡ group → (n : ℕ) × (number_of route_labels_cmp a key ≡ Some n) × (group_at m n ≡ Some g)
   number_in key h e =
       let by = place_number a key (is.numbered.placed key h) in
-      let value = the_value (get (shown route_labels_cmp a) key) h in
+      let value = the_value (get (map_of route_labels_cmp a) key) h in
       (by.0, by.1, is.grouped key by.0 by.1 ∙ ap (group_number config gs key) value.1 ∙ ap (number_of route_labels_cmp gs) e ∙ at)
 
   -- the key that a number in the group names
@@ -413,11 +413,11 @@ numbers_of_listed members = map (λ member. member.1) members
 
 module _ (config : Config) (a : Numbered RouteLabels Alert) (gs : Numbered RouteLabels (Unit {0})) (m : Grouped) (is : IsGrouped config a gs m) (group : RouteLabels) where
   -- no member is in a group without a number
-  pub none_listed : number_of route_labels_cmp gs group ≡ None → [] ≡ labels_of_members (members_among config (shown route_labels_cmp a) group)
+  pub none_listed : number_of route_labels_cmp gs group ≡ None → [] ≡ labels_of_members (members_among config (map_of route_labels_cmp a) group)
   unfolding IsStrictlySortedBy
-  none_listed none = listed config group (shown route_labels_cmp a) [] tt (λ l. nobody (on_route group.route l) _ _ refl refl)
+  none_listed none = listed config group (map_of route_labels_cmp a) [] tt (λ l. nobody (on_route group.route l) _ _ refl refl)
     where
-      nobody : (key : RouteLabels) (x y : Bool) → is_in config group key ≡ x → is_some (get (shown route_labels_cmp a) key) ≡ y → false ≡ (x && y)
+      nobody : (key : RouteLabels) (x y : Bool) → is_in config group key ≡ x → is_some (get (map_of route_labels_cmp a) key) ≡ y → false ≡ (x && y)
       nobody key true true e h = absurd (no_place gs group none (subst (λ r. IsTrue (has_place route_labels_cmp gs r)) (tied_key group (group_key config key) e) (is.known key h)))
       nobody key true false e h = refl
       nobody key false y e h = refl
@@ -503,23 +503,23 @@ module _ (config : Config) (a : Numbered RouteLabels Alert) (gs : Numbered Route
       in_order : IsStrictlySortedBy label_set_cmp (labels_of_numbered members)
       in_order = strictly label_set_cmp_total (eq_by_cmp label_set_cmp) (λ x y. refl) numbered_labels members up (labels_apart members all_listed distinct_numbers)
 
-      has_listed : (l : LabelSet) → has label_set_cmp (labels_of_numbered members) l ≡ (is_in config group (on_route group.route l) && is_some (get (shown route_labels_cmp a) (on_route group.route l)))
+      has_listed : (l : LabelSet) → has label_set_cmp (labels_of_numbered members) l ≡ (is_in config group (on_route group.route l) && is_some (get (map_of route_labels_cmp a) (on_route group.route l)))
       has_listed l =
           let key = on_route group.route l in
-          alike (has label_set_cmp (labels_of_numbered members) l) (is_in config group key && is_some (get (shown route_labels_cmp a) key))
+          alike (has label_set_cmp (labels_of_numbered members) l) (is_in config group key && is_some (get (map_of route_labels_cmp a) key))
           (λ h.
           let by = listed_number members all_listed l h in
           let there : group_at m by.0 ≡ Some g = those.members by.0 (list_any-IsPermutation (λ x. by.0 == x) numbers (numbers_of_listed members) same_numbers ∙ by.1.0) in
           let member = member_of config a gs m is group g at by.0 there in
           let same : member.0 ≡ key = is.numbered.apart member.0 key by.0 member.1 by.1.1 in
           both _ _ (subst (λ r. is_in config group r ≡ true) same (ap (λ r. eq_by_cmp route_labels_cmp r group) member.2.1 ∙ ap is_eq (tied_itself route_labels_cmp_total group)))
-          (subst (λ r. is_some (get (shown route_labels_cmp a) r) ≡ true) same member.2.0))
+          (subst (λ r. is_some (get (map_of route_labels_cmp a) r) ≡ true) same member.2.0))
           (λ h.
           let by = number_in config a gs m is group g at key (other_of _ _ h) (tied_key group (group_key config key) (one_of _ _ h)) in
           listed_labels members all_listed l by.0 by.1 (sym (list_any-IsPermutation (λ x. by.0 == x) numbers (numbers_of_listed members) same_numbers) ∙ those.all by.0 by.2))
 
-      pub labels_found : labels_of_numbered members ≡ labels_of_members (members_among config (shown route_labels_cmp a) group)
-      labels_found = listed config group (shown route_labels_cmp a) (labels_of_numbered members) in_order has_listed
+      pub labels_found : labels_of_numbered members ≡ labels_of_members (members_among config (map_of route_labels_cmp a) group)
+      labels_found = listed config group (map_of route_labels_cmp a) (labels_of_numbered members) in_order has_listed
 
 -- an item of a list is among it
 pub among_at : (xs : List ℕ) (i d : ℕ) → i < length xs → IsTrue (list_any (λ m. get_or xs i d == m) xs)

@@ -19,7 +19,7 @@ use Rattle.amr_rules.specs.Muting.{Alerts}
 use Rattle.amr_time.specs.Time.{Moment}
 use Rattle.amr_tables.specs.Laws.{at_law, others_law}
 use Rattle.amr_tables.specs.Places.{value_at}
-use Rattle.amr_tables.specs.Numbered.{Numbered, shown, has_place, number_of, next_number, key_with, key_at, rank_of, KeepsPlaces, GetsNumber, IsNumbering}
+use Rattle.amr_tables.specs.Numbered.{Numbered, map_of, has_place, number_of, next_number, key_with, key_at, rank_of, KeepsPlaces, GetsNumber, IsNumbering}
 use Rattle.amr_tables.specs.Earliest.{Earliest, moment_at, IsTournament, IsEarliest}
 use Rattle.amr_tables.proofs.Playing.{tournament_agrees}
 use Rattle.amr_tables.specs.Members.{has}
@@ -53,25 +53,25 @@ is_within n m lt = grind (arith, nat_tests)
 module _ {K V : Type 0} {R : K → K → Ordering} (o : IsTotalOrder R) (exact : IsAntisymmetric R) where
   -- ---- the numbers of keys
 
-  pub numbered_same : (t u : Numbered K V) → u.numbers ≡ t.numbers → shown R u ≡ shown R t → AreNumbered R t → AreNumbered R u
+  pub numbered_same : (t u : Numbered K V) → u.numbers ≡ t.numbers → map_of R u ≡ map_of R t → AreNumbered R t → AreNumbered R u
   unfolding has_place
   numbered_same t u numbers shows is = record {
     placed = λ key h. subst (λ ns. IsTrue (is_some (find R key ns))) (sym numbers) (is.placed key (subst (λ (m : Map R V). IsTrue (is_some (get m key))) shows h));
     apart = λ a b n e f. is.apart a b n (ap (find R a) (sym numbers) ∙ e) (ap (find R b) (sym numbers) ∙ f);
   }
 
-  pub numbered_set : (t u : Numbered K V) (k : K) (n : ℕ) (value : Option V) → number_of R t k ≡ Some n → u.numbers ≡ t.numbers → shown R u ≡ set (shown R t) k value → AreNumbered R t → AreNumbered R u
+  pub numbered_set : (t u : Numbered K V) (k : K) (n : ℕ) (value : Option V) → number_of R t k ≡ Some n → u.numbers ≡ t.numbers → map_of R u ≡ set (map_of R t) k value → AreNumbered R t → AreNumbered R u
   unfolding has_place
   numbered_set t u k n value at numbers shows is = record {
     placed = λ key h. subst (λ ns. IsTrue (is_some (find R key ns))) (sym numbers) (
-        elim (eq_by_cmp R key k) as (λ b. eq_by_cmp R key k ≡ b → IsTrue (is_some (cond b value (get (shown R t) key))) → IsTrue (is_some (find R key t.numbers))) [
+        elim (eq_by_cmp R key k) as (λ b. eq_by_cmp R key k ≡ b → IsTrue (is_some (cond b value (get (map_of R t) key))) → IsTrue (is_some (find R key t.numbers))) [
           | true ↦ λ e _. ap (λ key. is_some (find R key t.numbers)) (tells_apart exact key k e) ∙ ap is_some at
           | false ↦ λ _ got. is.placed key got
-        ] refl (subst (λ x. IsTrue (is_some x)) (ap (λ (m : Map R V). get m key) shows ∙ get-set o (shown R t) k value key) h));
+        ] refl (subst (λ x. IsTrue (is_some x)) (ap (λ (m : Map R V). get m key) shows ∙ get-set o (map_of R t) k value key) h));
     apart = λ a b n e f. is.apart a b n (ap (find R a) (sym numbers) ∙ e) (ap (find R b) (sym numbers) ∙ f);
   }
 
-  pub numbered_placed : (t u : Numbered K V) (k : K) (n : ℕ) → GetsNumber R t u k n → ((key : K) (m : ℕ) → number_of R t key ≡ Some m → m < n) → shown R u ≡ shown R t → AreNumbered R t → AreNumbered R u
+  pub numbered_placed : (t u : Numbered K V) (k : K) (n : ℕ) → GetsNumber R t u k n → ((key : K) (m : ℕ) → number_of R t key ≡ Some m → m < n) → map_of R u ≡ map_of R t → AreNumbered R t → AreNumbered R u
   unfolding has_place
   numbered_placed t u k n gets below shows is = record {
     placed = λ key h. subst (λ x. IsTrue (is_some x)) (sym (gets key)) (
@@ -92,7 +92,7 @@ module _ {K V : Type 0} {R : K → K → Ordering} (o : IsTotalOrder R) (exact :
         ] refl (sym (gets a) ∙ e);
   }
 
-  pub none_numbered : (t : Numbered K V) → t.numbers ≡ [] → shown R t ≡ empty → AreNumbered R t
+  pub none_numbered : (t : Numbered K V) → t.numbers ≡ [] → map_of R t ≡ empty → AreNumbered R t
   none_numbered t none shows = record {
     placed = λ key h. not_both _ _ (ap is_some (ap (λ (m : Map R V). get m key) shows ∙ get-empty R key)) h;
     apart = λ a b n e f. not_none n _ (sym e ∙ ap (find R a) none);
@@ -102,7 +102,7 @@ module _ {K V : Type 0} {R : K → K → Ordering} (o : IsTotalOrder R) (exact :
 
   module _ (moment_of : Option V → Option Moment) where
     -- the same moments, in a table with the same values
-    pub scheduled_same : (t u : Numbered K V) (e f : Earliest) → u.numbers ≡ t.numbers → shown R u ≡ shown R t → ((n : ℕ) → moment_at f n ≡ moment_at e n) → length e.moments ≤ length f.moments → IsTournament (rank_of R t) f
+    pub scheduled_same : (t u : Numbered K V) (e f : Earliest) → u.numbers ≡ t.numbers → map_of R u ≡ map_of R t → ((n : ℕ) → moment_at f n ≡ moment_at e n) → length e.moments ≤ length f.moments → IsTournament (rank_of R t) f
         → IsScheduled R moment_of t e → IsScheduled R moment_of u f
     scheduled_same t u e f numbers shows moments longer tournament is = record {
       timed = λ key n at. moments n ∙ is.timed key n (ap (find R key) (sym numbers) ∙ at) ∙ ap (λ (m : Map R V). moment_of (get m key)) (sym shows);
@@ -112,13 +112,13 @@ module _ {K V : Type 0} {R : K → K → Ordering} (o : IsTotalOrder R) (exact :
     }
 
     -- the value of a key is another, and its moment, too
-    pub scheduled_set : (t u : Numbered K V) (e f : Earliest) (k : K) (n : ℕ) (value : Option V) → number_of R t k ≡ Some n → u.numbers ≡ t.numbers → shown R u ≡ set (shown R t) k value
+    pub scheduled_set : (t u : Numbered K V) (e f : Earliest) (k : K) (n : ℕ) (value : Option V) → number_of R t k ≡ Some n → u.numbers ≡ t.numbers → map_of R u ≡ set (map_of R t) k value
         → f.moments ≡ slice_set e.moments n (moment_of value) → IsTournament (rank_of R u) f → AreNumbered R t → IsScheduled R moment_of t e → IsScheduled R moment_of u f
     scheduled_set t u e f k n value at numbers shows moments tournament numbered is = record {
       timed = λ key m there.
           let old : number_of R t key ≡ Some m = ap (find R key) (sym numbers) ∙ there in
-          let value_is : get (shown R u) key ≡ cond (eq_by_cmp R key k) value (get (shown R t) key) = ap (λ (m : Map R V). get m key) shows ∙ get-set o (shown R t) k value key in
-          ap (λ l. value_at l m) moments ∙ elim (eq_by_cmp R key k) as (λ b. eq_by_cmp R key k ≡ b → value_at (slice_set e.moments n (moment_of value)) m ≡ moment_of (cond b value (get (shown R t) key))) [
+          let value_is : get (map_of R u) key ≡ cond (eq_by_cmp R key k) value (get (map_of R t) key) = ap (λ (m : Map R V). get m key) shows ∙ get-set o (map_of R t) k value key in
+          ap (λ l. value_at l m) moments ∙ elim (eq_by_cmp R key k) as (λ b. eq_by_cmp R key k ≡ b → value_at (slice_set e.moments n (moment_of value)) m ≡ moment_of (cond b value (get (map_of R t) key))) [
             | true ↦ λ same.
                 let number : m ≡ n = some_same m n (sym old ∙ ap (number_of R t) (tells_apart exact key k same) ∙ at) in
                 ap (value_at (slice_set e.moments n (moment_of value))) number ∙ at_law e.moments n (moment_of value) (is_within n (length e.moments) (is.room k n at))
@@ -142,7 +142,7 @@ module _ {K V : Type 0} {R : K → K → Ordering} (o : IsTotalOrder R) (exact :
     }
 
     -- a key more, without a value
-    pub scheduled_placed : (t u : Numbered K V) (e : Earliest) (k : K) → IsNumbering R t → IsNumbering R u → number_of R t k ≡ None → GetsNumber R t u k (next_number t) → shown R u ≡ shown R t → next_number t < length e.moments
+    pub scheduled_placed : (t u : Numbered K V) (e : Earliest) (k : K) → IsNumbering R t → IsNumbering R u → number_of R t k ≡ None → GetsNumber R t u k (next_number t) → map_of R u ≡ map_of R t → next_number t < length e.moments
         → moment_of None ≡ None → AreNumbered R t → IsScheduled R moment_of t e → IsScheduled R moment_of u e
     unfolding has_place
     scheduled_placed t u e k before after new gets shows room none numbered is =
@@ -152,16 +152,16 @@ module _ {K V : Type 0} {R : K → K → Ordering} (o : IsTotalOrder R) (exact :
           | true ↦ λ same. not_none m _ (sym at ∙ ap (number_of R t) (tells_apart exact key k same) ∙ new)
           | false ↦ λ _. at
         ] refl in
-        let no_value : get (shown R t) k ≡ None = no_more (get (shown R t) k) (λ h. not_both _ _ (ap is_some new) (numbered.placed k h)) in
+        let no_value : get (map_of R t) k ≡ None = no_more (get (map_of R t) k) (λ h. not_both _ _ (ap is_some new) (numbered.placed k h)) in
         let no_moment : moment_at e n ≡ None = no_more (moment_at e n) (λ h.
         let moment = the_value (moment_at e n) h in
         let key = is.named n moment.0 moment.1 in
         let less = before.within key.0 n key.1 in
         absurd (omega (arith, less))) in
         record {
-          timed = λ key m there. elim (eq_by_cmp R key k) as (λ b. eq_by_cmp R key k ≡ b → (if b then Some n else number_of R t key) ≡ Some m → moment_at e m ≡ moment_of (get (shown R u) key)) [
+          timed = λ key m there. elim (eq_by_cmp R key k) as (λ b. eq_by_cmp R key k ≡ b → (if b then Some n else number_of R t key) ≡ Some m → moment_at e m ≡ moment_of (get (map_of R u) key)) [
             | true ↦ λ same number.
-                ap (moment_at e) (sym (some_same n m number)) ∙ no_moment ∙ sym none ∙ ap moment_of (sym no_value ∙ ap (get (shown R t)) (sym (tells_apart exact key k same)))
+                ap (moment_at e) (sym (some_same n m number)) ∙ no_moment ∙ sym none ∙ ap moment_of (sym no_value ∙ ap (get (map_of R t)) (sym (tells_apart exact key k same)))
                 ∙ ap (λ (m : Map R V). moment_of (get m key)) (sym shows)
             | false ↦ λ _ old. is.timed key m old ∙ ap (λ (m : Map R V). moment_of (get m key)) (sym shows)
           ] refl (sym (gets key) ∙ there);
@@ -197,24 +197,24 @@ module _ {K V : Type 0} {R : K → K → Ordering} (o : IsTotalOrder R) (exact :
     IsFirstMoment values key moment = (moment_of (get values key) ≡ Some moment) × ((other : K) (x : Moment) → moment_of (get values other) ≡ Some x → (moment < x) ⊎ ((moment ≡ x) × (is_gt (R key other) ≡ false)))
 
     -- the number of a key whose value has a moment
-    numbered_moment : (t : Numbered K V) (e : Earliest) → moment_of None ≡ None → AreNumbered R t → IsScheduled R moment_of t e → (key : K) (x : Moment) → moment_of (get (shown R t) key) ≡ Some x
+    numbered_moment : (t : Numbered K V) (e : Earliest) → moment_of None ≡ None → AreNumbered R t → IsScheduled R moment_of t e → (key : K) (x : Moment) → moment_of (get (map_of R t) key) ≡ Some x
         → (n : ℕ) × ((number_of R t key ≡ Some n) × (moment_at e n ≡ Some x))
     unfolding has_place
     numbered_moment t e none numbered is key x at =
-        let number = the_value (number_of R t key) (numbered.placed key (has_value (get (shown R t) key) at)) in
+        let number = the_value (number_of R t key) (numbered.placed key (has_value (get (map_of R t) key) at)) in
         (number.0, (number.1, is.timed key number.0 number.1 ∙ at))
       where
         has_value : (v : Option V) → moment_of v ≡ Some x → IsTrue (is_some v)
         has_value None e = not_none x _ (sym e ∙ none)
         has_value (Some v) e = refl
 
-    pub no_moment : (t : Numbered K V) (e : Earliest) → moment_of None ≡ None → AreNumbered R t → IsScheduled R moment_of t e → ((n : ℕ) → moment_at e n ≡ None) → (key : K) (x : Moment) → moment_of (get (shown R t) key) ≡ Some x → ⊥
+    pub no_moment : (t : Numbered K V) (e : Earliest) → moment_of None ≡ None → AreNumbered R t → IsScheduled R moment_of t e → ((n : ℕ) → moment_at e n ≡ None) → (key : K) (x : Moment) → moment_of (get (map_of R t) key) ≡ Some x → ⊥
     no_moment t e none numbered is never key x at =
         let number = numbered_moment t e none numbered is key x at in
         not_none x _ (sym number.1.1 ∙ never number.0)
 
     pub first_moment : (t : Numbered K V) (e : Earliest) (n : ℕ) (moment : Moment) (key : K) → moment_of None ≡ None → IsNumbering R t → AreNumbered R t → IsScheduled R moment_of t e
-        → moment_at e n ≡ Some moment → IsEarliest (rank_of R t) e n → key_at t n ≡ Some key → IsFirstMoment (shown R t) key moment
+        → moment_at e n ≡ Some moment → IsEarliest (rank_of R t) e n → key_at t n ≡ Some key → IsFirstMoment (map_of R t) key moment
     first_moment t e n moment key none numbering numbered is at earliest named =
         let by = is.named n moment at in
         let same : by.0 ≡ key = some_same by.0 key (sym (key_at_number o exact t numbering by.0 n by.1) ∙ named) in
@@ -262,7 +262,7 @@ module _ {K V : Type 0} (R : K → K → Ordering) (t u : Numbered K V) where
 -- ---- the timetable
 
 module _ (a : Numbered LabelSet Alert) (c : Numbered RouteLabels GroupTimer) (removals emptied flushes : Earliest) (is : IsTimed a c removals emptied flushes) where
-  pub alerts_same : (b : Numbered LabelSet Alert) → b.numbers ≡ a.numbers → shown label_set_cmp b ≡ shown label_set_cmp a → (r : Earliest) → ((n : ℕ) → moment_at r n ≡ moment_at removals n) → length removals.moments ≤ length r.moments
+  pub alerts_same : (b : Numbered LabelSet Alert) → b.numbers ≡ a.numbers → map_of label_set_cmp b ≡ map_of label_set_cmp a → (r : Earliest) → ((n : ℕ) → moment_at r n ≡ moment_at removals n) → length removals.moments ≤ length r.moments
       → IsTournament (rank_of label_set_cmp a) r → IsTimed b c r emptied flushes
   alerts_same b numbers shows r same longer tournament = record {
     alerts_numbered = numbered_same label_set_cmp_total label_set_cmp-IsAntisymmetric a b numbers shows is.alerts_numbered;
@@ -272,7 +272,7 @@ module _ (a : Numbered LabelSet Alert) (c : Numbered RouteLabels GroupTimer) (re
     groups_flushed = is.groups_flushed;
   }
 
-  pub timers_same : (d : Numbered RouteLabels GroupTimer) → d.numbers ≡ c.numbers → shown route_labels_cmp d ≡ shown route_labels_cmp c
+  pub timers_same : (d : Numbered RouteLabels GroupTimer) → d.numbers ≡ c.numbers → map_of route_labels_cmp d ≡ map_of route_labels_cmp c
       → (e : Earliest) → ((n : ℕ) → moment_at e n ≡ moment_at emptied n) → length emptied.moments ≤ length e.moments → IsTournament (rank_of route_labels_cmp c) e
       → (f : Earliest) → ((n : ℕ) → moment_at f n ≡ moment_at flushes n) → length flushes.moments ≤ length f.moments → IsTournament (rank_of route_labels_cmp c) f → IsTimed a d removals e f
   timers_same d numbers shows e same_e longer_e tournament_e f same_f longer_f tournament_f = record {
@@ -283,7 +283,7 @@ module _ (a : Numbered LabelSet Alert) (c : Numbered RouteLabels GroupTimer) (re
     groups_flushed = scheduled_same route_labels_cmp_total route_labels_cmp-IsAntisymmetric flush_moment c d flushes f numbers shows same_f longer_f tournament_f is.groups_flushed;
   }
 
-  pub alert_set : (b : Numbered LabelSet Alert) (r : Earliest) (k : LabelSet) (n : ℕ) (value : Option Alert) → number_of label_set_cmp a k ≡ Some n → b.numbers ≡ a.numbers → shown label_set_cmp b ≡ set (shown label_set_cmp a) k value
+  pub alert_set : (b : Numbered LabelSet Alert) (r : Earliest) (k : LabelSet) (n : ℕ) (value : Option Alert) → number_of label_set_cmp a k ≡ Some n → b.numbers ≡ a.numbers → map_of label_set_cmp b ≡ set (map_of label_set_cmp a) k value
       → r.moments ≡ slice_set removals.moments n (alert_moment value) → IsTournament (rank_of label_set_cmp b) r → IsTimed b c r emptied flushes
   alert_set b r k n value at numbers shows moments tournament = record {
     alerts_numbered = numbered_set label_set_cmp_total label_set_cmp-IsAntisymmetric a b k n value at numbers shows is.alerts_numbered;
@@ -293,7 +293,7 @@ module _ (a : Numbered LabelSet Alert) (c : Numbered RouteLabels GroupTimer) (re
     groups_flushed = is.groups_flushed;
   }
 
-  pub timer_set : (d : Numbered RouteLabels GroupTimer) (e f : Earliest) (k : RouteLabels) (n : ℕ) (value : Option GroupTimer) → number_of route_labels_cmp c k ≡ Some n → d.numbers ≡ c.numbers → shown route_labels_cmp d ≡ set (shown route_labels_cmp c) k value
+  pub timer_set : (d : Numbered RouteLabels GroupTimer) (e f : Earliest) (k : RouteLabels) (n : ℕ) (value : Option GroupTimer) → number_of route_labels_cmp c k ≡ Some n → d.numbers ≡ c.numbers → map_of route_labels_cmp d ≡ set (map_of route_labels_cmp c) k value
       → e.moments ≡ slice_set emptied.moments n (removal_moment value) → IsTournament (rank_of route_labels_cmp d) e → f.moments ≡ slice_set flushes.moments n (flush_moment value) → IsTournament (rank_of route_labels_cmp d) f → IsTimed a d removals e f
   timer_set d e f k n value at numbers shows moments_e tournament_e moments_f tournament_f = record {
     alerts_numbered = is.alerts_numbered;
@@ -303,7 +303,7 @@ module _ (a : Numbered LabelSet Alert) (c : Numbered RouteLabels GroupTimer) (re
     groups_flushed = scheduled_set route_labels_cmp_total route_labels_cmp-IsAntisymmetric flush_moment c d flushes f k n value at numbers shows moments_f tournament_f is.timers_numbered is.groups_flushed;
   }
 
-  pub alert_placed : (b : Numbered LabelSet Alert) (k : LabelSet) → IsNumbering label_set_cmp a → IsNumbering label_set_cmp b → number_of label_set_cmp a k ≡ None → GetsNumber label_set_cmp a b k (next_number a) → shown label_set_cmp b ≡ shown label_set_cmp a
+  pub alert_placed : (b : Numbered LabelSet Alert) (k : LabelSet) → IsNumbering label_set_cmp a → IsNumbering label_set_cmp b → number_of label_set_cmp a k ≡ None → GetsNumber label_set_cmp a b k (next_number a) → map_of label_set_cmp b ≡ map_of label_set_cmp a
       → next_number a < length removals.moments → IsTimed b c removals emptied flushes
   alert_placed b k before after new gets shows room = record {
     alerts_numbered = numbered_placed label_set_cmp_total label_set_cmp-IsAntisymmetric a b k (next_number a) gets before.within shows is.alerts_numbered;
@@ -313,7 +313,7 @@ module _ (a : Numbered LabelSet Alert) (c : Numbered RouteLabels GroupTimer) (re
     groups_flushed = is.groups_flushed;
   }
 
-  pub timer_placed : (d : Numbered RouteLabels GroupTimer) (k : RouteLabels) → IsNumbering route_labels_cmp c → IsNumbering route_labels_cmp d → number_of route_labels_cmp c k ≡ None → GetsNumber route_labels_cmp c d k (next_number c) → shown route_labels_cmp d ≡ shown route_labels_cmp c
+  pub timer_placed : (d : Numbered RouteLabels GroupTimer) (k : RouteLabels) → IsNumbering route_labels_cmp c → IsNumbering route_labels_cmp d → number_of route_labels_cmp c k ≡ None → GetsNumber route_labels_cmp c d k (next_number c) → map_of route_labels_cmp d ≡ map_of route_labels_cmp c
       → next_number c < length emptied.moments → next_number c < length flushes.moments → IsTimed a d removals emptied flushes
   timer_placed d k before after new gets shows room_e room_f = record {
     alerts_numbered = is.alerts_numbered;

@@ -22,10 +22,10 @@ use Rattle.amr_rules.specs.declared.dedup.LogEntry.{LogEntry}
 use Rattle.amr_engine.specs.declared.state.change.Change.{Change}
 use Rattle.amr_engine.specs.declared.state.change.Change.TheVariants.{OfMoment, OfConfig, OfAlert, OfSilence, OfMember, OfTimer, OfLog, OfNotes}
 use Rattle.amr_engine.specs.declared.state.tables.Tables.{Tables}
-use Rattle.amr_engine.specs.State.Records.{changed, put_back, present, same_place, has_entry, IsNoNotification, NotesEntered}
+use Rattle.amr_engine.specs.State.Records.{after_change, put_back, change_back, same_place, has_entry, IsNoNotification, NotesEntered}
 use Rattle.amr_engine.specs.State.State.{State, member_on_route, route_labels_cmp, route_labels_cmp-IsAntisymmetric, log_key_cmp, log_key_cmp-IsAntisymmetric}
 use Rattle.amr_engine.specs.State.Fitting.{FitsOne, Fits, IsAllowed, is_config, since_config}
-use Rattle.amr_engine.specs.State.Kept.{undone}
+use Rattle.amr_engine.specs.State.Kept.{before_open_record}
 use Rattle.amr_engine.specs.declared.state.store.Store.TheInside.{Inside}
 use Rattle.amr_engine.specs.State.Stored.{shown_by, state_of, kept_of, entries_of, IsSound, AreSound, IsPlaceOf, IsEntered, MorePlaces, SameValues, is_marked_at, IsUnmarked, NoNewMark, NewMarkAt, IsKept}
 use Rattle.amr_engine.proofs.StateLemmas.Undoing.{unlike, put_back-change, put_back-push, put_back-entered, put_back-appended, covered, covered_notification, notes_entered-more, notes_entered-push, has_entry-push, has_entry-last, same_undone}
@@ -90,22 +90,22 @@ fits_alike a b closed current alike fits =
     subst (λ es. Fits es (state_of b)) (λ i. joined (sym closed i) ++ sym current i) (fits-alike (entries_of a) (state_of a) (state_of b) alike fits)
 
 -- a member has changed that is entered
-pub fits_covered : (a b : Inside) (member : Membership) (alert : Option Alert) → IsKept a → IsTrue (is_marked_at a.tables (OfMember member alert)) → state_of b ≡ changed (state_of a) (OfMember member alert)
+pub fits_covered : (a b : Inside) (member : Membership) (alert : Option Alert) → IsKept a → IsTrue (is_marked_at a.tables (OfMember member alert)) → state_of b ≡ after_change (state_of a) (OfMember member alert)
     → b.journal.closed ≡ a.journal.closed → b.journal.current ≡ a.journal.current → Fits (entries_of b) (state_of b)
 fits_covered a b member alert kept marked state closed current =
     let change : Change = OfMember member alert in
-    let fits : Fits (entries_of a) (changed (state_of a) change) = fits-covered (joined a.journal.closed) a.journal.current member alert (state_of a) (kept.marked change marked) kept.fits in
+    let fits : Fits (entries_of a) (after_change (state_of a) change) = fits-covered (joined a.journal.closed) a.journal.current member alert (state_of a) (kept.marked change marked) kept.fits in
     subst (λ es. Fits es (state_of b)) (λ i. joined (sym closed i) ++ sym current i) (subst (Fits (entries_of a)) (sym state) fits)
 
 -- an entry more, which gives what was there
-fits_pushed : (a b : Inside) (e : Change) → b.journal.closed ≡ a.journal.closed → b.journal.current ≡ a.journal.current ++ e ∷ [] → AreAlike (state_of a) (changed (state_of b) e) → FitsOne (state_of b) e
+fits_pushed : (a b : Inside) (e : Change) → b.journal.closed ≡ a.journal.closed → b.journal.current ≡ a.journal.current ++ e ∷ [] → AreAlike (state_of a) (after_change (state_of b) e) → FitsOne (state_of b) e
     → Fits (entries_of a) (state_of a) → Fits (entries_of b) (state_of b)
 fits_pushed a b e closed current alike one fits =
     subst (λ es. Fits es (state_of b)) (joined-push a.journal.closed a.journal.current e ∙ (λ i. joined (sym closed i) ++ sym current i))
     (fits-pushed (entries_of a) e (state_of a) (state_of b) alike one fits)
 
 -- the last entry, and those before it
-fits_last : (a : Inside) (es : List Change) (e : Change) → a.journal.current ≡ es ++ e ∷ [] → Fits (entries_of a) (state_of a) → Fits (joined a.journal.closed ++ es) (changed (state_of a) e) × FitsOne (state_of a) e
+fits_last : (a : Inside) (es : List Change) (e : Change) → a.journal.current ≡ es ++ e ∷ [] → Fits (entries_of a) (state_of a) → Fits (joined a.journal.closed ++ es) (after_change (state_of a) e) × FitsOne (state_of a) e
 fits_last a es e current fits =
     fits-pop (joined a.journal.closed ++ es) e (state_of a)
     (subst (λ es. Fits es (state_of a)) (ap (λ last. joined a.journal.closed ++ last) current ∙ sym (joined-push a.journal.closed es e)) fits)
@@ -138,7 +138,7 @@ kept_grown a b kept more moment closed current marks notes =
 -- an entry is pushed
 pub kept_pushed : (a b : Inside) (e : Change) → IsKept a → MorePlaces a.tables b.tables → b.tables.moment ≤ latest_read → b.journal.closed ≡ a.journal.closed → b.journal.current ≡ a.journal.current ++ e ∷ []
     → IsSound b.tables e → ((place : Change) → NewMarkAt e a.tables b.tables place) → (IsTrue b.tables.are_notes_entered → NotesEntered (a.journal.current ++ e ∷ []) (length b.tables.notes.items))
-    → is_config e ≡ false → AreAlike (state_of a) (changed (state_of b) e) → FitsOne (state_of b) e → IsKept b
+    → is_config e ≡ false → AreAlike (state_of a) (after_change (state_of b) e) → FitsOne (state_of b) e → IsKept b
 kept_pushed a b e kept more moment closed current sound marks notes no_config alike one =
     let since : since_config b.journal.current ≡ since_config a.journal.current ++ e ∷ [] = ap since_config current ∙ since_config-push a.journal.current e no_config in
     record {
@@ -155,7 +155,7 @@ kept_pushed a b e kept more moment closed current sound marks notes no_config al
 -- one that is not of the notifications
 pub kept_entered : (a b : Inside) (e : Change) → IsKept a → MorePlaces a.tables b.tables → b.tables.moment ≤ latest_read → b.journal.closed ≡ a.journal.closed → b.journal.current ≡ a.journal.current ++ e ∷ []
     → IsSound b.tables e → ((place : Change) → NewMarkAt e a.tables b.tables place) → b.tables.are_notes_entered ≡ a.tables.are_notes_entered → b.tables.notes.items ≡ a.tables.notes.items
-    → is_config e ≡ false → AreAlike (state_of a) (changed (state_of b) e) → FitsOne (state_of b) e → IsKept b
+    → is_config e ≡ false → AreAlike (state_of a) (after_change (state_of b) e) → FitsOne (state_of b) e → IsKept b
 kept_entered a b e kept more moment closed current sound marks flag notes =
     kept_pushed a b e kept more moment closed current sound marks (λ h. subst (λ items. NotesEntered (a.journal.current ++ e ∷ []) (length items)) (sym notes) (notes_entered-push a.journal.current e (length a.tables.notes.items) (kept.notes (subst IsTrue flag h))))
 
@@ -172,7 +172,7 @@ kept_unmarked b moment current closed unmarked fits = record {
 
 -- another configuration is in force, and entered
 pub kept_reconfigured : (a b : Inside) (was : Config) → IsKept a → MorePlaces a.tables b.tables → IsUnmarked b.tables → b.tables.moment ≡ a.tables.moment → b.journal.closed ≡ a.journal.closed
-    → b.journal.current ≡ a.journal.current ++ OfConfig was ∷ [] → AreAlike (state_of a) (changed (state_of b) (OfConfig was)) → FitsOne (state_of b) (OfConfig was) → IsKept b
+    → b.journal.current ≡ a.journal.current ++ OfConfig was ∷ [] → AreAlike (state_of a) (after_change (state_of b) (OfConfig was)) → FitsOne (state_of b) (OfConfig was) → IsKept b
 kept_reconfigured a b was kept more unmarked moment closed current alike one =
     kept_unmarked b (subst (λ m. m ≤ latest_read) (sym moment) kept.moment)
     (subst (AreSound b.tables) (sym current) (all-push (IsSound b.tables) a.journal.current (OfConfig was) (all-more a.tables b.tables more a.journal.current kept.current) tt))
@@ -212,13 +212,13 @@ last_fits a es e kept is = (fits_last a es e is kept.fits).1
 
 -- it is taken out
 pub kept_popped : (a b : Inside) (e : Change) → IsKept a → MorePlaces a.tables b.tables → IsUnmarked b.tables → b.tables.moment ≤ latest_read → b.journal.closed ≡ a.journal.closed → a.journal.current ≡ b.journal.current ++ e ∷ []
-    → AreAlike (changed (state_of a) e) (state_of b) → IsKept b
+    → AreAlike (after_change (state_of a) e) (state_of b) → IsKept b
 kept_popped a b e kept more unmarked moment closed current alike =
     let rest : List Change = joined a.journal.closed ++ b.journal.current in
     kept_unmarked b moment (all-more a.tables b.tables more b.journal.current (all-pop (IsSound a.tables) b.journal.current e (subst (AreSound a.tables) current kept.current)).0)
     (subst (AllByRecursion (AreSound b.tables)) (sym closed) (closed-more a.tables b.tables more a.journal.closed kept.closed)) unmarked
     (subst (λ es. Fits es (state_of b)) (ap (λ rs. joined rs ++ b.journal.current) (sym closed))
-    (fits-alike rest (changed (state_of a) e) (state_of b) alike (fits_last a b.journal.current e current kept.fits).0))
+    (fits-alike rest (after_change (state_of a) e) (state_of b) alike (fits_last a b.journal.current e current kept.fits).0))
 
 -- all records are dropped
 pub kept_forgotten : (a b : Inside) → IsKept a → b.tables ≡ a.tables → b.tables.moment ≡ a.tables.moment → b.journal.closed ≡ [] → b.journal.current ≡ a.journal.current → b.tables.notes.items ≡ a.tables.notes.items
@@ -248,21 +248,21 @@ kept_silent a b kept current closed = record {
 -- ---- what the open record gives by being put back, after a change
 
 -- a place was changed, and its entry pushed
-pub undone_pushed : (a b : Inside) (change e : Change) → IsNoNotification change → state_of b ≡ changed (state_of a) change → e ≡ present (state_of a) change
-    → b.journal.current ≡ a.journal.current ++ e ∷ [] → b.journal.closed ≡ a.journal.closed → b.journal.record_room ≡ a.journal.record_room → undone (kept_of b) ≡ undone (kept_of a)
+pub undone_pushed : (a b : Inside) (change e : Change) → IsNoNotification change → state_of b ≡ after_change (state_of a) change → e ≡ change_back (state_of a) change
+    → b.journal.current ≡ a.journal.current ++ e ∷ [] → b.journal.closed ≡ a.journal.closed → b.journal.record_room ≡ a.journal.record_room → before_open_record (kept_of b) ≡ before_open_record (kept_of a)
 undone_pushed a b change e place state entry current closed room =
     same_undone (kept_of b) (kept_of a)
-    ((λ i. put_back (current i) (state i)) ∙ ap (λ x. put_back (a.journal.current ++ x ∷ []) (changed (state_of a) change)) entry ∙ put_back-entered a.journal.current (state_of a) change place) closed room
+    ((λ i. put_back (current i) (state i)) ∙ ap (λ x. put_back (a.journal.current ++ x ∷ []) (after_change (state_of a) change)) entry ∙ put_back-entered a.journal.current (state_of a) change place) closed room
 
 -- a place was changed that has an entry
-pub undone_covered : (a b : Inside) (change : Change) → IsKept a → IsNoNotification change → IsTrue (is_marked_at a.tables change) → state_of b ≡ changed (state_of a) change
-    → b.journal.current ≡ a.journal.current → b.journal.closed ≡ a.journal.closed → b.journal.record_room ≡ a.journal.record_room → undone (kept_of b) ≡ undone (kept_of a)
+pub undone_covered : (a b : Inside) (change : Change) → IsKept a → IsNoNotification change → IsTrue (is_marked_at a.tables change) → state_of b ≡ after_change (state_of a) change
+    → b.journal.current ≡ a.journal.current → b.journal.closed ≡ a.journal.closed → b.journal.record_room ≡ a.journal.record_room → before_open_record (kept_of b) ≡ before_open_record (kept_of a)
 undone_covered a b change kept place marked state current closed room =
     same_undone (kept_of b) (kept_of a) ((λ i. put_back (current i) (state i)) ∙ covered a.journal.current change (state_of a) place (has_entry-since a.journal.current change (kept.marked change marked))) closed room
 
 -- the first notification of a record was appended, and their number before entered
 pub undone_appended : (a b : Inside) (notification : Notification) (count : ℕ) → state_of b ≡ record (state_of a) { notes = a.tables.notes.items ++ notification ∷ [] } → count ≡ length a.tables.notes.items
-    → b.journal.current ≡ a.journal.current ++ OfNotes count ∷ [] → b.journal.closed ≡ a.journal.closed → b.journal.record_room ≡ a.journal.record_room → undone (kept_of b) ≡ undone (kept_of a)
+    → b.journal.current ≡ a.journal.current ++ OfNotes count ∷ [] → b.journal.closed ≡ a.journal.closed → b.journal.record_room ≡ a.journal.record_room → before_open_record (kept_of b) ≡ before_open_record (kept_of a)
 undone_appended a b notification count state is current closed room =
     same_undone (kept_of b) (kept_of a)
     ((λ i. put_back (current i) (state i)) ∙ ap (λ n. put_back (a.journal.current ++ OfNotes n ∷ []) (record (state_of a) { notes = a.tables.notes.items ++ notification ∷ [] })) is
@@ -270,13 +270,13 @@ undone_appended a b notification count state is current closed room =
 
 -- a later one was appended
 pub undone_noted : (a b : Inside) (notification : Notification) → IsKept a → IsTrue a.tables.are_notes_entered → state_of b ≡ record (state_of a) { notes = a.tables.notes.items ++ notification ∷ [] }
-    → b.journal.current ≡ a.journal.current → b.journal.closed ≡ a.journal.closed → b.journal.record_room ≡ a.journal.record_room → undone (kept_of b) ≡ undone (kept_of a)
+    → b.journal.current ≡ a.journal.current → b.journal.closed ≡ a.journal.closed → b.journal.record_room ≡ a.journal.record_room → before_open_record (kept_of b) ≡ before_open_record (kept_of a)
 undone_noted a b notification kept marked state current closed room =
     same_undone (kept_of b) (kept_of a) ((λ i. put_back (current i) (state i)) ∙ covered_notification a.journal.current (state_of a) notification (kept.notes marked)) closed room
 
 -- an entry was put back
-pub undone_popped : (a b : Inside) (e : Change) → state_of b ≡ changed (state_of a) e → a.journal.current ≡ b.journal.current ++ e ∷ [] → b.journal.closed ≡ a.journal.closed → b.journal.record_room ≡ a.journal.record_room
-    → undone (kept_of b) ≡ undone (kept_of a)
+pub undone_popped : (a b : Inside) (e : Change) → state_of b ≡ after_change (state_of a) e → a.journal.current ≡ b.journal.current ++ e ∷ [] → b.journal.closed ≡ a.journal.closed → b.journal.record_room ≡ a.journal.record_room
+    → before_open_record (kept_of b) ≡ before_open_record (kept_of a)
 undone_popped a b e state current closed room =
     same_undone (kept_of b) (kept_of a)
     (ap (put_back b.journal.current) state ∙ sym (put_back-push b.journal.current e (state_of a)) ∙ ap (λ es. put_back es (state_of a)) (sym current)) closed room
@@ -336,7 +336,7 @@ no_notes s (OfLog key entry) h = tt
 no_notes s (OfNotes count) h = h
 
 -- what leads back is no change of the configuration
-no_config : (s : State) (e : Change) → IsAllowed s e → is_config (present s e) ≡ false
+no_config : (s : State) (e : Change) → IsAllowed s e → is_config (change_back s e) ≡ false
 no_config s (OfMoment moment) h = refl
 no_config s (OfConfig config) h = absurd h
 no_config s (OfAlert labels alert) h = refl
@@ -347,7 +347,7 @@ no_config s (OfLog key entry) h = refl
 no_config s (OfNotes count) h = refl
 
 -- it fits the state after the change
-fits_back : (s : State) (e : Change) → IsAllowed s e → FitsOne (changed s e) (present s e)
+fits_back : (s : State) (e : Change) → IsAllowed s e → FitsOne (after_change s e) (change_back s e)
 fits_back s (OfMoment moment) h = tt
 fits_back s (OfConfig config) h = absurd h
 fits_back s (OfAlert labels alert) h = tt
@@ -358,7 +358,7 @@ fits_back s (OfLog key entry) h = tt
 fits_back s (OfNotes count) h = tt
 
 -- it is of the same place
-marked_back : (t : Tables) (s : State) (e : Change) → is_marked_at t (present s e) ≡ is_marked_at t e
+marked_back : (t : Tables) (s : State) (e : Change) → is_marked_at t (change_back s e) ≡ is_marked_at t e
 marked_back t s (OfMoment moment) = refl
 marked_back t s (OfConfig config) = refl
 marked_back t s (OfAlert labels alert) = refl
@@ -373,7 +373,7 @@ unfolding has_place
 placed R t k n at = ap is_some at
 
 -- that place is there
-sound_back : (t : Tables) (s : State) (e : Change) (n : ℕ) → s.moment ≤ latest_read → IsPlaceOf t e n → IsSound t (present s e)
+sound_back : (t : Tables) (s : State) (e : Change) (n : ℕ) → s.moment ≤ latest_read → IsPlaceOf t e n → IsSound t (change_back s e)
 sound_back t s (OfMoment moment) n late h = late
 sound_back t s (OfConfig config) n late h = tt
 sound_back t s (OfAlert labels alert) n late h = placed label_set_cmp t.timetable.alerts labels n h
@@ -383,7 +383,7 @@ sound_back t s (OfTimer group timer) n late h = placed route_labels_cmp t.timeta
 sound_back t s (OfLog key entry) n late h = placed log_key_cmp t.log key n h
 sound_back t s (OfNotes count) n late h = tt
 
-late_changed : (s : State) (e : Change) → IsAllowed s e → s.moment ≤ latest_read → (changed s e).moment ≤ latest_read
+late_changed : (s : State) (e : Change) → IsAllowed s e → s.moment ≤ latest_read → (after_change s e).moment ≤ latest_read
 late_changed s (OfMoment moment) h late = h
 late_changed s (OfConfig config) h late = late
 late_changed s (OfAlert labels alert) h late = late
@@ -393,7 +393,7 @@ late_changed s (OfTimer group timer) h late = late
 late_changed s (OfLog key entry) h late = late
 late_changed s (OfNotes count) h late = late
 
-late_back : (t : Tables) (s : State) (e : Change) → IsSound t e → s.moment ≤ latest_read → (changed s e).moment ≤ latest_read
+late_back : (t : Tables) (s : State) (e : Change) → IsSound t e → s.moment ≤ latest_read → (after_change s e).moment ≤ latest_read
 late_back t s (OfMoment moment) h late = h
 late_back t s (OfConfig config) h late = late
 late_back t s (OfAlert labels alert) h late = late
@@ -403,7 +403,7 @@ late_back t s (OfTimer group timer) h late = late
 late_back t s (OfLog key entry) h late = late
 late_back t s (OfNotes count) h late = late
 
-notes_changed : (s : State) (e : Change) → IsAllowed s e → (changed s e).notes ≡ s.notes
+notes_changed : (s : State) (e : Change) → IsAllowed s e → (after_change s e).notes ≡ s.notes
 notes_changed s (OfMoment moment) h = refl
 notes_changed s (OfConfig config) h = refl
 notes_changed s (OfAlert labels alert) h = refl
@@ -413,7 +413,7 @@ notes_changed s (OfTimer group timer) h = refl
 notes_changed s (OfLog key entry) h = refl
 notes_changed s (OfNotes count) h = absurd h
 
-notes_apart : (s : State) (e : Change) → IsAllowed s e → same_place (OfNotes 0) (present s e) ≡ false
+notes_apart : (s : State) (e : Change) → IsAllowed s e → same_place (OfNotes 0) (change_back s e) ≡ false
 notes_apart s (OfMoment moment) h = refl
 notes_apart s (OfConfig config) h = refl
 notes_apart s (OfAlert labels alert) h = refl
@@ -451,7 +451,7 @@ kept_reserved a j kept closed current =
     (record { alerts = λ k h. h; silences = λ k h. h; placements = λ k h. h; groups = λ k h. h; timers = λ k h. h; log = λ k h. h }) (λ place h. h) closed current
 
 -- the change is of a place that has an entry
-fits_marked : (a b : Inside) (e : Change) → IsKept a → IsAllowed (state_of a) e → IsTrue (is_marked_at a.tables e) → state_of b ≡ changed (state_of a) e → b.journal.closed ≡ a.journal.closed → b.journal.current ≡ a.journal.current
+fits_marked : (a b : Inside) (e : Change) → IsKept a → IsAllowed (state_of a) e → IsTrue (is_marked_at a.tables e) → state_of b ≡ after_change (state_of a) e → b.journal.closed ≡ a.journal.closed → b.journal.current ≡ a.journal.current
     → Fits (entries_of b) (state_of b)
 fits_marked a b (OfMember member alert) kept h marked state closed current = fits_covered a b member alert kept marked state closed current
 fits_marked a b (OfConfig config) kept h marked state closed current = absurd h
@@ -462,13 +462,13 @@ fits_marked a b (OfSilence id silence) kept h marked state closed current = fits
 fits_marked a b (OfTimer group timer) kept h marked state closed current = fits_alike a b closed current (ap (λ (s : State). s.config) (sym state), ap (λ (s : State). s.placements) (sym state)) kept.fits
 fits_marked a b (OfLog key entry) kept h marked state closed current = fits_alike a b closed current (ap (λ (s : State). s.config) (sym state), ap (λ (s : State). s.placements) (sym state)) kept.fits
 
-pub kept_changed : (a b : Inside) (e : Change) (n : ℕ) → IsKept a → IsAllowed (state_of a) e → IsPlaceOf a.tables e n → MorePlaces a.tables b.tables → state_of b ≡ changed (state_of a) e → IsEntered a.tables a.journal e b.tables b.journal → IsKept b
+pub kept_changed : (a b : Inside) (e : Change) (n : ℕ) → IsKept a → IsAllowed (state_of a) e → IsPlaceOf a.tables e n → MorePlaces a.tables b.tables → state_of b ≡ after_change (state_of a) e → IsEntered a.tables a.journal e b.tables b.journal → IsKept b
 kept_changed a b e n kept allowed at more state entered =
     let s : State = state_of a in
-    let back : Change = present s e in
+    let back : Change = change_back s e in
     let late : b.tables.moment ≤ latest_read = subst (λ (t : State). t.moment ≤ latest_read) (sym state) (late_changed s e allowed kept.moment) in
     let notes : b.tables.notes.items ≡ a.tables.notes.items = ap (λ (t : State). t.notes) state ∙ notes_changed s e allowed in
-    let again : changed (state_of b) back ≡ s = ap (λ (t : State). changed t back) state ∙ put_back-change s e (no_notes s e allowed) in
+    let again : after_change (state_of b) back ≡ s = ap (λ (t : State). after_change t back) state ∙ put_back-change s e (no_notes s e allowed) in
     elim (is_marked_at a.tables e) as (λ m. is_marked_at a.tables e ≡ m → b.journal.current ≡ cond m a.journal.current (a.journal.current ++ back ∷ []) → IsKept b) [
       | true ↦ λ marked current.
           kept_still a b kept more late entered.closed current
@@ -485,26 +485,26 @@ kept_changed a b e n kept allowed at more state entered =
 
 -- ---- what the open record gives by being put back, after one change
 
-pub undone_changed : (a b : Inside) (e : Change) → IsKept a → IsAllowed (state_of a) e → state_of b ≡ changed (state_of a) e → IsEntered a.tables a.journal e b.tables b.journal → undone (kept_of b) ≡ undone (kept_of a)
+pub undone_changed : (a b : Inside) (e : Change) → IsKept a → IsAllowed (state_of a) e → state_of b ≡ after_change (state_of a) e → IsEntered a.tables a.journal e b.tables b.journal → before_open_record (kept_of b) ≡ before_open_record (kept_of a)
 undone_changed a b e kept allowed state entered =
     let s : State = state_of a in
-    elim (is_marked_at a.tables e) as (λ m. is_marked_at a.tables e ≡ m → b.journal.current ≡ cond m a.journal.current (a.journal.current ++ present s e ∷ []) → undone (kept_of b) ≡ undone (kept_of a)) [
+    elim (is_marked_at a.tables e) as (λ m. is_marked_at a.tables e ≡ m → b.journal.current ≡ cond m a.journal.current (a.journal.current ++ change_back s e ∷ []) → before_open_record (kept_of b) ≡ before_open_record (kept_of a)) [
       | true ↦ λ marked current. undone_covered a b e kept (no_notes s e allowed) marked state current entered.closed entered.room
-      | false ↦ λ _ current. undone_pushed a b e (present s e) (no_notes s e allowed) state refl current entered.closed entered.room
+      | false ↦ λ _ current. undone_pushed a b e (change_back s e) (no_notes s e allowed) state refl current entered.closed entered.room
     ] refl entered.current
 
 -- places are made, and room
 pub undone_placed : (a : Inside) (t : Tables) (j : Records Change) → SameValues a.tables t → j.closed ≡ a.journal.closed → j.current ≡ a.journal.current → j.record_room ≡ a.journal.record_room
-    → undone (kept_of (record a { tables = t; journal = j })) ≡ undone (kept_of a)
+    → before_open_record (kept_of (record a { tables = t; journal = j })) ≡ before_open_record (kept_of a)
 undone_placed a t j same closed current room =
     same_undone (kept_of (record a { tables = t; journal = j })) (kept_of a) (λ i. put_back (current i) (same_state a.tables t same i)) closed room
 
-pub undone_reserved : (a : Inside) (j : Records Change) → j.closed ≡ a.journal.closed → j.current ≡ a.journal.current → j.record_room ≡ a.journal.record_room → undone (kept_of (record a { journal = j })) ≡ undone (kept_of a)
+pub undone_reserved : (a : Inside) (j : Records Change) → j.closed ≡ a.journal.closed → j.current ≡ a.journal.current → j.record_room ≡ a.journal.record_room → before_open_record (kept_of (record a { journal = j })) ≡ before_open_record (kept_of a)
 undone_reserved a j closed current room = same_undone (kept_of (record a { journal = j })) (kept_of a) (ap (λ es. put_back es (state_of a)) current) closed room
 
 -- ---- the last entry
 
-pub kept_undone : (a b : Inside) (e : Change) → IsKept a → MorePlaces a.tables b.tables → IsUnmarked b.tables → b.journal.closed ≡ a.journal.closed → a.journal.current ≡ b.journal.current ++ e ∷ [] → state_of b ≡ changed (state_of a) e → IsKept b
+pub kept_undone : (a b : Inside) (e : Change) → IsKept a → MorePlaces a.tables b.tables → IsUnmarked b.tables → b.journal.closed ≡ a.journal.closed → a.journal.current ≡ b.journal.current ++ e ∷ [] → state_of b ≡ after_change (state_of a) e → IsKept b
 kept_undone a b e kept more unmarked closed current state =
     kept_popped a b e kept more unmarked
     (subst (λ (t : State). t.moment ≤ latest_read) (sym state) (late_back a.tables (state_of a) e (last_is_sound a b.journal.current e kept current) kept.moment)) closed current

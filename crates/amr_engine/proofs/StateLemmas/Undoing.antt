@@ -20,17 +20,17 @@ use Rattle.amr_engine.specs.declared.state.notification.Notification.{Notificati
 use Rattle.amr_engine.specs.declared.state.change.Change.{Change}
 use Rattle.amr_engine.specs.declared.state.change.Change.TheVariants.{OfMoment, OfConfig, OfAlert, OfSilence, OfMember, OfTimer, OfLog, OfNotes}
 use Rattle.amr_engine.specs.State.State.{State, member_on_route, route_labels_cmp, route_labels_cmp_total, route_labels_cmp-IsAntisymmetric, log_key_cmp, log_key_cmp_total, log_key_cmp-IsAntisymmetric}
-use Rattle.amr_engine.specs.State.Records.{changed, put_back, present, same_place, has_entry, IsNoNotification, NotesEntered, befores, before_all}
-use Rattle.amr_engine.specs.State.Kept.{Kept, undone}
+use Rattle.amr_engine.specs.State.Records.{after_change, put_back, change_back, same_place, has_entry, IsNoNotification, NotesEntered, befores, before_all}
+use Rattle.amr_engine.specs.State.Kept.{Kept, before_open_record}
 
 -- a record with one more entry is put back from that entry on
-pub put_back-push : (entries : List Change) (last : Change) (s : State) → put_back (entries ++ last ∷ []) s ≡ put_back entries (changed s last)
+pub put_back-push : (entries : List Change) (last : Change) (s : State) → put_back (entries ++ last ∷ []) s ≡ put_back entries (after_change s last)
 unfolding put_back
 put_back-push [] last s = refl
-put_back-push (first ∷ rest) last s = ap (λ (x : State). changed x first) (put_back-push rest last s)
+put_back-push (first ∷ rest) last s = ap (λ (x : State). after_change x first) (put_back-push rest last s)
 
 -- a change of one place is put back by the value that the place had
-pub put_back-change : (s : State) (change : Change) → IsNoNotification change → changed (changed s change) (present s change) ≡ s
+pub put_back-change : (s : State) (change : Change) → IsNoNotification change → after_change (after_change s change) (change_back s change) ≡ s
 put_back-change s (OfMoment now) h = refl
 put_back-change s (OfConfig config) h = refl
 put_back-change s (OfAlert labels alert) h = ap (λ (m : Alerts). record s { alerts = m }) (set-back label_set_cmp_total label_set_cmp-IsAntisymmetric s.alerts labels alert)
@@ -41,12 +41,12 @@ put_back-change s (OfLog key entry) h = ap (λ (m : Map log_key_cmp LogEntry). r
 put_back-change s (OfNotes count) h = absurd h
 
 -- so is a notification that is appended
-pub put_back-notification : (s : State) (notification : Notification) → changed (record s { notes = s.notes ++ notification ∷ [] }) (OfNotes (length s.notes)) ≡ s
+pub put_back-notification : (s : State) (notification : Notification) → after_change (record s { notes = s.notes ++ notification ∷ [] }) (OfNotes (length s.notes)) ≡ s
 put_back-notification s notification = ap (λ (notes : List Notification). record s { notes = notes }) (take-append_seam s.notes (notification ∷ []))
 
 -- a change that is entered leaves what the open record gives
-pub put_back-entered : (entries : List Change) (s : State) (change : Change) → IsNoNotification change → put_back (entries ++ present s change ∷ []) (changed s change) ≡ put_back entries s
-put_back-entered entries s change h = put_back-push entries (present s change) (changed s change) ∙ ap (put_back entries) (put_back-change s change h)
+pub put_back-entered : (entries : List Change) (s : State) (change : Change) → IsNoNotification change → put_back (entries ++ change_back s change ∷ []) (after_change s change) ≡ put_back entries s
+put_back-entered entries s change h = put_back-push entries (change_back s change) (after_change s change) ∙ ap (put_back entries) (put_back-change s change h)
 
 pub put_back-appended : (entries : List Change) (s : State) (notification : Notification) → put_back (entries ++ OfNotes (length s.notes) ∷ []) (record s { notes = s.notes ++ notification ∷ [] }) ≡ put_back entries s
 put_back-appended entries s notification = put_back-push entries (OfNotes (length s.notes)) (record s { notes = s.notes ++ notification ∷ [] }) ∙ ap (put_back entries) (put_back-notification s notification)
@@ -86,7 +86,7 @@ module _ {K X : Type 0} {R : K → K → Ordering} (o : IsTotalOrder R) (same : 
       ∙ sym (get-set o (set m b w) a v q ∙ ap (cond (eq_by_cmp R q a) v) (get-set o m b w q)))
 
 -- of two values of one place the second counts
-pub overwrite : (s : State) (first second : Change) → same_place first second ≡ true → IsNoNotification first → changed (changed s first) second ≡ changed s second
+pub overwrite : (s : State) (first second : Change) → same_place first second ≡ true → IsNoNotification first → after_change (after_change s first) second ≡ after_change s second
 overwrite s (OfMoment a) (OfMoment b) t h = refl
 overwrite s (OfConfig a) (OfConfig b) t h = refl
 overwrite s (OfAlert a v) (OfAlert b w) t h = ap (λ (m : Alerts). record s { alerts = m }) (set-set label_set_cmp_total label_set_cmp-IsAntisymmetric s.alerts a b v w t)
@@ -98,7 +98,7 @@ overwrite s (OfNotes a) second t h = absurd h
 overwrite s first second t h = absurd (unlike t)
 
 -- values of two places are put back in any order
-pub commute : (s : State) (a b : Change) → same_place a b ≡ false → changed (changed s a) b ≡ changed (changed s b) a
+pub commute : (s : State) (a b : Change) → same_place a b ≡ false → after_change (after_change s a) b ≡ after_change (after_change s b) a
 commute s (OfMoment a) (OfMoment b) f = absurd (unlike (sym f))
 commute s (OfConfig a) (OfConfig b) f = absurd (unlike (sym f))
 commute s (OfAlert a v) (OfAlert b w) f = ap (λ (m : Alerts). record s { alerts = m }) (set-swap label_set_cmp_total label_set_cmp-IsAntisymmetric s.alerts a b v w f)
@@ -116,9 +116,9 @@ take-swap (suc m) zero xs = refl
 take-swap (suc m) (suc n) [] = refl
 take-swap (suc m) (suc n) (x ∷ xs) = ap (λ ys. x ∷ ys) (take-swap m n xs)
 
-passes_same : (e q : Change) (s t : State) → same_place e q ≡ true → changed s q ≡ changed t q → changed (changed s e) q ≡ changed (changed t e) q
+passes_same : (e q : Change) (s t : State) → same_place e q ≡ true → after_change s q ≡ after_change t q → after_change (after_change s e) q ≡ after_change (after_change t e) q
 passes_same (OfNotes a) (OfNotes b) s t is h =
-    ap (λ (notes : List Notification). record s { notes = notes }) (take-swap b a s.notes) ∙ ap (λ (x : State). changed x (OfNotes a)) h
+    ap (λ (notes : List Notification). record s { notes = notes }) (take-swap b a s.notes) ∙ ap (λ (x : State). after_change x (OfNotes a)) h
     ∙ ap (λ (notes : List Notification). record t { notes = notes }) (take-swap a b t.notes)
 passes_same (OfNotes a) q s t is h = absurd (unlike is)
 passes_same (OfMoment a) q s t is h = overwrite s (OfMoment a) q is tt ∙ h ∙ sym (overwrite t (OfMoment a) q is tt)
@@ -130,33 +130,33 @@ passes_same (OfTimer a v) q s t is h = overwrite s (OfTimer a v) q is tt ∙ h �
 passes_same (OfLog a v) q s t is h = overwrite s (OfLog a v) q is tt ∙ h ∙ sym (overwrite t (OfLog a v) q is tt)
 
 -- states that one entry makes alike it makes alike after another, too
-passes : (e q : Change) (s t : State) → changed s q ≡ changed t q → changed (changed s e) q ≡ changed (changed t e) q
+passes : (e q : Change) (s t : State) → after_change s q ≡ after_change t q → after_change (after_change s e) q ≡ after_change (after_change t e) q
 passes e q s t h =
-    elim (same_place e q) as (λ b. same_place e q ≡ b → changed (changed s e) q ≡ changed (changed t e) q) [
+    elim (same_place e q) as (λ b. same_place e q ≡ b → after_change (after_change s e) q ≡ after_change (after_change t e) q) [
       | true ↦ λ is. passes_same e q s t is h
-      | false ↦ λ f. commute s e q f ∙ ap (λ (x : State). changed x e) h ∙ sym (commute t e q f)
+      | false ↦ λ f. commute s e q f ∙ ap (λ (x : State). after_change x e) h ∙ sym (commute t e q f)
     ] refl
 
-passes_all : (entries : List Change) (q : Change) (s t : State) → changed s q ≡ changed t q → changed (put_back entries s) q ≡ changed (put_back entries t) q
+passes_all : (entries : List Change) (q : Change) (s t : State) → after_change s q ≡ after_change t q → after_change (put_back entries s) q ≡ after_change (put_back entries t) q
 unfolding put_back
 passes_all [] q s t h = h
 passes_all (first ∷ rest) q s t h = passes first q (put_back rest s) (put_back rest t) (passes_all rest q s t h)
 
 -- a change of a place that has an entry adds nothing to what is put back
-pub covered : (entries : List Change) (change : Change) (s : State) → IsNoNotification change → has_entry entries change ≡ true → put_back entries (changed s change) ≡ put_back entries s
+pub covered : (entries : List Change) (change : Change) (s : State) → IsNoNotification change → has_entry entries change ≡ true → put_back entries (after_change s change) ≡ put_back entries s
 unfolding put_back has_entry
 covered [] change s h t = absurd (unlike t)
 covered (first ∷ rest) change s h t =
-    elim (same_place change first) as (λ b. same_place change first ≡ b → (b || has_entry rest change) ≡ true → put_back (first ∷ rest) (changed s change) ≡ put_back (first ∷ rest) s) [
-      | true ↦ λ is _. passes_all rest first (changed s change) s (overwrite s change first is h)
-      | false ↦ λ _ t. ap (λ (x : State). changed x first) (covered rest change s h t)
+    elim (same_place change first) as (λ b. same_place change first ≡ b → (b || has_entry rest change) ≡ true → put_back (first ∷ rest) (after_change s change) ≡ put_back (first ∷ rest) s) [
+      | true ↦ λ is _. passes_all rest first (after_change s change) s (overwrite s change first is h)
+      | false ↦ λ _ t. ap (λ (x : State). after_change x first) (covered rest change s h t)
     ] refl t
 
 -- nor does a notification after those that the record counts
 pub covered_notification : (entries : List Change) (s : State) (notification : Notification) → NotesEntered entries (length s.notes) → put_back entries (record s { notes = s.notes ++ notification ∷ [] }) ≡ put_back entries s
 unfolding put_back NotesEntered
 covered_notification [] s notification h = absurd h
-covered_notification (first ∷ rest) s notification (inr h) = ap (λ (x : State). changed x first) (covered_notification rest s notification h)
+covered_notification (first ∷ rest) s notification (inr h) = ap (λ (x : State). after_change x first) (covered_notification rest s notification h)
 covered_notification (OfNotes count ∷ rest) s notification (inl within) =
     passes_all rest (OfNotes count) (record s { notes = s.notes ++ notification ∷ [] }) s (ap (λ (notes : List Notification). record s { notes = notes }) (take-append-le count s.notes (notification ∷ []) within))
 covered_notification (first ∷ rest) s notification (inl h) = absurd h
@@ -228,8 +228,8 @@ length-befores (first ∷ rs) s = ap suc (length-befores rs s)
 
 -- ---- undoing the open record
 
-pub undone-idle : (k : Kept) → k.current ≡ [] → undone k ≡ k
-unfolding undone
+pub undone-idle : (k : Kept) → k.current ≡ [] → before_open_record k ≡ k
+unfolding before_open_record
 undone-idle k e = λ i. record {
   state = (ap (λ es. put_back es k.state) e ∙ put_back-none k.state) i;
   current = sym e i;
@@ -237,8 +237,8 @@ undone-idle k e = λ i. record {
   room = k.room;
 }
 
-pub undone-undone : (k : Kept) → undone (undone k) ≡ undone k
-unfolding undone
+pub undone-undone : (k : Kept) → before_open_record (before_open_record k) ≡ before_open_record k
+unfolding before_open_record
 undone-undone k = λ i. record {
   state = put_back-none (put_back k.current k.state) i;
   current = [];
@@ -246,6 +246,6 @@ undone-undone k = λ i. record {
   room = k.room;
 }
 
-pub same_undone : (k l : Kept) → put_back k.current k.state ≡ put_back l.current l.state → k.records ≡ l.records → k.room ≡ l.room → undone k ≡ undone l
-unfolding undone
+pub same_undone : (k l : Kept) → put_back k.current k.state ≡ put_back l.current l.state → k.records ≡ l.records → k.room ≡ l.room → before_open_record k ≡ before_open_record l
+unfolding before_open_record
 same_undone k l state records room = λ i. record { state = state i; current = []; records = records i; room = room i }

@@ -12,10 +12,10 @@ use Rattle.amr_labels.specs.Matcher.Matchers.{all_hold}
 use Rattle.amr_config.specs.declared.stated.rule.InhibitRule.{InhibitRule}
 use Rattle.amr_rules.specs.declared.alert.Alert.{Alert}
 use Rattle.amr_rules.specs.Muting.{Alerts, agree_on}
-use Rattle.amr_tables.specs.Numbered.{Numbered, shown, has_place}
+use Rattle.amr_tables.specs.Numbered.{Numbered, map_of, has_place}
 use Rattle.amr_tables.specs.Members.{has}
 use Rattle.amr_engine.specs.declared.indexes.rule_source.SourceSide.{SourceSide}
-use Rattle.amr_engine.specs.declared.indexes.rule_source.KnownSide.{KnownSide}
+use Rattle.amr_engine.specs.declared.indexes.rule_source.CachedSide.{CachedSide}
 use Rattle.amr_engine.specs.Indexes.LabelValues.{values_cmp, label_values}
 
 -- label sets under values of labels
@@ -28,7 +28,7 @@ is_in found labels = option_map_or (λ listed. contains listed labels) found fal
 
 -- whether the label set is listed under these values
 abbrev pub is_under : ByValues → List Text → LabelSet → Bool
-is_under sources values labels = is_in (get (shown values_cmp sources) values) labels
+is_under sources values labels = is_in (get (map_of values_cmp sources) values) labels
 
 -- the label set matches the side, and has these values of the labels in `equal`
 abbrev pub is_source : SourceSide → LabelSet → List Text → Bool
@@ -36,9 +36,9 @@ is_source side labels values = all_hold side.source labels && eq_by_cmp values_c
 
 -- Of the label sets that were seen, those that match the side are listed under their values, and
 -- nothing else.
-pub record ListsSide (arrived : List LabelSet) (known : KnownSide) : Type 0 where
-  pub within : known.seen ≤ length arrived
-  pub exact : (values : List Text) (labels : LabelSet) → is_under known.sources values labels ≡ (has label_set_cmp (take known.seen arrived) labels && is_source known.side labels values)
+pub record ListsSide (arrived : List LabelSet) (known : CachedSide) : Type 0 where
+  pub within : known.covered ≤ length arrived
+  pub exact : (values : List Text) (labels : LabelSet) → is_under known.sources values labels ≡ (has label_set_cmp (take known.covered arrived) labels && is_source known.side labels values)
 
 -- the side is that of the rule
 pub record IsSideOf (side : SourceSide) (rule : InhibitRule) : Type 0 where
@@ -55,7 +55,7 @@ abbrev pub ListsSame : ByValues → ByValues → Type 0
 ListsSame old changed = (under : List Text) (other : LabelSet) → is_under changed under other ≡ is_under old under other
 
 -- the label set is listed at the side too, if it matches it
-abbrev pub IsPut : LabelSet → KnownSide → KnownSide → Type 0
+abbrev pub IsPut : LabelSet → CachedSide → CachedSide → Type 0
 IsPut labels old changed = (under : List Text) (other : LabelSet) → is_under changed.sources under other
     ≡ ((all_hold old.side.source labels && (eq_by_cmp values_cmp under (label_values old.side.equal.items labels) && eq_by_cmp label_set_cmp other labels)) || is_under old.sources under other)
 
@@ -79,5 +79,5 @@ AllArrived alerts arrived = (labels : LabelSet) → IsTrue (has_place label_set_
 
 -- Each stored alert has a place, and the label sets that have one are among the arrived.
 pub record IsFollowed (alerts : Numbered LabelSet Alert) (sets : List LabelSet) : Type 0 where
-  pub stored : (labels : LabelSet) → IsTrue (is_some (get (shown label_set_cmp alerts) labels)) → IsTrue (has_place label_set_cmp alerts labels)
+  pub stored : (labels : LabelSet) → IsTrue (is_some (get (map_of label_set_cmp alerts) labels)) → IsTrue (has_place label_set_cmp alerts labels)
   pub arrived : AllArrived alerts sets

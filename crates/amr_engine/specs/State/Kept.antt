@@ -13,8 +13,8 @@ pub record Kept : Type 0 where
   pub room : ℕ
 
 -- the state with the open record undone
-unfoldable pub undone : Kept → Kept
-undone kept = record kept { state = put_back kept.current kept.state; current = [] }
+unfoldable pub before_open_record : Kept → Kept
+before_open_record kept = record kept { state = put_back kept.current kept.state; current = [] }
 
 -- the open record has at most n more entries
 abbrev pub GrownBy : ℕ → Kept → Kept → Type 0

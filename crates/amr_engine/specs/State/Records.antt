@@ -9,31 +9,31 @@ use Rattle.amr_engine.specs.declared.state.change.Change.TheVariants.{OfMoment, 
 use Rattle.amr_engine.specs.State.State.{State, member_on_route, route_labels_cmp, log_key_cmp}
 
 -- the state after a change: with the change's value at its place
-abbrev pub changed : State → Change → State
-changed s (OfMoment moment) = record s { moment = moment }
-changed s (OfConfig config) = record s { config = config }
-changed s (OfAlert labels alert) = record s { alerts = set s.alerts labels alert }
-changed s (OfSilence id silence) = record s { silences = set s.silences id silence }
-changed s (OfMember member alert) = record s { placements = set s.placements (member_on_route member) alert }
-changed s (OfTimer group timer) = record s { timers = set s.timers group timer }
-changed s (OfLog key entry) = record s { log = set s.log key entry }
-changed s (OfNotes count) = record s { notes = take count s.notes }
+abbrev pub after_change : State → Change → State
+after_change s (OfMoment moment) = record s { moment = moment }
+after_change s (OfConfig config) = record s { config = config }
+after_change s (OfAlert labels alert) = record s { alerts = set s.alerts labels alert }
+after_change s (OfSilence id silence) = record s { silences = set s.silences id silence }
+after_change s (OfMember member alert) = record s { placements = set s.placements (member_on_route member) alert }
+after_change s (OfTimer group timer) = record s { timers = set s.timers group timer }
+after_change s (OfLog key entry) = record s { log = set s.log key entry }
+after_change s (OfNotes count) = record s { notes = take count s.notes }
 
 -- a record is undone from its last entry to its first
 unfoldable pub put_back : List Change → State → State
 put_back [] s = s
-put_back (first ∷ rest) s = changed (put_back rest s) first
+put_back (first ∷ rest) s = after_change (put_back rest s) first
 
 -- the same place with its present value; for the notifications, their present number
-abbrev pub present : State → Change → Change
-present s (OfMoment moment) = OfMoment s.moment
-present s (OfConfig config) = OfConfig s.config
-present s (OfAlert labels alert) = OfAlert labels (get s.alerts labels)
-present s (OfSilence id silence) = OfSilence id (get s.silences id)
-present s (OfMember member alert) = OfMember member (get s.placements (member_on_route member))
-present s (OfTimer group timer) = OfTimer group (get s.timers group)
-present s (OfLog key entry) = OfLog key (get s.log key)
-present s (OfNotes count) = OfNotes (length s.notes)
+abbrev pub change_back : State → Change → Change
+change_back s (OfMoment moment) = OfMoment s.moment
+change_back s (OfConfig config) = OfConfig s.config
+change_back s (OfAlert labels alert) = OfAlert labels (get s.alerts labels)
+change_back s (OfSilence id silence) = OfSilence id (get s.silences id)
+change_back s (OfMember member alert) = OfMember member (get s.placements (member_on_route member))
+change_back s (OfTimer group timer) = OfTimer group (get s.timers group)
+change_back s (OfLog key entry) = OfLog key (get s.log key)
+change_back s (OfNotes count) = OfNotes (length s.notes)
 
 -- whether two entries are of one place
 abbrev pub same_place : Change → Change → Bool

@@ -6,7 +6,7 @@ use Rattle.amr_labels.specs.Map.{Map, get}
 use Rattle.amr_labels.specs.Labels.{LabelSet}
 use Rattle.amr_config.specs.Stated.Config.{Config}
 use Rattle.amr_rules.specs.declared.alert.Alert.{Alert}
-use Rattle.amr_tables.specs.Numbered.{Numbered, shown, has_place, number_of, IsNumber}
+use Rattle.amr_tables.specs.Numbered.{Numbered, map_of, has_place, number_of, IsNumber}
 use Rattle.amr_tables.specs.Grouped.{Grouped, group_at}
 use Rattle.amr_engine.specs.declared.state.route_labels.RouteLabels.{RouteLabels}
 use Rattle.amr_engine.specs.State.State.{on_route, route_labels_cmp, group_key}
@@ -30,8 +30,8 @@ group_number config groups route_labels alert = option_and_then (λ _. number_of
 pub record IsGrouped (config : Config) (placements : Numbered RouteLabels Alert) (groups : Numbered RouteLabels (Unit {0})) (members : Grouped) : Type 0 where
   pub numbered : AreNumbered route_labels_cmp placements
   pub groups_numbered : AreNumbered route_labels_cmp groups
-  pub grouped : (key : RouteLabels) (n : ℕ) → number_of route_labels_cmp placements key ≡ Some n → group_at members n ≡ group_number config groups key (get (shown route_labels_cmp placements) key)
-  pub known : (key : RouteLabels) → IsTrue (is_some (get (shown route_labels_cmp placements) key)) → IsTrue (has_place route_labels_cmp groups (group_key config key))
+  pub grouped : (key : RouteLabels) (n : ℕ) → number_of route_labels_cmp placements key ≡ Some n → group_at members n ≡ group_number config groups key (get (map_of route_labels_cmp placements) key)
+  pub known : (key : RouteLabels) → IsTrue (is_some (get (map_of route_labels_cmp placements) key)) → IsTrue (has_place route_labels_cmp groups (group_key config key))
   pub named : (n g : ℕ) → group_at members n ≡ Some g → IsNumber route_labels_cmp placements n
   pub room : (key : RouteLabels) (n : ℕ) → number_of route_labels_cmp placements key ≡ Some n → n < length members.groups
   pub group_room : (group : RouteLabels) (g : ℕ) → number_of route_labels_cmp groups group ≡ Some g → g < members.count

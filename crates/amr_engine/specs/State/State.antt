@@ -15,7 +15,7 @@ use Rattle.amr_labels.specs.Labels.{Text, text_cmp, LabelSet, label_set_cmp, lab
 use Rattle.amr_labels.specs.Matcher.Matchers.{Matcher, matcher_cmp, matcher_cmp_total, matcher_cmp-IsAntisymmetric}
 use Rattle.amr_time.specs.Time.{Moment, Span}
 use Rattle.amr_config.specs.Stated.Config.{Config}
-use Rattle.amr_config.specs.Routing.{chosen, group_of, group_wait_of}
+use Rattle.amr_config.specs.Routing.{chosen_routes, group_of, group_wait_of}
 use Rattle.amr_rules.specs.declared.alert.Alert.{Alert}
 use Rattle.amr_rules.specs.declared.dedup.LogEntry.{LogEntry}
 use Rattle.amr_engine.specs.declared.state.route_labels.RouteLabels.{RouteLabels}
@@ -139,4 +139,4 @@ place_on labels alert s route =
 
 -- the alert is inserted into its group on each route that takes it
 unfoldable pub place : State → LabelSet × Alert → State
-place s alert = fold (place_on alert.0 alert.1) s (chosen s.config alert.0)
+place s alert = fold (place_on alert.0 alert.1) s (chosen_routes s.config alert.0)

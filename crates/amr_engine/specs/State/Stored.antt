@@ -4,7 +4,7 @@ use Rattle.std.specs.List.{AllByRecursion, flat_map}
 use Rattle.std.specs.Ordering.{nat_cmp}
 use Rattle.amr_labels.specs.Labels.{LabelSet, label_set_cmp}
 use Rattle.amr_time.specs.Time.{latest_read}
-use Rattle.amr_tables.specs.Numbered.{shown, has_place, number_of, is_entered}
+use Rattle.amr_tables.specs.Numbered.{map_of, has_place, number_of, is_entered}
 use Rattle.amr_tables.specs.Records.{Records}
 use Rattle.amr_engine.specs.declared.state.route_labels.RouteLabels.{RouteLabels}
 use Rattle.amr_engine.specs.declared.state.notification.LogKey.{LogKey}
@@ -12,7 +12,7 @@ use Rattle.amr_engine.specs.declared.state.change.Change.{Change}
 use Rattle.amr_engine.specs.declared.state.change.Change.TheVariants.{OfMoment, OfConfig, OfAlert, OfSilence, OfMember, OfTimer, OfLog, OfNotes}
 use Rattle.amr_engine.specs.declared.state.tables.Tables.{Tables}
 use Rattle.amr_engine.specs.State.State.{State, member_on_route, route_labels_cmp, log_key_cmp}
-use Rattle.amr_engine.specs.State.Records.{present, same_place, has_entry, NotesEntered}
+use Rattle.amr_engine.specs.State.Records.{change_back, same_place, has_entry, NotesEntered}
 use Rattle.amr_engine.specs.State.Fitting.{Fits, since_config}
 use Rattle.amr_engine.specs.State.Kept.{Kept}
 use Rattle.amr_engine.specs.declared.state.store.Store.TheInside.{Inside}
@@ -22,11 +22,11 @@ abbrev pub shown_by : Tables → State
 shown_by tables = record {
   moment = tables.moment;
   config = tables.roster.config;
-  alerts = shown label_set_cmp tables.timetable.alerts;
-  silences = shown nat_cmp tables.silences;
-  placements = shown route_labels_cmp tables.roster.placements;
-  timers = shown route_labels_cmp tables.timetable.timers;
-  log = shown log_key_cmp tables.log;
+  alerts = map_of label_set_cmp tables.timetable.alerts;
+  silences = map_of nat_cmp tables.silences;
+  placements = map_of route_labels_cmp tables.roster.placements;
+  timers = map_of route_labels_cmp tables.timetable.timers;
+  log = map_of log_key_cmp tables.log;
   notes = tables.notes.items;
 }
 
@@ -103,20 +103,20 @@ pub record MorePlaces (a b : Tables) : Type 0 where
 pub record SameValues (a b : Tables) : Type 0 where
   pub moment : b.moment ≡ a.moment
   pub config : b.roster.config ≡ a.roster.config
-  pub alerts : shown label_set_cmp b.timetable.alerts ≡ shown label_set_cmp a.timetable.alerts
-  pub silences : shown nat_cmp b.silences ≡ shown nat_cmp a.silences
-  pub placements : shown route_labels_cmp b.roster.placements ≡ shown route_labels_cmp a.roster.placements
-  pub timers : shown route_labels_cmp b.timetable.timers ≡ shown route_labels_cmp a.timetable.timers
-  pub log : shown log_key_cmp b.log ≡ shown log_key_cmp a.log
+  pub alerts : map_of label_set_cmp b.timetable.alerts ≡ map_of label_set_cmp a.timetable.alerts
+  pub silences : map_of nat_cmp b.silences ≡ map_of nat_cmp a.silences
+  pub placements : map_of route_labels_cmp b.roster.placements ≡ map_of route_labels_cmp a.roster.placements
+  pub timers : map_of route_labels_cmp b.timetable.timers ≡ map_of route_labels_cmp a.timetable.timers
+  pub log : map_of log_key_cmp b.log ≡ map_of log_key_cmp a.log
   pub notes : b.notes.items ≡ a.notes.items
 
 -- The open record has an entry more, which leads back from the change, unless the place is marked.
 -- No other place gets a mark.
 pub record IsEntered (a : Tables) (journal : Records Change) (change : Change) (b : Tables) (written : Records Change) : Type 0 where
-  pub current : written.current ≡ (if is_marked_at a change then journal.current else journal.current ++ present (shown_by a) change ∷ [])
+  pub current : written.current ≡ (if is_marked_at a change then journal.current else journal.current ++ change_back (shown_by a) change ∷ [])
   pub closed : written.closed ≡ journal.closed
   pub room : written.record_room ≡ journal.record_room
-  pub marks : (place : Change) → NewMarkAt (present (shown_by a) change) a b place
+  pub marks : (place : Change) → NewMarkAt (change_back (shown_by a) change) a b place
 
 -- the entries of all records, the oldest first
 abbrev pub entries_of : Inside → List Change

@@ -5,8 +5,8 @@ ghost use Rattle.std.specs.Prelude.{◌≡◌, [], None, OnOk, OnErr, IfOk};
 ghost use Rattle.std.specs.Option.{option_copied};
 ghost use Rattle.amr_labels.specs.Labels.{label_set_cmp};
 ghost use Rattle.amr_labels.specs.Map as map;
-ghost use Rattle.amr_tables.specs.Places.{present};
-ghost use Rattle.amr_tables.specs.Numbered.{shown, number_of, next_number, EntersAt, KeepsPlaces, SamePlaces, SameEntered, NoneEntered, IsMarkOf, IsNumber, IsSetAt, IsValueOf, GetsNumber};
+ghost use Rattle.amr_tables.specs.Places.{values_of};
+ghost use Rattle.amr_tables.specs.Numbered.{map_of, number_of, next_number, EntersAt, KeepsPlaces, SamePlaces, SameEntered, NoneEntered, IsMarkOf, IsNumber, IsSetAt, IsValueOf, GetsNumber};
 ghost use Rattle.amr_rules.specs.Muting.{sources_of};
 ghost use Rattle.amr_engine.specs.Indexes.RuleSources.{AllArrived, pairs_of, stored_of};
 ghost use Rattle.amr_labels.specs.Set as set;
@@ -47,7 +47,7 @@ impl Model for AlertTable {
 impl AlertTable {
     /// Builds a table without alerts.
     pub fn new(alloc: Global) -> AlertTable
-        ensures shown { shown label_set_cmp result ≡ map.empty }
+        ensures shown { map_of label_set_cmp result ≡ map.empty }
         ensures entered { NoneEntered label_set_cmp result }
         ensures keys { result.numbers ≡ [] }
     {
@@ -59,7 +59,7 @@ impl AlertTable {
 
     /// Returns the alert with these labels.
     pub fn get(&self, labels: &Labels) -> Option<&Alert>
-        ensures { option_copied result ≡ map.get (shown label_set_cmp self.now) labels.now }
+        ensures { option_copied result ≡ map.get (map_of label_set_cmp self.now) labels.now }
     {
         self.alerts.get(labels)
     }
@@ -75,14 +75,14 @@ impl AlertTable {
     /// listings.
     pub fn sorted(&self, alloc: Global) -> Result<Vec<(&Labels, &Alert)>, AllocError>
         ensures { IfOk result (λ found. pairs_of found.items
-            ≡ map.entries (shown label_set_cmp self.now)) }
+            ≡ map.entries (map_of label_set_cmp self.now)) }
     {
         self.alerts.sorted(alloc)
     }
 
     /// Returns the alerts, in the order in which their labels came. It takes no memory.
     pub fn values(&self) -> Values<'_, Alert>
-        ensures { result ≡ present self.now.cells }
+        ensures { result ≡ values_of self.now.cells }
     {
         self.alerts.values()
     }
@@ -98,10 +98,10 @@ impl AlertTable {
     /// Works out which label sets can be sources of the rule at a place of the configuration, so
     /// that `sources` needn't ask the rule's matchers. It asks them once for each label set. It
     /// works nothing out if there is no room for it.
-    pub fn learn_side(&mut self, place: usize, rule: &InhibitRule)
+    pub fn cache_side(&mut self, place: usize, rule: &InhibitRule)
         ensures { self.new ≡ self.old }
     {
-        self.sources.learn(place, rule);
+        self.sources.cache(place, rule);
     }
 
     /// Clears the marks of all places, so that the open record takes their next change again. Each
@@ -109,7 +109,7 @@ impl AlertTable {
     /// numbers. It takes no memory.
     pub fn clear_entered(&mut self)
         ensures entered { NoneEntered label_set_cmp self.new }
-        ensures shown { shown label_set_cmp self.new ≡ shown label_set_cmp self.old }
+        ensures shown { map_of label_set_cmp self.new ≡ map_of label_set_cmp self.old }
         ensures places { SamePlaces label_set_cmp self.old self.new }
         ensures keys { self.new.numbers ≡ self.old.numbers }
     {
@@ -134,7 +134,7 @@ impl AlertTable {
     /// Makes a place for this label set, which has none, and adds it to the sources.
     pub fn make_place(&mut self, labels: &Labels) -> Result<(), AllocError>
         requires { number_of label_set_cmp self.old labels.now ≡ None }
-        ensures shown { shown label_set_cmp self.new ≡ shown label_set_cmp self.old }
+        ensures shown { map_of label_set_cmp self.new ≡ map_of label_set_cmp self.old }
         ensures entered { SameEntered label_set_cmp self.old self.new }
         ensures places { KeepsPlaces label_set_cmp self.old self.new }
         ensures number { OnOk result (GetsNumber label_set_cmp self.old self.new
@@ -148,7 +148,7 @@ impl AlertTable {
 }
 
 impl AlertStore for AlertTable {
-    ghost alerts = { shown label_set_cmp };
+    ghost alerts = { map_of label_set_cmp };
 
     fn sources(
         &self,
@@ -177,7 +177,7 @@ fn sources_among<'a>(
     target: &Labels,
 ) -> Result<Vec<(&'a Labels, &'a Alert)>, AllocError>
     ensures { IfOk result (λ found. pairs_of found.items
-        ≡ sources_of rule.now target.now (shown label_set_cmp alerts.now)) }
+        ≡ sources_of rule.now target.now (map_of label_set_cmp alerts.now)) }
 {
     let stored = alerts.sorted(alloc)?;
     let mut found = Vec::new(alloc);
@@ -196,7 +196,7 @@ fn stored_of<'a>(
     listed: &'a LabelMap<()>,
 ) -> Result<Vec<(&'a Labels, &'a Alert)>, AllocError>
     ensures { IfOk result (λ found. pairs_of found.items
-        ≡ stored_of (shown label_set_cmp alerts.now) (set.items listed.now)) }
+        ≡ stored_of (map_of label_set_cmp alerts.now) (set.items listed.now)) }
 {
     let mut found = Vec::new(alloc);
     for (labels, _) in listed.iter() {

@@ -7,7 +7,7 @@ ghost use Rattle.amr_engine.specs.Indexes.RuleSources.{ListsSide, ListsAgreeing,
 
 use crate::indexes::label_values::LabelValues;
 use amr_config::stated::InhibitRule;
-use amr_labels::matcher::{Answers, Matchers};
+use amr_labels::matcher::{MatchCache, Matchers};
 use amr_labels::{LabelMap, Labels, Text};
 use amr_tables::Keyed;
 use std::alloc::{AllocError, Global};
@@ -32,19 +32,19 @@ pub(crate) struct SourceSide {
 /// What is known of a side: of the first `seen` label sets, those that match it, under their values
 /// of the labels in `equal`.
 #[derive(Drop)]
-pub(crate) struct KnownSide {
+pub(crate) struct CachedSide {
     pub side: SourceSide,
-    pub seen: usize,
+    pub covered: usize,
     pub sources: Keyed<LabelValues, LabelMap<()>>,
     /// How many label sets are listed.
     pub listed: usize,
 }
 
-/// A side that was learned: the number of its `KnownSide`, and how many label sets had come then.
+/// A side that was learned: the number of its `CachedSide`, and how many label sets had come then.
 #[derive(Clone, Copy)]
-struct LearnedSide {
+struct FilledSide {
     number: usize,
-    seen: usize,
+    covered: usize,
 }
 
 /// Label sets in the order in which they came, with the source sides that are known of them. A side
@@ -53,13 +53,13 @@ struct LearnedSide {
 #[derive(Drop)]
 pub(crate) struct RuleSources {
     alloc: Global,
-    answers: Answers,
+    answers: MatchCache,
     arrived: Vec<Labels>,
     numbers: BTreeMap<SourceSide, usize>,
-    sides: Vec<KnownSide>,
+    sides: Vec<CachedSide>,
     /// The side of each rule that was learned in this event, by the rule's place in the
     /// configuration. It saves look-ups, and no answer depends on it.
-    learned: Vec<Option<LearnedSide>>,
+    filled: Vec<Option<FilledSide>>,
     /// How many label sets the sides list, with what lists and sides count as.
     listed: usize,
 }
@@ -88,11 +88,11 @@ impl RuleSources {
     {
         RuleSources {
             alloc,
-            answers: Answers::new(alloc),
+            answers: MatchCache::new(alloc),
             arrived: Vec::new(alloc),
             numbers: BTreeMap::new(alloc),
             sides: Vec::new(alloc),
-            learned: Vec::new(alloc),
+            filled: Vec::new(alloc),
             listed: 0,
         }
     }
@@ -122,33 +122,33 @@ impl RuleSources {
         rule: &InhibitRule,
         target: &Labels,
     ) -> Result<Option<Option<&LabelMap<()>>>, AllocError>
-        ensures { IfOk result (λ known. IfSome known (λ found.
+        ensures { IfOk result (λ cached. IfSome cached (λ found.
             ListsAgreeing rule.now target.now self.now (option_copied found))) }
     {
-        let side = self.known(place, rule)?;
-        let Some(known) = side else {
+        let side = self.cached(place, rule)?;
+        let Some(cached) = side else {
             return Ok(None);
         };
-        if known.seen < self.arrived.len() {
+        if cached.covered < self.arrived.len() {
             return Ok(None);
         }
-        if known.sources.next_number() == 0 {
+        if cached.sources.next_number() == 0 {
             return Ok(Some(None));
         }
         let values = LabelValues::of(self.alloc, rule.equal.as_slice(), target)?;
-        Ok(Some(known.sources.get(&values)))
+        Ok(Some(cached.sources.get(&values)))
     }
 
     /// Takes in all label sets at the source side of the rule at a place of the configuration, so
     /// that `agreeing` answers for it. It learns nothing if the sides list many label sets by now,
     /// and forgets them all if there is no room.
-    pub(crate) fn learn(&mut self, place: usize, rule: &InhibitRule)
+    pub(crate) fn cache(&mut self, place: usize, rule: &InhibitRule)
         ensures { self.new ≡ self.old }
     {
-        if self.has_learned(place) || self.listed >= MOST_LISTED {
+        if self.is_filled(place) || self.listed >= MOST_LISTED {
             return;
         }
-        if self.learn_side(place, rule).is_err() {
+        if self.cache_side(place, rule).is_err() {
             self.forget_sides();
         }
     }
@@ -158,7 +158,7 @@ impl RuleSources {
     pub(crate) fn forget_places(&mut self)
         ensures { self.new ≡ self.old }
     {
-        self.learned.clear();
+        self.filled.clear();
         if self.listed >= MOST_LISTED {
             self.forget_sides();
         }
@@ -170,47 +170,47 @@ impl RuleSources {
     {
         self.numbers.clear();
         self.sides.clear();
-        self.learned.clear();
+        self.filled.clear();
         self.listed = 0;
     }
 
     /// Takes in all label sets at the source side of the rule at a place, and notes that it did.
-    fn learn_side(&mut self, place: usize, rule: &InhibitRule) -> Result<(), AllocError>
+    fn cache_side(&mut self, place: usize, rule: &InhibitRule) -> Result<(), AllocError>
         ensures { self.new ≡ self.old }
     {
         let number = self.number_of(rule)?;
-        self.see_all(number)?;
-        self.note_learned(place, number)
+        self.list_all(number)?;
+        self.note_filled(place, number)
     }
 
     /// Returns whether the rule at a place was learned, and no label set came since.
-    fn has_learned(&self, place: usize) -> bool {
-        match self.learned.get(place) {
-            Some(Some(learned)) => learned.seen == self.arrived.len(),
+    fn is_filled(&self, place: usize) -> bool {
+        match self.filled.get(place) {
+            Some(Some(filled)) => filled.covered == self.arrived.len(),
             _ => false,
         }
     }
 
     /// Notes that the side with this number is that of the rule at a place, and is learned.
-    fn note_learned(&mut self, place: usize, number: usize) -> Result<(), AllocError>
+    fn note_filled(&mut self, place: usize, number: usize) -> Result<(), AllocError>
         ensures { self.new ≡ self.old }
     {
-        if self.learned.len() <= place {
-            self.learned.resize(place.saturating_add(1), None)?;
+        if self.filled.len() <= place {
+            self.filled.resize(place.saturating_add(1), None)?;
         }
-        let seen = self.arrived.len();
-        if let Some(learned) = self.learned.get_mut(place) {
-            *learned = Some(LearnedSide { number, seen });
+        let covered = self.arrived.len();
+        if let Some(filled) = self.filled.get_mut(place) {
+            *filled = Some(FilledSide { number, covered });
         }
         Ok(())
     }
 
     /// Takes in all label sets at the side with this number.
-    fn see_all(&mut self, number: usize) -> Result<(), AllocError>
+    fn list_all(&mut self, number: usize) -> Result<(), AllocError>
         ensures { self.new ≡ self.old }
     {
         if number < self.sides.len() {
-            let more = see_all(
+            let more = list_all(
                 self.alloc,
                 &mut self.answers,
                 &mut self.sides[number],
@@ -223,33 +223,33 @@ impl RuleSources {
 
     /// Returns what is known of the side of the rule at a place. If the rule was learned in this
     /// event, its side isn't looked for.
-    fn known(&self, place: usize, rule: &InhibitRule) -> Result<Option<&KnownSide>, AllocError>
-        ensures side { IfOk result (λ found. IfSome found (λ known.
-            IsSideOf known.now.side rule.now)) }
-        ensures lists { IfOk result (λ found. IfSome found (λ known.
-            ListsSide self.now known.now)) }
+    fn cached(&self, place: usize, rule: &InhibitRule) -> Result<Option<&CachedSide>, AllocError>
+        ensures side { IfOk result (λ found. IfSome found (λ cached.
+            IsSideOf cached.now.side rule.now)) }
+        ensures lists { IfOk result (λ found. IfSome found (λ cached.
+            ListsSide self.now cached.now)) }
     {
-        if let Some(Some(learned)) = self.learned.get(place) {
-            return Ok(self.known_at(learned.number, rule));
+        if let Some(Some(filled)) = self.filled.get(place) {
+            return Ok(self.cached_at(filled.number, rule));
         }
         let side = side_of(self.alloc, rule)?;
         match self.numbers.get(&side) {
             None => Ok(None),
-            Some(number) => Ok(self.known_at(*number, rule)),
+            Some(number) => Ok(self.cached_at(*number, rule)),
         }
     }
 
     /// Returns what is known of the side with a number, if it is the rule's.
-    fn known_at(&self, number: usize, rule: &InhibitRule) -> Option<&KnownSide>
-        ensures side { IfSome result (λ known. IsSideOf known.now.side rule.now) }
-        ensures lists { IfSome result (λ known. ListsSide self.now known.now) }
+    fn cached_at(&self, number: usize, rule: &InhibitRule) -> Option<&CachedSide>
+        ensures side { IfSome result (λ cached. IsSideOf cached.now.side rule.now) }
+        ensures lists { IfSome result (λ cached. ListsSide self.now cached.now) }
     {
         if number >= self.sides.len() {
             return None;
         }
-        let known = &self.sides[number];
-        if is_side_of(&known.side, rule) {
-            Some(known)
+        let cached = &self.sides[number];
+        if is_side_of(&cached.side, rule) {
+            Some(cached)
         } else {
             None
         }
@@ -271,14 +271,14 @@ impl RuleSources {
         ensures { self.new ≡ self.old }
     {
         let number = self.sides.len();
-        let known = KnownSide {
+        let cached = CachedSide {
             side: side_of(self.alloc, rule)?,
-            seen: 0,
+            covered: 0,
             sources: Keyed::new(self.alloc),
             listed: 0,
         };
         self.listed = self.listed.saturating_add(SIDE);
-        self.sides.push(known)?;
+        self.sides.push(cached)?;
         self.numbers.insert(side, number)?;
         Ok(number)
     }
@@ -308,64 +308,64 @@ fn side_of(alloc: Global, rule: &InhibitRule) -> Result<SourceSide, AllocError>
 
 /// Takes in at a side those of the label sets that it hasn't seen. Returns how much more it lists
 /// then. If memory runs out, it has seen some of them.
-fn see_all(
+fn list_all(
     alloc: Global,
-    answers: &mut Answers,
-    known: &mut KnownSide,
+    answers: &mut MatchCache,
+    cached: &mut CachedSide,
     arrived: &[Labels],
 ) -> Result<usize, AllocError>
-    requires { ListsSide arrived.now known.old }
-    ensures { ListsSide arrived.now known.new }
+    requires { ListsSide arrived.now cached.old }
+    ensures { ListsSide arrived.now cached.new }
 {
-    let before = size_of(known);
-    while known.seen < arrived.len() {
-        see_next(alloc, answers, known, arrived)?;
+    let before = size_of(cached);
+    while cached.covered < arrived.len() {
+        list_next(alloc, answers, cached, arrived)?;
     }
-    Ok(size_of(known).saturating_sub(before))
+    Ok(size_of(cached).saturating_sub(before))
 }
 
 /// Returns how many label sets a side lists, with what its lists count as.
-fn size_of(known: &KnownSide) -> usize {
-    let lists = known.sources.next_number().saturating_mul(LIST);
-    known.listed.saturating_add(lists)
+fn size_of(cached: &CachedSide) -> usize {
+    let lists = cached.sources.next_number().saturating_mul(LIST);
+    cached.listed.saturating_add(lists)
 }
 
 /// Takes in at a side the first of the label sets that it hasn't seen.
-fn see_next(
+fn list_next(
     alloc: Global,
-    answers: &mut Answers,
-    known: &mut KnownSide,
+    answers: &mut MatchCache,
+    cached: &mut CachedSide,
     arrived: &[Labels],
 ) -> Result<(), AllocError>
-    requires lists { ListsSide arrived.now known.old }
-    requires left { known.old.seen < length arrived.now }
-    ensures lists { ListsSide arrived.now known.new }
-    ensures seen { OnOk result (known.new.seen ≡ known.old.seen + 1) }
+    requires lists { ListsSide arrived.now cached.old }
+    requires left { cached.old.covered < length arrived.now }
+    ensures lists { ListsSide arrived.now cached.new }
+    ensures covered { OnOk result (cached.new.covered ≡ cached.old.covered + 1) }
 {
-    let number = known.seen;
-    see(alloc, answers, known, &arrived[number])?;
-    known.seen += 1;
+    let number = cached.covered;
+    list_source(alloc, answers, cached, &arrived[number])?;
+    cached.covered += 1;
     Ok(())
 }
 
 /// Lists a label set at a side if it matches the side.
-fn see(
+fn list_source(
     alloc: Global,
-    answers: &mut Answers,
-    known: &mut KnownSide,
+    answers: &mut MatchCache,
+    cached: &mut CachedSide,
     labels: &Labels,
 ) -> Result<(), AllocError>
-    ensures side { known.new.side ≡ known.old.side }
-    ensures seen { known.new.seen ≡ known.old.seen }
-    ensures listed { OnOk result (IsPut labels.now known.old known.new) }
-    ensures err { OnErr result (ListsSame known.old.sources known.new.sources) }
+    ensures side { cached.new.side ≡ cached.old.side }
+    ensures covered { cached.new.covered ≡ cached.old.covered }
+    ensures listed { OnOk result (IsPut labels.now cached.old cached.new) }
+    ensures err { OnErr result (ListsSame cached.old.sources cached.new.sources) }
 {
-    if !known.side.source.matches_all(answers, labels)? {
+    if !cached.side.source.matches_all(answers, labels)? {
         return Ok(());
     }
-    let values = LabelValues::of(alloc, known.side.equal.as_slice(), labels)?;
-    list_under(alloc, &mut known.sources, &values, labels)?;
-    known.listed = known.listed.saturating_add(1);
+    let values = LabelValues::of(alloc, cached.side.equal.as_slice(), labels)?;
+    list_under(alloc, &mut cached.sources, &values, labels)?;
+    cached.listed = cached.listed.saturating_add(1);
     Ok(())
 }
 

@@ -3,7 +3,7 @@
 ghost use Rattle.std.specs.Prelude.{◌≡◌};
 ghost use Rattle.std.specs.Option.{option_copied};
 
-use crate::indexes::value_marks::required_marks;
+use crate::indexes::value_bits::required_bits;
 use amr_events::posts::SilenceId;
 use amr_rules::Silence;
 use amr_time::Moment;
@@ -14,11 +14,11 @@ pub(crate) struct SilenceChange {
     pub(crate) id: SilenceId,
     /// The end of the silence since the change. If there is no silence, it is the first moment.
     pub(crate) ends_at: Moment,
-    /// The marks that each label set has that the silence matches.
+    /// The bits that each label set has that the silence matches.
     pub(crate) required: u64,
 }
 
-ghost use Rattle.amr_engine.specs.Indexes.SilencesKnown.{change_of, may_concern};
+ghost use Rattle.amr_engine.specs.Indexes.CachedSilences.{change_of, may_concern};
 
 impl SilenceChange {
     /// Returns the note that this is the silence with this id from now on, or that there is none.
@@ -29,7 +29,7 @@ impl SilenceChange {
             Some(silence) => SilenceChange {
                 id: *id,
                 ends_at: silence.ends_at,
-                required: required_marks(silence.matchers.as_slice()),
+                required: required_bits(silence.matchers.as_slice()),
             },
             None => SilenceChange {
                 id: *id,
@@ -40,10 +40,10 @@ impl SilenceChange {
     }
 
     /// Returns whether the silence may mute, after a moment, a label set whose values have these
-    /// marks.
-    pub(crate) fn may_concern(&self, from: Moment, marks: u64) -> bool
-        ensures { result ≡ may_concern from marks self.now }
+    /// bits.
+    pub(crate) fn may_concern(&self, from: Moment, bits: u64) -> bool
+        ensures { result ≡ may_concern from bits self.now }
     {
-        marks | self.required == marks && from < self.ends_at
+        bits | self.required == bits && from < self.ends_at
     }
 }

@@ -4,15 +4,15 @@ ghost use Rattle.std.specs.Prelude.{◌≡◌, ◌<◌, ◌≤◌, ℕ, List, []
 ghost use Rattle.std.specs.Ordering.{nat_cmp};
 ghost use Rattle.amr_labels.specs.Map as map;
 ghost use Rattle.amr_rules.specs.Muting.{is_silenced, silencer_of};
-ghost use Rattle.amr_rules.specs.SilencePeriods.{silence_periods, silence_rows, silenced_in, unexpired};
+ghost use Rattle.amr_rules.specs.SilencePeriods.{silence_periods, silence_rows, silenced_in, unexpired_silences};
 ghost use Rattle.amr_rules.specs.Silences.{Silences};
-ghost use Rattle.amr_tables.specs.Numbered.{shown, number_of, is_entered, Enters, KeepsPlaces, SamePlaces, SameEntered, NoneEntered};
+ghost use Rattle.amr_tables.specs.Numbered.{map_of, number_of, is_entered, Enters, KeepsPlaces, SamePlaces, SameEntered, NoneEntered};
 
-use crate::indexes::known_periods::KnownPeriods;
+use crate::indexes::cached_periods::CachedPeriods;
 use crate::indexes::silence_change::SilenceChange;
-use crate::indexes::value_marks::value_marks;
+use crate::indexes::value_bits::value_bits;
 use amr_events::posts::SilenceId;
-use amr_labels::matcher::Answers;
+use amr_labels::matcher::MatchCache;
 use amr_labels::{Labels, Listing};
 use amr_rules::{
     Silence, SilencePeriod, SilenceRow, periods_at, silence_periods, silence_rows, silenced_by,
@@ -46,9 +46,9 @@ pub struct SilenceTable {
     alloc: Global,
     silences: Keyed<SilenceId, Silence>,
     /// What the patterns of the silences' matchers answered.
-    answers: Answers,
+    answers: MatchCache,
     /// What is known of label sets, in the order in which they were asked about first.
-    known: Vec<KnownPeriods>,
+    cached: Vec<CachedPeriods>,
     /// Their places in that list.
     places: Keyed<Labels, usize>,
     /// The changes of silences since the table began to remember, the latest last.
@@ -67,7 +67,7 @@ pub(crate) struct Unexpired {
     pub(crate) listed: Vec<(SilenceId, Silence)>,
 }
 
-ghost use Rattle.amr_engine.specs.Indexes.SilencesKnown.{IsKnown, AreKnown, AreNoted, AreUnexpired, SameOthers, change_of, changed_ids};
+ghost use Rattle.amr_engine.specs.Indexes.CachedSilences.{IsCached, AreCached, AreNoted, AreUnexpired, SameOthers, change_of, changed_ids};
 
 impl Model for SilenceTable {
     ghost use Rattle.std.specs.Prelude.{ℕ};
@@ -75,8 +75,8 @@ impl Model for SilenceTable {
     ghost use Rattle.amr_labels.specs.Map as map;
     ghost use Rattle.amr_rules.specs.declared.silence.Silence.{Silence};
     ghost use Rattle.std.specs.Ordering.{nat_cmp};
-    ghost use Rattle.amr_tables.specs.Numbered.{Numbered, shown};
-    ghost use Rattle.amr_engine.specs.Indexes.SilencesKnown.{AreKnown, AreNoted, AreUnexpired, changed_ids};
+    ghost use Rattle.amr_tables.specs.Numbered.{Numbered, map_of};
+    ghost use Rattle.amr_engine.specs.Indexes.CachedSilences.{AreCached, AreNoted, AreUnexpired, changed_ids};
 
     ghost Value = { Numbered ℕ Silence };
 
@@ -85,22 +85,22 @@ impl Model for SilenceTable {
     ghost view = { λ t. t.silences };
 
     ghost invariant = { λ t.
-        AreKnown (shown nat_cmp t.silences) (changed_ids t.changes.items) t.known.items
-        × AreUnexpired (shown nat_cmp t.silences) t.unexpired
-        × AreNoted (shown nat_cmp t.silences) t.changes.items };
+        AreCached (map_of nat_cmp t.silences) (changed_ids t.changes.items) t.cached.items
+        × AreUnexpired (map_of nat_cmp t.silences) t.unexpired
+        × AreNoted (map_of nat_cmp t.silences) t.changes.items };
 }
 
 impl SilenceTable {
     /// Builds a table without silences.
     pub fn new(alloc: Global) -> SilenceTable
-        ensures shown { shown nat_cmp result ≡ map.empty }
+        ensures shown { map_of nat_cmp result ≡ map.empty }
         ensures entered { NoneEntered nat_cmp result }
     {
         SilenceTable {
             alloc,
             silences: Keyed::new(alloc),
-            answers: Answers::new(alloc),
-            known: Vec::new(alloc),
+            answers: MatchCache::new(alloc),
+            cached: Vec::new(alloc),
             places: Keyed::new(alloc),
             changes: Vec::new(alloc),
             asked_ahead: 0,
@@ -119,8 +119,8 @@ impl SilenceTable {
     /// does. It asks the silences' matchers only for labels of which it knows nothing.
     pub fn silenced_by(&self, at: Moment, labels: &Labels) -> Result<Option<SilenceId>, AllocError>
         ensures named { IfOk result (λ found. found
-            ≡ silencer_of at labels.now (shown nat_cmp self.now)) }
-        ensures exactly { IfOk result (λ found. is_silenced (shown nat_cmp self.now) at labels.now
+            ≡ silencer_of at labels.now (map_of nat_cmp self.now)) }
+        ensures exactly { IfOk result (λ found. is_silenced (map_of nat_cmp self.now) at labels.now
             ≡ is_some found) }
     {
         match self.periods(at, labels) {
@@ -134,10 +134,10 @@ impl SilenceTable {
     /// some are unknown and many arrived, it first asks for those that arrived, which the next
     /// flushes most likely meet: the search of each pattern is then prepared once for all. If there
     /// is no room, it forgets what it knows of label sets.
-    pub fn learn(&mut self, at: Moment, label_sets: &[Labels], arrived: &[Labels])
+    pub fn cache(&mut self, at: Moment, label_sets: &[Labels], arrived: &[Labels])
         ensures { self.new ≡ self.old }
     {
-        if self.learn_unknown(at, label_sets, arrived).is_err() {
+        if self.cache_missing(at, label_sets, arrived).is_err() {
             self.forget();
         }
     }
@@ -148,7 +148,7 @@ impl SilenceTable {
     {
         forget(
             self.alloc,
-            &mut self.known,
+            &mut self.cached,
             &mut self.places,
             &mut self.changes,
             &mut self.asked_ahead,
@@ -157,7 +157,7 @@ impl SilenceTable {
 
     /// Works out when silences that match those of these label sets are active of which nothing is
     /// known, and remembers it. It may do so for others that arrived.
-    fn learn_unknown(
+    fn cache_missing(
         &mut self,
         at: Moment,
         label_sets: &[Labels],
@@ -168,14 +168,14 @@ impl SilenceTable {
         if self.silences.values().next().is_none() {
             return Ok(());
         }
-        let unknown = self.unknown(at, label_sets)?;
+        let missing = self.missing(at, label_sets)?;
         let ahead = arrived.len().saturating_sub(self.asked_ahead);
-        if unknown.is_empty() || ahead < FEWEST_AHEAD {
-            return self.learn_all(at, unknown.as_slice());
+        if missing.is_empty() || ahead < FEWEST_AHEAD {
+            return self.cache_all(at, missing.as_slice());
         }
         self.ask_ahead(at, arrived)?;
-        let unknown = self.unknown(at, unknown.as_slice())?;
-        self.learn_all(at, unknown.as_slice())
+        let missing = self.missing(at, missing.as_slice())?;
+        self.cache_all(at, missing.as_slice())
     }
 
     /// Works out the same for the next label sets that arrived.
@@ -188,47 +188,47 @@ impl SilenceTable {
             return Ok(());
         }
         self.asked_ahead = end;
-        let unknown = self.unknown(at, &arrived[start..end])?;
-        self.learn_all(at, unknown.as_slice())
+        let missing = self.missing(at, &arrived[start..end])?;
+        self.cache_all(at, missing.as_slice())
     }
 
     /// Works out when silences that match these label sets are active, and remembers it.
-    fn learn_all(&mut self, at: Moment, label_sets: &[Labels]) -> Result<(), AllocError>
+    fn cache_all(&mut self, at: Moment, label_sets: &[Labels]) -> Result<(), AllocError>
         ensures { self.new ≡ self.old }
     {
         for some in label_sets.chunks(MOST_AT_ONCE) {
-            self.learn_some(at, some)?;
+            self.cache_some(at, some)?;
         }
         Ok(())
     }
 
     /// Returns those of the label sets of which nothing is known at a moment.
-    fn unknown(&mut self, at: Moment, label_sets: &[Labels]) -> Result<Vec<Labels>, AllocError>
+    fn missing(&mut self, at: Moment, label_sets: &[Labels]) -> Result<Vec<Labels>, AllocError>
         ensures { self.new ≡ self.old }
     {
-        let mut unknown = Vec::new(self.alloc);
+        let mut missing = Vec::new(self.alloc);
         for labels in label_sets {
-            if !self.is_known(at, labels)? {
-                unknown.push(labels.clone()?)?;
+            if !self.is_cached(at, labels)? {
+                missing.push(labels.clone()?)?;
             }
         }
-        Ok(unknown)
+        Ok(missing)
     }
 
     /// Returns whether it is known of labels, from a moment on, when silences that match them are
     /// active. It first asks the silences that changed since that was learned.
-    fn is_known(&mut self, at: Moment, labels: &Labels) -> Result<bool, AllocError>
+    fn is_cached(&mut self, at: Moment, labels: &Labels) -> Result<bool, AllocError>
         ensures { self.new ≡ self.old }
     {
         let place = match self.places.get(labels) {
-            Some(place) if *place < self.known.len() => *place,
+            Some(place) if *place < self.cached.len() => *place,
             _ => return Ok(false),
         };
-        let known = &mut self.known[place];
-        if at < known.from {
+        let cached = &mut self.cached[place];
+        if at < cached.from {
             return Ok(false);
         }
-        known.catch_up(
+        cached.catch_up(
             self.alloc,
             &mut self.answers,
             &self.silences,
@@ -240,13 +240,13 @@ impl SilenceTable {
 
     /// Works out when silences that match these label sets are active, and remembers it. It asks
     /// only silences that aren't expired, and keeps the list of them until a silence changes.
-    fn learn_some(&mut self, at: Moment, label_sets: &[Labels]) -> Result<(), AllocError>
+    fn cache_some(&mut self, at: Moment, label_sets: &[Labels]) -> Result<(), AllocError>
         ensures { self.new ≡ self.old }
     {
         let kept = self.unexpired_at(at)?;
-        let learned = self.learn_from(at, label_sets, kept.listed.as_slice(), kept.from);
+        let filled = self.cache_from(at, label_sets, kept.listed.as_slice(), kept.from);
         self.unexpired = Some(kept);
-        learned
+        filled
     }
 
     /// Takes the list of the silences that aren't expired at a moment or weren't before. It makes a
@@ -255,7 +255,7 @@ impl SilenceTable {
         ensures same { self.new ≡ self.old }
         ensures before { IfOk result (λ kept. kept.from ≤ at) }
         ensures listed { IfOk result (λ kept. kept.listed.items
-            ≡ unexpired kept.from (shown nat_cmp self.old)) }
+            ≡ unexpired_silences kept.from (map_of nat_cmp self.old)) }
     {
         match self.unexpired.take() {
             Some(kept) if kept.from <= at => Ok(kept),
@@ -268,7 +268,7 @@ impl SilenceTable {
 
     /// Works out when those of these silences that match the label sets are active, and remembers
     /// it. No other silence is unexpired.
-    fn learn_from(
+    fn cache_from(
         &mut self,
         at: Moment,
         label_sets: &[Labels],
@@ -276,36 +276,36 @@ impl SilenceTable {
         from: Moment,
     ) -> Result<(), AllocError>
         requires before { from ≤ at }
-        requires listed { listed.now ≡ unexpired from (shown nat_cmp self.old) }
+        requires listed { listed.now ≡ unexpired_silences from (map_of nat_cmp self.old) }
         ensures { self.new ≡ self.old }
     {
         if label_sets.len() < FEWEST_AT_ONCE {
-            return self.learn_one_by_one(at, label_sets, listed, from);
+            return self.cache_one_by_one(at, label_sets, listed, from);
         }
         let rows = silence_rows(self.alloc, listed, at, label_sets)?;
-        self.learn_rows(at, label_sets, rows.as_slice())
+        self.cache_rows(at, label_sets, rows.as_slice())
     }
 
     /// Remembers the silences that rows list for each of these label sets.
-    fn learn_rows(
+    fn cache_rows(
         &mut self,
         at: Moment,
         label_sets: &[Labels],
         rows: &[SilenceRow],
     ) -> Result<(), AllocError>
-        requires { rows.now ≡ silence_rows at label_sets.now (shown nat_cmp self.old) }
+        requires { rows.now ≡ silence_rows at label_sets.now (map_of nat_cmp self.old) }
         ensures { self.new ≡ self.old }
     {
         for (place, labels) in label_sets.iter().enumerate() {
             let periods = periods_at(self.alloc, rows, place)?;
-            self.remember(at, labels, periods)?;
+            self.insert(at, labels, periods)?;
         }
         Ok(())
     }
 
     /// Asks these silences for each of these label sets, and remembers the answers of patterns. No
     /// other silence is unexpired.
-    fn learn_one_by_one(
+    fn cache_one_by_one(
         &mut self,
         at: Moment,
         label_sets: &[Labels],
@@ -313,58 +313,58 @@ impl SilenceTable {
         from: Moment,
     ) -> Result<(), AllocError>
         requires before { from ≤ at }
-        requires listed { listed.now ≡ unexpired from (shown nat_cmp self.old) }
+        requires listed { listed.now ≡ unexpired_silences from (map_of nat_cmp self.old) }
         ensures { self.new ≡ self.old }
     {
         for labels in label_sets {
             let periods = silence_periods(self.alloc, &mut self.answers, listed, at, labels)?;
-            self.remember(at, labels, periods)?;
+            self.insert(at, labels, periods)?;
         }
         Ok(())
     }
 
     /// Remembers when the silences that match labels are active from a moment on.
-    fn remember(
+    fn insert(
         &mut self,
         at: Moment,
         labels: &Labels,
         periods: Listing<SilencePeriod>,
     ) -> Result<(), AllocError>
-        requires { periods ≡ silence_periods at labels.now (shown nat_cmp self.old) }
+        requires { periods ≡ silence_periods at labels.now (map_of nat_cmp self.old) }
         ensures { self.new ≡ self.old }
     {
-        let known = KnownPeriods {
+        let cached = CachedPeriods {
             labels: labels.clone()?,
-            marks: value_marks(labels),
+            bits: value_bits(labels),
             from: at,
-            seen: self.changes.as_slice().len(),
+            version: self.changes.as_slice().len(),
             periods,
         };
-        keep(&mut self.known, &mut self.places, known)
+        keep(&mut self.cached, &mut self.places, cached)
     }
 
     /// Returns what is known of labels, if it reaches back to a moment and no silence changed
     /// since: when the silences that match them are active.
     fn periods(&self, at: Moment, labels: &Labels) -> Option<&[SilencePeriod]>
         ensures { IfSome result (λ periods. silenced_in at periods.now
-            ≡ silencer_of at labels.now (shown nat_cmp self.now)) }
+            ≡ silencer_of at labels.now (map_of nat_cmp self.now)) }
     {
         let place = *self.places.get(labels)?;
-        if place >= self.known.len() {
+        if place >= self.cached.len() {
             return None;
         }
-        let known = &self.known[place];
-        if at < known.from || known.seen != self.changes.len() || known.labels != *labels {
+        let cached = &self.cached[place];
+        if at < cached.from || cached.version != self.changes.len() || cached.labels != *labels {
             return None;
         }
-        Some(known.periods.as_slice())
+        Some(cached.periods.as_slice())
     }
 
     /// Clears the marks of all places, so that the open record takes their next change again. It
     /// takes no memory.
     pub fn clear_entered(&mut self)
         ensures entered { NoneEntered nat_cmp self.new }
-        ensures shown { shown nat_cmp self.new ≡ shown nat_cmp self.old }
+        ensures shown { map_of nat_cmp self.new ≡ map_of nat_cmp self.old }
         ensures places { SamePlaces nat_cmp self.old self.new }
         ensures keys { self.new.numbers ≡ self.old.numbers }
     {
@@ -375,7 +375,7 @@ impl SilenceTable {
     /// its next change.
     pub fn place(&mut self, id: &SilenceId) -> Result<usize, AllocError>
         ensures number { IfOk result (λ number. number_of nat_cmp self.new id.now ≡ Some number) }
-        ensures shown { shown nat_cmp self.new ≡ shown nat_cmp self.old }
+        ensures shown { map_of nat_cmp self.new ≡ map_of nat_cmp self.old }
         ensures entered { SameEntered nat_cmp self.old self.new }
         ensures places { KeepsPlaces nat_cmp self.old self.new }
     {
@@ -393,10 +393,10 @@ impl SilenceTable {
     /// takes no memory.
     pub fn swap_at(&mut self, id: &SilenceId, number: usize, silence: &mut Option<Silence>) -> bool
         requires { number_of nat_cmp self.old id.now ≡ Some number }
-        ensures former { silence.new ≡ map.get (shown nat_cmp self.old) id.now }
+        ensures former { silence.new ≡ map.get (map_of nat_cmp self.old) id.now }
         ensures was_entered { result ≡ is_entered nat_cmp self.old id.now }
-        ensures shown { shown nat_cmp self.new
-            ≡ map.set (shown nat_cmp self.old) id.now silence.old }
+        ensures shown { map_of nat_cmp self.new
+            ≡ map.set (map_of nat_cmp self.old) id.now silence.old }
         ensures places { SamePlaces nat_cmp self.old self.new }
         ensures entered { Enters nat_cmp self.old self.new id.now }
     {
@@ -405,7 +405,7 @@ impl SilenceTable {
         let asked = &mut self.asked_ahead;
         note_change(
             self.alloc,
-            &mut self.known,
+            &mut self.cached,
             &mut self.places,
             &mut self.changes,
             asked,
@@ -419,15 +419,15 @@ impl SilenceTable {
 /// changes, or if there is no room for one more. It takes no memory.
 fn note_change(
     alloc: Global,
-    known: &mut Vec<KnownPeriods>,
+    cached: &mut Vec<CachedPeriods>,
     places: &mut Keyed<Labels, usize>,
     changes: &mut Vec<SilenceChange>,
     asked_ahead: &mut usize,
     noted: SilenceChange,
 )
-    ensures known { (before after : Silences) → SameOthers noted.id before after
-        → AreKnown before (changed_ids changes.old.items) known.old.items
-        → AreKnown after (changed_ids changes.new.items) known.new.items }
+    ensures cached { (before after : Silences) → SameOthers noted.id before after
+        → AreCached before (changed_ids changes.old.items) cached.old.items
+        → AreCached after (changed_ids changes.new.items) cached.new.items }
     ensures noted { (before after : Silences) → SameOthers noted.id before after
         → noted ≡ change_of noted.id (map.get after noted.id)
         → AreNoted before changes.old.items → AreNoted after changes.new.items }
@@ -436,22 +436,22 @@ fn note_change(
     if count < MOST_CHANGES && count < changes.capacity() {
         changes.push_reserved(noted);
     } else {
-        forget(alloc, known, places, changes, asked_ahead);
+        forget(alloc, cached, places, changes, asked_ahead);
     }
 }
 
 /// Forgets all that is known of label sets.
 fn forget(
     alloc: Global,
-    known: &mut Vec<KnownPeriods>,
+    cached: &mut Vec<CachedPeriods>,
     places: &mut Keyed<Labels, usize>,
     changes: &mut Vec<SilenceChange>,
     asked_ahead: &mut usize,
 )
-    ensures known { known.new.items ≡ [] }
+    ensures cached { cached.new.items ≡ [] }
     ensures changes { changes.new.items ≡ [] }
 {
-    known.clear();
+    cached.clear();
     *places = Keyed::new(alloc);
     changes.clear();
     *asked_ahead = 0;
@@ -459,34 +459,36 @@ fn forget(
 
 /// Keeps what is known of a label set in place of what was known of it before.
 fn keep(
-    known: &mut Vec<KnownPeriods>,
+    cached: &mut Vec<CachedPeriods>,
     places: &mut Keyed<Labels, usize>,
-    one: KnownPeriods,
+    one: CachedPeriods,
 ) -> Result<(), AllocError>
-    ensures { (silences : Silences) (changes : List ℕ) → IsKnown silences changes one
-        → AreKnown silences changes known.old.items → AreKnown silences changes known.new.items }
+    ensures { (silences : Silences) (changes : List ℕ) → IsCached silences changes one
+        → AreCached silences changes cached.old.items
+        → AreCached silences changes cached.new.items }
 {
     match places.get(&one.labels).copied() {
-        Some(place) if place < known.len() => {
-            known[place] = one;
+        Some(place) if place < cached.len() => {
+            cached[place] = one;
             Ok(())
         }
-        _ => add(known, places, one),
+        _ => add(cached, places, one),
     }
 }
 
 /// Adds what is known of a label set.
 fn add(
-    known: &mut Vec<KnownPeriods>,
+    cached: &mut Vec<CachedPeriods>,
     places: &mut Keyed<Labels, usize>,
-    one: KnownPeriods,
+    one: CachedPeriods,
 ) -> Result<(), AllocError>
-    ensures { (silences : Silences) (changes : List ℕ) → IsKnown silences changes one
-        → AreKnown silences changes known.old.items → AreKnown silences changes known.new.items }
+    ensures { (silences : Silences) (changes : List ℕ) → IsCached silences changes one
+        → AreCached silences changes cached.old.items
+        → AreCached silences changes cached.new.items }
 {
-    let place = known.len();
+    let place = cached.len();
     let labels = one.labels.clone()?;
-    known.push(one)?;
+    cached.push(one)?;
     places.make_place(labels.clone()?)?;
     places.displace(&labels, Some(place));
     Ok(())

@@ -35,7 +35,7 @@ pub enum Change {
     OfNotes(usize),
 }
 
-/// A configuration in memory of its own, with what it remembers. A `Router` is far larger than what
+/// A configuration in memory of its own, with what it caches. A `Router` is far larger than what
 /// other entries have, and all entries of a record are as large as the largest.
 #[derive(Drop)]
 pub struct BoxedRouter {
@@ -67,6 +67,6 @@ impl BoxedRouter {
         ensures used { used.new ≡ self.old }
     {
         mem::swap(&mut *self.router, used);
-        used.swap_known(&mut self.router);
+        used.swap_cache(&mut self.router);
     }
 }

@@ -2,12 +2,12 @@
 //! on each route that takes it. A post and a change of the configuration call `place`. It sets
 //! group timers, but flushes nothing.
 ghost use Rattle.std.specs.Prelude.{◌≡◌, ◌+◌, ◌*◌, ◌≤◌, Some, length, true, OnOk, IfOk, nat_lt};
-ghost use Rattle.amr_config.specs.Routing.{chosen};
+ghost use Rattle.amr_config.specs.Routing.{chosen_routes};
 ghost use Rattle.amr_config.specs.Groups.{group_at};
 ghost use Rattle.amr_labels.specs.Map as map;
 ghost use Rattle.amr_time.specs.Time.{latest_read};
 ghost use Rattle.amr_engine.specs.State.State.{on_route, group_key, timer_with, place_on, place};
-ghost use Rattle.amr_engine.specs.State.Kept.{GrownBy, undone};
+ghost use Rattle.amr_engine.specs.State.Kept.{GrownBy, before_open_record};
 
 use crate::state::change::Change;
 use crate::state::membership::Membership;
@@ -23,8 +23,8 @@ use std::alloc::{AllocError, Global};
 /// Inserts an alert into its group on each route that takes it.
 pub fn place(store: &mut Store, labels: &Labels, alert: &Alert) -> Result<(), AllocError>
     ensures ok { OnOk result (store.new.state ≡ place store.old.state (labels.now, alert.now)) }
-    ensures kept { undone store.new ≡ undone store.old }
-    ensures grown { GrownBy (2 * length (chosen store.old.state.config labels.now))
+    ensures kept { before_open_record store.new ≡ before_open_record store.old }
+    ensures grown { GrownBy (2 * length (chosen_routes store.old.state.config labels.now))
         store.old store.new }
 {
     let groups = store.groups_of(labels)?;
@@ -59,7 +59,7 @@ fn change_timer(
     requires { before ≡ map.get store.old.state.timers group }
     ensures ok { OnOk result (store.new.state
         ≡ record store.old.state { timers = map.insert store.old.state.timers group after }) }
-    ensures kept { undone store.new ≡ undone store.old }
+    ensures kept { before_open_record store.new ≡ before_open_record store.old }
     ensures grown { GrownBy 1 store.old store.new }
 {
     if stays(&before, &after) {
@@ -78,7 +78,7 @@ fn place_on(
     requires { group.now ≡ group_at store.old.state.config labels.now group.now.route }
     ensures ok { OnOk result (store.new.state
         ≡ place_on labels.now alert.now store.old.state group.now.route) }
-    ensures kept { undone store.new ≡ undone store.old }
+    ensures kept { before_open_record store.new ≡ before_open_record store.old }
     ensures grown { GrownBy 2 store.old store.new }
 {
     let route = group.route;

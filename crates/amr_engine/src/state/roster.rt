@@ -5,7 +5,7 @@ ghost use Rattle.std.specs.Prelude.{◌≡◌, ◌<◌, ◌+◌, ◌++◌, [], I
 ghost use Rattle.amr_labels.specs.Map as map;
 ghost use Rattle.amr_config.specs.Groups.{groups_of};
 ghost use Rattle.amr_config.specs.Stated.RuleMatches.{rule_matches};
-ghost use Rattle.amr_tables.specs.Numbered.{shown, has_place, number_of, next_number, IsMarkOf, IsNumbering, IsSetAt, IsValueOf, KeepsPlaces, SamePlaces, EntersAt, SameEntered, NoneEntered};
+ghost use Rattle.amr_tables.specs.Numbered.{map_of, has_place, number_of, next_number, IsMarkOf, IsNumbering, IsSetAt, IsValueOf, KeepsPlaces, SamePlaces, EntersAt, SameEntered, NoneEntered};
 ghost use Rattle.std.specs.List.{All, filter_map, cons_option};
 ghost use Rattle.amr_engine.specs.State.State.{member_on_route, route_labels_cmp, group_key, members_among};
 ghost use Rattle.amr_engine.specs.State.Rostered.{labels_of_members, labels_of_numbered, numbered_labels, with_alert, IsNumbered};
@@ -53,7 +53,7 @@ impl Roster {
     /// Builds a roster without members.
     pub(crate) fn new(alloc: Global, config: Config) -> Roster
         ensures config { result.config ≡ config }
-        ensures shown { shown route_labels_cmp result.placements ≡ map.empty }
+        ensures shown { map_of route_labels_cmp result.placements ≡ map.empty }
         ensures entered { NoneEntered route_labels_cmp result.placements }
     {
         Roster {
@@ -104,7 +104,7 @@ impl Roster {
     /// of other groups.
     pub(crate) fn members_of(&self, group: &RouteLabels) -> Result<Vec<Member>, AllocError>
         ensures { IfOk result (λ found. found.items
-            ≡ members_among self.now.config (shown route_labels_cmp self.now.placements)
+            ≡ members_among self.now.config (map_of route_labels_cmp self.now.placements)
             group.now) }
     {
         let members = self.numbered_members(group)?;
@@ -122,7 +122,7 @@ impl Roster {
         group: &RouteLabels,
     ) -> Result<Listing<Labels>, AllocError>
         ensures { IfOk result (λ found. found ≡ labels_of_members
-            (members_among self.now.config (shown route_labels_cmp self.now.placements)
+            (members_among self.now.config (map_of route_labels_cmp self.now.placements)
             group.now)) }
     {
         let members = self.numbered_members(group)?;
@@ -133,7 +133,7 @@ impl Roster {
     fn numbered_members(&self, group: &RouteLabels) -> Result<Vec<(&Labels, usize)>, AllocError>
         ensures labels { IfOk result (λ found. labels_of_numbered found.items
             ≡ labels_of_members (members_among self.now.config
-            (shown route_labels_cmp self.now.placements) group.now)) }
+            (map_of route_labels_cmp self.now.placements) group.now)) }
         ensures numbers { IfOk result (λ found.
             All (IsNumbered self.now.placements group.now.route)
             (map numbered_labels found.items)) }
@@ -156,8 +156,8 @@ impl Roster {
     /// Clears the marks of all places, so that the open record takes their next change again. It
     /// takes no memory.
     pub(crate) fn clear_entered(&mut self)
-        ensures shown { shown route_labels_cmp self.new.placements
-            ≡ shown route_labels_cmp self.old.placements }
+        ensures shown { map_of route_labels_cmp self.new.placements
+            ≡ map_of route_labels_cmp self.old.placements }
         ensures places { SamePlaces route_labels_cmp self.old.placements self.new.placements }
         ensures entered { NoneEntered route_labels_cmp self.new.placements }
         ensures groups { self.new.groups ≡ self.old.groups }
@@ -174,8 +174,8 @@ impl Roster {
             (member_on_route member.now) ≡ Some number) }
         ensures known { OnOk result
             (IsTrue (has_place route_labels_cmp self.new.groups member.now.group)) }
-        ensures shown { shown route_labels_cmp self.new.placements
-            ≡ shown route_labels_cmp self.old.placements }
+        ensures shown { map_of route_labels_cmp self.new.placements
+            ≡ map_of route_labels_cmp self.old.placements }
         ensures entered { SameEntered route_labels_cmp self.old.placements self.new.placements }
         ensures places { KeepsPlaces route_labels_cmp self.old.placements self.new.placements }
         ensures groups { KeepsPlaces route_labels_cmp self.old.groups self.new.groups }
@@ -230,7 +230,7 @@ impl Roster {
     /// Swaps the configuration with another, while no group has members. The new one takes over what
     /// patterns answered. It takes no memory.
     pub(crate) fn swap_config(&mut self, config: &mut BoxedRouter)
-        requires { shown route_labels_cmp self.old.placements ≡ map.empty }
+        requires { map_of route_labels_cmp self.old.placements ≡ map.empty }
         ensures before { config.new ≡ self.old.config }
         ensures config { self.new.config ≡ config.old }
         ensures placements { self.new.placements ≡ self.old.placements }
@@ -277,8 +277,8 @@ impl Roster {
         requires { number_of route_labels_cmp self.old.placements route_labels.now ≡ None }
         ensures number { IfOk result (λ number.
             number_of route_labels_cmp self.new.placements route_labels.now ≡ Some number) }
-        ensures shown { shown route_labels_cmp self.new.placements
-            ≡ shown route_labels_cmp self.old.placements }
+        ensures shown { map_of route_labels_cmp self.new.placements
+            ≡ map_of route_labels_cmp self.old.placements }
         ensures entered { SameEntered route_labels_cmp self.old.placements self.new.placements }
         ensures places { KeepsPlaces route_labels_cmp self.old.placements self.new.placements }
         ensures groups { self.new.groups ≡ self.old.groups }
@@ -337,7 +337,7 @@ fn with_alerts(
 ) -> Result<Vec<Member>, AllocError>
     requires { All (IsNumbered placements.now route) (map numbered_labels members.now) }
     ensures { IfOk result (λ found. found.items
-        ≡ filter_map (with_alert (shown route_labels_cmp placements.now) route)
+        ≡ filter_map (with_alert (map_of route_labels_cmp placements.now) route)
         (labels_of_numbered members.now)) }
 {
     let mut found = Vec::new(alloc);
@@ -358,7 +358,7 @@ fn push_member(
 ) -> Result<(), AllocError>
     requires { IsNumbered placements.now route (labels.now, number) }
     ensures { OnOk result (found.new.items ≡ found.old.items ++
-        cons_option (with_alert (shown route_labels_cmp placements.now) route labels.now) []) }
+        cons_option (with_alert (map_of route_labels_cmp placements.now) route labels.now) []) }
 {
     if let Some(alert) = placements.at(number) {
         found.push((labels.clone()?, alert.clone()?))?;

@@ -11,15 +11,15 @@ ghost use Rattle.amr_config.specs.Groups.{groups_of};
 ghost use Rattle.amr_config.specs.Stated.RuleMatches.{rule_matches};
 ghost use Rattle.amr_labels.specs.Map as map;
 ghost use Rattle.amr_labels.specs.Map.{len};
-ghost use Rattle.amr_tables.specs.Numbered.{shown};
+ghost use Rattle.amr_tables.specs.Numbered.{map_of};
 ghost use Rattle.amr_time.specs.Time.{latest_read};
 ghost use Rattle.amr_rules.specs.Muting.{is_silenced, silencer_of};
 ghost use Rattle.amr_engine.specs.State.State.{start, members, group_key, timers_after_flush, route_labels_cmp, log_key_cmp};
 ghost use Rattle.amr_engine.specs.State.Dues.{next_due};
 ghost use Rattle.amr_engine.specs.State.Logged.{is_due};
-ghost use Rattle.amr_engine.specs.State.Kept.{GrownBy, undone};
+ghost use Rattle.amr_engine.specs.State.Kept.{GrownBy, before_open_record};
 ghost use Rattle.amr_engine.specs.State.Rostered.{labels_of_members};
-ghost use Rattle.amr_engine.specs.State.Records.{changed};
+ghost use Rattle.amr_engine.specs.State.Records.{after_change};
 ghost use Rattle.amr_engine.specs.State.Fitting.{FitsOne, IsAllowed};
 ghost use Rattle.amr_engine.specs.State.Stored.{shown_by, IsEntered, IsPlaceOf, MorePlaces, NoNewMark, SameValues};
 
@@ -133,7 +133,7 @@ impl Store {
     /// Undoes the last entry of the open record. It takes no memory.
     pub fn undo_entry(&mut self)
         requires { 0 < length self.old.current }
-        ensures kept { undone self.new ≡ undone self.old }
+        ensures kept { before_open_record self.new ≡ before_open_record self.old }
         ensures shorter { length self.new.current + 1 ≡ length self.old.current }
     {
         let mut back = self.journal.pop();
@@ -144,7 +144,7 @@ impl Store {
 
     /// Undoes all entries of the open record. It takes no memory.
     pub fn undo_open(&mut self)
-        ensures { self.new ≡ undone self.old }
+        ensures { self.new ≡ before_open_record self.old }
     {
         while !self.is_current_empty() {
             self.undo_entry();
@@ -210,14 +210,14 @@ impl Store {
 
     /// Returns the stored alerts, by labels.
     pub fn alerts(&self) -> &AlertTable
-        ensures { shown label_set_cmp result.now ≡ self.now.state.alerts }
+        ensures { map_of label_set_cmp result.now ≡ self.now.state.alerts }
     {
         self.tables.timetable.alerts()
     }
 
     /// Returns the silences, by id.
     pub fn silences(&self) -> &Keyed<SilenceId, Silence>
-        ensures { shown nat_cmp result.now ≡ self.now.state.silences }
+        ensures { map_of nat_cmp result.now ≡ self.now.state.silences }
     {
         self.tables.silences.silences()
     }
@@ -236,28 +236,28 @@ impl Store {
     /// Works out when silences that match these label sets are active, so that `silenced_by`
     /// needn't ask their matchers at this moment or later. It does so once for each label set until
     /// a silence changes. It may do so for others that have a place, too.
-    pub fn learn_silences(&mut self, at: Moment, label_sets: &[Labels]) -> Result<(), AllocError>
+    pub fn cache_silences(&mut self, at: Moment, label_sets: &[Labels]) -> Result<(), AllocError>
         ensures same { self.new ≡ self.old }
     {
         let arrived = self.tables.timetable.alerts().arrived();
-        self.tables.silences.learn(at, label_sets, arrived);
+        self.tables.silences.cache(at, label_sets, arrived);
         Ok(())
     }
 
     /// Works out which label sets can be sources of the inhibition rules that have a label set as a
     /// target, given which sides of each rule it is on, so that inhibition needn't look for them
     /// among all stored alerts. It asks the source matchers of such a rule once for each label set.
-    pub fn learn_sources(&mut self, matched: &[RuleMatch]) -> Result<(), AllocError>
+    pub fn cache_sources(&mut self, matched: &[RuleMatch]) -> Result<(), AllocError>
         ensures same { self.new ≡ self.old }
     {
         self.tables
             .timetable
-            .learn_sources(self.tables.roster.config().rules(), matched)
+            .cache_sources(self.tables.roster.config().rules(), matched)
     }
 
     /// Returns the members of all groups, by route and labels.
     pub(crate) fn placements(&self) -> &Keyed<RouteLabels, Alert>
-        ensures { shown route_labels_cmp result.now ≡ self.now.state.placements }
+        ensures { map_of route_labels_cmp result.now ≡ self.now.state.placements }
     {
         self.tables.roster.placements()
     }
@@ -284,14 +284,14 @@ impl Store {
 
     /// Returns the group timers, by group.
     pub fn timers(&self) -> &Keyed<RouteLabels, GroupTimer>
-        ensures { shown route_labels_cmp result.now ≡ self.now.state.timers }
+        ensures { map_of route_labels_cmp result.now ≡ self.now.state.timers }
     {
         self.tables.timetable.timers()
     }
 
     /// Returns the notification log.
     pub fn log(&self) -> &Keyed<LogKey, LogEntry>
-        ensures { shown log_key_cmp result.now ≡ self.now.state.log }
+        ensures { map_of log_key_cmp result.now ≡ self.now.state.log }
     {
         &self.tables.log
     }
@@ -337,8 +337,8 @@ impl Store {
     /// has one of its place.
     pub fn change(&mut self, change: Change) -> Result<(), AllocError>
         requires { IsAllowed self.old.state change }
-        ensures ok { OnOk result (self.new.state ≡ changed self.old.state change) }
-        ensures kept { undone self.new ≡ undone self.old }
+        ensures ok { OnOk result (self.new.state ≡ after_change self.old.state change) }
+        ensures kept { before_open_record self.new ≡ before_open_record self.old }
         ensures grown { GrownBy 1 self.old self.new }
     {
         let number = make_room(&mut self.tables, &mut self.journal, &change)?;
@@ -352,7 +352,7 @@ impl Store {
         ensures ok { OnOk result (self.new.state
             ≡ record self.old.state
             { timers = timers_after_flush next group.now self.old.state.timers }) }
-        ensures kept { undone self.new ≡ undone self.old }
+        ensures kept { before_open_record self.new ≡ before_open_record self.old }
         ensures grown { GrownBy 1 self.old self.new }
     {
         let (number, former) = self.tables.timetable.timers().look_up_number(group);
@@ -384,7 +384,7 @@ impl Store {
         ensures ok { IfOk result (λ due. self.new.state ≡ (if due
             then record self.old.state { log = map.insert self.old.state.log key.now entry }
             else self.old.state)) }
-        ensures kept { undone self.new ≡ undone self.old }
+        ensures kept { before_open_record self.new ≡ before_open_record self.old }
         ensures grown { GrownBy 1 self.old self.new }
     {
         let (number, former) = self.tables.log.look_up_number(key);
@@ -413,7 +413,7 @@ impl Store {
     pub fn append_notification(&mut self, notification: Notification) -> Result<(), AllocError>
         ensures ok { OnOk result (self.new.state
             ≡ record self.old.state { notes = self.old.state.notes ++ notification ∷ [] }) }
-        ensures kept { undone self.new ≡ undone self.old }
+        ensures kept { before_open_record self.new ≡ before_open_record self.old }
         ensures grown { GrownBy 1 self.old self.new }
     {
         let notification = Shared::new(self.alloc, notification)?;
@@ -432,7 +432,7 @@ impl Store {
         ensures ok { OnOk result (self.new.state
             ≡ record self.old.state
             { config = config; placements = map.empty; timers = map.empty }) }
-        ensures kept { undone self.new ≡ undone self.old }
+        ensures kept { before_open_record self.new ≡ before_open_record self.old }
         ensures grown { GrownBy (1 + len self.old.state.timers + len self.old.state.placements)
             self.old self.new }
     {
@@ -472,7 +472,7 @@ impl Store {
     fn clear_placements(&mut self) -> Result<(), AllocError>
         ensures ok { OnOk result (self.new.state
             ≡ record self.old.state { placements = map.empty }) }
-        ensures kept { undone self.new ≡ undone self.old }
+        ensures kept { before_open_record self.new ≡ before_open_record self.old }
         ensures grown { GrownBy (len self.old.state.placements) self.old self.new }
     {
         let placed_keys = keys_of(self.alloc, self.tables.roster.placements())?;
@@ -487,7 +487,7 @@ impl Store {
     /// Removes all groups with their timers.
     fn clear_timers(&mut self) -> Result<(), AllocError>
         ensures ok { OnOk result (self.new.state ≡ record self.old.state { timers = map.empty }) }
-        ensures kept { undone self.new ≡ undone self.old }
+        ensures kept { before_open_record self.new ≡ before_open_record self.old }
         ensures grown { GrownBy (len self.old.state.timers) self.old self.new }
     {
         let groups = keys_of(self.alloc, self.tables.timetable.timers())?;
@@ -502,7 +502,7 @@ impl Store {
     fn change_config(&mut self, config: Config) -> Result<(), AllocError>
         requires { self.old.state.placements ≡ map.empty }
         ensures ok { OnOk result (self.new.state ≡ record self.old.state { config = config }) }
-        ensures kept { undone self.new ≡ undone self.old }
+        ensures kept { before_open_record self.new ≡ before_open_record self.old }
         ensures grown { GrownBy 1 self.old self.new }
     {
         self.journal.reserve_entry()?;
@@ -542,7 +542,7 @@ fn enter(tables: &mut Tables, journal: &mut Journal<Change>, number: usize, mut 
     requires room { 0 < journal.old.entry_room }
     requires number { IsPlaceOf tables.old change number }
     requires fits { FitsOne (shown_by tables.old) change }
-    ensures state { shown_by tables.new ≡ changed (shown_by tables.old) change }
+    ensures state { shown_by tables.new ≡ after_change (shown_by tables.old) change }
     ensures places { MorePlaces tables.old tables.new }
     ensures entered { IsEntered tables.old journal.old change tables.new journal.new }
 {
@@ -557,7 +557,7 @@ fn keys_of<V: Drop>(
     alloc: Global,
     table: &Keyed<RouteLabels, V>,
 ) -> Result<Vec<RouteLabels>, AllocError>
-    ensures { IfOk result (λ found. found.items ≡ map.keys (shown route_labels_cmp table.now)) }
+    ensures { IfOk result (λ found. found.items ≡ map.keys (map_of route_labels_cmp table.now)) }
 {
     let mut found = Vec::new(alloc);
     let sorted = table.sorted(alloc)?;

@@ -2,9 +2,9 @@
 //! what the open record has entries for. `Store` owns it, appends notifications and drops them;
 //! `displace` is the one way to change it otherwise.
 ghost use Rattle.std.specs.Prelude.{◌≡◌, Some, IsTrue, IfOk, not};
-ghost use Rattle.amr_tables.specs.Numbered.{shown, has_place, number_of, KeepsPlaces, SameEntered};
+ghost use Rattle.amr_tables.specs.Numbered.{map_of, has_place, number_of, KeepsPlaces, SameEntered};
 ghost use Rattle.amr_engine.specs.State.State.{log_key_cmp};
-ghost use Rattle.amr_engine.specs.State.Records.{changed, present};
+ghost use Rattle.amr_engine.specs.State.Records.{after_change, change_back};
 ghost use Rattle.amr_engine.specs.State.Fitting.{FitsOne, is_config};
 ghost use Rattle.amr_engine.specs.State.Stored.{shown_by, SameValues, MorePlaces, IsSound, IsPlaceOf, IsUnmarked, NoNewMark, NewMarkAt, is_marked_at};
 
@@ -75,13 +75,13 @@ impl Tables {
     pub(crate) fn displace(&mut self, number: usize, change: &mut Change) -> bool
         requires number { IsPlaceOf self.old change.old number }
         requires fits { FitsOne (shown_by self.old) change.old }
-        ensures state { shown_by self.new ≡ changed (shown_by self.old) change.old }
-        ensures back { change.new ≡ present (shown_by self.old) change.old }
+        ensures state { shown_by self.new ≡ after_change (shown_by self.old) change.old }
+        ensures back { change.new ≡ change_back (shown_by self.old) change.old }
         ensures was_marked { result ≡ is_marked_at self.old change.old }
         ensures marked { is_marked_at self.new change.old ≡ not (is_config change.old) }
         ensures places { MorePlaces self.old self.new }
         ensures marks { (place : Change)
-            → NewMarkAt (present (shown_by self.old) change.old) self.old self.new place }
+            → NewMarkAt (change_back (shown_by self.old) change.old) self.old self.new place }
     {
         match change {
             Change::OfMoment(at) => {
@@ -126,7 +126,7 @@ impl Tables {
 /// none.
 fn place_log(log: &mut Keyed<LogKey, LogEntry>, key: &LogKey) -> Result<usize, AllocError>
     ensures number { IfOk result (λ number. number_of log_key_cmp log.new key.now ≡ Some number) }
-    ensures shown { shown log_key_cmp log.new ≡ shown log_key_cmp log.old }
+    ensures shown { map_of log_key_cmp log.new ≡ map_of log_key_cmp log.old }
     ensures entered { SameEntered log_key_cmp log.old log.new }
     ensures places { KeepsPlaces log_key_cmp log.old log.new }
 {

@@ -5,7 +5,7 @@ ghost use Rattle.std.specs.Prelude.{◌≡◌, ◌≢◌, ◌<◌, ◌≤◌, �
 ghost use Rattle.amr_tables.specs.Earliest.{moment_at, IsTournament};
 ghost use Rattle.amr_labels.specs.Labels.{label_set_cmp};
 ghost use Rattle.amr_labels.specs.Map as map;
-ghost use Rattle.amr_tables.specs.Numbered.{shown, number_of, EntersAt, KeepsPlaces, SamePlaces, SameEntered, NoneEntered, IsMarkOf, IsNumber, IsNumbering, IsSetAt, IsValueOf, next_number, rank_of};
+ghost use Rattle.amr_tables.specs.Numbered.{map_of, number_of, EntersAt, KeepsPlaces, SamePlaces, SameEntered, NoneEntered, IsMarkOf, IsNumber, IsNumbering, IsSetAt, IsValueOf, next_number, rank_of};
 ghost use Rattle.amr_engine.specs.State.State.{route_labels_cmp};
 ghost use Rattle.amr_engine.specs.State.Dues.{dues_of, least_due, due_by, kind_of, group_of};
 ghost use Rattle.amr_engine.specs.declared.state.due.Kind.TheVariants.{AlertRemoval};
@@ -54,8 +54,8 @@ impl Model for Timetable {
 impl Timetable {
     /// Builds a timetable without alerts and groups.
     pub(crate) fn new(alloc: Global) -> Timetable
-        ensures alerts { shown label_set_cmp result.alerts ≡ map.empty }
-        ensures timers { shown route_labels_cmp result.timers ≡ map.empty }
+        ensures alerts { map_of label_set_cmp result.alerts ≡ map.empty }
+        ensures timers { map_of route_labels_cmp result.timers ≡ map.empty }
         ensures alerts_entered { NoneEntered label_set_cmp result.alerts }
         ensures timers_entered { NoneEntered route_labels_cmp result.timers }
     {
@@ -85,8 +85,8 @@ impl Timetable {
     /// Returns the first pending timer at or before a moment, or `None` if no timer is pending then.
     pub(crate) fn next_due(&self, at: Moment) -> Result<Option<Due>, AllocError>
         ensures { IfOk result (λ due. due ≡ due_by at (least_due
-            (dues_of (shown label_set_cmp self.now.alerts)
-            (shown route_labels_cmp self.now.timers)))) }
+            (dues_of (map_of label_set_cmp self.now.alerts)
+            (map_of route_labels_cmp self.now.timers)))) }
     {
         let alert = first_alert(&self.alerts, &self.alert_removals);
         let removal = first_group(&self.timers, &self.group_removals, Kind::GroupRemoval);
@@ -96,22 +96,23 @@ impl Timetable {
 
     /// Works out which label sets can be sources of those rules that have a label set as a target,
     /// given which sides of each rule it is on. Skips a rule that is known.
-    pub(crate) fn learn_sources(
+    pub(crate) fn cache_sources(
         &mut self,
         rules: &[InhibitRule],
         matched: &[RuleMatch],
     ) -> Result<(), AllocError>
         ensures { self.new ≡ self.old }
     {
-        learn_sides(&mut self.alerts, rules, matched)
+        cache_sides(&mut self.alerts, rules, matched)
     }
 
     /// Clears the marks of all places, so that the open record takes their next change again. It
     /// takes no memory.
     pub(crate) fn clear_entered(&mut self)
-        ensures alerts { shown label_set_cmp self.new.alerts ≡ shown label_set_cmp self.old.alerts }
-        ensures timers { shown route_labels_cmp self.new.timers
-            ≡ shown route_labels_cmp self.old.timers }
+        ensures alerts { map_of label_set_cmp self.new.alerts
+            ≡ map_of label_set_cmp self.old.alerts }
+        ensures timers { map_of route_labels_cmp self.new.timers
+            ≡ map_of route_labels_cmp self.old.timers }
         ensures alert_places { SamePlaces label_set_cmp self.old.alerts self.new.alerts }
         ensures timer_places { SamePlaces route_labels_cmp self.old.timers self.new.timers }
         ensures alerts_entered { NoneEntered label_set_cmp self.new.alerts }
@@ -164,8 +165,8 @@ impl Timetable {
     pub(crate) fn place_alert(&mut self, labels: &Labels) -> Result<usize, AllocError>
         ensures number { IfOk result (λ number.
             number_of label_set_cmp self.new.alerts labels.now ≡ Some number) }
-        ensures shown { shown label_set_cmp self.new.alerts
-            ≡ shown label_set_cmp self.old.alerts }
+        ensures shown { map_of label_set_cmp self.new.alerts
+            ≡ map_of label_set_cmp self.old.alerts }
         ensures entered { SameEntered label_set_cmp self.old.alerts self.new.alerts }
         ensures places { KeepsPlaces label_set_cmp self.old.alerts self.new.alerts }
         ensures timers { self.new.timers ≡ self.old.timers }
@@ -181,8 +182,8 @@ impl Timetable {
         requires { number_of label_set_cmp self.old.alerts labels.now ≡ None }
         ensures number { IfOk result (λ number.
             number_of label_set_cmp self.new.alerts labels.now ≡ Some number) }
-        ensures shown { shown label_set_cmp self.new.alerts
-            ≡ shown label_set_cmp self.old.alerts }
+        ensures shown { map_of label_set_cmp self.new.alerts
+            ≡ map_of label_set_cmp self.old.alerts }
         ensures entered { SameEntered label_set_cmp self.old.alerts self.new.alerts }
         ensures places { KeepsPlaces label_set_cmp self.old.alerts self.new.alerts }
         ensures timers { self.new.timers ≡ self.old.timers }
@@ -199,8 +200,8 @@ impl Timetable {
     pub(crate) fn place_timer(&mut self, group: &RouteLabels) -> Result<usize, AllocError>
         ensures number { IfOk result (λ number.
             number_of route_labels_cmp self.new.timers group.now ≡ Some number) }
-        ensures shown { shown route_labels_cmp self.new.timers
-            ≡ shown route_labels_cmp self.old.timers }
+        ensures shown { map_of route_labels_cmp self.new.timers
+            ≡ map_of route_labels_cmp self.old.timers }
         ensures entered { SameEntered route_labels_cmp self.old.timers self.new.timers }
         ensures places { KeepsPlaces route_labels_cmp self.old.timers self.new.timers }
         ensures alerts { self.new.alerts ≡ self.old.alerts }
@@ -216,8 +217,8 @@ impl Timetable {
         requires { number_of route_labels_cmp self.old.timers group.now ≡ None }
         ensures number { IfOk result (λ number.
             number_of route_labels_cmp self.new.timers group.now ≡ Some number) }
-        ensures shown { shown route_labels_cmp self.new.timers
-            ≡ shown route_labels_cmp self.old.timers }
+        ensures shown { map_of route_labels_cmp self.new.timers
+            ≡ map_of route_labels_cmp self.old.timers }
         ensures entered { SameEntered route_labels_cmp self.old.timers self.new.timers }
         ensures places { KeepsPlaces route_labels_cmp self.old.timers self.new.timers }
         ensures alerts { self.new.alerts ≡ self.old.alerts }
@@ -304,7 +305,7 @@ fn first_alert<'a>(alerts: &'a AlertTable, removals: &Earliest) -> Option<Pendin
     requires numbered { AreNumbered label_set_cmp alerts.now }
     requires scheduled { IsScheduled label_set_cmp alert_moment alerts.now removals.now }
     ensures { (timers : map.Map route_labels_cmp GroupTimer) → IsFirstOfKind AlertRemoval
-        (dues_of (shown label_set_cmp alerts.now) timers) (option_map due_of result) }
+        (dues_of (map_of label_set_cmp alerts.now) timers) (option_map due_of result) }
 {
     let number = removals.first()?;
     let moment = removals.at(number)?;
@@ -325,7 +326,7 @@ fn first_group<'a>(
     requires numbered { AreNumbered route_labels_cmp timers.now }
     requires scheduled { IsScheduled route_labels_cmp (group_moment kind) timers.now moments.now }
     ensures { (alerts : map.Map label_set_cmp Alert) → IsFirstOfKind kind
-        (dues_of alerts (shown route_labels_cmp timers.now)) (option_map due_of result) }
+        (dues_of alerts (map_of route_labels_cmp timers.now)) (option_map due_of result) }
 {
     let number = moments.first()?;
     let moment = moments.at(number)?;
@@ -361,7 +362,7 @@ fn earlier<'a>(a: Option<Pending<'a>>, b: Option<Pending<'a>>) -> Option<Pending
 
 /// Works out which label sets can be sources of those rules that have a label set as a target,
 /// given which sides of each rule it is on.
-fn learn_sides(
+fn cache_sides(
     alerts: &mut AlertTable,
     rules: &[InhibitRule],
     matched: &[RuleMatch],
@@ -370,7 +371,7 @@ fn learn_sides(
 {
     for (place, rule) in rules.iter().enumerate() {
         match matched.get(place) {
-            Some(side) if side.is_target => alerts.learn_side(place, rule),
+            Some(side) if side.is_target => alerts.cache_side(place, rule),
             _ => {}
         }
     }

@@ -1,5 +1,5 @@
 //! The labels of a posted alert, with the label set that they make. An incident posts the same
-//! labels again and again, so `SeenTexts` shares them between posts, and a post makes no label set
+//! labels again and again, so `TextCache` shares them between posts, and a post makes no label set
 //! anew.
 ghost use Rattle.std.specs.Prelude.{◌≡◌, IfOk};
 ghost use Rattle.std.specs.Option.{option_copied};

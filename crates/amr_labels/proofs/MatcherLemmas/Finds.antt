@@ -17,7 +17,7 @@ use Rattle.regex_syntax.proofs.TreeLaws.{same_refl}
 use Rattle.regex_syntax.proofs.Written.{find_str_as_read, is_some-option_map}
 use Rattle.amr_labels.specs.Labels.{Text}
 use Rattle.amr_labels.specs.Matcher.Patterns.{anchored, pattern_matches, IsBuiltFrom}
-use Rattle.amr_labels.specs.Matcher.Searches.{ungrouped, IsFoundAs}
+use Rattle.amr_labels.specs.Matcher.Searches.{without_groups, IsFoundAs}
 use Rattle.amr_labels.proofs.MatcherLemmas.WithoutGroups.{found_alike}
 
 by_found : (o : Option (Nested Re × Names)) (value : Text) (x : Bool) (Q : Nested Re × Names → Type 0) → IsSomeAnd o Q
@@ -43,7 +43,7 @@ read_is_found hir names pattern reads value bytes =
     ∙ is_some-option_map spans _)
 
 -- the same without its groups
-pub ungrouped_is_found : (hir bare : Hir) (names : Names) (pattern : Text) → Reads default_config (anchored pattern) hir names → meaning bare ≡ ungrouped (meaning hir) → IsFoundAs (meaning bare) pattern
+pub ungrouped_is_found : (hir bare : Hir) (names : Names) (pattern : Text) → Reads default_config (anchored pattern) hir names → meaning bare ≡ without_groups (meaning hir) → IsFoundAs (meaning bare) pattern
 unfolding IsFoundAs
 ungrouped_is_found hir bare names pattern reads is value bytes =
     ap (λ re. is_some (find_str re value 0)) is ∙ found_alike (meaning hir) value ∙ read_is_found hir names pattern reads value bytes

@@ -10,7 +10,7 @@ use Rattle.amr_labels.specs.declared.matcher.matcher_steps.Place.TheVariants.{St
 use Rattle.amr_labels.specs.Labels.{Text}
 use Rattle.amr_labels.specs.Matcher.Matchers.{Matcher}
 use Rattle.amr_labels.specs.Matcher.MatcherText.{Begins, IsLongest}
-use Rattle.amr_labels.specs.Matcher.MatcherReading.{Reading, kind_of, begins_matcher, after_name, ends_value, begins_value, in_name, in_value, after_bang, after_equals, at_start, after_braces, step_from, with_part, next, run, start, ending, ended, matchers_of_chars}
+use Rattle.amr_labels.specs.Matcher.MatcherReading.{Reading, kind_of, begins_matcher, after_name, ends_value, begins_value, in_name, in_value, after_bang, after_equals, at_start, after_braces, step_from, with_part, next, run, start, ending, matchers_at_end, matchers_of_chars}
 use Rattle.amr_labels.proofs.MatcherLemmas.MatcherRuns.{run-append, run-none, run_more}
 use Rattle.amr_labels.proofs.MatcherLemmas.MatcherSpelled.{spelled_are_read}
 use Rattle.amr_labels.proofs.MatcherLemmas.MatcherRead.{chars_are_spelled}
@@ -39,7 +39,7 @@ completion b AfterComma = closing b
 completion b Closed = []
 
 ends : (b : Bool) (place : Place) (name : Text) (operator : Operator) (value : Text) (matchers : List Matcher) →
-    IsSome (option_and_then ended (run (Some (record { braced = b; place = place; name = name; operator = operator; value = value; matchers = matchers })) (completion b place)))
+    IsSome (option_and_then matchers_at_end (run (Some (record { braced = b; place = place; name = name; operator = operator; value = value; matchers = matchers })) (completion b place)))
 unfolding kind_of begins_matcher after_name ends_value begins_value in_name in_value after_bang after_equals at_start after_braces step_from with_part ending
 ends true Start n o v m = refl
 ends true Opened n o v m = refl
@@ -82,13 +82,13 @@ begun : (front : List ℕ) (r : Reading) → run (Some start) front ≡ Some r �
 begun front r h =
     let rest = completion r.braced r.place in
     let some : IsSome (matchers_of_chars (front ++ rest)) =
-    subst (λ o. IsSome (option_and_then ended o)) (sym (run-append (Some start) front rest ∙ ap (λ o. run o rest) h)) (ends r.braced r.place r.name r.operator r.value r.matchers) in
+    subst (λ o. IsSome (option_and_then matchers_at_end o)) (sym (run-append (Some start) front rest ∙ ap (λ o. run o rest) h)) (ends r.braced r.place r.name r.operator r.value r.matchers) in
     let found = some_of (matchers_of_chars (front ++ rest)) some in
     (rest, found.0, chars_are_spelled (front ++ rest) found.0 found.1)
 
 -- if the machine stops, no text goes on
 gone : (cs rest : List ℕ) → run (Some start) cs ≡ None → matchers_of_chars (cs ++ rest) ≡ None
-gone cs rest h = ap (option_and_then ended) (run-append (Some start) cs rest ∙ ap (λ o. run o rest) h ∙ run-none rest)
+gone cs rest h = ap (option_and_then matchers_at_end) (run-append (Some start) cs rest ∙ ap (λ o. run o rest) h ∙ run-none rest)
 
 none_begins : (front : List ℕ) → run (Some start) front ≡ None → Begins front → ⊥
 none_begins front h b =
@@ -113,8 +113,8 @@ stops cs n c at r lt is h halts len =
     )
 
 -- the text ends in a state in which it can't
-pub cut_short : (cs : List ℕ) (r : Reading) (at : ℕ) → run (Some start) cs ≡ Some r → ended r ≡ None → at ≡ length (encode_utf8_all cs) → (matchers_of_chars cs ≡ None) × IsLongest cs at
+pub cut_short : (cs : List ℕ) (r : Reading) (at : ℕ) → run (Some start) cs ≡ Some r → matchers_at_end r ≡ None → at ≡ length (encode_utf8_all cs) → (matchers_of_chars cs ≡ None) × IsLongest cs at
 cut_short cs r at h open_end len = (
-  ap (option_and_then ended) h ∙ open_end,
+  ap (option_and_then matchers_at_end) h ∙ open_end,
   (cs, [], sym (append-nil cs), len, begun cs r h, λ d more e b. absurd cc),
 )

@@ -16,8 +16,8 @@ use Rattle.amr_labels.specs.declared.matcher.matcher_steps.Part.TheVariants.{Not
 use Rattle.amr_labels.specs.declared.matcher.matcher_steps.Step.{Step}
 use Rattle.amr_labels.specs.Labels.{Text}
 use Rattle.amr_labels.specs.Matcher.Matchers.{Matcher}
-use Rattle.amr_labels.specs.Matcher.MatcherText.{is_literal, is_refused, escaped, Piece, Character, Escape, is_piece, pieces_text, pieces_value, Term, Literal, Quoted, term_text, term_value, is_term, is_name, operator_text, is_blank, Written, written_text, written_matcher, Listed, Alone, Last, Then, listed_text, listed_matchers, IsListed, Bare, Braced, Spells}
-use Rattle.amr_labels.specs.Matcher.MatcherReading.{Reading, kind_of, begins_matcher, after_name, ends_value, begins_value, in_name, in_value, after_bang, after_equals, at_start, after_braces, in_quotes, step_from, with_part, run, ending, ended, matchers_of_chars, matchers_of, go}
+use Rattle.amr_labels.specs.Matcher.MatcherText.{is_literal, is_refused, meaning_of_escape, Piece, Character, Escape, is_piece, pieces_text, pieces_value, Term, Literal, Quoted, term_text, term_value, is_term, is_name, operator_text, is_blank, Written, written_text, written_matcher, Listed, Alone, Last, Then, listed_text, listed_matchers, IsListed, Bare, Braced, Spells}
+use Rattle.amr_labels.specs.Matcher.MatcherReading.{Reading, kind_of, begins_matcher, after_name, ends_value, begins_value, in_name, in_value, after_bang, after_equals, at_start, after_braces, in_quotes, step_from, with_part, run, ending, matchers_at_end, matchers_of_chars, matchers_of, go}
 use Rattle.amr_labels.specs.Matcher.MatcherLaws.{ReadIsSpelled}
 use Rattle.amr_labels.proofs.MatcherLemmas.MatcherRuns.{run-none}
 use Rattle.amr_labels.proofs.MatcherLemmas.MatcherKinds.{means}
@@ -25,14 +25,14 @@ use Rattle.amr_labels.proofs.MatcherLemmas.MatcherSpelled.{reading, moved, group
 
 -- from a reading, and from a step, the characters lead to an end with these matchers
 abbrev Accepts : Reading → List ℕ → List Matcher → Type 0
-Accepts r cs out = option_and_then ended (run (Some r) cs) ≡ Some out
+Accepts r cs out = option_and_then matchers_at_end (run (Some r) cs) ≡ Some out
 
 abbrev Taken : Reading → Option Step → List ℕ → List Matcher → Type 0
-Taken r step cs out = option_and_then ended (run (moved r step) cs) ≡ Some out
+Taken r step cs out = option_and_then matchers_at_end (run (moved r step) cs) ≡ Some out
 
 refused : (r : Reading) (cs : List ℕ) (out : List Matcher) → Taken r None cs out → ⊥
 refused r cs out h =
-    let e : ◌≡◌ {A = Option (List Matcher)} None (Some out) = sym (ap (option_and_then ended) (run-none cs)) ∙ h in
+    let e : ◌≡◌ {A = Option (List Matcher)} None (Some out) = sym (ap (option_and_then matchers_at_end) (run-none cs)) ∙ h in
     cc
 
 cons_same : (c d : ℕ) (cs ds : List ℕ) → c ≡ d → cs ≡ ds → c ∷ cs ≡ d ∷ ds
@@ -111,14 +111,14 @@ Follows b Opened n o v ms cs out = b ≡ true → n ≡ [] → v ≡ [] → Foll
 Follows b NameLiteral n o v ms cs out = InName b n v ms cs out
 Follows b NameOpened n o v ms cs out = FirstInNameQuotes b n v ms cs out
 Follows b NameQuoted n o v ms cs out = InNameQuotes b n v ms cs out
-Follows b NameEscape n o v ms cs out = FollowsBackslash (λ c rest. InNameQuotes b (n ++ encode_utf8_all (escaped c)) v ms rest out) cs
+Follows b NameEscape n o v ms cs out = FollowsBackslash (λ c rest. InNameQuotes b (n ++ encode_utf8_all (meaning_of_escape c)) v ms rest out) cs
 Follows b AfterName n o v ms cs out = FollowsName b n v ms cs out
 Follows b AfterBang n o v ms cs out = FollowsEither 61 (λ rest. FollowsOperator b n NotEqual v ms rest out) 126 (λ rest. FollowsOperator b n NotMatches v ms rest out) cs
 Follows b AfterEquals n o v ms cs out = ((rest : List ℕ) × (cs ≡ 126 ∷ rest) × FollowsOperator b n Matches v ms rest out) ⊎ FollowsOperator b n o v ms cs out
 Follows b ValueStart n o v ms cs out = FollowsOperator b n o v ms cs out
 Follows b ValueLiteral n o v ms cs out = InValue b n o v ms cs out
 Follows b ValueQuoted n o v ms cs out = InValueQuotes b n o v ms cs out
-Follows b ValueEscape n o v ms cs out = FollowsBackslash (λ c rest. InValueQuotes b n o (v ++ encode_utf8_all (escaped c)) ms rest out) cs
+Follows b ValueEscape n o v ms cs out = FollowsBackslash (λ c rest. InValueQuotes b n o (v ++ encode_utf8_all (meaning_of_escape c)) ms rest out) cs
 Follows b AfterValue n o v ms cs out = FollowsValue b (with_matcher ms n o v) cs out
 Follows b AfterComma n o v ms cs out = n ≡ [] → v ≡ [] → FollowsListed b ms cs out
 Follows b Closed n o v ms cs out = (is_blank cs ≡ true) × (out ≡ ms)
@@ -430,13 +430,13 @@ escaped_name : (b : Bool) (n : Text) (o : Operator) (v : Text) (ms : List Matche
     Taken (reading b NameEscape n o v ms) (if q then None else go NameQuoted (NameEscaped c)) cs out → Follows b NameEscape n o v ms (c ∷ cs) out
 unfolding with_part
 escaped_name b n o v ms c cs out true known e h = absurd (refused (reading b NameEscape n o v ms) cs out h)
-escaped_name b n o v ms c cs out false known e h = (c, cs, refl, e, known b NameQuoted (n ++ encode_utf8_all (escaped c)) o v ms out h)
+escaped_name b n o v ms c cs out false known e h = (c, cs, refl, e, known b NameQuoted (n ++ encode_utf8_all (meaning_of_escape c)) o v ms out h)
 
 escaped_value : (b : Bool) (n : Text) (o : Operator) (v : Text) (ms : List Matcher) (c : ℕ) (cs : List ℕ) (out : List Matcher) (q : Bool) → Known cs → is_refused c ≡ q →
     Taken (reading b ValueEscape n o v ms) (if q then None else go ValueQuoted (ValueEscaped c)) cs out → Follows b ValueEscape n o v ms (c ∷ cs) out
 unfolding with_part
 escaped_value b n o v ms c cs out true known e h = absurd (refused (reading b ValueEscape n o v ms) cs out h)
-escaped_value b n o v ms c cs out false known e h = (c, cs, refl, e, known b ValueQuoted n o (v ++ encode_utf8_all (escaped c)) ms out h)
+escaped_value b n o v ms c cs out false known e h = (c, cs, refl, e, known b ValueQuoted n o (v ++ encode_utf8_all (meaning_of_escape c)) ms out h)
 
 from_closed : (b : Bool) (n : Text) (o : Operator) (v : Text) (ms : List Matcher) (c : ℕ) (cs : List ℕ) (out : List Matcher) (k : Kind) → Known cs → kind_of c ≡ k →
     Taken (reading b Closed n o v ms) (after_braces k) cs out → Follows b Closed n o v ms (c ∷ cs) out

@@ -17,7 +17,7 @@ use Rattle.amr_labels.specs.declared.matcher.matcher_steps.Step.{Step}
 use Rattle.amr_labels.specs.Labels.{Text}
 use Rattle.amr_labels.specs.Matcher.Matchers.{Matcher}
 use Rattle.amr_labels.specs.Matcher.MatcherText.{is_literal, is_refused, Piece, Character, Escape, piece_text, piece_value, is_piece, pieces_text, pieces_value, Term, Literal, Quoted, term_text, term_value, is_term, is_name, operator_text, is_blank, Written, written_text, written_matcher, IsWritten, Listed, Alone, Last, Then, listed_text, listed_matchers, IsListed, Whole, Bare, Braced, whole_text, whole_matchers, IsWhole, Spells}
-use Rattle.amr_labels.specs.Matcher.MatcherReading.{Reading, kind_of, begins_matcher, after_name, ends_value, begins_value, in_name, in_value, after_bang, after_equals, at_start, after_braces, in_quotes, step_at, step_from, with_part, next, run, start, ending, ended, matchers_of_chars, matchers_of, go}
+use Rattle.amr_labels.specs.Matcher.MatcherReading.{Reading, kind_of, begins_matcher, after_name, ends_value, begins_value, in_name, in_value, after_bang, after_equals, at_start, after_braces, in_quotes, step_at, step_from, with_part, next, run, start, ending, matchers_at_end, matchers_of_chars, matchers_of, go}
 use Rattle.amr_labels.specs.Matcher.MatcherLaws.{SpelledIsRead}
 use Rattle.amr_labels.proofs.MatcherLemmas.MatcherRuns.{encodes-append}
 use Rattle.amr_labels.proofs.MatcherLemmas.MatcherKinds.{kind_of_blank, kind_of_literal}
@@ -408,7 +408,7 @@ run_written w b p o ms h is =
 
 -- how a list of matchers ends: with the text outside braces, and with the closing one in them
 abbrev Ends : Bool → Reading → List Matcher → Type 0
-Ends false r out = ended r ≡ Some out
+Ends false r out = matchers_at_end r ≡ Some out
 Ends true r out = (n : Text) × (o : Operator) × (v : Text) × (next r 125 ≡ Some (reading true Closed n o v out))
 
 begun_ends : (b : Bool) (p : Place) (o : Operator) (ms : List Matcher) → begins b p ≡ true → Ends b (reading b p [] o [] ms) ms
@@ -475,19 +475,19 @@ opens : (rest : List ℕ) → run (Some start) (123 ∷ rest) ≡ run (Some (rea
 unfolding kind_of at_start step_from with_part
 opens rest = refl
 
-closes : (n : Text) (o : Operator) (v : Text) (ms : List Matcher) → ended (reading true Closed n o v ms) ≡ Some ms
+closes : (n : Text) (o : Operator) (v : Text) (ms : List Matcher) → matchers_at_end (reading true Closed n o v ms) ≡ Some ms
 unfolding ending with_part
 closes n o v ms = refl
 
 whole_is_read : (whole : Whole) → IsWhole whole → matchers_of_chars (whole_text whole) ≡ Some (whole_matchers whole)
 whole_is_read (Bare l) is =
     let t = run_listed l false Start Equal [] refl is in
-    ap (option_and_then ended) (ap (run (Some start)) (sym (append-nil (listed_text l))) ∙ t.2 []) ∙ t.1
+    ap (option_and_then matchers_at_end) (ap (run (Some start)) (sym (append-nil (listed_text l))) ∙ t.2 []) ∙ t.1
 whole_is_read (Braced before l after) is =
     let t = run_listed l true Opened Equal [] refl is.1 in
     let e = t.1 in
     let shut = reading true Closed e.0 e.1 e.2 (listed_matchers l) in
-    ap (option_and_then ended)
+    ap (option_and_then matchers_at_end)
     (run_blanks false Start [] Equal [] [] refl before (123 ∷ (listed_text l ++ (125 ∷ after))) is.0 ∙ opens (listed_text l ++ (125 ∷ after)) ∙ t.2 (125 ∷ after) ∙ run_step t.0 shut 125 after e.3
     ∙ ap (run (Some shut)) (sym (append-nil after)) ∙ run_blanks true Closed e.0 e.1 e.2 (listed_matchers l) refl after [] is.2)
     ∙ closes e.0 e.1 e.2 (listed_matchers l)

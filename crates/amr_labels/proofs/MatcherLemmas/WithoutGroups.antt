@@ -9,7 +9,7 @@ use Rattle.regex_hir.specs.Find.{Match, first_from, find_str}
 use Rattle.regex_hir.specs.declared.hir.Hir.{Hir}
 use Rattle.regex_hir.proofs.AttemptLemmas.{attempt_sound, attempt_complete}
 use Rattle.regex_hir.proofs.OptionLemmas.{value_of_IsSome}
-use Rattle.amr_labels.specs.Matcher.Searches.{ungrouped}
+use Rattle.amr_labels.specs.Matcher.Searches.{without_groups}
 
 -- ---- what both match
 
@@ -17,7 +17,7 @@ rounds_along : (R S : ℕ → ℕ → Type 0) → ((i j : ℕ) → R i j → S i
 rounds_along R S h i j (one_round _ r) = one_round j (h i j r)
 rounds_along R S h i j (next_round l _ front r) = next_round l j (rounds_along R S h i l front) (h l j r)
 
-without : (hay : List ℕ) (re : Re) (i j : ℕ) → Matches hay re i j → Matches hay (ungrouped re) i j
+without : (hay : List ℕ) (re : Re) (i j : ℕ) → Matches hay re i j → Matches hay (without_groups re) i j
 without hay empty i j m = m
 without hay (literal bytes) i j m = m
 without hay (byte_in ranges) i j m = m
@@ -26,9 +26,9 @@ without hay (look l) i j m = m
 without hay (cat a b) i j m = (m.0, without hay a i m.0 m.1, without hay b m.0 j m.2)
 without hay (alt a b) i j m = ⊎_elim (λ left. inl (without hay a i j left)) (λ right. inr (without hay b i j right)) m
 without hay (group n a) i j m = without hay a i j m
-without hay (plus greedy a) i j m = rounds_along (Matches hay a) (Matches hay (ungrouped a)) (without hay a) i j m
+without hay (plus greedy a) i j m = rounds_along (Matches hay a) (Matches hay (without_groups a)) (without hay a) i j m
 
-with_them : (hay : List ℕ) (re : Re) (i j : ℕ) → Matches hay (ungrouped re) i j → Matches hay re i j
+with_them : (hay : List ℕ) (re : Re) (i j : ℕ) → Matches hay (without_groups re) i j → Matches hay re i j
 with_them hay empty i j m = m
 with_them hay (literal bytes) i j m = m
 with_them hay (byte_in ranges) i j m = m
@@ -37,7 +37,7 @@ with_them hay (look l) i j m = m
 with_them hay (cat a b) i j m = (m.0, with_them hay a i m.0 m.1, with_them hay b m.0 j m.2)
 with_them hay (alt a b) i j m = ⊎_elim (λ left. inl (with_them hay a i j left)) (λ right. inr (with_them hay b i j right)) m
 with_them hay (group n a) i j m = with_them hay a i j m
-with_them hay (plus greedy a) i j m = rounds_along (Matches hay (ungrouped a)) (Matches hay a) (with_them hay a) i j m
+with_them hay (plus greedy a) i j m = rounds_along (Matches hay (without_groups a)) (Matches hay a) (with_them hay a) i j m
 
 -- ---- where both are found
 
@@ -54,10 +54,10 @@ same_test None (Some y) f g = absurd (true≢false (sym (g refl)))
 same_test (Some x) None f g = absurd (true≢false (sym (f refl)))
 same_test (Some x) (Some y) f g = refl
 
-found_at : (hay : List ℕ) (re : Re) (i : ℕ) → is_some (attempt hay (ungrouped re) accept i) ≡ is_some (attempt hay re accept i)
+found_at : (hay : List ℕ) (re : Re) (i : ℕ) → is_some (attempt hay (without_groups re) accept i) ≡ is_some (attempt hay re accept i)
 found_at hay re i =
-    same_test (attempt hay (ungrouped re) accept i) (attempt hay re accept i)
-    (found_too hay (ungrouped re) re i (with_them hay re i)) (found_too hay re (ungrouped re) i (without hay re i))
+    same_test (attempt hay (without_groups re) accept i) (attempt hay re accept i)
+    (found_too hay (without_groups re) re i (with_them hay re i)) (found_too hay re (without_groups re) i (without hay re i))
 
 some_if : {A : Type 0} (b : Bool) (o p : Option A) → is_some o ≡ is_some p → is_some (cond b o None) ≡ is_some (cond b p None)
 some_if true o p same = same
@@ -74,39 +74,39 @@ first_alike f g same zero i = refl
 first_alike f g same (suc n) i =
     some_or i (f i) _ ∙ ap₂ ◌||◌ (same i) (first_alike f g same n _) ∙ sym (some_or i (g i) _)
 
-pub found_alike : (re : Re) (hay : List ℕ) → is_some (find_str (ungrouped re) hay 0) ≡ is_some (find_str re hay 0)
+pub found_alike : (re : Re) (hay : List ℕ) → is_some (find_str (without_groups re) hay 0) ≡ is_some (find_str re hay 0)
 unfolding find_str
 found_alike re hay = first_alike _ _ (λ i. some_if (is_boundary hay i) _ _ (found_at hay re i)) _ 0
 
 -- ---- what the parts of a tree mean without their groups
 
-ungrouped_optional : (greedy : Bool) (a : Re) → ungrouped (optional greedy a) ≡ optional greedy (ungrouped a)
+ungrouped_optional : (greedy : Bool) (a : Re) → without_groups (optional greedy a) ≡ optional greedy (without_groups a)
 ungrouped_optional true a = refl
 ungrouped_optional false a = refl
 
-ungrouped_copies : (n : ℕ) (a b : Re) → ungrouped (copies n a b) ≡ copies n (ungrouped a) (ungrouped b)
+ungrouped_copies : (n : ℕ) (a b : Re) → without_groups (copies n a b) ≡ copies n (without_groups a) (without_groups b)
 ungrouped_copies zero a b = refl
-ungrouped_copies (suc n) a b = ap (cat (ungrouped a)) (ungrouped_copies n a b)
+ungrouped_copies (suc n) a b = ap (cat (without_groups a)) (ungrouped_copies n a b)
 
-ungrouped_up_to : (greedy : Bool) (n : ℕ) (a : Re) → ungrouped (up_to greedy n a) ≡ up_to greedy n (ungrouped a)
+ungrouped_up_to : (greedy : Bool) (n : ℕ) (a : Re) → without_groups (up_to greedy n a) ≡ up_to greedy n (without_groups a)
 ungrouped_up_to greedy zero a = refl
 ungrouped_up_to greedy (suc n) a =
-    ungrouped_optional greedy (cat a (up_to greedy n a)) ∙ ap (λ rest. optional greedy (cat (ungrouped a) rest)) (ungrouped_up_to greedy n a)
+    ungrouped_optional greedy (cat a (up_to greedy n a)) ∙ ap (λ rest. optional greedy (cat (without_groups a) rest)) (ungrouped_up_to greedy n a)
 
-ungrouped_at_least : (greedy : Bool) (n : ℕ) (a : Re) → ungrouped (at_least greedy n a) ≡ at_least greedy n (ungrouped a)
+ungrouped_at_least : (greedy : Bool) (n : ℕ) (a : Re) → without_groups (at_least greedy n a) ≡ at_least greedy n (without_groups a)
 ungrouped_at_least greedy zero a = ungrouped_optional greedy (plus greedy a)
 ungrouped_at_least greedy (suc n) a = ungrouped_copies n a (plus greedy a)
 
-pub ungrouped_repeat : (least : ℕ) (most : Option ℕ) (greedy : Bool) (a : Re) → ungrouped (repeat least most greedy a) ≡ repeat least most greedy (ungrouped a)
+pub ungrouped_repeat : (least : ℕ) (most : Option ℕ) (greedy : Bool) (a : Re) → without_groups (repeat least most greedy a) ≡ repeat least most greedy (without_groups a)
 unfolding repeat
 ungrouped_repeat least None greedy a = ungrouped_at_least greedy least a
 ungrouped_repeat least (Some most) greedy a =
-    ungrouped_copies least a (up_to greedy (most - least) a) ∙ ap (copies least (ungrouped a)) (ungrouped_up_to greedy (most - least) a)
+    ungrouped_copies least a (up_to greedy (most - least) a) ∙ ap (copies least (without_groups a)) (ungrouped_up_to greedy (most - least) a)
 
-pub ungrouped_cat_all : (subs : List Hir) → ungrouped (cat_all (map meaning subs)) ≡ cat_all (map (λ sub. ungrouped (meaning sub)) subs)
+pub ungrouped_cat_all : (subs : List Hir) → without_groups (cat_all (map meaning subs)) ≡ cat_all (map (λ sub. without_groups (meaning sub)) subs)
 ungrouped_cat_all [] = refl
-ungrouped_cat_all (sub ∷ subs) = ap (cat (ungrouped (meaning sub))) (ungrouped_cat_all subs)
+ungrouped_cat_all (sub ∷ subs) = ap (cat (without_groups (meaning sub))) (ungrouped_cat_all subs)
 
-pub ungrouped_alt_all : (subs : List Hir) → ungrouped (alt_all (map meaning subs)) ≡ alt_all (map (λ sub. ungrouped (meaning sub)) subs)
+pub ungrouped_alt_all : (subs : List Hir) → without_groups (alt_all (map meaning subs)) ≡ alt_all (map (λ sub. without_groups (meaning sub)) subs)
 ungrouped_alt_all [] = refl
-ungrouped_alt_all (sub ∷ subs) = ap (alt (ungrouped (meaning sub))) (ungrouped_alt_all subs)
+ungrouped_alt_all (sub ∷ subs) = ap (alt (without_groups (meaning sub))) (ungrouped_alt_all subs)

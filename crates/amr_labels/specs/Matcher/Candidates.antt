@@ -5,19 +5,19 @@ use Rattle.amr_labels.specs.Labels.{LabelSet, Text, text_cmp, value_of}
 use Rattle.amr_labels.specs.Matcher.Patterns.{pattern_matches}
 use Rattle.amr_labels.specs.Matcher.Matchers.{Matcher, holds, all_hold}
 
--- the marks of label sets, where those alone stay marked that pass the test too
-abbrev pub marked : (LabelSet → Bool) → List LabelSet → List Bool → List Bool
-marked test (labels ∷ label_sets) (mark ∷ marks) = (mark && test labels) ∷ marked test label_sets marks
-marked test [] marks = marks
-marked test (labels ∷ label_sets) [] = []
+-- which label sets are candidates, where those alone stay so that pass the test too
+abbrev pub candidates_after : (LabelSet → Bool) → List LabelSet → List Bool → List Bool
+candidates_after test (labels ∷ label_sets) (candidate ∷ candidates) = (candidate && test labels) ∷ candidates_after test label_sets candidates
+candidates_after test [] candidates = candidates
+candidates_after test (labels ∷ label_sets) [] = []
 
 -- one more matcher is asked
 abbrev pub kept_by : Matcher → List LabelSet → List Bool → List Bool
-kept_by matcher = marked (holds matcher)
+kept_by matcher = candidates_after (holds matcher)
 
 -- the label with this name is compared too
 abbrev pub kept_where : (Text → Bool) → Text → List LabelSet → List Bool → List Bool
-kept_where test name = marked (λ labels. test (value_of labels name))
+kept_where test name = candidates_after (λ labels. test (value_of labels name))
 
 -- whether a pattern matches a value, or whether it doesn't
 abbrev pub found_or_not : Bool → Text → Text → Bool

@@ -14,7 +14,7 @@ use Rattle.amr_labels.specs.declared.matcher.matcher_steps.Part.TheVariants.{Not
 use Rattle.amr_labels.specs.declared.matcher.matcher_steps.Step.{Step}
 use Rattle.amr_labels.specs.Labels.{Text}
 use Rattle.amr_labels.specs.Matcher.Matchers.{Matcher}
-use Rattle.amr_labels.specs.Matcher.MatcherText.{is_refused, escaped}
+use Rattle.amr_labels.specs.Matcher.MatcherText.{is_refused, meaning_of_escape}
 
 abbrev pub mark_kind : ℕ → Kind
 mark_kind c =
@@ -141,10 +141,10 @@ unfoldable pub with_part : Part → Reading → Reading
 with_part Nothing r = r
 with_part Brace r = record r { braced = true }
 with_part (Name c) r = record r { name = r.name ++ encode_utf8 c }
-with_part (NameEscaped c) r = record r { name = r.name ++ encode_utf8_all (escaped c) }
+with_part (NameEscaped c) r = record r { name = r.name ++ encode_utf8_all (meaning_of_escape c) }
 with_part (Compare operator) r = record r { operator = operator }
 with_part (Value c) r = record r { value = r.value ++ encode_utf8 c }
-with_part (ValueEscaped c) r = record r { value = r.value ++ encode_utf8_all (escaped c) }
+with_part (ValueEscaped c) r = record r { value = r.value ++ encode_utf8_all (meaning_of_escape c) }
 with_part End r = record r { name = []; value = []; matchers = with_last r }
 
 -- what was read, and the next character
@@ -168,12 +168,12 @@ ending braced AfterValue = if braced then None else Some End
 ending braced _ = None
 
 -- the matchers, if a text may end here
-abbrev pub ended : Reading → Option (List Matcher)
-ended r = option_map (λ part. (with_part part r).matchers) (ending r.braced r.place)
+abbrev pub matchers_at_end : Reading → Option (List Matcher)
+matchers_at_end r = option_map (λ part. (with_part part r).matchers) (ending r.braced r.place)
 
 -- the matchers of the characters of a text
 abbrev pub matchers_of_chars : List ℕ → Option (List Matcher)
-matchers_of_chars cs = option_and_then ended (run (Some start) cs)
+matchers_of_chars cs = option_and_then matchers_at_end (run (Some start) cs)
 
 -- the matchers of a text
 unfoldable pub matchers_of : Text → Option (List Matcher)

@@ -20,8 +20,8 @@ is_refused c = (c == 97) || (c == 98) || (c == 102) || (c == 114) || (c == 118) 
 
 -- what a backslash and a character mean: a quote, a backslash, a line feed, a tab, and otherwise
 -- both
-abbrev pub escaped : ℕ → List ℕ
-escaped c =
+abbrev pub meaning_of_escape : ℕ → List ℕ
+meaning_of_escape c =
     if c == 34 then 34 ∷ [] else (if c == 92 then 92 ∷ [] else (if c == 110 then 10 ∷ [] else (if c == 116 then 9 ∷ [] else 92 ∷ c ∷ [])))
 
 -- what may be in quotes: a character, or a backslash and a character
@@ -35,7 +35,7 @@ piece_text (Escape c) = 92 ∷ c ∷ []
 
 abbrev pub piece_value : Piece → List ℕ
 piece_value (Character c) = c ∷ []
-piece_value (Escape c) = escaped c
+piece_value (Escape c) = meaning_of_escape c
 
 abbrev pub is_piece : Piece → Bool
 is_piece (Character c) = not (c == 34) && not (c == 92)

@@ -11,16 +11,16 @@ use Rattle.amr_labels.specs.declared.matcher.search.Search.{Search}
 use Rattle.amr_labels.specs.declared.matcher.search.Search.TheVariants as search
 
 -- the pattern, with what each group holds in its place
-abbrev pub ungrouped : Re → Re
-ungrouped empty = empty
-ungrouped (literal bytes) = literal bytes
-ungrouped (byte_in ranges) = byte_in ranges
-ungrouped (char_in ranges) = char_in ranges
-ungrouped (look l) = look l
-ungrouped (cat a b) = cat (ungrouped a) (ungrouped b)
-ungrouped (alt a b) = alt (ungrouped a) (ungrouped b)
-ungrouped (group n a) = ungrouped a
-ungrouped (plus greedy a) = plus greedy (ungrouped a)
+abbrev pub without_groups : Re → Re
+without_groups empty = empty
+without_groups (literal bytes) = literal bytes
+without_groups (byte_in ranges) = byte_in ranges
+without_groups (char_in ranges) = char_in ranges
+without_groups (look l) = look l
+without_groups (cat a b) = cat (without_groups a) (without_groups b)
+without_groups (alt a b) = alt (without_groups a) (without_groups b)
+without_groups (group n a) = without_groups a
+without_groups (plus greedy a) = plus greedy (without_groups a)
 
 -- it is found in those values that the text of a pattern matches
 unfoldable pub IsFoundAs : Re → Text → Type 0

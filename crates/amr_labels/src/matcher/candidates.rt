@@ -1,6 +1,6 @@
 //! Asking a list of matchers for many label sets at once, one matcher after the other. Each label
-//! set has a mark, which it loses at the first matcher that doesn't match it. Flushes with several
-//! new members ask silences like this.
+//! set is a candidate until the first matcher that doesn't match it. Flushes with several new members
+//! ask silences like this.
 ghost use Rattle.std.specs.Prelude.{◌≡◌, IfOk};
 ghost use Rattle.std.specs.List.{list_any};
 ghost use Rattle.amr_labels.specs.Matcher.Candidates.{matches_each};
@@ -18,19 +18,19 @@ pub(crate) fn match_each(
 ) -> Result<Vec<bool>, AllocError>
     ensures { IfOk result (λ found. found.items ≡ matches_each matchers.now label_sets.now) }
 {
-    let mut marks = vec![in alloc; true; label_sets.len()]?;
+    let mut candidates = vec![in alloc; true; label_sets.len()]?;
     for matcher in matchers {
-        if !is_any_left(marks.as_slice()) {
-            return Ok(marks);
+        if !is_any_left(candidates.as_slice()) {
+            return Ok(candidates);
         }
-        matcher.keep(alloc, label_sets, marks.as_mut_slice())?;
+        matcher.keep(alloc, label_sets, candidates.as_mut_slice())?;
     }
-    Ok(marks)
+    Ok(candidates)
 }
 
-/// Returns whether a label set is still marked.
-fn is_any_left(marks: &[bool]) -> bool
-    ensures { result ≡ list_any (λ mark. mark) marks.now }
+/// Returns whether a label set is still a candidate.
+fn is_any_left(candidates: &[bool]) -> bool
+    ensures { result ≡ list_any (λ candidate. candidate) candidates.now }
 {
-    marks.iter().any(|mark| *mark)
+    candidates.iter().any(|candidate| *candidate)
 }

@@ -7,7 +7,7 @@ ghost use Rattle.amr_labels.specs.Matcher.Patterns.{MayRefuse};
 ghost use Rattle.amr_labels.specs.declared.matcher.pattern.MatcherError.TheVariants.{BadPattern};
 
 use crate::matcher::Operator;
-use crate::matcher::answers::Answers;
+use crate::matcher::match_cache::MatchCache;
 use crate::matcher::pattern::{MatcherError, Pattern};
 use crate::matcher::patterns::Patterns;
 use crate::{Labels, Shared, Text};
@@ -67,36 +67,40 @@ impl Comparison {
         }
     }
 
-    /// Unmarks the label sets whose value of the label with this name doesn't pass the comparison.
-    /// It compares the values of those alone that are marked.
+    /// Rules out the label sets whose value of the label with this name doesn't pass the comparison.
+    /// It compares the values of the candidates alone.
     pub(crate) fn keep(
         &self,
         alloc: Global,
         name: &str,
         label_sets: &[Labels],
-        marks: &mut [bool],
+        candidates: &mut [bool],
     ) -> Result<(), AllocError>
-        requires { length marks.old ≡ length label_sets.now }
-        ensures { OnOk result (marks.new
+        requires { length candidates.old ≡ length label_sets.now }
+        ensures { OnOk result (candidates.new
             ≡ kept_where (compares (operator_of self.now) (own_value self.now))
-            name.now label_sets.now marks.old) }
+            name.now label_sets.now candidates.old) }
     {
         match self {
-            Comparison::Is(own) => keep_equal(own, false, name, label_sets, marks),
-            Comparison::IsNot(own) => keep_equal(own, true, name, label_sets, marks),
+            Comparison::Is(own) => keep_equal(own, false, name, label_sets, candidates),
+            Comparison::IsNot(own) => keep_equal(own, true, name, label_sets, candidates),
             Comparison::Matches(pattern) => {
-                pattern.get().keep(alloc, name, false, label_sets, marks)?;
+                pattern
+                    .get()
+                    .keep(alloc, name, false, label_sets, candidates)?;
             }
             Comparison::MatchesNot(pattern) => {
-                pattern.get().keep(alloc, name, true, label_sets, marks)?;
+                pattern
+                    .get()
+                    .keep(alloc, name, true, label_sets, candidates)?;
             }
         }
         Ok(())
     }
 
     /// Returns whether a label's value passes the comparison. Only patterns' answers are
-    /// remembered.
-    pub(crate) fn compares(&self, answers: &mut Answers, value: &str) -> Result<bool, AllocError>
+    /// cached.
+    pub(crate) fn compares(&self, answers: &mut MatchCache, value: &str) -> Result<bool, AllocError>
         ensures answer { IfOk result (λ found. found
             ≡ compares (operator_of self.now) (own_value self.now) value.now) }
         ensures plain { takes_pattern (operator_of self.now) ≡ false → IsOk result }
@@ -110,15 +114,15 @@ impl Comparison {
     }
 }
 
-/// Unmarks the label sets whose value of the label with this name isn't the matcher's own value, or
+/// Rules out the label sets whose value of the label with this name isn't the matcher's own value, or
 /// is if `negated`.
-fn keep_equal(own: &Text, negated: bool, name: &str, label_sets: &[Labels], marks: &mut [bool])
-    requires { length marks.old ≡ length label_sets.now }
-    ensures { marks.new
-        ≡ kept_where (equal_or_not negated own.now) name.now label_sets.now marks.old }
+fn keep_equal(own: &Text, negated: bool, name: &str, label_sets: &[Labels], candidates: &mut [bool])
+    requires { length candidates.old ≡ length label_sets.now }
+    ensures { candidates.new
+        ≡ kept_where (equal_or_not negated own.now) name.now label_sets.now candidates.old }
 {
     for (place, labels) in label_sets.iter().enumerate() {
-        marks[place] = marks[place] && is_equal(own, negated, labels.value_of(name));
+        candidates[place] = candidates[place] && is_equal(own, negated, labels.value_of(name));
     }
 }
 

@@ -11,8 +11,8 @@ ghost use Rattle.amr_labels.specs.Matcher.Patterns.{MayRefuse};
 ghost use Rattle.amr_labels.specs.declared.matcher.pattern.MatcherError.TheVariants.{BadPattern};
 
 use crate::matcher::Operator;
-use crate::matcher::answers::Answers;
 use crate::matcher::comparison::Comparison;
+use crate::matcher::match_cache::MatchCache;
 use crate::matcher::pattern::MatcherError;
 use crate::matcher::patterns::Patterns;
 use crate::{Exact, Labels, Text};
@@ -83,12 +83,15 @@ impl Matcher {
         ensures answer { IfOk result (λ found. found ≡ holds self.now labels.now) }
         ensures plain { takes_pattern self.now.operator ≡ false → IsOk result }
     {
-        self.holds(&mut Answers::none(alloc), labels)
+        self.holds(&mut MatchCache::none(alloc), labels)
     }
 
-    /// Returns whether the matcher matches the labels. It asks its pattern through the remembered
-    /// answers.
-    pub(crate) fn holds(&self, answers: &mut Answers, labels: &Labels) -> Result<bool, AllocError>
+    /// Returns whether the matcher matches the labels. It asks its pattern through the cache.
+    pub(crate) fn holds(
+        &self,
+        answers: &mut MatchCache,
+        labels: &Labels,
+    ) -> Result<bool, AllocError>
         ensures answer { IfOk result (λ found. found ≡ holds self.now labels.now) }
         ensures plain { takes_pattern self.now.operator ≡ false → IsOk result }
     {
@@ -96,19 +99,19 @@ impl Matcher {
             .compares(answers, labels.value_of(self.name.as_str()))
     }
 
-    /// Unmarks the label sets that the matcher doesn't match. It asks for those alone that are
-    /// marked.
+    /// Rules out the label sets that the matcher doesn't match. It asks for the candidates
+    /// alone.
     pub(crate) fn keep(
         &self,
         alloc: Global,
         label_sets: &[Labels],
-        marks: &mut [bool],
+        candidates: &mut [bool],
     ) -> Result<(), AllocError>
-        requires { length marks.old ≡ length label_sets.now }
-        ensures { OnOk result (marks.new ≡ kept_by self.now label_sets.now marks.old) }
+        requires { length candidates.old ≡ length label_sets.now }
+        ensures { OnOk result (candidates.new ≡ kept_by self.now label_sets.now candidates.old) }
     {
         let name = self.name.as_str();
-        self.comparison.keep(alloc, name, label_sets, marks)
+        self.comparison.keep(alloc, name, label_sets, candidates)
     }
 }
 

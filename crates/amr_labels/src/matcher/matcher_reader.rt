@@ -1,7 +1,7 @@
 //! Reading a matcher text character by character. `matcher_steps.rt` says where each character
 //! leads; here the parts are collected.
 ghost use Rattle.std.specs.Prelude.{◌≡◌, ◌++◌, Some, None, IfOk, OnOk, option_map, if◌then◌else◌, encode_utf8_all, string_bytes};
-ghost use Rattle.amr_labels.specs.Matcher.MatcherText.{escaped as escaped_of};
+ghost use Rattle.amr_labels.specs.Matcher.MatcherText.{meaning_of_escape as escaped_of};
 ghost use Rattle.amr_labels.specs.Matcher.MatcherReading as reading;
 
 use crate::Text;
@@ -139,7 +139,7 @@ impl Reader {
     /// Returns the matchers, or `None` if a text can't end here.
     pub fn finish(self, alloc: Global) -> Result<Option<Vec<Draft>>, AllocError>
         ensures { IfOk result (λ found. option_map (λ drafts. drafts.items) found
-            ≡ reading.ended self) }
+            ≡ reading.matchers_at_end self) }
     {
         let mut reader = self;
         match ending(reader.braced, reader.place) {

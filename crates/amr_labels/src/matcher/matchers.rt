@@ -8,8 +8,8 @@ ghost use Rattle.std.specs.Ordering.{as_partial_cmp, eq_by_cmp};
 ghost use Rattle.amr_labels.specs.Matcher.Candidates.{matches_each};
 ghost use Rattle.amr_labels.specs.Matcher.Matchers.{all_hold, matcher_cmp, matcher_cmp_total};
 
-use crate::matcher::answers::Answers;
 use crate::matcher::candidates::match_each;
+use crate::matcher::match_cache::MatchCache;
 use crate::matcher::matcher::Matcher;
 use crate::{Exact, Labels};
 use std::alloc::{AllocError, Global};
@@ -71,8 +71,8 @@ impl Matchers {
     }
 
     /// Returns whether all matchers match the labels. An empty list always does. It asks their
-    /// patterns through the remembered answers.
-    pub fn matches_all(&self, answers: &mut Answers, labels: &Labels) -> Result<bool, AllocError>
+    /// patterns through the cache.
+    pub fn matches_all(&self, answers: &mut MatchCache, labels: &Labels) -> Result<bool, AllocError>
         ensures { IfOk result (λ hold. hold ≡ all_hold self.now labels.now) }
     {
         for matcher in self.as_slice() {

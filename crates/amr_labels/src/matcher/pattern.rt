@@ -105,7 +105,7 @@ impl Pattern {
         self.hash_value
     }
 
-    /// Unmarks the label sets whose value of the label with this name the pattern doesn't match, or
+    /// Rules out the label sets whose value of the label with this name the pattern doesn't match, or
     /// matches if `negated`. One search serves all of them, because it takes longer to prepare a
     /// search than to run it.
     pub(crate) fn keep(
@@ -114,33 +114,34 @@ impl Pattern {
         name: &str,
         negated: bool,
         label_sets: &[Labels],
-        marks: &mut [bool],
+        candidates: &mut [bool],
     ) -> Result<(), AllocError>
-        requires { length marks.old ≡ length label_sets.now }
-        ensures { OnOk result (marks.new
-            ≡ kept_where (found_or_not negated self.now) name.now label_sets.now marks.old) }
+        requires { length candidates.old ≡ length label_sets.now }
+        ensures { OnOk result (candidates.new
+            ≡ kept_where (found_or_not negated self.now) name.now label_sets.now candidates.old) }
     {
         let mut search = self.built.search(alloc)?;
-        self.ask_each(&mut search, name, negated, label_sets, marks);
+        self.ask_each(&mut search, name, negated, label_sets, candidates);
         Ok(())
     }
 
-    /// Unmarks the same label sets. It searches in the values of those alone that are marked.
+    /// Rules out the same label sets. It searches in the values of the candidates alone.
     fn ask_each(
         &self,
         search: &mut Search<'_>,
         name: &str,
         negated: bool,
         label_sets: &[Labels],
-        marks: &mut [bool],
+        candidates: &mut [bool],
     )
         requires search { IsFoundAs (search_pattern search.old) self.now }
-        requires marks { length marks.old ≡ length label_sets.now }
-        ensures { marks.new
-            ≡ kept_where (found_or_not negated self.now) name.now label_sets.now marks.old }
+        requires candidates { length candidates.old ≡ length label_sets.now }
+        ensures { candidates.new
+            ≡ kept_where (found_or_not negated self.now) name.now label_sets.now candidates.old }
     {
         for (place, labels) in label_sets.iter().enumerate() {
-            marks[place] = marks[place] && self.passes(search, negated, labels.value_of(name));
+            candidates[place] = candidates[place]
+                && self.passes(search, negated, labels.value_of(name));
         }
     }
 

@@ -1,5 +1,5 @@
 //! Patterns that were built before. Building a pattern takes far longer than finding it again, and
-//! reloads and silences repeat patterns, so a script is read with one memory of them.
+//! reloads and silences repeat patterns, so a script is read with one cache of them.
 //!
 //! A repetition such as `\w{30}` makes a short pattern large. So all patterns of a configuration, or
 //! of a line of a script, share a room. Without it, a mebibyte of such patterns took half a minute

@@ -1,7 +1,7 @@
 //! Patterns without their groups.
 ghost use Rattle.std.specs.Prelude.{◌≡◌, map, IfOk};
 ghost use Rattle.regex_hir.specs.Meaning.{meaning};
-ghost use Rattle.amr_labels.specs.Matcher.Searches.{ungrouped as without_groups};
+ghost use Rattle.amr_labels.specs.Matcher.Searches.{without_groups};
 
 use regex_hir::Hir;
 use std::alloc::{AllocError, Global};

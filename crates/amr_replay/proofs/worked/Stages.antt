@@ -9,7 +9,7 @@ use Rattle.amr_labels.specs.declared.matcher.Operator.TheVariants as operator
 use Rattle.amr_time.specs.Time.{Moment, second, minute, hour}
 use Rattle.amr_config.specs.declared.stated.route.Route.{Route}
 use Rattle.amr_config.specs.Stated.Config.{Config}
-use Rattle.amr_config.specs.Routing.{chosen, routing}
+use Rattle.amr_config.specs.Routing.{chosen_routes, routing}
 use Rattle.amr_events.specs.Actions.Events.{Event, Act}
 use Rattle.amr_rules.specs.declared.silence.Silence.{Silence}
 use Rattle.amr_rules.specs.declared.dedup.LogEntry.{LogEntry}
@@ -132,14 +132,14 @@ child matcher continues = record (root []) { parent = Some 0; matchers = matcher
 abbrev config_tree : Config
 config_tree = record config_ops { routes = root (codes "ops") ∷ child (is (codes "team") (codes "a")) true ∷ child (is (codes "team") (codes "a")) false ∷ child (is (codes "severity") (codes "x")) false ∷ [] }
 
-pub continue_lets_an_alert_go_on : chosen config_tree (from_entries ((codes "team", codes "a") ∷ (codes "severity", codes "x") ∷ [])) ≡ 1 ∷ 2 ∷ []
+pub continue_lets_an_alert_go_on : chosen_routes config_tree (from_entries ((codes "team", codes "a") ∷ (codes "severity", codes "x") ∷ [])) ≡ 1 ∷ 2 ∷ []
 unfolding computing routing
 continue_lets_an_alert_go_on = refl
 
-pub no_route_of_the_team : chosen config_tree (from_entries ((codes "team", codes "c") ∷ (codes "severity", codes "x") ∷ [])) ≡ 3 ∷ []
+pub no_route_of_the_team : chosen_routes config_tree (from_entries ((codes "team", codes "c") ∷ (codes "severity", codes "x") ∷ [])) ≡ 3 ∷ []
 unfolding computing routing
 no_route_of_the_team = refl
 
-pub the_root_takes_what_no_child_takes : chosen config_tree (from_entries ((codes "team", codes "c") ∷ [])) ≡ 0 ∷ []
+pub the_root_takes_what_no_child_takes : chosen_routes config_tree (from_entries ((codes "team", codes "c") ∷ [])) ≡ 0 ∷ []
 unfolding computing routing
 the_root_takes_what_no_child_takes = refl

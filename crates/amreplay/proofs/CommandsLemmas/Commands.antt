@@ -15,19 +15,19 @@ use Rattle.amreplay.specs.declared.command_lines.command.Move.TheVariants.{Step,
 use Rattle.amreplay.specs.declared.command_lines.command.Query.{Query}
 use Rattle.amreplay.specs.declared.command_lines.command.Command.TheVariants as command
 use Rattle.amreplay.specs.declared.command_lines.command.ParsedLine.TheVariants.{Asks}
-use Rattle.amreplay.specs.Commands.Replies.{Incident, Reply, incident_of, state_in, moved, listed, tried_lines, reply_to, TakesMemory}
+use Rattle.amreplay.specs.Commands.Replies.{Incident, Reply, incident_of, state_in, reply_to_move, listing_text, tried_lines, reply_to, TakesMemory}
 use Rattle.amreplay.specs.Commands.Answer.{left, Answered, Moves}
 use Rattle.amreplay.specs.declared.commands.answer.Refusal.TheVariants.{AtEnd, AtStart, OutOfRange}
 use Rattle.amreplay.specs.declared.commands.answer.Answer.{Answer}
 use Rattle.amreplay.specs.declared.commands.answer.Answer.TheVariants.{Built, Listed, WentBack, Place, Refused}
 
 -- a command that moves the cursor
-moves_answered : (i : Incident) (n n' to : ℕ) (move : Move) (answer : Answer) → reply_to i n (command.Move move) ≡ moved i n (word_of_move move) to → (n < to → TakesMemory i n (command.Move move))
+moves_answered : (i : Incident) (n n' to : ℕ) (move : Move) (answer : Answer) → reply_to i n (command.Move move) ≡ reply_to_move i n (word_of_move move) to → (n < to → TakesMemory i n (command.Move move))
     → Moves i n (word_of_move move) to n' answer → Answered i n n' (Asks (command.Move move)) answer
 moves_answered i n n' to move answer reply takes (inl e) = inl (reply ∙ e)
 moves_answered i n n' to move answer reply takes (inr w) = inr (takes w.0, w.1)
 
-step_reply : (i : Incident) (n : ℕ) → n < length i.events → reply_to i n (command.Move Step) ≡ moved i n word.Step (n + 1)
+step_reply : (i : Incident) (n : ℕ) → n < length i.events → reply_to i n (command.Move Step) ≡ reply_to_move i n word.Step (n + 1)
 unfolding reply_to
 step_reply i n h = let b : nat_lt n (length i.events) ≡ true = search (rules, tests) in rw b refl
 
@@ -38,7 +38,7 @@ pub step_at_end : (i : Incident) (n : ℕ) → n ≡ length i.events → reply_t
 unfolding reply_to
 step_at_end i n e = let h : length i.events ≤ n = omega (arith, e) in let b : nat_lt n (length i.events) ≡ false = search (rules, tests) in rw b refl
 
-seek_reply : (i : Incident) (n to : ℕ) → to ≤ length i.events → reply_to i n (command.Move (Seek to)) ≡ moved i n word.Seek to
+seek_reply : (i : Incident) (n to : ℕ) → to ≤ length i.events → reply_to i n (command.Move (Seek to)) ≡ reply_to_move i n word.Seek to
 unfolding reply_to
 seek_reply i n to h = let b : nat_le to (length i.events) ≡ true = search (rules, tests) in rw b refl
 
@@ -49,7 +49,7 @@ pub seek_out_of_range : (i : Incident) (n to : ℕ) → length i.events < to →
 unfolding reply_to
 seek_out_of_range i n to h = let b : nat_le to (length i.events) ≡ false = search (rules, tests) in rw b refl
 
-seek_time_reply : (i : Incident) (n : ℕ) (at : Moment) → reply_to i n (command.Move (SeekTime at)) ≡ moved i n word.SeekTime (events_until at i.events)
+seek_time_reply : (i : Incident) (n : ℕ) (at : Moment) → reply_to i n (command.Move (SeekTime at)) ≡ reply_to_move i n word.SeekTime (events_until at i.events)
 unfolding reply_to
 seek_time_reply i n at = refl
 
@@ -71,10 +71,10 @@ trial_reply i n event text e = ap (λ t. let r : Reply = record { cursor = n; te
 state_of : (s : View) → s ≡ at_cursor s.config s.version s.events s.cursor → state_in (incident_of s) s.cursor ≡ s.state
 state_of s view = sym (ap (λ (v : View). v.state) view)
 
-pub query_reply : (s : View) → s ≡ at_cursor s.config s.version s.events s.cursor → (query : Query) (lines : Vec ℕ) → lines.items ≡ listed s.cursor query s.state → reply_to (incident_of s) s.cursor (command.Query query) ≡ left s.cursor (Listed lines)
+pub query_reply : (s : View) → s ≡ at_cursor s.config s.version s.events s.cursor → (query : Query) (lines : Vec ℕ) → lines.items ≡ listing_text s.cursor query s.state → reply_to (incident_of s) s.cursor (command.Query query) ≡ left s.cursor (Listed lines)
 unfolding reply_to
 query_reply s view query lines e =
-    ap (λ (st : State). let r : Reply = record { cursor = s.cursor; text = listed s.cursor query st } in r) (state_of s view)
+    ap (λ (st : State). let r : Reply = record { cursor = s.cursor; text = listing_text s.cursor query st } in r) (state_of s view)
     ∙ ap (λ t. let r : Reply = record { cursor = s.cursor; text = t } in r) (sym e)
 
 pub place_reply : (s : View) → s ≡ at_cursor s.config s.version s.events s.cursor → reply_to (incident_of s) s.cursor command.Cursor ≡ left s.cursor (Place s.cursor (length s.events) s.state.moment)

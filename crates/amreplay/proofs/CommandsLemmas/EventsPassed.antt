@@ -14,7 +14,7 @@ use Rattle.amr_engine.specs.declared.outcome.Outcome as code
 use Rattle.amr_engine.specs.Outcomes.{outcome_view}
 use Rattle.amr_replay.specs.Session.{View, at_cursor, state_at, outcomes_of, outcomes_passed}
 use Rattle.amr_replay.proofs.Passed.{told_more}
-use Rattle.amreplay.specs.Commands.Replies.{Incident, Reply, incident_of, numbered_lines, passing_text, moved}
+use Rattle.amreplay.specs.Commands.Replies.{Incident, Reply, incident_of, numbered_lines, passing_text, reply_to_move}
 use Rattle.amreplay.specs.Commands.Answer.{left, Moves}
 use Rattle.amreplay.specs.declared.commands.answer.Answer.{Answer}
 use Rattle.amreplay.specs.declared.commands.answer.Answer.TheVariants.{Built, SoughtBack}
@@ -76,16 +76,16 @@ passed_none : (c : Config) (es : List Event) (n m : ℕ) → m ≤ n → outcome
 passed_none c es n m h = ap (outcomes_of (state_at c es n)) (drop_all n (take m es) (omega (arith, length-take m es)))
 
 -- to the cursor or below it
-pub moved_back : (i : Incident) (n to : ℕ) (word : Word) → to ≤ n → moved i n word to ≡ left to (SoughtBack word)
-unfolding moved
+pub moved_back : (i : Incident) (n to : ℕ) (word : Word) → to ≤ n → reply_to_move i n word to ≡ left to (SoughtBack word)
+unfolding reply_to_move
 moved_back i n to word h =
     ap (λ os. let r : Reply = record { cursor = to; text = passing_text i.events n word to os } in r) (passed_none i.config i.events n to h)
     ∙ ap (λ t. let r : Reply = record { cursor = to; text = t ++ moves_line word to 0 } in r) (numbered_none (n + 1) (drop n i.events))
 
 -- the text of the events that were passed was built
 pub moved_built : (i : Incident) (n to : ℕ) (word : Word) (os : List code.Outcome) (text : String Global) → map outcome_view os ≡ outcomes_passed i.config i.events n to
-    → string_bytes text ≡ passing_text i.events n word to (map outcome_view os) → moved i n word to ≡ left to (Built text)
-unfolding moved
+    → string_bytes text ≡ passing_text i.events n word to (map outcome_view os) → reply_to_move i n word to ≡ left to (Built text)
+unfolding reply_to_move
 moved_built i n to word os text is built =
     ap (λ os. let r : Reply = record { cursor = to; text = passing_text i.events n word to os } in r) (sym is)
     ∙ ap (λ t. let r : Reply = record { cursor = to; text = t } in r) (sym built)

@@ -6,7 +6,7 @@ use Rattle.amr_events.specs.declared.version.Version.{Version}
 use Rattle.amreplay.specs.declared.lines.word.Word.TheVariants as word
 use Rattle.amreplay.specs.declared.command_lines.command.ParsedLine.{ParsedLine}
 use Rattle.amreplay.specs.declared.command_lines.command.ParsedLine.TheVariants.{Nothing, Malformed}
-use Rattle.amreplay.specs.CommandLines.Parts.{word_in, trimmed}
+use Rattle.amreplay.specs.CommandLines.Parts.{word_in, without_outer_space}
 use Rattle.amreplay.specs.CommandLines.Command.{word_named, said_in, said_of}
 use Rattle.amreplay.specs.CommandLines.ParsedLine.{LineSays}
 use Rattle.amreplay.specs.Commands.Replies.{MayFindNoMemory, reply_of}
@@ -15,9 +15,9 @@ use Rattle.amreplay.specs.Commands.Laws.{EmptyIsSilent}
 
 empty_says : (version : Version) → said_of version [] ≡ Nothing
 unfolding said_of said_in
-empty_says version = ap (λ b. if b then said_in version (trimmed []) else Malformed word.Unknown) (is_utf8-from_IsUtf8 [] IsUtf8-nil)
+empty_says version = ap (λ b. if b then said_in version (without_outer_space []) else Malformed word.Unknown) (is_utf8-from_IsUtf8 [] IsUtf8-nil)
 
-empty_is_no_word : word_named (word_in (trimmed [])) ≡ word.Unknown
+empty_is_no_word : word_named (word_in (without_outer_space [])) ≡ word.Unknown
 unfolding word_named
 empty_is_no_word = refl
 

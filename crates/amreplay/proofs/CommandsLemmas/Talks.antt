@@ -7,7 +7,7 @@ use Rattle.std.proofs.lemmas.Result.{MatchResult-weaker, MatchResult-at_ok, Matc
 use Rattle.std.specs.Io.KnownBytes.{Appends, Keeps}
 use Rattle.std.proofs.KnownBytes.{Appends-nil, Appends-trans, Appends-kept}
 use Rattle.amreplay.specs.Commands.Replies.{Incident}
-use Rattle.amreplay.specs.Commands.Lines.{ended, IsOneLine}
+use Rattle.amreplay.specs.Commands.Lines.{with_feed, IsOneLine}
 use Rattle.amreplay.specs.Commands.Talk.{AnsweredLine, reply, MayBe, after, out, AllMayBe, Answers, Progress, StopsShort, StopsInside}
 
 abbrev line_of : AnsweredLine → List ℕ
@@ -34,9 +34,9 @@ All-push : {X : Type 0} (P : X → Type 0) (xs : List X) (x : X) → All P xs �
 All-push P xs x p q = All-append P xs (x ∷ []) p (All-cons P x [] q (All-nil P))
 
 -- the line feed makes the rest a whole line
-joined : (bytes rest : List ℕ) (lines : List (List ℕ)) → bytes ≡ flat_map ended lines ++ rest → bytes ++ 10 ∷ [] ≡ flat_map ended (lines ++ rest ∷ []) ++ []
+joined : (bytes rest : List ℕ) (lines : List (List ℕ)) → bytes ≡ flat_map with_feed lines ++ rest → bytes ++ 10 ∷ [] ≡ flat_map with_feed (lines ++ rest ∷ []) ++ []
 joined bytes rest lines e =
-    ap (λ l. l ++ 10 ∷ []) e ∙ append_assoc (flat_map ended lines) rest (10 ∷ []) ∙ sym (ap (λ l. flat_map ended lines ++ l) (append-nil (ended rest))) ∙ sym (flat_map-append ended lines (rest ∷ [])) ∙ sym (append-nil _)
+    ap (λ l. l ++ 10 ∷ []) e ∙ append_assoc (flat_map with_feed lines) rest (10 ∷ []) ∙ sym (ap (λ l. flat_map with_feed lines ++ l) (append-nil (with_feed rest))) ∙ sym (flat_map-append with_feed lines (rest ∷ [])) ∙ sym (append-nil _)
 
 pub Progress-nil : (incident : Incident) (w : Option (List ℕ)) → Progress incident w w [] 0 []
 Progress-nil incident w =
@@ -49,7 +49,7 @@ Progress-more incident start now bytes cursor rest b ne t =
     record {
       heard = t.heard;
       cut = record {
-        whole = ap (λ l. l ++ b ∷ []) t.cut.whole ∙ append_assoc (flat_map ended (map line_of t.heard)) rest (b ∷ []);
+        whole = ap (λ l. l ++ b ∷ []) t.cut.whole ∙ append_assoc (flat_map with_feed (map line_of t.heard)) rest (b ∷ []);
         each = t.cut.each;
         last = All-push (λ x. x ≢ 10) rest b t.cut.last ne;
       };
@@ -72,7 +72,7 @@ Progress-ended incident start mid now bytes cursor cursor' rest r t a =
     (λ _ d. record {
       heard = t.heard ++ h ∷ [];
       cut = record {
-        whole = joined bytes rest (map line_of t.heard) t.cut.whole ∙ ap (λ l. flat_map ended l ++ []) (sym (lines-append t.heard h));
+        whole = joined bytes rest (map line_of t.heard) t.cut.whole ∙ ap (λ l. flat_map with_feed l ++ []) (sym (lines-append t.heard h));
         each = subst (All IsOneLine) (sym (lines-append t.heard h)) (All-push IsOneLine _ rest t.cut.each t.cut.last);
         last = All-nil _;
       };
@@ -83,7 +83,7 @@ Progress-ended incident start mid now bytes cursor cursor' rest r t a =
     (λ _ d. record {
       heard = t.heard;
       last = h;
-      whole = t.cut.whole ∙ ap (λ l. flat_map ended (map line_of t.heard) ++ l) (sym (append-nil rest));
+      whole = t.cut.whole ∙ ap (λ l. flat_map with_feed (map line_of t.heard) ++ l) (sym (append-nil rest));
       each = t.cut.each;
       one_line = t.cut.last;
       may_be = may;
@@ -102,7 +102,7 @@ StopsShort-more incident start now bytes after_line more s =
     record {
       heard = s.heard;
       last = s.last;
-      whole = ap (λ l. l ++ more) s.whole ∙ append_assoc (flat_map ended (map line_of s.heard)) _ more ∙ ap (λ l. flat_map ended (map line_of s.heard) ++ l) (append_assoc s.last.line after_line more);
+      whole = ap (λ l. l ++ more) s.whole ∙ append_assoc (flat_map with_feed (map line_of s.heard)) _ more ∙ ap (λ l. flat_map with_feed (map line_of s.heard) ++ l) (append_assoc s.last.line after_line more);
       each = s.each;
       one_line = s.one_line;
       may_be = s.may_be;

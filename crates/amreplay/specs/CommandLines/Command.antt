@@ -10,7 +10,7 @@ use Rattle.amr_events.specs.Lines.{event_of_line}
 use Rattle.amreplay.specs.declared.lines.word.Word.{Word}
 use Rattle.amreplay.specs.declared.lines.word.Word.TheVariants as word
 use Rattle.amreplay.specs.Lines.LastLines.{word_text}
-use Rattle.amreplay.specs.CommandLines.Parts.{trimmed, word_in, argument_in, is_digit, number_within}
+use Rattle.amreplay.specs.CommandLines.Parts.{without_outer_space, word_in, argument_in, is_digit, number_within}
 use Rattle.amr_events.specs.LabelTexts.{labels_in}
 use Rattle.amr_events.specs.declared.version.Version.{Version}
 use Rattle.amreplay.specs.declared.command_lines.command.Move.{Move}
@@ -103,4 +103,4 @@ said_in version text = if length text == 0 then Nothing else said_by version (wo
 
 -- what a line is parsed as
 unfoldable pub said_of : Version → Text → ParsedLine
-said_of version line = if is_utf8 line then said_in version (trimmed line) else Malformed word.Unknown
+said_of version line = if is_utf8 line then said_in version (without_outer_space line) else Malformed word.Unknown

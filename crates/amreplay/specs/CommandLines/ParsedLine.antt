@@ -13,7 +13,7 @@ use Rattle.amreplay.specs.declared.command_lines.command.Command.TheVariants as 
 use Rattle.amreplay.specs.declared.command_lines.command.ParsedLine.{ParsedLine}
 use Rattle.amreplay.specs.declared.command_lines.command.ParsedLine.TheVariants.{Nothing, Asks, Malformed, BadMoment, BadArgument}
 use Rattle.amreplay.specs.declared.command_lines.command.Unread.{Unread}
-use Rattle.amreplay.specs.CommandLines.Parts.{trimmed, word_in, argument_in}
+use Rattle.amreplay.specs.CommandLines.Parts.{without_outer_space, word_in, argument_in}
 use Rattle.amreplay.specs.CommandLines.Command.{word_named, word_of_command, said_by, said_in, said_of}
 
 -- the event of a trial is one that its text may be read as, given what `regex` refuses in it
@@ -33,7 +33,7 @@ TextSays version text parsed = (parsed ≡ said_in version text) ⊎ ((word_name
 abbrev pub LineSays : Version → Text → ParsedLine → Type 0
 LineSays version line parsed =
     (parsed ≡ said_of version line)
-    ⊎ ((is_utf8 line ≡ true) × (word_named (word_in (trimmed line)) ≡ word.Trial) × Tries version (argument_in (trimmed line)) parsed)
+    ⊎ ((is_utf8 line ≡ true) × (word_named (word_in (without_outer_space line)) ≡ word.Trial) × Tries version (argument_in (without_outer_space line)) parsed)
 
 -- the word that a refusal names
 abbrev pub word_of : ParsedLine → Word

@@ -10,8 +10,8 @@ abbrev pub trimmed_back : List ℕ → List ℕ
 trimmed_back text = take (length text - suffix_len is_space text) text
 
 -- white space at both ends is dropped
-abbrev pub trimmed : List ℕ → List ℕ
-trimmed line = trimmed_back (trimmed_front line)
+abbrev pub without_outer_space : List ℕ → List ℕ
+without_outer_space line = trimmed_back (trimmed_front line)
 
 abbrev pub word_in : List ℕ → List ℕ
 word_in text = before_first is_space text

@@ -7,7 +7,7 @@ use Rattle.amreplay.specs.Lines.LastLines.{moves_line, cursor_line, place_line, 
 use Rattle.amreplay.specs.declared.command_lines.command.ParsedLine.{ParsedLine}
 use Rattle.amreplay.specs.CommandLines.ParsedLine.{word_of}
 use Rattle.amr_replay.specs.Session.{View}
-use Rattle.amreplay.specs.Commands.Replies.{Incident, incident_of, Reply, reply_of, moved, MayFindNoMemory}
+use Rattle.amreplay.specs.Commands.Replies.{Incident, incident_of, Reply, reply_of, reply_to_move, MayFindNoMemory}
 use Rattle.amreplay.specs.Commands.Talk.{LineOutcome, reply, MayBe}
 use Rattle.amreplay.specs.declared.commands.answer.Refusal.{Refusal}
 use Rattle.amreplay.specs.declared.commands.answer.Refusal.TheVariants.{Memory}
@@ -49,5 +49,5 @@ pub record HasLineOutcome (incident : Incident) (cursor cursor' : ℕ) (line : T
 -- command was undone
 abbrev pub Moves : Incident → ℕ → Word → ℕ → ℕ → Answer → Type 0
 Moves incident from word to cursor' answer =
-    (moved incident from word to ≡ left cursor' answer)
+    (reply_to_move incident from word to ≡ left cursor' answer)
     ⊎ ((from < to) × (left cursor' answer ≡ left from (Refused word Memory)))

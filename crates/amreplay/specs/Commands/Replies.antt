@@ -44,8 +44,8 @@ pub record Reply : Type 0 where
   pub cursor : ℕ
   pub text : Text
 
-abbrev pub refused : ℕ → Word → ℕ → Reply
-refused cursor word reason = record { cursor = cursor; text = refused_line word cursor reason }
+abbrev pub refusal_reply : ℕ → Word → ℕ → Reply
+refusal_reply cursor word reason = record { cursor = cursor; text = refused_line word cursor reason }
 
 -- the lines of events, which had these outcomes; the first has the number n
 abbrev pub numbered_lines : ℕ → List Event → List Outcome → Text
@@ -65,8 +65,8 @@ passing_text events cursor word to outcomes =
 
 -- a move to another place: the lines of the events that are passed forward, and the sum of their
 -- moves
-unfoldable pub moved : Incident → ℕ → Word → ℕ → Reply
-moved incident cursor word to = record {
+unfoldable pub reply_to_move : Incident → ℕ → Word → ℕ → Reply
+reply_to_move incident cursor word to = record {
   cursor = to;
   text = passing_text incident.events cursor word to (outcomes_passed incident.config incident.events cursor to);
 }
@@ -81,8 +81,8 @@ lines_of Log s = flat_map log_line (entries s.log)
 lines_of Transcript s = flat_map notification_line s.notes
 
 -- those lines and a last one
-abbrev pub listed : ℕ → Query → State → Text
-listed cursor query s = lines_of query s ++ cursor_line (word_of_query query) cursor
+abbrev pub listing_text : ℕ → Query → State → Text
+listing_text cursor query s = lines_of query s ++ cursor_line (word_of_query query) cursor
 
 -- an event that is tried has the number 0
 abbrev pub tried_lines : ℕ → Event → Outcome → Text
@@ -90,12 +90,12 @@ tried_lines cursor event outcome = event_lines 0 event outcome ++ moves_line wor
 
 -- what a command leaves if memory doesn't run out
 unfoldable pub reply_to : Incident → ℕ → Command → Reply
-reply_to incident n (command.Move Step) = if nat_lt n (length incident.events) then moved incident n word.Step (n + 1) else refused n word.Step (refusal_number refusal.AtEnd)
-reply_to incident n (command.Move Back) = if nat_lt 0 n then record { cursor = n - 1; text = cursor_line word.Back (n - 1) } else refused n word.Back (refusal_number refusal.AtStart)
-reply_to incident n (command.Move (Seek to)) = if nat_le to (length incident.events) then moved incident n word.Seek to else refused n word.Seek (refusal_number refusal.OutOfRange)
-reply_to incident n (command.Move (SeekTime at)) = moved incident n word.SeekTime (events_until at incident.events)
+reply_to incident n (command.Move Step) = if nat_lt n (length incident.events) then reply_to_move incident n word.Step (n + 1) else refusal_reply n word.Step (refusal_number refusal.AtEnd)
+reply_to incident n (command.Move Back) = if nat_lt 0 n then record { cursor = n - 1; text = cursor_line word.Back (n - 1) } else refusal_reply n word.Back (refusal_number refusal.AtStart)
+reply_to incident n (command.Move (Seek to)) = if nat_le to (length incident.events) then reply_to_move incident n word.Seek to else refusal_reply n word.Seek (refusal_number refusal.OutOfRange)
+reply_to incident n (command.Move (SeekTime at)) = reply_to_move incident n word.SeekTime (events_until at incident.events)
 reply_to incident n (command.Trial event) = record { cursor = n; text = tried_lines n event (outcome_of (state_in incident n) event) }
-reply_to incident n (command.Query query) = record { cursor = n; text = listed n query (state_in incident n) }
+reply_to incident n (command.Query query) = record { cursor = n; text = listing_text n query (state_in incident n) }
 reply_to incident n command.Cursor = record { cursor = n; text = place_line n (length incident.events) (state_in incident n).moment }
 
 -- the command takes memory there, so memory may run out
@@ -112,9 +112,9 @@ TakesMemory incident n command.Cursor = ⊥
 abbrev pub reply_of : Incident → ℕ → ParsedLine → Reply
 reply_of incident n Nothing = record { cursor = n; text = [] }
 reply_of incident n (Asks command) = reply_to incident n command
-reply_of incident n (Malformed word) = refused n word (refusal_number refusal.BadLine)
-reply_of incident n BadMoment = refused n word.SeekTime (refusal_number refusal.BadTime)
-reply_of incident n (BadArgument word) = refused n word (refusal_number refusal.BadLine)
+reply_of incident n (Malformed word) = refusal_reply n word (refusal_number refusal.BadLine)
+reply_of incident n BadMoment = refusal_reply n word.SeekTime (refusal_number refusal.BadTime)
+reply_of incident n (BadArgument word) = refusal_reply n word (refusal_number refusal.BadLine)
 
 -- parsing it takes memory, or executing it
 abbrev pub MayFindNoMemory : Incident → ℕ → ParsedLine → Type 0

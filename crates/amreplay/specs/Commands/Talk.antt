@@ -8,8 +8,8 @@ use Rattle.amreplay.specs.declared.command_lines.command.ParsedLine.{ParsedLine}
 use Rattle.amreplay.specs.declared.command_lines.line.Line.{Line}
 use Rattle.amreplay.specs.CommandLines.Line.{longest, Holds}
 use Rattle.amreplay.specs.CommandLines.ParsedLine.{LineSays, word_of}
-use Rattle.amreplay.specs.Commands.Lines.{Cuts, ended, IsOneLine}
-use Rattle.amreplay.specs.Commands.Replies.{Incident, Reply, refused, reply_of, MayFindNoMemory}
+use Rattle.amreplay.specs.Commands.Lines.{Cuts, with_feed, IsOneLine}
+use Rattle.amreplay.specs.Commands.Replies.{Incident, Reply, refusal_reply, reply_of, MayFindNoMemory}
 use Rattle.amreplay.specs.declared.commands.answer.Refusal.TheVariants as refusal
 use Rattle.amreplay.specs.Commands.Refusals.{refusal_number}
 
@@ -27,9 +27,9 @@ pub record AnsweredLine : Type 0 where
 
 -- what a line leaves
 abbrev pub reply : Incident → ℕ → LineOutcome → Reply
-reply incident cursor TooLong = refused cursor word.Unknown (refusal_number refusal.LineTooLong)
-reply incident cursor NoMemory = refused cursor word.Unknown (refusal_number refusal.Memory)
-reply incident cursor (Undone parsed) = refused cursor (word_of parsed) (refusal_number refusal.Memory)
+reply incident cursor TooLong = refusal_reply cursor word.Unknown (refusal_number refusal.LineTooLong)
+reply incident cursor NoMemory = refusal_reply cursor word.Unknown (refusal_number refusal.Memory)
+reply incident cursor (Undone parsed) = refusal_reply cursor (word_of parsed) (refusal_number refusal.Memory)
 reply incident cursor (Done parsed) = reply_of incident cursor parsed
 
 -- A line may end like this. It is undone only if it takes memory, and memory to hold it can run out
@@ -77,7 +77,7 @@ pub record Progress (incident : Incident) (start now : Option Text) (bytes : Tex
 pub record StopsShort (incident : Incident) (start now : Option Text) (bytes after_line : Text) : Type 0 where
   pub heard : List AnsweredLine
   pub last : AnsweredLine
-  pub whole : bytes ≡ flat_map ended (map (λ h. h.line) heard) ++ (last.line ++ after_line)
+  pub whole : bytes ≡ flat_map with_feed (map (λ h. h.line) heard) ++ (last.line ++ after_line)
   pub each : All IsOneLine (map (λ h. h.line) heard)
   pub one_line : IsOneLine last.line
   pub may_be : AllMayBe incident 0 (heard ++ last ∷ [])

@@ -21,9 +21,9 @@ with_files word config script =
     else (if bytes_eq word (codes "session") then Some (SessionOf config script) else None)
 
 -- these two forms, and `check CONFIG`
-abbrev pub asked : List (List ℕ) → Option Task
-asked [] = None
-asked (word ∷ []) = None
-asked (word ∷ config ∷ []) = if bytes_eq word (codes "check") then Some (CheckOf config) else None
-asked (word ∷ config ∷ script ∷ []) = with_files word config script
-asked (word ∷ config ∷ script ∷ other ∷ others) = None
+abbrev pub task_of_words : List (List ℕ) → Option Task
+task_of_words [] = None
+task_of_words (word ∷ []) = None
+task_of_words (word ∷ config ∷ []) = if bytes_eq word (codes "check") then Some (CheckOf config) else None
+task_of_words (word ∷ config ∷ script ∷ []) = with_files word config script
+task_of_words (word ∷ config ∷ script ∷ other ∷ others) = None

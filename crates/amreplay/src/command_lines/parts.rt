@@ -3,7 +3,7 @@
 ghost use Rattle.std.specs.Prelude.{◌≡◌, ◌≤◌, length};
 ghost use Rattle.std.specs.List.{prefix_len, position_or_len};
 ghost use Rattle.amr_events.specs.Scripts.{is_space as is_space_byte};
-ghost use Rattle.amreplay.specs.CommandLines.Parts.{trimmed_front, trimmed_back, trimmed as trimmed_text, word_in, argument_in};
+ghost use Rattle.amreplay.specs.CommandLines.Parts.{trimmed_front, trimmed_back, without_outer_space as trimmed_text, word_in, argument_in};
 
 /// Returns whether the byte is white space of JSON (RFC 8259).
 fn is_space(byte: u8) -> bool

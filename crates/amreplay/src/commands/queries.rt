@@ -3,7 +3,7 @@
 ghost use Rattle.std.specs.Prelude.{◌≡◌, ◌++◌, IfOk};
 ghost use Rattle.amreplay.specs.declared.command_lines.command.ParsedLine.TheVariants.{Asks};
 ghost use Rattle.amreplay.specs.declared.command_lines.command.Command.TheVariants as command;
-ghost use Rattle.amreplay.specs.Commands.Replies.{lines_of, listed};
+ghost use Rattle.amreplay.specs.Commands.Replies.{lines_of, listing_text};
 ghost use Rattle.amreplay.specs.Commands.Answer.{AnsweredBy};
 
 use crate::command_lines::Query;
@@ -38,7 +38,7 @@ fn listed_lines(
     cursor: usize,
     query: &Query,
 ) -> Result<Vec<u8>, AllocError>
-    ensures { IfOk result (λ lines. lines.items ≡ listed cursor query.now session.now.state) }
+    ensures { IfOk result (λ lines. lines.items ≡ listing_text cursor query.now session.now.state) }
 {
     let mut lines = query_lines(alloc, session, query)?;
     lines.extend_from_slice(cursor_text(alloc, query.word(), cursor)?.as_bytes())?;
@@ -50,7 +50,7 @@ fn prepare(session: &mut Session, query: &Query) -> Result<(), AllocError>
     ensures { session.new ≡ session.old }
 {
     match query {
-        Query::Explain(labels) => session.learn_sources(labels),
+        Query::Explain(labels) => session.cache_sources(labels),
         _ => Ok(()),
     }
 }
@@ -63,7 +63,7 @@ fn prepared_lines(
     query: &Query,
 ) -> Result<Vec<u8>, AllocError>
     ensures lines { IfOk result (λ lines. lines.items
-        ≡ listed cursor query.now session.old.state) }
+        ≡ listing_text cursor query.now session.old.state) }
     ensures same { session.new ≡ session.old }
 {
     prepare(session, query)?;

@@ -14,11 +14,11 @@ pub enum Form<'a> {
     Session { config: &'a str, script: &'a str },
 }
 
-ghost use Rattle.amreplay.specs.Program.Words.{asked, task_of, with_files};
+ghost use Rattle.amreplay.specs.Program.Words.{task_of_words, task_of, with_files};
 
 /// Returns what the arguments ask for, or `None` if that is a usage error. There are no options.
 pub fn command_of<'a>(words: &'a [String]) -> Option<Form<'a>>
-    ensures { option_map task_of result ≡ asked (map string_bytes words.now) }
+    ensures { option_map task_of result ≡ task_of_words (map string_bytes words.now) }
 {
     match words {
         [word, config] if word.as_str() == "check" => Some(Form::Check {

@@ -1,6 +1,6 @@
 use Rattle.std.proofs.Common.{◌≡◌, ◌++◌, drop}
 use Rattle.std.specs.List.{flat_map}
-use Rattle.amr_config.specs.Routing.{chosen}
+use Rattle.amr_config.specs.Routing.{chosen_routes}
 use Rattle.amr_engine.specs.Explain.{verdicts_at}
 use Rattle.amr_engine.proofs.explain.verdicts_of_routes.Given as goal
 
@@ -8,4 +8,4 @@ use Rattle.amr_engine.proofs.explain.verdicts_of_routes.Given as goal
 abbrev pub invariant-loop-route : goal.invariant-loop-route
 invariant-loop-route l =
     l.found.items ++ flat_map (verdicts_at l.store.state l.labels) (drop l.route-index l.route-items)
-    ≡ flat_map (verdicts_at l.store.state l.labels) (chosen l.store.state.config l.labels)
+    ≡ flat_map (verdicts_at l.store.state l.labels) (chosen_routes l.store.state.config l.labels)

@@ -1,6 +1,6 @@
 use Rattle.std.proofs.Common.{◌≡◌, ◌*◌, drop}
 use Rattle.std.specs.List.{fold}
-use Rattle.amr_engine.specs.State.Kept.{GrownBy, undone}
+use Rattle.amr_engine.specs.State.Kept.{GrownBy, before_open_record}
 use Rattle.amr_engine.specs.Partition.{notified_by}
 use Rattle.amr_engine.proofs.flush.notify_others.Given as goal
 
@@ -8,6 +8,6 @@ use Rattle.amr_engine.proofs.flush.notify_others.Given as goal
 abbrev pub invariant-loop-integration : goal.invariant-loop-integration
 invariant-loop-integration l = record {
   ok : fold (notified_by l.at l.group l.partition) l.store.state (drop l.integration-index l.others) ≡ fold (notified_by l.at l.group l.partition) l.fn.store.state l.others;
-  kept : undone l.store ≡ undone l.fn.store;
+  kept : before_open_record l.store ≡ before_open_record l.fn.store;
   grown : GrownBy (2 * l.integration-index) l.fn.store l.store;
 }

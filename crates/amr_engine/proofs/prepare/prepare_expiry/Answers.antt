@@ -1,5 +1,5 @@
 use Rattle.std.proofs.Common.{sym, ap, ◌∙◌}
-use Rattle.amr_rules.specs.Silences.{expired}
+use Rattle.amr_rules.specs.Silences.{expired_form}
 use Rattle.amr_engine.proofs.Preparing.{no_expiry, some_expiry}
 use Rattle.amr_engine.proofs.prepare.prepare_expiry.Goals as goal
 
@@ -9,4 +9,4 @@ returns-in-None c = no_expiry c.args.store.now.state c.args.at c.args.id (sym (r
 pub returns-in_ok-clone-in-Some : goal.returns-in_ok-clone-in-Some
 returns-in_ok-clone-in-Some c =
     some_expiry c.args.store.now.state c.args.at c.args.id c.in-Some.silence.now c.silence_expire-ended.result (sym (rw c.silences.ensures at (rw c.in-Some.is at c.get.ensures)))
-    (c.silence_expire-ended.ensures ∙ ap (expired c.args.at) c.in_ok-clone-in-Some.ensures.cases)
+    (c.silence_expire-ended.ensures ∙ ap (expired_form c.args.at) c.in_ok-clone-in-Some.ensures.cases)

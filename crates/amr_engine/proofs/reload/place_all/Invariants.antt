@@ -1,7 +1,7 @@
 use Rattle.std.proofs.Common.{◌≡◌, ◌≤◌, ◌+◌, ◌*◌, drop, length}
 use Rattle.std.specs.List.{fold}
 use Rattle.amr_engine.specs.State.State.{place}
-use Rattle.amr_engine.specs.State.Kept.{undone}
+use Rattle.amr_engine.specs.State.Kept.{before_open_record}
 use Rattle.amr_engine.specs.Weight.{copies}
 use Rattle.amr_engine.proofs.reload.place_all.Given as goal
 
@@ -9,7 +9,7 @@ use Rattle.amr_engine.proofs.reload.place_all.Given as goal
 abbrev pub invariant-loop-labels : goal.invariant-loop-labels
 invariant-loop-labels l = record {
   ok : fold place l.store.state (drop l.labels-index l.alerts) ≡ fold place l.fn.store.state l.alerts;
-  kept : undone l.store ≡ undone l.fn.store;
+  kept : before_open_record l.store ≡ before_open_record l.fn.store;
   config : l.store.state.config ≡ l.fn.store.state.config;
   grown : length l.store.current + 2 * copies l.fn.store.state.config (drop l.labels-index l.alerts) ≤ length l.fn.store.current + 2 * copies l.fn.store.state.config l.alerts;
 }

@@ -3,7 +3,7 @@ use Rattle.serde_json.specs.View.{view}
 use Rattle.serde_json.specs.Read.{read}
 use Rattle.amr_config.specs.Read.Refusals.{number_of}
 use Rattle.amr_config.specs.Read.Reading.{config_of}
-use Rattle.amr_events.specs.SeenReloads.{Spells}
+use Rattle.amr_events.specs.ReloadCache.{Spells}
 use Rattle.amr_events.proofs.line.reload.Goals as goal
 
 inside : {A : Type 0} (x y : A) → Some x ≡ Some y → x ≡ y

@@ -1,13 +1,13 @@
 use Rattle.std.proofs.Common.{◌≤◌, ℕ, length}
-use Rattle.amr_events.specs.Tokens.{spelled}
+use Rattle.amr_events.specs.Tokens.{lent_texts}
 use Rattle.amr_events.proofs.Stating.{MembersLeft}
 use Rattle.amr_events.proofs.Pairs.{text_members, Ascend}
 use Rattle.amr_events.proofs.posted_tokens.usual_texts.Given as goal
 
 abbrev pub invariant-loop-texts : goal.invariant-loop-texts
 invariant-loop-texts l = record {
-  left : (depth : ℕ) → MembersLeft depth l.initial.reader l.reader (text_members (spelled l.texts.items));
-  ascend : Ascend (spelled l.texts.items);
+  left : (depth : ℕ) → MembersLeft depth l.initial.reader l.reader (text_members (lent_texts l.texts.items));
+  ascend : Ascend (lent_texts l.texts.items);
   shorter : length l.reader ≤ length l.initial.reader;
 }
 

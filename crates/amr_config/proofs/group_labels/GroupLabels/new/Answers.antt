@@ -1,5 +1,5 @@
 use Rattle.amr_labels.specs.Labels.{LabelSet}
-use Rattle.amr_config.proofs.Remembered.{remembers_none}
+use Rattle.amr_config.proofs.Cached.{remembers_none}
 use Rattle.amr_config.proofs.group_labels.GroupLabels.new.Goals as goal
 
 pub invariant_of-result : goal.invariant_of-result

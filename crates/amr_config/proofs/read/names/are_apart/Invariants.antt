@@ -6,5 +6,5 @@ use Rattle.amr_config.proofs.read.names.are_apart.Given as goal
 abbrev pub invariant-loop-place : goal.invariant-loop-place
 invariant-loop-place l = record {
   apart : are_different (drop l.place l.names) ≡ true;
-  met : IsSetOf (drop l.place l.names) l.seen;
+  met : IsSetOf (drop l.place l.names) l.built;
 }

@@ -1,7 +1,7 @@
 use Rattle.amr_labels.specs.Labels.{LabelSet}
 use Rattle.amr_config.specs.Stated.RuleMatches.{rule_matches}
 use Rattle.amr_config.specs.Groups.{known_of}
-use Rattle.amr_config.proofs.Remembered.{remembers_none, gives_none}
+use Rattle.amr_config.proofs.Cached.{remembers_none, gives_none}
 use Rattle.amr_config.proofs.router.Router.new.Goals as goal
 
 pub invariant_of-result : goal.invariant_of-result

@@ -5,7 +5,7 @@ use Rattle.std.proofs.lemmas.Option.{slice_get-get_or}
 use Rattle.amr_config.specs.Groups.{groups_of}
 use Rattle.amr_config.specs.declared.router.RouteGroup.{RouteGroup}
 use Rattle.amr_engine.specs.State.State.{place_on, place}
-use Rattle.amr_engine.specs.State.Kept.{Kept, undone}
+use Rattle.amr_engine.specs.State.Kept.{Kept, before_open_record}
 use Rattle.amr_engine.proofs.StateLemmas.Placed.{routes_of_groups, count_of_groups, group_among}
 use Rattle.amr_engine.proofs.state.placing.place.Goals as goal
 
@@ -20,7 +20,7 @@ loop-group-init c =
           ∙ ap (fold (place_on c.args.labels.now c.args.alert.now) s) (routes_of_groups s.config c.args.labels.now);
       groups = groups ∙ ap (λ (k : Kept). groups_of k.state.config c.args.labels.now) (sym same);
       count = ap length groups ∙ count_of_groups s.config c.args.labels.now;
-      kept = ap undone same;
+      kept = ap before_open_record same;
       grown = omega (arith, ap (λ (k : Kept). length k.current) same);
     }
 

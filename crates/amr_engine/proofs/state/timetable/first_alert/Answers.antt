@@ -3,7 +3,7 @@ use Rattle.std.specs.Prelude.{option_map}
 use Rattle.std.specs.Option.{option_copied}
 use Rattle.amr_labels.specs.Labels.{LabelSet, label_set_cmp, label_set_cmp_total, label_set_cmp-IsAntisymmetric}
 use Rattle.amr_rules.specs.declared.alert.Alert.{Alert}
-use Rattle.amr_tables.specs.Numbered.{Numbered, shown, key_at, rank_of, IsNumbering}
+use Rattle.amr_tables.specs.Numbered.{Numbered, map_of, key_at, rank_of, IsNumbering}
 use Rattle.amr_tables.proofs.Naming.{key_at_number}
 use Rattle.amr_tables.proofs.Keying.{rank_of-total}
 use Rattle.amr_engine.specs.declared.state.due.Kind.TheVariants.{AlertRemoval}
@@ -15,8 +15,8 @@ use Rattle.amr_engine.proofs.state.timetable.first_alert.Goals as goal
 
 pub returns-in_err-number : goal.returns-in_err-number
 returns-in_err-number c = λ timers.
-    subst (λ (r : Option Pending). IsFirstOfKind AlertRemoval (dues_of (shown label_set_cmp c.args.alerts.now) timers) (option_map due_of r)) (sym c.from_residual.ensures)
-    (no_alert (shown label_set_cmp c.args.alerts.now) timers (no_moment label_set_cmp_total label_set_cmp-IsAntisymmetric alert_moment c.args.alerts.now c.args.removals.now refl c.requires.numbered c.requires.scheduled (c.in_err-number.ensures.none (rank_of label_set_cmp c.args.alerts.now) (rank_of-total label_set_cmp_total c.args.alerts.now) c.requires.scheduled.tournament)))
+    subst (λ (r : Option Pending). IsFirstOfKind AlertRemoval (dues_of (map_of label_set_cmp c.args.alerts.now) timers) (option_map due_of r)) (sym c.from_residual.ensures)
+    (no_alert (map_of label_set_cmp c.args.alerts.now) timers (no_moment label_set_cmp_total label_set_cmp-IsAntisymmetric alert_moment c.args.alerts.now c.args.removals.now refl c.requires.numbered c.requires.scheduled (c.in_err-number.ensures.none (rank_of label_set_cmp c.args.alerts.now) (rank_of-total label_set_cmp_total c.args.alerts.now) c.requires.scheduled.tournament)))
 
 pub returns-in_err-labels : goal.returns-in_err-labels
 returns-in_err-labels c = λ timers.
@@ -34,7 +34,7 @@ returns c = λ timers.
     let first = c.in_ok-number.ensures.some (rank_of label_set_cmp a) (rank_of-total label_set_cmp_total a) c.requires.scheduled.tournament in
     let numbering : IsNumbering label_set_cmp a = subst (IsNumbering label_set_cmp) c.by_number.ensures c.key_at.ensures.numbering in
     let named : key_at a n ≡ Some c.in_ok-labels.labels.now = ap (λ (v : Numbered LabelSet Alert). key_at v n) (sym c.by_number.ensures) ∙ sym c.key_at.ensures.key ∙ ap option_copied c.in_ok-labels.was in
-    first_alert (shown label_set_cmp a) timers c.in_ok-labels.labels.now c.in_ok-moment.moment
+    first_alert (map_of label_set_cmp a) timers c.in_ok-labels.labels.now c.in_ok-moment.moment
     (first_moment label_set_cmp_total label_set_cmp-IsAntisymmetric alert_moment a c.args.removals.now n c.in_ok-moment.moment c.in_ok-labels.labels.now refl numbering c.requires.numbered c.requires.scheduled (sym c.at.ensures ∙ c.in_ok-moment.was) first named)
 
 pub returns-in_err-moment : goal.returns-in_err-moment

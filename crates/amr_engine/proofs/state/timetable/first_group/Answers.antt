@@ -1,7 +1,7 @@
 use Rattle.std.proofs.Common.{◌≡◌, Option, Some, sym, ap, subst, ◌∙◌}
 use Rattle.std.specs.Prelude.{option_map}
 use Rattle.std.specs.Option.{option_copied}
-use Rattle.amr_tables.specs.Numbered.{shown, key_at, rank_of}
+use Rattle.amr_tables.specs.Numbered.{map_of, key_at, rank_of}
 use Rattle.amr_tables.proofs.Naming.{key_at_number}
 use Rattle.amr_tables.proofs.Keying.{rank_of-total}
 use Rattle.amr_engine.specs.State.State.{route_labels_cmp, route_labels_cmp_total, route_labels_cmp-IsAntisymmetric}
@@ -13,8 +13,8 @@ use Rattle.amr_engine.proofs.state.timetable.first_group.Goals as goal
 
 pub returns-in_err-number : goal.returns-in_err-number
 returns-in_err-number c = λ alerts.
-    subst (λ (r : Option Pending). IsFirstOfKind c.args.kind (dues_of alerts (shown route_labels_cmp c.args.timers.now)) (option_map due_of r)) (sym c.from_residual.ensures)
-    (no_group alerts (shown route_labels_cmp c.args.timers.now) c.args.kind c.requires.group
+    subst (λ (r : Option Pending). IsFirstOfKind c.args.kind (dues_of alerts (map_of route_labels_cmp c.args.timers.now)) (option_map due_of r)) (sym c.from_residual.ensures)
+    (no_group alerts (map_of route_labels_cmp c.args.timers.now) c.args.kind c.requires.group
     (no_moment route_labels_cmp_total route_labels_cmp-IsAntisymmetric (group_moment c.args.kind) c.args.timers.now c.args.moments.now (group_none c.args.kind) c.requires.numbered c.requires.scheduled (c.in_err-number.ensures.none (rank_of route_labels_cmp c.args.timers.now) (rank_of-total route_labels_cmp_total c.args.timers.now) c.requires.scheduled.tournament)))
 
 pub returns-in_err-group : goal.returns-in_err-group
@@ -37,8 +37,8 @@ returns c = λ alerts.
     let groups = sym c.timer_of_kind-timer.ensures.group in
     let is : record { moment = moment; kind = c.args.kind; route = group.route; labels = group.labels } ≡ due_at moment (timer_of c.timer_of_kind-timer.result) =
     λ i. record { moment = moment; kind = kinds i; route = (groups i).route; labels = (groups i).labels } in
-    subst (λ due. IsFirstOfKind c.args.kind (dues_of alerts (shown route_labels_cmp t)) (Some due)) is
-    (first_group alerts (shown route_labels_cmp t) c.args.kind c.requires.group group moment
+    subst (λ due. IsFirstOfKind c.args.kind (dues_of alerts (map_of route_labels_cmp t)) (Some due)) is
+    (first_group alerts (map_of route_labels_cmp t) c.args.kind c.requires.group group moment
     (first_moment route_labels_cmp_total route_labels_cmp-IsAntisymmetric (group_moment c.args.kind) t c.args.moments.now n moment group (group_none c.args.kind) c.key_at.ensures.numbering c.requires.numbered c.requires.scheduled
     (sym c.at.ensures ∙ c.in_ok-moment.was) first named))
 

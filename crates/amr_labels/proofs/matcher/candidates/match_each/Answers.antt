@@ -9,14 +9,14 @@ pub loop-matcher-init : goal.loop-matcher-init
 loop-matcher-init c =
     let label_sets = c.args.label_sets.now in
     let matchers = c.args.matchers.now in
-    let all : c.in_ok-marks.marks.items ≡ replicate (length label_sets) true = c.in_ok-marks.ensures.items_if_clones_equal (λ y h. h) in (
+    let all : c.in_ok-candidates.candidates.items ≡ replicate (length label_sets) true = c.in_ok-candidates.ensures.items_if_clones_equal (λ y h. h) in (
       ap length all ∙ length-replicate (length label_sets) true,
-      ap (λ (marks : List Bool). fold (λ marks matcher. kept_by matcher label_sets marks) marks matchers) all ∙ asked_each matchers label_sets,
+      ap (λ (candidates : List Bool). fold (λ candidates matcher. kept_by matcher label_sets candidates) candidates matchers) all ∙ asked_each matchers label_sets,
     )
 
 pub returns-then-not-is_any_left : goal.returns-then-not-is_any_left
 returns-then-not-is_any_left c =
-    let marks = c.loop-matcher.marks.items in
-    let none : list_any (λ mark. mark) marks ≡ false =
-    ap (list_any (λ mark. mark)) (sym c.as_slice.ensures.value) ∙ sym c.is_any_left.ensures ∙ c.if-not-is_any_left.true in
-    sym (asked_in_vain (drop c.loop-matcher.matcher-index c.args.matchers.now) c.args.label_sets.now marks none) ∙ c.loop-matcher.invariant.1
+    let candidates = c.loop-matcher.candidates.items in
+    let none : list_any (λ candidate. candidate) candidates ≡ false =
+    ap (list_any (λ candidate. candidate)) (sym c.as_slice.ensures.value) ∙ sym c.is_any_left.ensures ∙ c.if-not-is_any_left.true in
+    sym (asked_in_vain (drop c.loop-matcher.matcher-index c.args.matchers.now) c.args.label_sets.now candidates none) ∙ c.loop-matcher.invariant.1

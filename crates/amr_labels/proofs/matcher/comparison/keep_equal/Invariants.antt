@@ -3,4 +3,4 @@ use Rattle.amr_labels.specs.Matcher.Candidates.{kept_where, equal_or_not}
 use Rattle.amr_labels.proofs.matcher.comparison.keep_equal.Given as goal
 
 abbrev pub invariant-loop-place : goal.invariant-loop-place
-invariant-loop-place l = l.marks ≡ kept_where (equal_or_not l.negated l.own) l.name (take l.place l.label_sets) l.initial.marks
+invariant-loop-place l = l.candidates ≡ kept_where (equal_or_not l.negated l.own) l.name (take l.place l.label_sets) l.initial.candidates

@@ -4,7 +4,7 @@ use Rattle.std.proofs.lemmas.Iterator.{YieldsList-from_chars}
 use Rattle.std.proofs.lemmas.Iterator.Consumers.{YieldsList-turn, YieldsList-end}
 use Rattle.std.proofs.lemmas.List.{length_push}
 use Rattle.std.proofs.Math.Seq.{take-length}
-use Rattle.amr_labels.specs.Matcher.MatcherReading.{run, start, ended, matchers_of}
+use Rattle.amr_labels.specs.Matcher.MatcherReading.{run, start, matchers_at_end, matchers_of}
 use Rattle.amr_labels.proofs.MatcherLemmas.MatcherRuns.{run_more, encoded_more, encoded_front, encoded}
 use Rattle.amr_labels.proofs.MatcherLemmas.MatcherFaults.{stops, cut_short}
 use Rattle.amr_labels.proofs.matcher.parse.drafts_of.Goals as goal
@@ -37,7 +37,7 @@ unfolding matchers_of
 returns-in-Some-2-clause-read c =
     let t = YieldsList-end (YieldsList-from_chars c.args.text.now c.utf8.text cc) c.loop-c.yielded _ c.loop-c.yielded_by _ _ c.in-None.is c.next.ensures.steps in
     let whole = all_read (chars c.args.text.now) c.loop-c.yielded t.1 in
-    ap (option_and_then ended) (ap (run (Some start)) (sym whole) ∙ c.loop-c.invariant.reached) ∙ rw c.in-Some-2.is at (sym c.in_ok-drafts.ensures)
+    ap (option_and_then matchers_at_end) (ap (run (Some start)) (sym whole) ∙ c.loop-c.invariant.reached) ∙ rw c.in-Some-2.is at (sym c.in_ok-drafts.ensures)
 
 pub returns-in-None-2-clause-refused : goal.returns-in-None-2-clause-refused
 unfolding matchers_of

@@ -1,7 +1,7 @@
 use Rattle.std.proofs.Common.{map, sym, ap, ◌∙◌}
 use Rattle.regex_hir.specs.Meaning.{meaning, cat_all, alt_all, repeat}
 use Rattle.regex_hir.proofs.MeaningLemmas.{meaning-Repetition, meaning-Concat, meaning-Alternation}
-use Rattle.amr_labels.specs.Matcher.Searches.{ungrouped as without_groups}
+use Rattle.amr_labels.specs.Matcher.Searches.{without_groups}
 use Rattle.amr_labels.proofs.MatcherLemmas.WithoutGroups.{ungrouped_repeat, ungrouped_cat_all, ungrouped_alt_all}
 use Rattle.amr_labels.proofs.matcher.ungrouped.+ungrouped.Goals as goal
 

@@ -3,7 +3,7 @@ use Rattle.std.specs.Prelude.{option_and_then}
 use Rattle.std.specs.FinMap.{find}
 use Rattle.amr_labels.specs.Map as map
 use Rattle.amr_tables.specs.Places.{value_at}
-use Rattle.amr_tables.specs.Numbered.{shown, number_of}
+use Rattle.amr_tables.specs.Numbered.{map_of, number_of}
 use Rattle.amr_tables.proofs.Numbering.{get-shown}
 use Rattle.amr_tables.proofs.keyed.Keyed.at.Goals as goal
 
@@ -14,4 +14,4 @@ returns-clause-key g c = λ key is.
     let at : find R key t.numbers.list ≡ Some c.args.number = ap (λ v. number_of R v key) c.self.view_is ∙ is in
     c.look.ensures
     ∙ sym (get-shown R g.met.K.Ord.total _ key c.self.invariant.0 ∙ ap (option_and_then (value_at t.slots)) at)
-    ∙ ap (λ v. map.get (shown R v) key) c.self.view_is
+    ∙ ap (λ v. map.get (map_of R v) key) c.self.view_is

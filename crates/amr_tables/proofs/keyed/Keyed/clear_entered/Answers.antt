@@ -1,5 +1,5 @@
 use Rattle.std.proofs.Common.{sym, ap, subst, ◌∙◌}
-use Rattle.amr_tables.specs.Numbered.{IsNumbering, shown, has_place, is_entered}
+use Rattle.amr_tables.specs.Numbered.{IsNumbering, map_of, has_place, is_entered}
 use Rattle.amr_tables.proofs.Numbering.{cleared_is, entered-cleared}
 use Rattle.amr_tables.proofs.keyed.Keyed.clear_entered.Goals as goal
 
@@ -10,8 +10,8 @@ returns-clause-entered g c = λ key.
     ∙ entered-cleared g.met.K.Ord.total (record { numbers = t.numbers.list; cells = t.slots; marks = t.entered }) key
 
 pub returns-clause-shown : goal.returns-clause-shown
-unfolding shown
-returns-clause-shown g c = ap (λ v. shown g.K.Ord.cmp v) c.self.view_is
+unfolding map_of
+returns-clause-shown g c = ap (λ v. map_of g.K.Ord.cmp v) c.self.view_is
 
 pub returns-clause-places : goal.returns-clause-places
 unfolding has_place

@@ -4,7 +4,7 @@ use Rattle.std.specs.FinMap.{find}
 use Rattle.std.proofs.lemmas.Bool.Decides.{nat_tests}
 use Rattle.amr_labels.specs.Map as map
 use Rattle.amr_tables.specs.Places.{value_at}
-use Rattle.amr_tables.specs.Numbered.{IsNumbering, shown, has_place, is_entered}
+use Rattle.amr_tables.specs.Numbered.{IsNumbering, map_of, has_place, is_entered}
 use Rattle.amr_tables.proofs.Numbering.{get-shown, displaced_is, length-slice_set, shown-displaced}
 use Rattle.amr_tables.proofs.keyed.Keyed.displace.Goals as goal
 
@@ -30,16 +30,16 @@ returns-clause-answer g c =
     let at : find R c.args.key.now c.self.inside.numbers.list ≡ Some c.in-Some.number = sym c.get.ensures ∙ c.in-Some.is in
     c.displace.ensures.answer
     ∙ sym (get-shown R g.met.K.Ord.total _ c.args.key.now c.self.invariant.0 ∙ ap (option_and_then (value_at c.self.inside.slots)) at)
-    ∙ ap (λ v. map.get (shown R v) c.args.key.now) c.self.view_is
+    ∙ ap (λ v. map.get (map_of R v) c.args.key.now) c.self.view_is
 
 pub returns-clause-shown : goal.returns-clause-shown
 returns-clause-shown g c =
     let R = g.K.Ord.cmp in
     let t = c.self.inside in
     let at : find R c.args.key.now t.numbers.list ≡ Some c.in-Some.number = sym c.get.ensures ∙ c.in-Some.is in
-    ap (λ s. shown R (record { numbers = t.numbers.list; cells = s; marks = t.entered })) c.displace.ensures.table
+    ap (λ s. map_of R (record { numbers = t.numbers.list; cells = s; marks = t.entered })) c.displace.ensures.table
     ∙ shown-displaced g.met.K.Ord.total g.met.K.Key.exact (record { numbers = t.numbers.list; cells = t.slots; marks = t.entered }) c.args.key.now c.in-Some.number c.args.value c.self.invariant.0 at
-    ∙ ap (λ v. map.set (shown R v) c.args.key.now c.args.value) c.self.view_is
+    ∙ ap (λ v. map.set (map_of R v) c.args.key.now c.args.value) c.self.view_is
 
 pub returns-clause-places : goal.returns-clause-places
 unfolding has_place

@@ -4,7 +4,7 @@ use Rattle.std.specs.Ordering.{eq_by_cmp}
 use Rattle.std.specs.FinMap.{find, put}
 use Rattle.std.specs.FinMap.Entries.{find-put}
 use Rattle.std.proofs.lemmas.Bool.Decides.{nat_tests}
-use Rattle.amr_tables.specs.Numbered.{Numbered, shown, has_place, is_entered, number_of, SamePlaces}
+use Rattle.amr_tables.specs.Numbered.{Numbered, map_of, has_place, is_entered, number_of, SamePlaces}
 use Rattle.amr_tables.proofs.Numbering.{HasRoom, grown_table, added_table, length-added, none_of, placed_again, placed-added}
 use Rattle.amr_tables.proofs.keyed.Keyed.make_place.Goals as goal
 
@@ -49,7 +49,7 @@ returns-in_err-make_place-clause-shown g c =
       bound = omega arith;
     } in
     let grown = grown_table R g.met.K.Ord.total t c.reserve.new.self.list c.make_place.new.self c.add_place.new.self room in
-    grown.same ∙ ap (shown R) c.self.view_is
+    grown.same ∙ ap (map_of R) c.self.view_is
 
 pub returns-in_err-make_place-clause-entered : goal.returns-in_err-make_place-clause-entered
 returns-in_err-make_place-clause-entered g c =
@@ -150,7 +150,7 @@ returns-clause-shown g c =
     let lt : length t.cells < length c.make_place.new.self = let made = c.in_ok-make_place.ensures.made in grind (arith, nat_tests) in
     let is : c.insert.new.self.list ≡ put R c.args.key (length t.cells) t.numbers = c.insert.ensures ∙ ap (λ (es : List (g.row.K.Denot × ℕ)). put R c.args.key (length es) es) c.reserve.ensures.list ∙ ap (λ n. put R c.args.key n t.numbers) c.self.invariant.1 in
     let added = added_table R g.met.K.Ord.total t c.args.key c.reserve.new.self.list c.insert.new.self.list c.make_place.new.self c.add_place.new.self room none lt is in
-    added.0.same ∙ ap (shown R) c.self.view_is
+    added.0.same ∙ ap (map_of R) c.self.view_is
 
 pub returns-clause-entered : goal.returns-clause-entered
 returns-clause-entered g c =

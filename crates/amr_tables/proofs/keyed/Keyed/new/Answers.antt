@@ -1,11 +1,11 @@
 use Rattle.std.proofs.Common.{ap, ◌∙◌}
-use Rattle.amr_tables.specs.Numbered.{shown, is_entered}
+use Rattle.amr_tables.specs.Numbered.{map_of, is_entered}
 use Rattle.amr_tables.proofs.Numbering.{shown-none}
 use Rattle.amr_tables.proofs.keyed.Keyed.new.Goals as goal
 
 pub returns-clause-shown : goal.returns-clause-shown
 returns-clause-shown g c =
-    ap (λ n. shown g.K.Ord.cmp (record { numbers = n; cells = c.new-2.result; marks = c.new-3.result })) c.new.ensures ∙ shown-none g.K.Ord.cmp _ _
+    ap (λ n. map_of g.K.Ord.cmp (record { numbers = n; cells = c.new-2.result; marks = c.new-3.result })) c.new.ensures ∙ shown-none g.K.Ord.cmp _ _
 
 pub returns-clause-entered : goal.returns-clause-entered
 unfolding is_entered

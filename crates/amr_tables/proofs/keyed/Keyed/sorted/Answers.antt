@@ -4,7 +4,7 @@ use Rattle.std.specs.Option.{option_copied}
 use Rattle.std.specs.List.{filter_map}
 use Rattle.std.proofs.lemmas.List.{map-append, take_all}
 use Rattle.amr_labels.specs.Map.{entries}
-use Rattle.amr_tables.specs.Numbered.{entry_at, numbered_key, shown}
+use Rattle.amr_tables.specs.Numbered.{entry_at, numbered_key, map_of}
 use Rattle.amr_tables.proofs.Numbering.{entries-shown}
 use Rattle.amr_tables.proofs.Listed.{listed_more, with_value, without_value}
 use Rattle.amr_tables.proofs.keyed.Keyed.sorted.Goals.{in-Some+in_ok-push, in_default}
@@ -33,4 +33,4 @@ returns g c =
     c.loop-key.invariant
     ∙ ap (λ items. filter_map (entry_at c.self.inside.slots) (map numbered_key items)) (take_all _ _ c.loop-key-test.false ∙ c.as_slice-key-items.ensures.value)
     ∙ ap (filter_map (entry_at c.self.inside.slots)) c.in_ok-numbers.ensures
-    ∙ sym (entries-shown g.K.Ord.cmp _ c.self.invariant.0) ∙ ap (λ t. entries (shown g.K.Ord.cmp t)) c.self.view_is
+    ∙ sym (entries-shown g.K.Ord.cmp _ c.self.invariant.0) ∙ ap (λ t. entries (map_of g.K.Ord.cmp t)) c.self.view_is

@@ -6,7 +6,7 @@ use Rattle.std.specs.FinMap.{find}
 use Rattle.amr_labels.specs.Map as map
 use Rattle.amr_tables.specs.Places.{value_at}
 use Rattle.amr_tables.specs.Marked.{is_marked}
-use Rattle.amr_tables.specs.Numbered.{IsNumbering, shown, number_of, has_place, is_entered}
+use Rattle.amr_tables.specs.Numbered.{IsNumbering, map_of, number_of, has_place, is_entered}
 use Rattle.amr_tables.proofs.Numbering.{get-shown, displaced_is, length-slice_set, shown-displaced, marked_is, entered-marked}
 use Rattle.amr_tables.proofs.keyed.Keyed.swap_at.Goals as goal
 
@@ -41,7 +41,7 @@ returns-clause-former g c = λ key is.
     let at : find R key c.self.inside.numbers.list ≡ Some c.args.number = ap (λ v. number_of R v key) c.self.view_is ∙ is in
     c.swap.ensures.former
     ∙ sym (get-shown R g.met.K.Ord.total _ key c.self.invariant.0 ∙ ap (option_and_then (value_at c.self.inside.slots)) at)
-    ∙ ap (λ v. map.get (shown R v) key) c.self.view_is
+    ∙ ap (λ v. map.get (map_of R v) key) c.self.view_is
 
 pub returns-clause-was_entered : goal.returns-clause-was_entered
 unfolding is_entered
@@ -52,14 +52,14 @@ returns-clause-was_entered g c = λ key is.
     ∙ ap (λ v. is_entered R v key) c.self.view_is
 
 pub returns-clause-shown : goal.returns-clause-shown
-unfolding shown
+unfolding map_of
 returns-clause-shown g c = λ key is.
     let R = g.K.Ord.cmp in
     let t = c.self.inside in
     let at : find R key t.numbers.list ≡ Some c.args.number = ap (λ v. number_of R v key) c.self.view_is ∙ is in
-    ap (λ s. shown R (record { numbers = t.numbers.list; cells = s; marks = t.entered })) c.swap.ensures.table
+    ap (λ s. map_of R (record { numbers = t.numbers.list; cells = s; marks = t.entered })) c.swap.ensures.table
     ∙ shown-displaced g.met.K.Ord.total g.met.K.Key.exact (record { numbers = t.numbers.list; cells = t.slots; marks = t.entered }) key c.args.number c.args.value.now c.self.invariant.0 at
-    ∙ ap (λ v. map.set (shown R v) key c.args.value.now) c.self.view_is
+    ∙ ap (λ v. map.set (map_of R v) key c.args.value.now) c.self.view_is
 
 pub returns-clause-places : goal.returns-clause-places
 unfolding has_place

@@ -1,7 +1,7 @@
 use Rattle.std.proofs.Common.{refl, sym, subst}
 use Rattle.std.specs.Prelude.{All}
 use Rattle.std.proofs.lemmas.List.Elements.{All-push}
-use Rattle.amr_engine.specs.declared.indexes.rule_source.KnownSide.{KnownSide}
+use Rattle.amr_engine.specs.declared.indexes.rule_source.CachedSide.{CachedSide}
 use Rattle.amr_engine.specs.Indexes.RuleSources.{ListsSide}
 use Rattle.amr_engine.proofs.IndexesLemmas.Sources.{side_new}
 use Rattle.amr_engine.proofs.indexes.rule_source.RuleSources.add_side.Goals as goal
@@ -9,13 +9,13 @@ use Rattle.amr_engine.proofs.indexes.rule_source.RuleSources.add_side.Goals as g
 pub invariant_of-self-in_err-insert : goal.invariant_of-self-in_err-insert
 invariant_of-self-in_err-insert c =
     let t = c.self.inside in
-    let known : KnownSide = record { side = c.in_ok-side_of.field-0; seen = 0; sources = c.new.result; listed = 0 } in
+    let cached : CachedSide = record { side = c.in_ok-side_of.field-0; covered = 0; sources = c.new.result; listed = 0 } in
     subst (All (ListsSide t.arrived.items)) (sym c.in_ok-push.ensures.items)
-    (All-push (ListsSide t.arrived.items) t.sides.items known c.self.invariant (side_new t.arrived.items known refl c.new.ensures.shown))
+    (All-push (ListsSide t.arrived.items) t.sides.items cached c.self.invariant (side_new t.arrived.items cached refl c.new.ensures.shown))
 
 pub invariant_of-self-2 : goal.invariant_of-self-2
 invariant_of-self-2 c =
     let t = c.self.inside in
-    let known : KnownSide = record { side = c.in_ok-side_of.field-0; seen = 0; sources = c.new.result; listed = 0 } in
+    let cached : CachedSide = record { side = c.in_ok-side_of.field-0; covered = 0; sources = c.new.result; listed = 0 } in
     subst (All (ListsSide t.arrived.items)) (sym c.in_ok-push.ensures.items)
-    (All-push (ListsSide t.arrived.items) t.sides.items known c.self.invariant (side_new t.arrived.items known refl c.new.ensures.shown))
+    (All-push (ListsSide t.arrived.items) t.sides.items cached c.self.invariant (side_new t.arrived.items cached refl c.new.ensures.shown))

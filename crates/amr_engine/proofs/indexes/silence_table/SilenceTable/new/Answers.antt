@@ -1,4 +1,4 @@
-use Rattle.amr_engine.proofs.IndexesLemmas.SilencesKnown.{none_known, none_noted}
+use Rattle.amr_engine.proofs.IndexesLemmas.CachedSilences.{none_known, none_noted}
 use Rattle.amr_engine.proofs.indexes.silence_table.SilenceTable.new.Goals as goal
 
 pub invariant_of-result : goal.invariant_of-result

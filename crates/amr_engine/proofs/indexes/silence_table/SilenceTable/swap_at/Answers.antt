@@ -1,11 +1,11 @@
 use Rattle.std.proofs.Common.{◌≡◌, ◌||◌, ℕ, Some, ap, ◌∙◌}
 use Rattle.std.specs.Ordering.{nat_cmp, eq_by_cmp}
 use Rattle.amr_labels.specs.Map as map
-use Rattle.amr_tables.specs.Numbered.{Numbered, shown, number_of, is_entered}
+use Rattle.amr_tables.specs.Numbered.{Numbered, map_of, number_of, is_entered}
 use Rattle.amr_rules.specs.declared.silence.Silence.{Silence}
 use Rattle.amr_rules.specs.Silences.{Silences}
-use Rattle.amr_engine.specs.Indexes.SilencesKnown.{change_of}
-use Rattle.amr_engine.proofs.IndexesLemmas.SilencesKnown.{noted_right}
+use Rattle.amr_engine.specs.Indexes.CachedSilences.{change_of}
+use Rattle.amr_engine.proofs.IndexesLemmas.CachedSilences.{noted_right}
 use Rattle.amr_engine.proofs.indexes.silence_table.SilenceTable.swap_at.Goals as goal
 
 pub swap_at-requires : goal.swap_at-requires
@@ -16,10 +16,10 @@ invariant_of-self c =
     let t = c.self.inside in
     let id = c.args.id.now in
     let at : number_of nat_cmp t.silences id ≡ Some c.args.number = ap (λ (v : Numbered ℕ Silence). number_of nat_cmp v id) c.self.view_is ∙ c.requires in
-    let before : Silences = shown nat_cmp t.silences in
-    let after : Silences = shown nat_cmp c.swap_at.new.self in
+    let before : Silences = map_of nat_cmp t.silences in
+    let after : Silences = map_of nat_cmp c.swap_at.new.self in
     let right = noted_right c.new-noted.result id before after c.args.silence.now (c.new-noted.ensures ∙ ap (change_of id) c.as_ref.ensures.value) (c.swap_at.ensures.shown id at) in (
-      c.note_change.ensures.known before after right.0 c.self.invariant.0,
+      c.note_change.ensures.cached before after right.0 c.self.invariant.0,
       tt,
       c.note_change.ensures.noted before after right.0 right.1 c.self.invariant.2,
     )
@@ -28,7 +28,7 @@ pub returns-clause-former : goal.returns-clause-former
 returns-clause-former c =
     let id = c.args.id.now in
     let at : number_of nat_cmp c.self.inside.silences id ≡ Some c.args.number = ap (λ (v : Numbered ℕ Silence). number_of nat_cmp v id) c.self.view_is ∙ c.requires in
-    c.swap_at.ensures.former id at ∙ ap (λ (v : Numbered ℕ Silence). map.get (shown nat_cmp v) id) c.self.view_is
+    c.swap_at.ensures.former id at ∙ ap (λ (v : Numbered ℕ Silence). map.get (map_of nat_cmp v) id) c.self.view_is
 
 pub returns-clause-was_entered : goal.returns-clause-was_entered
 returns-clause-was_entered c =
@@ -40,7 +40,7 @@ pub returns-clause-shown : goal.returns-clause-shown
 returns-clause-shown c =
     let id = c.args.id.now in
     let at : number_of nat_cmp c.self.inside.silences id ≡ Some c.args.number = ap (λ (v : Numbered ℕ Silence). number_of nat_cmp v id) c.self.view_is ∙ c.requires in
-    c.swap_at.ensures.shown id at ∙ ap (λ (v : Numbered ℕ Silence). map.set (shown nat_cmp v) id c.args.silence.now) c.self.view_is
+    c.swap_at.ensures.shown id at ∙ ap (λ (v : Numbered ℕ Silence). map.set (map_of nat_cmp v) id c.args.silence.now) c.self.view_is
 
 pub returns-clause-entered : goal.returns-clause-entered
 returns-clause-entered c =

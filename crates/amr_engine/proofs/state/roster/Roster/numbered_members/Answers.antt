@@ -5,7 +5,7 @@ use Rattle.std.specs.Option.{option_copied}
 use Rattle.std.proofs.lemmas.List.{map-append, take_more, take_all}
 use Rattle.std.proofs.lemmas.List.Elements.{All-push}
 use Rattle.amr_labels.specs.Labels.{LabelSet}
-use Rattle.amr_tables.specs.Numbered.{shown, number_of}
+use Rattle.amr_tables.specs.Numbered.{map_of, number_of}
 use Rattle.amr_tables.specs.Grouped.{group_at}
 use Rattle.amr_tables.proofs.Naming.{key_at_number}
 use Rattle.amr_engine.specs.State.State.{route_labels_cmp, route_labels_cmp_total, route_labels_cmp-IsAntisymmetric, members_among}
@@ -19,7 +19,7 @@ returns-in_default-clause-labels c =
     let r = c.self.inside in
     let group = c.args.group.now in
     ap labels_of_numbered c.new-found.ensures.items ∙ none_listed r.config r.placements r.groups r.members c.self.invariant group (sym c.number_of.ensures.number ∙ c.in_default.is)
-    ∙ ap (λ (v : Rostered). labels_of_members (members_among v.config (shown route_labels_cmp v.placements) group)) c.self.view_is
+    ∙ ap (λ (v : Rostered). labels_of_members (members_among v.config (map_of route_labels_cmp v.placements) group)) c.self.view_is
 
 pub unreachable-requires : goal.unreachable-requires
 unreachable-requires c =
@@ -64,7 +64,7 @@ returns-clause-labels c =
     subst (λ (v : Rostered). All (IsNumbered v.placements group.route) (map numbered_labels c.loop-member.found.items)) (sym c.self.view_is) c.loop-member.invariant.named in
     labels_found r.config r.placements r.groups r.members c.self.invariant group c.in-Some.number at c.in_ok-members.members.items c.in_ok-members.ensures c.loop-member.found.items c.sort.new.self.items found_are named
     c.in_ok-sort.ensures.permutation c.in_ok-sort.ensures.sorted
-    ∙ ap (λ (v : Rostered). labels_of_members (members_among v.config (shown route_labels_cmp v.placements) group)) c.self.view_is
+    ∙ ap (λ (v : Rostered). labels_of_members (members_among v.config (map_of route_labels_cmp v.placements) group)) c.self.view_is
 
 pub returns-clause-numbers : goal.returns-clause-numbers
 returns-clause-numbers c =

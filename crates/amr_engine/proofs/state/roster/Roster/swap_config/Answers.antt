@@ -1,5 +1,5 @@
 use Rattle.std.proofs.Common.{ap, ◌∙◌}
-use Rattle.amr_tables.specs.Numbered.{shown}
+use Rattle.amr_tables.specs.Numbered.{map_of}
 use Rattle.amr_engine.specs.State.State.{route_labels_cmp}
 use Rattle.amr_engine.specs.State.Rostered.{Rostered}
 use Rattle.amr_engine.proofs.StateLemmas.Rostering.{grouped_again}
@@ -8,4 +8,4 @@ use Rattle.amr_engine.proofs.state.roster.Roster.swap_config.Goals as goal
 pub invariant_of-self : goal.invariant_of-self
 invariant_of-self c =
     let r = c.self.inside in
-    grouped_again r.config r.placements r.groups r.members c.self.invariant c.swap.new.used (ap (λ (r : Rostered). shown route_labels_cmp r.placements) c.self.view_is ∙ c.requires)
+    grouped_again r.config r.placements r.groups r.members c.self.invariant c.swap.new.used (ap (λ (r : Rostered). map_of route_labels_cmp r.placements) c.self.view_is ∙ c.requires)

@@ -6,7 +6,7 @@ use Rattle.amr_rules.specs.declared.alert.Alert.{Alert}
 use Rattle.std.specs.Prelude.{IfSome, slice_set}
 use Rattle.std.specs.Ordering.{eq_by_cmp}
 use Rattle.amr_labels.specs.Map as map
-use Rattle.amr_tables.specs.Numbered.{shown, has_place, is_entered, number_of}
+use Rattle.amr_tables.specs.Numbered.{map_of, has_place, is_entered, number_of}
 use Rattle.amr_engine.specs.State.State.{member_on_route, route_labels_cmp, group_key}
 use Rattle.amr_engine.specs.State.Rostered.{Rostered}
 use Rattle.amr_engine.proofs.StateLemmas.Rostering.{grouped_set, grouped_stays, place_number, within_if}
@@ -74,7 +74,7 @@ invariant_of-self-2 c =
 pub returns-clause-former : goal.returns-clause-former
 returns-clause-former c = λ key at.
     let number = ap (λ (t : Rostered). number_of route_labels_cmp t.placements key) c.self.view_is ∙ at in
-    c.swap_at-was_entered.ensures.former key number ∙ ap (λ (t : Rostered). map.get (shown route_labels_cmp t.placements) key) c.self.view_is
+    c.swap_at-was_entered.ensures.former key number ∙ ap (λ (t : Rostered). map.get (map_of route_labels_cmp t.placements) key) c.self.view_is
 
 pub returns-clause-was_entered : goal.returns-clause-was_entered
 returns-clause-was_entered c = λ key at.
@@ -84,7 +84,7 @@ returns-clause-was_entered c = λ key at.
 pub returns-clause-shown : goal.returns-clause-shown
 returns-clause-shown c = λ key at.
     let number = ap (λ (t : Rostered). number_of route_labels_cmp t.placements key) c.self.view_is ∙ at in
-    c.swap_at-was_entered.ensures.shown key number ∙ ap (λ (t : Rostered). map.set (shown route_labels_cmp t.placements) key c.args.alert.now) c.self.view_is
+    c.swap_at-was_entered.ensures.shown key number ∙ ap (λ (t : Rostered). map.set (map_of route_labels_cmp t.placements) key c.args.alert.now) c.self.view_is
 
 pub returns-clause-places : goal.returns-clause-places
 returns-clause-places c = λ other. c.swap_at-was_entered.ensures.places other ∙ ap (λ (r : Rostered). has_place route_labels_cmp r.placements other) c.self.view_is
@@ -97,7 +97,7 @@ returns-clause-entered c = λ key at other.
 pub returns-then-is_some-clause-former : goal.returns-then-is_some-clause-former
 returns-then-is_some-clause-former c = λ key at.
     let number = ap (λ (t : Rostered). number_of route_labels_cmp t.placements key) c.self.view_is ∙ at in
-    c.swap_at.ensures.former key number ∙ ap (λ (t : Rostered). map.get (shown route_labels_cmp t.placements) key) c.self.view_is
+    c.swap_at.ensures.former key number ∙ ap (λ (t : Rostered). map.get (map_of route_labels_cmp t.placements) key) c.self.view_is
 
 pub returns-then-is_some-clause-was_entered : goal.returns-then-is_some-clause-was_entered
 returns-then-is_some-clause-was_entered c = λ key at.
@@ -107,7 +107,7 @@ returns-then-is_some-clause-was_entered c = λ key at.
 pub returns-then-is_some-clause-shown : goal.returns-then-is_some-clause-shown
 returns-then-is_some-clause-shown c = λ key at.
     let number = ap (λ (t : Rostered). number_of route_labels_cmp t.placements key) c.self.view_is ∙ at in
-    c.swap_at.ensures.shown key number ∙ ap (λ (t : Rostered). map.set (shown route_labels_cmp t.placements) key c.args.alert.now) c.self.view_is
+    c.swap_at.ensures.shown key number ∙ ap (λ (t : Rostered). map.set (map_of route_labels_cmp t.placements) key c.args.alert.now) c.self.view_is
 
 pub returns-then-is_some-clause-places : goal.returns-then-is_some-clause-places
 returns-then-is_some-clause-places c = λ other. c.swap_at.ensures.places other ∙ ap (λ (r : Rostered). has_place route_labels_cmp r.placements other) c.self.view_is

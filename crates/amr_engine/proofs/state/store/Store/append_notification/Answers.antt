@@ -1,7 +1,7 @@
 use Rattle.std.proofs.Common.{◌≡◌, ◌≤◌, [], ◌∷◌, ◌++◌, true, refl, sym, ap, subst, ◌∙◌, length}
 use Rattle.amr_engine.specs.declared.state.change.Change.{Change}
 use Rattle.amr_engine.specs.declared.state.change.Change.TheVariants.{OfNotes}
-use Rattle.amr_engine.specs.State.Kept.{undone}
+use Rattle.amr_engine.specs.State.Kept.{before_open_record}
 use Rattle.amr_engine.specs.declared.state.store.Store.TheInside.{Inside}
 use Rattle.amr_engine.specs.State.Stored.{state_of, kept_of, NewMarkAt, IsKept}
 use Rattle.amr_engine.proofs.StateLemmas.Soundness.{by_place, kept_same, kept_pushed, undone_appended, undone_noted, more_notes}
@@ -47,14 +47,14 @@ returns-clause-kept c =
           let pushed : w.push.new.self.current ≡ w.reserve_entry.new.self.current ++ e ∷ [] = w.push.ensures.current in
           let all : c.push_reserved.new.self.items ≡ a.tables.notes.items ++ notification ∷ [] = items ∙ ap (λ (x : Inside). x.tables.notes.items ++ notification ∷ []) w.self-inside-is ∙ ap (λ xs. xs ++ notification ∷ []) c.reserve.ensures.items in
           let count : w.len.result ≡ length a.tables.notes.items = w.len.ensures ∙ n.ok.0 ∙ ap length c.reserve.ensures.items in
-          ap (λ (x : Inside). undone (kept_of (record x { tables = record x.tables { notes = c.push_reserved.new.self } }))) w.self-inside-is
+          ap (λ (x : Inside). before_open_record (kept_of (record x { tables = record x.tables { notes = c.push_reserved.new.self } }))) w.self-inside-is
           ∙ undone_appended a b notification w.len.result (ap (λ notes. record (state_of a) { notes = notes }) all) count (pushed ∙ ap (λ es. es ++ e ∷ []) w.reserve_entry.ensures.current)
           (w.push.ensures.closed ∙ w.reserve_entry.ensures.closed) (w.push.ensures.records ∙ w.reserve_entry.ensures.records)
-          ∙ ap undone c.self.view_is
+          ∙ ap before_open_record c.self.view_is
       | else-not-self w ↦
           let b : Inside = record a { tables = record a.tables { notes = c.push_reserved.new.self } } in
           let all : c.push_reserved.new.self.items ≡ a.tables.notes.items ++ notification ∷ [] = items ∙ ap (λ (x : Inside). x.tables.notes.items ++ notification ∷ []) w.self-inside-is ∙ ap (λ xs. xs ++ notification ∷ []) c.reserve.ensures.items in
-          ap (λ (x : Inside). undone (kept_of (record x { tables = record x.tables { notes = c.push_reserved.new.self } }))) w.self-inside-is
+          ap (λ (x : Inside). before_open_record (kept_of (record x { tables = record x.tables { notes = c.push_reserved.new.self } }))) w.self-inside-is
           ∙ undone_noted a b notification c.self.invariant w.if-not-self.false (ap (λ notes. record (state_of a) { notes = notes }) all) refl refl refl
-          ∙ ap undone c.self.view_is
+          ∙ ap before_open_record c.self.view_is
     ]

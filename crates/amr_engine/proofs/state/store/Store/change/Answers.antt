@@ -1,5 +1,5 @@
 use Rattle.std.proofs.Common.{sym, ap, subst, ◌∙◌}
-use Rattle.amr_engine.specs.State.Kept.{Kept, undone}
+use Rattle.amr_engine.specs.State.Kept.{Kept, before_open_record}
 use Rattle.amr_engine.specs.State.Fitting.{IsAllowed}
 use Rattle.amr_engine.specs.State.Stored.{shown_by}
 use Rattle.amr_engine.specs.declared.state.store.Store.TheInside.{Inside}
@@ -37,4 +37,4 @@ returns-clause-kept c =
     let b : Inside = record a { tables = c.enter.new.tables; journal = c.enter.new.journal } in
     let kept = kept_placed a t made.new.journal c.self.invariant made.ensures.values made.ensures.places made.ensures.marks made.ensures.closed made.ensures.current in
     undone_changed mid b c.args.change kept allowed c.enter.ensures.state c.enter.ensures.entered
-    ∙ undone_placed a t made.new.journal made.ensures.values made.ensures.closed made.ensures.current made.ensures.records ∙ ap undone c.self.view_is
+    ∙ undone_placed a t made.new.journal made.ensures.values made.ensures.closed made.ensures.current made.ensures.records ∙ ap before_open_record c.self.view_is

@@ -1,7 +1,7 @@
 use Rattle.std.proofs.Common.{[], ◌∷◌, ◌++◌, refl, sym, ap, ◌∙◌}
 use Rattle.amr_engine.specs.declared.state.change.Change.TheVariants.{OfConfig}
 use Rattle.amr_engine.specs.State.State.{State}
-use Rattle.amr_engine.specs.State.Kept.{Kept, undone}
+use Rattle.amr_engine.specs.State.Kept.{Kept, before_open_record}
 use Rattle.amr_engine.specs.declared.state.store.Store.TheInside.{Inside}
 use Rattle.amr_engine.proofs.StateLemmas.Soundness.{kept_reconfigured, undone_pushed, same_state, more_still}
 use Rattle.amr_engine.proofs.state.store.Store.change_config.Goals as goal
@@ -30,4 +30,4 @@ returns-clause-kept c =
     let b : Inside = record a { tables = u; journal = c.push.new.self } in
     undone_pushed a b (OfConfig c.in_ok-new.field-0) (OfConfig a.tables.roster.config) tt (same_state t u c.clear_entered.ensures.values ∙ c.displace.ensures.state) refl
     (c.push.ensures.current ∙ (λ i. c.reserve_entry.ensures.current i ++ c.displace.ensures.back i ∷ [])) (c.push.ensures.closed ∙ c.reserve_entry.ensures.closed) (c.push.ensures.records ∙ c.reserve_entry.ensures.records)
-    ∙ ap undone c.self.view_is
+    ∙ ap before_open_record c.self.view_is

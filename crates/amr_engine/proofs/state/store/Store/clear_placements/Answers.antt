@@ -1,6 +1,6 @@
 use Rattle.std.proofs.Common.{refl, ap, ◌∙◌, arith}
 use Rattle.amr_labels.specs.Map as map
-use Rattle.amr_tables.specs.Numbered.{shown}
+use Rattle.amr_tables.specs.Numbered.{map_of}
 use Rattle.amr_engine.specs.State.Kept.{Kept}
 use Rattle.std.specs.List.{fold}
 use Rattle.amr_engine.specs.State.State.{route_labels_cmp, route_labels_cmp_total, route_labels_cmp-IsAntisymmetric}
@@ -10,7 +10,7 @@ use Rattle.amr_engine.proofs.state.store.Store.clear_placements.Goals as goal
 pub loop-route_labels-init : goal.loop-route_labels-init
 loop-route_labels-init c = (
   ap (λ m. record c.args.self.now.state { placements = m }) (
-      ap (fold map.remove c.args.self.now.state.placements) (c.deref-route_labels-items.ensures.value ∙ c.in_ok-placed_keys.ensures ∙ ap (λ t. map.keys (shown route_labels_cmp t)) c.placements.ensures ∙ ap map.keys (ap (λ (k : Kept). k.state.placements) c.self.view_is))
+      ap (fold map.remove c.args.self.now.state.placements) (c.deref-route_labels-items.ensures.value ∙ c.in_ok-placed_keys.ensures ∙ ap (λ t. map.keys (map_of route_labels_cmp t)) c.placements.ensures ∙ ap map.keys (ap (λ (k : Kept). k.state.placements) c.self.view_is))
       ∙ removed_all route_labels_cmp_total route_labels_cmp-IsAntisymmetric c.args.self.now.state.placements),
   (refl, omega arith),
 )

@@ -3,7 +3,7 @@ use Rattle.amr_tables.specs.Numbered.{number_of}
 use Rattle.amr_engine.specs.declared.state.change.Change.{Change}
 use Rattle.amr_engine.specs.declared.state.change.Change.TheVariants.{OfTimer}
 use Rattle.amr_engine.specs.State.State.{route_labels_cmp}
-use Rattle.amr_engine.specs.State.Kept.{undone}
+use Rattle.amr_engine.specs.State.Kept.{before_open_record}
 use Rattle.amr_engine.specs.declared.state.store.Store.TheInside.{Inside}
 use Rattle.amr_engine.proofs.StateLemmas.Soundness.{kept_reserved, kept_changed, undone_reserved, undone_changed}
 use Rattle.amr_engine.proofs.state.store.Store.reset_timer.Goals as goal
@@ -29,4 +29,4 @@ returns-clause-kept c =
     let b : Inside = record a { tables = c.enter.new.tables; journal = c.enter.new.journal } in
     let change : Change = OfTimer c.in_ok-clone.field-0 (Some (record c.in-Some-Some.former { next_flush = c.args.next; flushed = true })) in
     undone_changed mid b change (kept_reserved a j c.self.invariant c.reserve_entry.ensures.closed c.reserve_entry.ensures.current) tt c.enter.ensures.state c.enter.ensures.entered
-    ∙ undone_reserved a j c.reserve_entry.ensures.closed c.reserve_entry.ensures.current c.reserve_entry.ensures.records ∙ ap undone c.self.view_is
+    ∙ undone_reserved a j c.reserve_entry.ensures.closed c.reserve_entry.ensures.current c.reserve_entry.ensures.records ∙ ap before_open_record c.self.view_is

@@ -1,5 +1,5 @@
 use Rattle.std.proofs.Common.{ap, ◌∙◌}
-use Rattle.amr_engine.specs.State.Kept.{undone}
+use Rattle.amr_engine.specs.State.Kept.{before_open_record}
 use Rattle.amr_engine.specs.declared.state.store.Store.TheInside.{Inside}
 use Rattle.amr_engine.proofs.StateLemmas.Soundness.{last_is_sound, last_fits, kept_undone, undone_popped, same_state, more_still}
 use Rattle.amr_engine.proofs.state.store.Store.undo_entry.Goals as goal
@@ -26,4 +26,4 @@ returns-clause-kept c =
     let u = c.clear_entered.new.self in
     let b : Inside = record a { tables = u; journal = c.pop-back.new.self } in
     undone_popped a b c.pop-back.result (same_state t u c.clear_entered.ensures.values ∙ c.displace.ensures.state) c.pop-back.ensures.current c.pop-back.ensures.closed c.pop-back.ensures.records
-    ∙ ap undone c.self.view_is
+    ∙ ap before_open_record c.self.view_is

@@ -1,7 +1,7 @@
 use Rattle.std.proofs.Common.{◌≡◌, IfOk, sym, ap, subst, ◌∙◌}
 use Rattle.std.specs.Prelude.{option_map}
 use Rattle.amr_labels.specs.Labels.{label_set_cmp}
-use Rattle.amr_tables.specs.Numbered.{shown}
+use Rattle.amr_tables.specs.Numbered.{map_of}
 use Rattle.amr_engine.specs.State.State.{route_labels_cmp}
 use Rattle.amr_engine.specs.State.Dues.{dues_of, least_due, due_by}
 use Rattle.amr_engine.specs.State.Timed.{Timed, due_of, earlier}
@@ -11,12 +11,12 @@ use Rattle.amr_engine.proofs.state.timetable.Timetable.next_due.Goals as goal
 pub returns : goal.returns
 returns c =
     let t = c.self.inside in
-    let a = shown label_set_cmp t.alerts in
-    let b = shown route_labels_cmp t.timers in
+    let a = map_of label_set_cmp t.alerts in
+    let b = map_of route_labels_cmp t.timers in
     let x = option_map due_of c.first_alert-alert.result in
     let y = option_map due_of c.first_group-removal.result in
     let z = option_map due_of c.first_group-flush.result in
     let least : least_due (dues_of a b) ≡ earlier x (earlier y z) = first_of_kinds (dues_of a b) x y z (c.first_alert-alert.ensures b) (c.first_group-removal.ensures a) (c.first_group-flush.ensures a) in
     let first : option_map due_of c.earlier-2.result ≡ earlier x (earlier y z) = c.earlier-2.ensures ∙ ap (earlier x) c.earlier.ensures in
-    let is = first ∙ sym least ∙ ap (λ (v : Timed). least_due (dues_of (shown label_set_cmp v.alerts) (shown route_labels_cmp v.timers))) c.self.view_is in
+    let is = first ∙ sym least ∙ ap (λ (v : Timed). least_due (dues_of (map_of label_set_cmp v.alerts) (map_of route_labels_cmp v.timers))) c.self.view_is in
     subst (λ due. IfOk c.if_due.result (λ found. found ≡ due_by c.args.at due)) is c.if_due.ensures

@@ -3,7 +3,7 @@ use Rattle.std.specs.Prelude.{slice_set}
 use Rattle.amr_labels.specs.Labels.{LabelSet, label_set_cmp}
 use Rattle.amr_labels.specs.Map as map
 use Rattle.amr_rules.specs.declared.alert.Alert.{Alert}
-use Rattle.amr_tables.specs.Numbered.{Numbered, shown, number_of, is_entered, rank_of}
+use Rattle.amr_tables.specs.Numbered.{Numbered, map_of, number_of, is_entered, rank_of}
 use Rattle.amr_tables.specs.Earliest.{IsTournament}
 use Rattle.amr_engine.specs.State.Timed.{Timed}
 use Rattle.amr_engine.proofs.StateLemmas.Scheduling.{alert_set}
@@ -25,7 +25,7 @@ invariant_of-self c =
 pub returns-clause-former : goal.returns-clause-former
 returns-clause-former c = λ labels at.
     let number = ap (λ (v : Timed). number_of label_set_cmp v.alerts labels) c.self.view_is ∙ at in
-    c.swap_at-was_entered.ensures.former labels number ∙ ap (λ (v : Timed). map.get (shown label_set_cmp v.alerts) labels) c.self.view_is
+    c.swap_at-was_entered.ensures.former labels number ∙ ap (λ (v : Timed). map.get (map_of label_set_cmp v.alerts) labels) c.self.view_is
 
 pub returns-clause-was_entered : goal.returns-clause-was_entered
 returns-clause-was_entered c = λ labels at.
@@ -35,4 +35,4 @@ returns-clause-was_entered c = λ labels at.
 pub returns-clause-shown : goal.returns-clause-shown
 returns-clause-shown c = λ labels at.
     let number = ap (λ (v : Timed). number_of label_set_cmp v.alerts labels) c.self.view_is ∙ at in
-    c.swap_at-was_entered.ensures.shown labels number ∙ ap (λ (v : Timed). map.set (shown label_set_cmp v.alerts) labels c.args.alert.now) c.self.view_is
+    c.swap_at-was_entered.ensures.shown labels number ∙ ap (λ (v : Timed). map.set (map_of label_set_cmp v.alerts) labels c.args.alert.now) c.self.view_is

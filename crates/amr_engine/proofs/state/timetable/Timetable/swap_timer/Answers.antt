@@ -2,7 +2,7 @@ use Rattle.std.proofs.Common.{◌≡◌, ◌||◌, Some, ap, ◌∙◌}
 use Rattle.std.specs.Prelude.{slice_set}
 use Rattle.std.specs.Ordering.{eq_by_cmp}
 use Rattle.amr_labels.specs.Map as map
-use Rattle.amr_tables.specs.Numbered.{shown, number_of, has_place, is_entered}
+use Rattle.amr_tables.specs.Numbered.{map_of, number_of, has_place, is_entered}
 use Rattle.amr_engine.specs.State.State.{route_labels_cmp}
 use Rattle.amr_engine.specs.State.Timed.{Timed}
 use Rattle.amr_engine.proofs.StateLemmas.Scheduling.{timer_set, ranked}
@@ -40,7 +40,7 @@ invariant_of-self c =
 pub returns-clause-former : goal.returns-clause-former
 returns-clause-former c = λ group at.
     let number = ap (λ (v : Timed). number_of route_labels_cmp v.timers group) c.self.view_is ∙ at in
-    c.swap_at-was_entered.ensures.former group number ∙ ap (λ (v : Timed). map.get (shown route_labels_cmp v.timers) group) c.self.view_is
+    c.swap_at-was_entered.ensures.former group number ∙ ap (λ (v : Timed). map.get (map_of route_labels_cmp v.timers) group) c.self.view_is
 
 pub returns-clause-was_entered : goal.returns-clause-was_entered
 returns-clause-was_entered c = λ group at.
@@ -50,7 +50,7 @@ returns-clause-was_entered c = λ group at.
 pub returns-clause-shown : goal.returns-clause-shown
 returns-clause-shown c = λ group at.
     let number = ap (λ (v : Timed). number_of route_labels_cmp v.timers group) c.self.view_is ∙ at in
-    c.swap_at-was_entered.ensures.shown group number ∙ ap (λ (v : Timed). map.set (shown route_labels_cmp v.timers) group c.args.timer.now) c.self.view_is
+    c.swap_at-was_entered.ensures.shown group number ∙ ap (λ (v : Timed). map.set (map_of route_labels_cmp v.timers) group c.args.timer.now) c.self.view_is
 
 pub returns-clause-places : goal.returns-clause-places
 returns-clause-places c = λ other. c.swap_at-was_entered.ensures.places other ∙ ap (λ (v : Timed). has_place route_labels_cmp v.timers other) c.self.view_is

@@ -5,7 +5,7 @@ use Rattle.amr_labels.specs.Matcher.Searches.{IsFoundAs, search_pattern}
 use Rattle.amr_labels.specs.Matcher.Candidates.{found_or_not}
 use Rattle.amr_labels.proofs.MatcherLemmas.Asking.{marked_more}
 use Rattle.amr_labels.proofs.matcher.pattern.Pattern.ask_each.Goals as goal
-use Rattle.amr_labels.proofs.matcher.pattern.Pattern.ask_each.Goals.{then-marks-place, else-marks-place}
+use Rattle.amr_labels.proofs.matcher.pattern.Pattern.ask_each.Goals.{then-candidates-place, else-candidates-place}
 
 pub passes-requires : goal.passes-requires
 unfolding IsFoundAs
@@ -18,15 +18,15 @@ loop-place-preserved c =
     let test : LabelSet → Bool = λ labels. passes (value_of labels c.args.name.now) in
     let labels = c.index-label_sets-place.result in
     let place = c.loop-place.place in (
-      elim c.if-marks-place.branch [
-        | then-marks-place w ↦ ap search_pattern w.search-is ∙ w.passes.ensures.same ∙ c.loop-place.invariant.0
-        | else-marks-place w ↦ ap search_pattern w.search-is ∙ c.loop-place.invariant.0
+      elim c.if-candidates-place.branch [
+        | then-candidates-place w ↦ ap search_pattern w.search-is ∙ w.passes.ensures.same ∙ c.loop-place.invariant.0
+        | else-candidates-place w ↦ ap search_pattern w.search-is ∙ c.loop-place.invariant.0
       ],
-      let changed : c.if-marks-place.marks ≡ (get_or c.loop-place.marks place false && test labels) =
-          elim c.if-marks-place.branch [
-            | then-marks-place w ↦ rw w.if-marks-place.true (w.marks-is ∙ w.passes.ensures.found ∙ ap passes w.value_of.ensures)
-            | else-marks-place w ↦ rw w.if-marks-place.false (w.marks-is ∙ w.if-marks-place.false)
+      let changed : c.if-candidates-place.candidates ≡ (get_or c.loop-place.candidates place false && test labels) =
+          elim c.if-candidates-place.branch [
+            | then-candidates-place w ↦ rw w.if-candidates-place.true (w.candidates-is ∙ w.passes.ensures.found ∙ ap passes w.value_of.ensures)
+            | else-candidates-place w ↦ rw w.if-candidates-place.false (w.candidates-is ∙ w.if-candidates-place.false)
           ] in
-          marked_more test c.args.label_sets.now c.args.marks.now c.loop-place.marks place c.if-marks-place.marks labels
-          c.loop-place-test.true c.requires.marks c.loop-place.invariant.1 c.index-label_sets-place.is changed,
+          marked_more test c.args.label_sets.now c.args.candidates.now c.loop-place.candidates place c.if-candidates-place.candidates labels
+          c.loop-place-test.true c.requires.candidates c.loop-place.invariant.1 c.index-label_sets-place.is changed,
     )

@@ -6,4 +6,4 @@ use Rattle.amr_labels.proofs.matcher.pattern.Pattern.ask_each.Given as goal
 abbrev pub invariant-loop-place : goal.invariant-loop-place
 invariant-loop-place l =
     (search_pattern l.search ≡ search_pattern l.initial.search)
-    × l.marks ≡ kept_where (found_or_not l.negated l.self) l.name (take l.place l.label_sets) l.initial.marks
+    × l.candidates ≡ kept_where (found_or_not l.negated l.self) l.name (take l.place l.label_sets) l.initial.candidates

@@ -1,0 +1,182 @@
+-- What the table of silences remembers of label sets: nothing at first, then more, and less after
+-- each change of a silence.
+use Rattle.std.proofs.Common.{◌≡◌, ◌≤◌, ◌<◌, ◌+◌, ℕ, Bool, true, false, not, cond, List, [], ◌∷◌, ◌++◌, length, get_or, map, Option, Some, None, arith, refl, sym, ap, subst, ◌∙◌}
+use Rattle.std.specs.Prelude.{◌==◌}
+use Rattle.std.proofs.lemmas.Bool.Decides.{nat_tests}
+use Rattle.std.proofs.lemmas.List.{get_or-map, length-map}
+use Rattle.std.proofs.Common.{length-append}
+use Rattle.std.proofs.Math.ListN.{get_or-append}
+use Rattle.std.proofs.Math.Seq.{get_or-append_seam}
+use Rattle.std.specs.declared.cmp.Ordering.TheVariants.{Less, Equal, Greater}
+use Rattle.std.specs.List.{filter}
+use Rattle.std.specs.Ordering.{is_eq, nat_cmp, eq_by_cmp}
+use Rattle.std.specs.declared.cmp.Ordering.{Ordering}
+use Rattle.std.specs.Cmp.{nat_cmp_total, tied_itself}
+use Rattle.std.specs.FinMap.{nat_cmp-IsAntisymmetric}
+use Rattle.amr_labels.specs.Map.{entries, get, set, retain_keys, entries-retain_keys, get-set, get-retain_keys, same_map}
+use Rattle.amr_labels.specs.Labels.{LabelSet, label_set_cmp, label_set_cmp-IsAntisymmetric}
+use Rattle.amr_time.specs.Time.{Moment}
+use Rattle.amr_rules.specs.declared.silence.Silence.{Silence}
+use Rattle.amr_rules.specs.declared.silence_period.SilencePeriod.{SilencePeriod}
+use Rattle.amr_rules.specs.Silences.{Silences}
+use Rattle.amr_rules.specs.SilencePeriods.{may_silence, period_of, silence_periods}
+use Rattle.amr_engine.specs.declared.indexes.cached_periods.CachedPeriods.{CachedPeriods}
+use Rattle.amr_engine.specs.declared.indexes.silence_change.SilenceChange.{SilenceChange}
+use Rattle.amr_engine.specs.Indexes.ValueBits.{value_bits}
+use Rattle.amr_engine.specs.Indexes.CachedSilences.{periods_picked, PicksNone, change_of, changed_ids, AreNoted, IsCached, AreCached, SameOthers}
+
+apart_bools : {A : Type 0} → true ≡ false → A
+apart_bools e = absurd (cc e)
+
+none_before_zero : (i : ℕ) → i < 0 → ⊥
+none_before_zero i lt = omega arith
+
+same_number : (a b : ℕ) → (a == b) ≡ true → a ≡ b
+same_number a b same = grind (arith, nat_tests)
+
+not_last : (i n : ℕ) → (i == n) ≡ false → i < n + 1 → i < n
+not_last i n apart lt = grind (arith, nat_tests)
+
+-- filtering before and after a map
+one_more : {X Y : Type 0} (may : X → Bool) (keep : Y → Bool) (h : X → Y) (m k : Bool) (e : X) (f w : List X) → may e ≡ m → keep (h e) ≡ k
+    → filter keep (map h f) ≡ map h (filter may w) → filter keep (map h (cond m (e ∷ f) f)) ≡ map h (filter may (cond k (e ∷ w) w))
+one_more may keep h true true e f w p q ih =
+    ap (λ b. cond b (h e ∷ filter keep (map h f)) (filter keep (map h f))) q ∙ ap (λ l. h e ∷ l) ih
+    ∙ sym (ap (λ b. map h (cond b (e ∷ filter may w) (filter may w))) p)
+one_more may keep h true false e f w p q ih = ap (λ b. cond b (h e ∷ filter keep (map h f)) (filter keep (map h f))) q ∙ ih
+one_more may keep h false true e f w p q ih = ih ∙ sym (ap (λ b. map h (cond b (e ∷ filter may w) (filter may w))) p)
+one_more may keep h false false e f w p q ih = ih
+
+pub filters_swap : {X Y : Type 0} (may : X → Bool) (keep : Y → Bool) (h : X → Y) (es : List X) → filter keep (map h (filter may es)) ≡ map h (filter may (filter (λ e. keep (h e)) es))
+filters_swap may keep h [] = refl
+filters_swap may keep h (e ∷ es) = one_more may keep h (may e) (keep (h e)) e (filter may es) (filter (λ x. keep (h x)) es) refl refl (filters_swap may keep h es)
+
+picked_periods : (test : ℕ → Bool) (from : Moment) (labels : LabelSet) (silences : Silences) → periods_picked test (silence_periods from labels silences) ≡ silence_periods from labels (retain_keys silences test)
+picked_periods test from labels silences =
+    filters_swap (λ (stored : ℕ × Silence). may_silence from labels stored.1) (λ (period : SilencePeriod). test period.id) period_of (entries silences)
+    ∙ ap (λ (es : List (ℕ × Silence)). map period_of (filter (λ stored. may_silence from labels stored.1) es)) (sym (entries-retain_keys silences test))
+
+same_kept : (b : Bool) (v w : Option Silence) → (b ≡ true → v ≡ w) → cond b v None ≡ cond b w None
+same_kept true v w h = h refl
+same_kept false v w h = refl
+
+-- the silences that a test picks are the same if it doesn't pick the one that changed
+same_picked : (test : ℕ → Bool) (from : Moment) (labels : LabelSet) (id : ℕ) (old changed : Silences) → SameOthers id old changed → test id ≡ false
+    → periods_picked test (silence_periods from labels old) ≡ periods_picked test (silence_periods from labels changed)
+same_picked test from labels id old changed same unpicked =
+    let alike : (q x : ℕ) → nat_cmp q x ≡ Equal → test x ≡ test q = λ q x tie. ap test (sym (nat_cmp-IsAntisymmetric q x tie)) in
+    let kept : retain_keys old test ≡ retain_keys changed test = same_map nat_cmp_total nat_cmp-IsAntisymmetric _ _ (λ q.
+    get-retain_keys nat_cmp_total old test q (alike q) ∙ same_kept (test q) (get old q) (get changed q) (λ picks. sym (same q (λ e. apart_bools (sym picks ∙ ap test e ∙ unpicked))))
+    ∙ sym (get-retain_keys nat_cmp_total changed test q (alike q))) in
+    picked_periods test from labels old ∙ ap (silence_periods from labels) kept ∙ sym (picked_periods test from labels changed)
+
+-- setting a silence changes no other
+set_others : (id : ℕ) (old : Silences) (silence : Option Silence) → SameOthers id old (set old id silence)
+set_others id old silence = λ other apart.
+    get-set nat_cmp_total old id silence other
+    ∙ elim (nat_cmp other id) as (λ o. nat_cmp other id ≡ o → cond (is_eq o) silence (get old other) ≡ get old other) [
+      | Less ↦ λ tie. refl
+      | Equal ↦ λ tie. absurd (apart (nat_cmp-IsAntisymmetric other id tie))
+      | Greater ↦ λ tie. refl
+    ] refl
+
+-- and the silence with the id is the one that was set
+set_own : (id : ℕ) (old : Silences) (silence : Option Silence) → get (set old id silence) id ≡ silence
+set_own id old silence = get-set nat_cmp_total old id silence id ∙ ap (λ (o : Ordering). cond (is_eq o) silence (get old id)) (tied_itself nat_cmp_total id)
+
+noted_id : (id : ℕ) (silence : Option Silence) → (change_of id silence).id ≡ id
+noted_id id None = refl
+noted_id id (Some silence) = refl
+
+-- what is noted of a silence that is set is so
+pub noted_right : (change : SilenceChange) (id : ℕ) (old changed : Silences) (silence : Option Silence) → change ≡ change_of id silence → changed ≡ set old id silence
+    → SameOthers change.id old changed × (change ≡ change_of change.id (get changed change.id))
+noted_right change id old changed silence is set_to =
+    let own : change.id ≡ id = ap (λ (c : SilenceChange). c.id) is ∙ noted_id id silence in (
+      subst (λ (n : ℕ). SameOthers n old changed) (sym own) (subst (λ (m : Silences). SameOthers id old m) (sym set_to) (set_others id old silence)),
+      subst (λ (n : ℕ). change ≡ change_of n (get changed n)) (sym own) (is ∙ ap (change_of id) (sym (ap (λ (m : Silences). get m id) set_to ∙ set_own id old silence))),
+    )
+
+-- what is known of silences is known, but for the one that changed
+one_less : (old changed : Silences) (changes : List ℕ) (found : CachedPeriods) (id : ℕ) → IsCached old changes found → SameOthers id old changed → IsCached changed (changes ++ id ∷ []) found
+one_less old changed changes found id was same =
+    let more : length (changes ++ id ∷ []) ≡ length changes + 1 = length-append changes (id ∷ []) in
+    let version : found.version ≤ length changes = was.version in
+    record {
+      version = omega arith;
+      bits = was.bits;
+      others = λ test none.
+          was.others test (λ i le lt. ap test (sym (get_or-append changes (id ∷ []) 0 i lt)) ∙ none i le (omega arith))
+          ∙ same_picked test found.from found.labels id old changed same (ap test (sym (get_or-append_seam changes id [] 0)) ∙ none (length changes) version (omega arith));
+    }
+
+known_less : (old changed : Silences) (changes : List ℕ) (known : List CachedPeriods) (id : ℕ) → AreCached old changes known → SameOthers id old changed
+    → AreCached changed (changes ++ id ∷ []) known
+known_less old changed changes known id are_known same = λ k d lt. one_less old changed changes (get_or known k d) id (are_known k d lt) same
+
+one_more_id : (changes : List SilenceChange) (change : SilenceChange) → changed_ids (changes ++ change ∷ []) ≡ changed_ids changes ++ change.id ∷ []
+one_more_id [] change = refl
+one_more_id (first ∷ changes) change = ap (λ l. first.id ∷ l) (one_more_id changes change)
+
+pub known_still : (old changed : Silences) (changes : List SilenceChange) (known : List CachedPeriods) (change : SilenceChange) → SameOthers change.id old changed
+    → AreCached old (changed_ids changes) known → AreCached changed (changed_ids (changes ++ change ∷ [])) known
+known_still old changed changes known change same are_known =
+    subst (λ (ids : List ℕ). AreCached changed ids known) (sym (one_more_id changes change)) (known_less old changed (changed_ids changes) known change.id are_known same)
+
+pub id_at : (changes : List SilenceChange) (i : ℕ) (change : SilenceChange) → i < length changes → get_or changes i change ≡ change → get_or (changed_ids changes) i 0 ≡ change.id
+id_at changes i change lt is = get_or-map (λ (c : SilenceChange). c.id) changes i change 0 lt ∙ ap (λ (c : SilenceChange). c.id) is
+
+-- what was noted of other silences is so still, and what is noted of this one is so
+pub noted_more : (old changed : Silences) (changes : List SilenceChange) (change : SilenceChange) → SameOthers change.id old changed
+    → change ≡ change_of change.id (get changed change.id) → AreNoted old changes → AreNoted changed (changes ++ change ∷ [])
+noted_more old changed changes change same own was =
+    let more : length (changes ++ change ∷ []) ≡ length changes + 1 = length-append changes (change ∷ []) in
+    record {
+      latest = λ i one test lt is picks none.
+          elim (i == length changes) as (λ b. (i == length changes) ≡ b → one ≡ change_of one.id (get changed one.id)) [
+            | true ↦ λ last.
+                let at_end : one ≡ change = sym is ∙ ap (λ (n : ℕ). get_or (changes ++ change ∷ []) n one) (same_number i (length changes) last) ∙ get_or-append_seam changes change [] one in
+                subst (λ (c : SilenceChange). c ≡ change_of c.id (get changed c.id)) (sym at_end) own
+            | false ↦ λ apart.
+                let before : i < length changes = not_last i (length changes) apart (omega arith) in
+                let there : get_or changes i one ≡ one = sym (get_or-append changes (change ∷ []) one i before) ∙ is in
+                let ids : changed_ids (changes ++ change ∷ []) ≡ changed_ids changes ++ change.id ∷ [] = one_more_id changes change in
+                let count : length (changed_ids changes) ≡ length changes = length-map changes (λ (c : SilenceChange). c.id) in
+                let count_all : length (changed_ids (changes ++ change ∷ [])) ≡ length changes + 1 = length-map (changes ++ change ∷ []) (λ (c : SilenceChange). c.id) ∙ more in
+                let none_before : PicksNone test (changed_ids changes) (i + 1) = λ k le lt_k.
+                ap test (sym (get_or-append (changed_ids changes) (change.id ∷ []) 0 k lt_k) ∙ ap (λ (l : List ℕ). get_or l k 0) (sym ids)) ∙ none k le (omega arith) in
+                let unpicked : test change.id ≡ false =
+                ap test (sym (id_at (changes ++ change ∷ []) (length changes) change (omega arith) (get_or-append_seam changes change [] change))) ∙ none (length changes) (omega arith) (omega arith) in
+                let other : get changed one.id ≡ get old one.id = same one.id (λ e. apart_bools (sym picks ∙ ap test e ∙ unpicked)) in
+                was.latest i one test before there picks none_before ∙ ap (change_of one.id) (sym other)
+          ] refl;
+    }
+
+pub none_noted : (silences : Silences) (changes : List SilenceChange) → changes ≡ [] → AreNoted silences changes
+none_noted silences changes none = record { latest = λ i one test lt is picks later. absurd (none_before_zero i (subst (λ (l : List SilenceChange). i < length l) none lt)) }
+
+pub none_known : (silences : Silences) (changes : List ℕ) (known : List CachedPeriods) → known ≡ [] → AreCached silences changes known
+none_known silences changes known none = subst (AreCached silences changes) (sym none) (λ k d lt. absurd (omega arith))
+
+-- what was learned just now is known
+pub filled : (silences : Silences) (changes : List ℕ) (found : CachedPeriods) → found.periods ≡ silence_periods found.from found.labels silences → found.version ≡ length changes
+    → found.bits ≡ value_bits found.labels → IsCached silences changes found
+filled silences changes found is version marked = record { version = omega arith; bits = marked; others = λ test none. ap (periods_picked test) is }
+
+all_picked : (periods : List SilencePeriod) → periods_picked (λ id. true) periods ≡ periods
+all_picked [] = refl
+all_picked (p ∷ ps) = ap (λ l. p ∷ l) (all_picked ps)
+
+-- if all changes were seen, the periods are those of the silences
+pub all_seen : (silences : Silences) (changes : List ℕ) (found : CachedPeriods) → IsCached silences changes found → found.version ≡ length changes
+    → found.periods ≡ silence_periods found.from found.labels silences
+all_seen silences changes found known version =
+    sym (all_picked found.periods) ∙ known.others (λ id. true) (λ i le lt. absurd (omega arith)) ∙ all_picked (silence_periods found.from found.labels silences)
+
+pub same_labels : (a b : LabelSet) → not (eq_by_cmp label_set_cmp a b) ≡ false → a ≡ b
+same_labels a b e =
+    elim (label_set_cmp a b) as (λ o. label_set_cmp a b ≡ o → not (is_eq o) ≡ false → a ≡ b) [
+      | Less ↦ λ is apart. apart_bools apart
+      | Equal ↦ λ is apart. label_set_cmp-IsAntisymmetric a b is
+      | Greater ↦ λ is apart. apart_bools apart
+    ] refl e

@@ -1,0 +1,112 @@
+-- Matchers that match a label set ask for no bit that its values don't have.
+use Rattle.std.proofs.Common.{◌≡◌, ℕ, Bool, true, false, ◌&&◌, cond, List, [], ◌∷◌, Option, Some, max, arith, refl, sym, ap, subst, ◌∙◌}
+use Rattle.std.specs.Prelude.{fold, bit_or}
+use Rattle.std.specs.Int.{bit_at}
+use Rattle.std.specs.Int.Bits.{or_self, or_zero_l}
+use Rattle.std.proofs.lemmas.Bool.Decides.{nat_tests}
+use Rattle.std.proofs.lemmas.Nat.{or_comm}
+use Rattle.std.proofs.lemmas.Nat.Bits.{bit_at_or, same_from_bits}
+use Rattle.std.specs.declared.cmp.Ordering.TheVariants.{Less, Equal as Same, Greater}
+use Rattle.std.specs.Option.{unwrap_or}
+use Rattle.std.specs.Ordering.{is_eq, eq_by_cmp}
+use Rattle.std.specs.FinMap.{find}
+use Rattle.amr_labels.specs.Map.{entries, get-entries}
+use Rattle.amr_labels.specs.Labels.{Text, LabelSet, text_cmp, text_cmp-IsAntisymmetric, is_empty, value_of}
+use Rattle.amr_labels.specs.declared.matcher.Operator.TheVariants.{Equal, NotEqual, Matches, NotMatches}
+use Rattle.amr_labels.specs.Matcher.Matchers.{Matcher, compares, holds, all_hold}
+use Rattle.amr_engine.specs.Indexes.ValueBits.{value_bit, value_bits, mark_asked, required_bit, required_bits}
+
+max_assoc : (a b c : ℕ) → max (max a b) c ≡ max a (max b c)
+max_assoc a b c = grind (arith, nat_tests)
+
+both_first : (a b : Bool) → (a && b) ≡ true → a ≡ true
+both_first true b h = refl
+both_first false b h = absurd (cc h)
+
+both_second : (a b : Bool) → (a && b) ≡ true → b ≡ true
+both_second true b h = h
+both_second false b h = absurd (cc h)
+
+same_text : (a b : Text) → eq_by_cmp text_cmp a b ≡ true → a ≡ b
+same_text a b e =
+    elim (text_cmp a b) as (λ o. text_cmp a b ≡ o → is_eq o ≡ true → a ≡ b) [
+      | Less ↦ λ is h. absurd (cc h)
+      | Same ↦ λ is h. text_cmp-IsAntisymmetric a b is
+      | Greater ↦ λ is h. absurd (cc h)
+    ] refl e
+
+or_assoc : (a b c : ℕ) → bit_or (bit_or a b) c ≡ bit_or a (bit_or b c)
+or_assoc a b c = same_from_bits _ _ (λ i.
+    bit_at_or (bit_or a b) c i ∙ ap (λ (n : ℕ). max n (bit_at c i)) (bit_at_or a b i)
+    ∙ max_assoc (bit_at a i) (bit_at b i) (bit_at c i)
+    ∙ sym (bit_at_or a (bit_or b c) i ∙ ap (max (bit_at a i)) (bit_at_or b c i)))
+
+-- the bits of a value are among these
+abbrev within : ℕ → ℕ → Type 0
+within bits some = bit_or bits some ≡ bits
+
+-- bits that are there stay, whatever comes to them
+within_more : (bits more some : ℕ) → within bits some → within (bit_or bits more) some
+within_more bits more some h =
+    or_assoc bits more some ∙ ap (bit_or bits) (or_comm more some) ∙ sym (or_assoc bits some more) ∙ ap (λ (n : ℕ). bit_or n more) h
+
+within_own : (bits some : ℕ) → within (bit_or bits some) some
+within_own bits some = or_assoc bits some some ∙ ap (bit_or bits) (or_self some)
+
+within_both : (bits some more : ℕ) → within bits some → within bits more → within bits (bit_or some more)
+within_both bits some more h k = sym (or_assoc bits some more) ∙ ap (λ (n : ℕ). bit_or n more) h ∙ k
+
+-- ---- the bits of a label set have that of each value
+
+stays : (some bits : ℕ) (labels : List (Text × Text)) → within bits some → within (fold (λ bits label. bit_or bits (value_bit label.1)) bits labels) some
+stays some bits [] h = h
+stays some bits (label ∷ labels) h = stays some (bit_or bits (value_bit label.1)) labels (within_more bits (value_bit label.1) some h)
+
+abbrev or_empty : Option Text → Text
+or_empty value = unwrap_or value []
+
+found_marked : (name : Text) (bits : ℕ) (labels : List (Text × Text)) → is_empty (or_empty (find text_cmp name labels)) ≡ false
+    → within (fold (λ bits label. bit_or bits (value_bit label.1)) bits labels) (value_bit (or_empty (find text_cmp name labels)))
+found_marked name bits [] h = absurd (cc h)
+found_marked name bits (label ∷ labels) h =
+    elim (is_eq (text_cmp name label.0)) as (λ b. is_empty (or_empty (cond b (Some label.1) (find text_cmp name labels))) ≡ false
+    → within (fold (λ bits label. bit_or bits (value_bit label.1)) (bit_or bits (value_bit label.1)) labels) (value_bit (or_empty (cond b (Some label.1) (find text_cmp name labels))))) [
+      | true ↦ λ h. stays (value_bit label.1) (bit_or bits (value_bit label.1)) labels (within_own bits (value_bit label.1))
+      | false ↦ λ h. found_marked name (bit_or bits (value_bit label.1)) labels h
+    ] h
+
+value_bited : (labels : LabelSet) (name : Text) → is_empty (value_of labels name) ≡ false → within (value_bits labels) (value_bit (value_of labels name))
+value_bited labels name h =
+    subst (λ (found : Option Text). within (value_bits labels) (value_bit (or_empty found))) (sym (get-entries labels name))
+    (found_marked name 0 (entries labels) (ap (λ (found : Option Text). is_empty (or_empty found)) (sym (get-entries labels name)) ∙ h))
+
+-- ---- matchers that match ask for no other bits
+
+none_asked : (bits : ℕ) → within bits 0
+none_asked bits = or_comm bits 0 ∙ or_zero_l bits
+
+asked_marked : (labels : LabelSet) (matcher : Matcher) → holds matcher labels ≡ true → within (value_bits labels) (required_bit matcher)
+asked_marked labels matcher h =
+    elim matcher.operator as (λ o. compares o matcher.value (value_of labels matcher.name) ≡ true → within (value_bits labels) (mark_asked o matcher.value)) [
+      | Equal ↦ λ h.
+          let own : value_of labels matcher.name ≡ matcher.value = same_text (value_of labels matcher.name) matcher.value h in
+          elim (is_empty matcher.value) as (λ b. is_empty matcher.value ≡ b → within (value_bits labels) (cond b 0 (value_bit matcher.value))) [
+            | true ↦ λ e. none_asked (value_bits labels)
+            | false ↦ λ e. subst (λ (v : Text). within (value_bits labels) (value_bit v)) own (value_bited labels matcher.name (ap is_empty own ∙ e))
+          ] refl
+      | NotEqual ↦ λ h. none_asked (value_bits labels)
+      | Matches ↦ λ h. none_asked (value_bits labels)
+      | NotMatches ↦ λ h. none_asked (value_bits labels)
+    ] h
+
+all_asked : (labels : LabelSet) (bits : ℕ) (matchers : List Matcher) → within (value_bits labels) bits → all_hold matchers labels ≡ true
+    → within (value_bits labels) (fold (λ bits matcher. bit_or bits (required_bit matcher)) bits matchers)
+all_asked labels bits [] h all = h
+all_asked labels bits (matcher ∷ matchers) h all =
+    all_asked labels (bit_or bits (required_bit matcher)) matchers
+    (within_both (value_bits labels) bits (required_bit matcher) h (asked_marked labels matcher (both_first (holds matcher labels) (all_hold matchers labels) all)))
+    (both_second (holds matcher labels) (all_hold matchers labels) all)
+
+-- the bits that matching matchers ask for are among those of the label set
+pub matching_marked : (labels : LabelSet) (matchers : List Matcher) → all_hold matchers labels ≡ true → bit_or (value_bits labels) (required_bits matchers) ≡ value_bits labels
+matching_marked labels matchers all = all_asked labels 0 matchers (none_asked (value_bits labels)) all

@@ -1,0 +1,65 @@
+use Rattle.std.proofs.Common.{◌≡◌, ◌≤◌, ◌<◌, ◌+◌, length, get_or, refl, sym, ap, subst, ◌∙◌, arith, rules}
+use Rattle.std.proofs.lemmas.List.{length-map}
+use Rattle.std.proofs.lemmas.Grind.{common_steps}
+use Rattle.std.specs.Ordering.{nat_cmp}
+use Rattle.amr_tables.specs.Numbered.{map_of}
+use Rattle.amr_rules.specs.Silences.{Silences}
+use Rattle.amr_engine.specs.declared.indexes.cached_periods.CachedPeriods.{CachedPeriods}
+use Rattle.amr_engine.specs.declared.indexes.silence_change.SilenceChange.{SilenceChange}
+use Rattle.amr_engine.specs.Indexes.CachedSilences.{changed_ids, passed_by, IsCached}
+use Rattle.amr_engine.proofs.IndexesLemmas.CaughtUp.{left_out, all_passed, passed_on, caught_up}
+use Rattle.amr_engine.proofs.indexes.cached_periods.CachedPeriods.catch_up.Goals as goal
+
+pub loop-turn-init : goal.loop-turn-init
+loop-turn-init c =
+    let left = c.in_ok-leave_out_ended.ensures.left in
+    let from : c.leave_out_ended.new.self.from ≡ c.args.at = ap (λ (k : CachedPeriods). k.from) left in
+    let le : c.leave_out_ended.new.self.from ≤ c.args.at = omega arith in
+    (omega arith, refl, le, left_out (map_of nat_cmp c.args.silences.now) (changed_ids c.args.changes.now) c.args.self.now c.leave_out_ended.new.self c.args.at c.requires.known c.requires.before left)
+
+pub loop-turn-preserved : goal.loop-turn-preserved
+loop-turn-preserved c =
+    let silences : Silences = map_of nat_cmp c.args.silences.now in
+    let known : CachedPeriods = c.loop-turn.self in
+    let changes = c.args.changes.now in
+    let passed : CachedPeriods = c.pass_over.new.self in
+    let passed_is : passed ≡ passed_by changes known = c.pass_over.ensures in
+    let still : IsCached silences (changed_ids changes) passed = all_passed silences changes known passed c.requires.noted c.loop-turn.invariant.3 passed_is in
+    let noted = c.in_ok-take_in.ensures.noted in
+    let from : c.take_in.new.self.from ≡ passed.from = ap (λ (k : CachedPeriods). k.from) noted in
+    let same_from : passed.from ≡ known.from = ap (λ (k : CachedPeriods). k.from) passed_is in
+    let before : known.from ≤ c.args.at = c.loop-turn.invariant.2 in
+    let turns : c.loop-turn._turn ≤ known.version = c.loop-turn.invariant.0 in
+    let on : known.version ≤ passed.version = subst (λ (k : CachedPeriods). known.version ≤ k.version) (sym passed_is) (passed_on changes known) in
+    let more : passed.version < length changes = first_of (search rules, grind (arith, common_steps)) in
+    let change : SilenceChange = c.index-changes-place.result in
+    let is : get_or changes passed.version change ≡ change = sym c.index-changes-place.is in
+    let le : c.take_in.new.self.from ≤ c.args.at = omega arith in
+    let after : CachedPeriods = record { labels = c.take_in.new.self.labels; bits = c.take_in.new.self.bits; from = c.take_in.new.self.from; version = passed.version + 1; periods = c.take_in.new.self.periods } in (
+      omega arith,
+      ap (λ (k : CachedPeriods). k.labels) noted ∙ ap (λ (k : CachedPeriods). k.labels) passed_is ∙ c.loop-turn.invariant.1,
+      le,
+      caught_up silences changes passed change after c.requires.noted still more is
+          (λ i. record { labels = (noted i).labels; bits = (noted i).bits; from = (noted i).from; version = passed.version + 1; periods = (noted i).periods }),
+    )
+
+pub returns-then-self-changes-2-clause-known : goal.returns-then-self-changes-2-clause-known
+returns-then-self-changes-2-clause-known c =
+    all_passed (map_of nat_cmp c.args.silences.now) c.args.changes.now c.loop-turn.self c.pass_over.new.self c.requires.noted c.loop-turn.invariant.3 c.pass_over.ensures
+
+pub returns-then-self-changes-2-clause-version : goal.returns-then-self-changes-2-clause-version
+returns-then-self-changes-2-clause-version c =
+    let changes = c.args.changes.now in
+    let known : IsCached (map_of nat_cmp c.args.silences.now) (changed_ids changes) c.pass_over.new.self =
+    all_passed (map_of nat_cmp c.args.silences.now) changes c.loop-turn.self c.pass_over.new.self c.requires.noted c.loop-turn.invariant.3 c.pass_over.ensures in
+    let within : c.pass_over.new.self.version ≤ length (changed_ids changes) = known.version in
+    let count : length (changed_ids changes) ≡ length changes = length-map changes (λ (change : SilenceChange). change.id) in
+    let all : length changes ≤ c.pass_over.new.self.version = first_of (search rules, grind (arith, common_steps)) in
+    omega arith
+
+pub returns-in_err-take_in-clause-known : goal.returns-in_err-take_in-clause-known
+returns-in_err-take_in-clause-known c =
+    let silences : Silences = map_of nat_cmp c.args.silences.now in
+    let changes = c.args.changes.now in
+    subst (λ (k : CachedPeriods). IsCached silences (changed_ids changes) k) (sym c.in_err-take_in.ensures.err)
+    (all_passed silences changes c.loop-turn.self c.pass_over.new.self c.requires.noted c.loop-turn.invariant.3 c.pass_over.ensures)

@@ -1,7 +1,0 @@
-use Rattle.std.proofs.Common.{◌≡◌, ◌++◌, drop}
-use Rattle.std.specs.List.{filter}
-use Rattle.amr_engine.specs.Indexes.SilencesKnown.{ends_after}
-use Rattle.amr_engine.proofs.indexes.known_periods.ending_after.Given as goal
-
-abbrev pub invariant-loop-period : goal.invariant-loop-period
-invariant-loop-period l = l.copy ++ filter (ends_after l.at) (drop l.period-index l.periods) ≡ filter (ends_after l.at) l.periods

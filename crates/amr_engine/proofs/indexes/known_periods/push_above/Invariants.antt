@@ -1,7 +1,0 @@
-use Rattle.std.proofs.Common.{◌≡◌, ◌++◌, drop}
-use Rattle.std.specs.List.{filter}
-use Rattle.amr_engine.specs.Indexes.SilencesKnown.{is_above}
-use Rattle.amr_engine.proofs.indexes.known_periods.push_above.Given as goal
-
-abbrev pub invariant-loop-period : goal.invariant-loop-period
-invariant-loop-period l = l.copy ++ filter (is_above l.id) (drop l.period-index l.periods) ≡ l.initial.copy ++ filter (is_above l.id) l.periods

@@ -1,0 +1,30 @@
+use Rattle.std.proofs.Common.{[], cond, sym, ap, ◌∙◌}
+use Rattle.std.specs.Ordering.{is_lt}
+use Rattle.amr_labels.specs.Labels.{text_cmp}
+use Rattle.amr_labels.specs.Head.{with_head, head_past, text_head}
+use Rattle.amr_labels.proofs.Heads.{head_inside, head_outside}
+use Rattle.amr_labels.proofs.keyed_texts.head_of.Goals as goal
+
+pub returns-in-Some : goal.returns-in-Some
+unfolding text_head
+returns-in-Some c =
+    c.headed.ensures ∙ ap (with_head 7 1) c.in-Some.ensures.cases.1
+    ∙ sym (head_inside c.as_bytes-2.result.now c.as_bytes.result.now c.in-Some.ensures.cases.0)
+    ∙ (λ i. head_past (c.as_bytes-2.ensures.value i) (c.as_bytes.ensures.value i))
+
+pub returns-in-None : goal.returns-in-None
+unfolding text_head
+returns-in-None c =
+    sym (head_outside c.as_bytes-2.result.now c.as_bytes.result.now c.in-None.ensures.cases
+    ∙ (λ i. cond (is_lt (text_cmp (c.as_bytes.ensures.value i) (c.as_bytes-2.ensures.value i))) 0 (with_head 7 2 []))
+    ∙ ap (λ b. cond b 0 (with_head 7 2 [])) (sym c.lt.ensures ∙ c.if-lt.true))
+    ∙ (λ i. head_past (c.as_bytes-2.ensures.value i) (c.as_bytes.ensures.value i))
+
+pub returns-in-None-2 : goal.returns-in-None-2
+unfolding text_head
+returns-in-None-2 c =
+    c.headed-in-None-2.ensures
+    ∙ sym (head_outside c.as_bytes-2.result.now c.as_bytes.result.now c.in-None-2.ensures.cases
+    ∙ (λ i. cond (is_lt (text_cmp (c.as_bytes.ensures.value i) (c.as_bytes-2.ensures.value i))) 0 (with_head 7 2 []))
+    ∙ ap (λ b. cond b 0 (with_head 7 2 [])) (sym c.lt.ensures ∙ c.if-lt.false))
+    ∙ (λ i. head_past (c.as_bytes-2.ensures.value i) (c.as_bytes.ensures.value i))

@@ -1,0 +1,8 @@
+-- no place has an answer so far
+use Rattle.std.specs.Prelude.{IfSome}
+use Rattle.std.specs.List.{All}
+use Rattle.amr_labels.specs.Matcher.Questions.{IsAnswer}
+use Rattle.amr_labels.proofs.matcher.match_cache.no_answers.Given as goal
+
+abbrev pub invariant-loop-place : goal.invariant-loop-place
+invariant-loop-place l = All (λ latest. IfSome latest IsAnswer) l.none.items
