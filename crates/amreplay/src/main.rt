@@ -11,11 +11,11 @@ mod program;
 
 use crate::lines::{CheckedReader, CheckedWriter};
 use crate::program::{
-    Fault, Form, InputError, check_config, command_of, read_config_file, run_script, run_session,
-    status_of, write_fault,
+    Fault, Form, check_config, command_of, read_config_file, run_script, run_session, status_of,
+    write_fault,
 };
 use std::alloc::AllocError;
-use std::io::{BufWriter, Error, ErrorKind};
+use std::io::{BufWriter, ErrorKind};
 use std::process::ExitCode;
 use std::rt::{Env, Files};
 use std::{env, fs};
@@ -44,9 +44,11 @@ fn start(rt: &HostRuntime) -> Result<(), Fault> {
 
 /// Reads a configuration file.
 fn config_bytes(rt: &HostRuntime, path: &str) -> Result<Vec<u8>, Fault> {
-    let file = open_file(rt, path).map_err(|unread| fault_of(unread, Fault::CannotReadConfig))?;
-    let bytes = read_config_file(rt.alloc(), &mut CheckedReader::new(file));
-    bytes.map_err(|unread| fault_of(unread, Fault::CannotReadConfig))
+    let file = open_file(rt, path, Fault::CannotReadConfig)?;
+    match read_config_file(rt.alloc(), &mut CheckedReader::new(file)) {
+        Ok(bytes) => Ok(bytes?),
+        Err(_) => Err(Fault::CannotReadConfig),
+    }
 }
 
 /// Checks the configuration in a file.
@@ -62,7 +64,7 @@ fn check_file(rt: &HostRuntime, config: &str) -> Result<(), Fault> {
 /// Runs the script in one file under the configuration in another.
 fn run_files(rt: &HostRuntime, config: &str, script: &str) -> Result<(), Fault> {
     let config = config_bytes(rt, config)?;
-    let script = open_file(rt, script).map_err(|error| fault_of(error, Fault::CannotReadScript))?;
+    let script = open_file(rt, script, Fault::CannotReadScript)?;
     let Ok(out) = BufWriter::new(rt.alloc(), rt.stdout()) else {
         return Err(Fault::Memory);
     };
@@ -77,7 +79,7 @@ fn run_files(rt: &HostRuntime, config: &str, script: &str) -> Result<(), Fault> 
 /// Answers the commands on standard input, over a script and a configuration.
 fn session_over(rt: &HostRuntime, config: &str, script: &str) -> Result<(), Fault> {
     let config = config_bytes(rt, config)?;
-    let script = open_file(rt, script).map_err(|error| fault_of(error, Fault::CannotReadScript))?;
+    let script = open_file(rt, script, Fault::CannotReadScript)?;
     let Ok(out) = BufWriter::new(rt.alloc(), rt.stdout()) else {
         return Err(Fault::Memory);
     };
@@ -102,27 +104,11 @@ fn words_of(rt: &(impl Env + AllocGlobal)) -> Result<Vec<String>, Fault> {
     }
 }
 
-/// Opens a file.
-fn open_file<R: Files>(rt: &R, path: &str) -> Result<R::File, InputError> {
-    fs::open(rt, path).map_err(|e| unopened(&e))
-}
-
-/// Returns why a file that couldn't be opened isn't read.
-fn unopened(error: &Error) -> InputError {
-    if error.kind() == ErrorKind::OutOfMemory {
-        InputError::Memory
-    } else {
-        InputError::CannotRead
-    }
-}
-
-/// Returns the fault for a file that isn't read: `Memory`, or else the given fault.
-fn fault_of(unread: InputError, otherwise: Fault) -> Fault
-    ensures memory { unread ≡ InputError.Memory → result ≡ Fault.Memory }
-    ensures reading { unread ≡ InputError.CannotRead → result ≡ otherwise }
-{
-    match unread {
-        InputError::Memory => Fault::Memory,
-        InputError::CannotRead => otherwise,
+/// Opens a file. If it can't be opened, the fault is `Memory` for want of memory, or else `unread`.
+fn open_file<R: Files>(rt: &R, path: &str, unread: Fault) -> Result<R::File, Fault> {
+    match fs::open(rt, path) {
+        Ok(file) => Ok(file),
+        Err(error) if error.kind() == ErrorKind::OutOfMemory => Err(Fault::Memory),
+        Err(_) => Err(unread),
     }
 }

@@ -11,7 +11,7 @@ mod words;
 
 pub use check::check_config;
 pub use fault::{Fault, status_of, write_fault};
-pub use input::{InputError, read_config_file};
+pub use input::read_config_file;
 pub use load::{open_session, read_config};
 pub use run::run_script;
 pub use session::run_session;

@@ -5,48 +5,16 @@ ghost use Rattle.amr_events.specs.Answers.{Answers};
 ghost use Rattle.amr_events.specs.Scripts.{ScriptIs};
 ghost use Rattle.amreplay.specs.Lines.CheckedReader.{HasEnded};
 ghost use Rattle.amreplay.specs.Program.Files.{ConfigFileIs};
-ghost use Rattle.amreplay.specs.Program.Input.{UnreadBy, StandFor, MayHold};
+ghost use Rattle.amreplay.specs.Program.Input.{StandFor, MayHold};
 
 use crate::lines::{CheckedReader, ReadFailed};
 use crate::program::load::LONGEST_CONFIG;
 use amr_events::{Script, ScriptError, ScriptReader};
 use std::alloc::{AllocError, Global};
 use std::io::Read;
-use thiserror::Error;
 
 /// How many bytes are asked for at once.
 const CHUNK: usize = 8192;
-
-/// Why a file couldn't be read.
-#[derive(Clone, Copy, Debug, PartialEq, Eq, Error)]
-pub enum InputError {
-    #[error("out of memory")]
-    Memory,
-    #[error("cannot read")]
-    CannotRead,
-}
-
-impl From<AllocError> for InputError {
-    ghost use Rattle.std.specs.Prelude.{◌≡◌};
-    ghost use Rattle.amreplay.specs.declared.program.input.InputError.TheVariants.{Memory};
-
-    ghost from_gives = { λ _ unread. unread ≡ Memory };
-
-    fn from(_error: AllocError) -> InputError {
-        InputError::Memory
-    }
-}
-
-impl From<ReadFailed> for InputError {
-    ghost use Rattle.std.specs.Prelude.{◌≡◌};
-    ghost use Rattle.amreplay.specs.declared.program.input.InputError.TheVariants.{CannotRead};
-
-    ghost from_gives = { λ _ unread. unread ≡ CannotRead };
-
-    fn from(_error: ReadFailed) -> InputError {
-        InputError::CannotRead
-    }
-}
 
 /// Reads the bytes of a configuration's file: all of them, or so many that it is too long.
 ///
@@ -55,23 +23,25 @@ impl From<ReadFailed> for InputError {
 pub fn read_config_file<R: Read>(
     alloc: Global,
     file: &mut CheckedReader<R>,
-) -> Result<Vec<u8>, InputError>
-    ensures read { IfOk result (λ bytes. StandFor ConfigFileIs (R.remaining file.old.reader)
-        bytes.items) }
+) -> Result<Result<Vec<u8>, AllocError>, ReadFailed>
+    ensures read { IfOk result (λ read. IfOk read (λ bytes.
+        StandFor ConfigFileIs (R.remaining file.old.reader) bytes.items)) }
     ensures ended { MatchResult result
         (λ _. file.new.failed ≡ file.old.failed)
-        (λ unread. UnreadBy unread file.old.failed file.new.failed file.new.calls) }
+        (λ _. HasEnded file.new.failed file.new.calls) }
 {
     let mut bytes = Vec::new(alloc);
     let mut chunk = [0; CHUNK];
     loop {
         let taken = file.read(&mut chunk)?;
         if taken == 0 {
-            return Ok(bytes);
+            return Ok(Ok(bytes));
         }
-        bytes.extend_from_slice(&chunk[..taken])?;
+        if let Err(error) = bytes.extend_from_slice(&chunk[..taken]) {
+            return Ok(Err(error));
+        }
         if bytes.len() > LONGEST_CONFIG {
-            return Ok(bytes);
+            return Ok(Ok(bytes));
         }
     }
 }
