@@ -104,7 +104,7 @@ fn words_of(rt: &(impl Env + AllocGlobal)) -> Result<Vec<String>, Fault> {
     }
 }
 
-/// Opens a file. If it can't be opened, the fault is `Memory` for want of memory, or else `unread`.
+/// Opens a file. If it can't be opened, the fault is `Memory` if memory ran out, and else `unread`.
 fn open_file<R: Files>(rt: &R, path: &str, unread: Fault) -> Result<R::File, Fault> {
     match fs::open(rt, path) {
         Ok(file) => Ok(file),
