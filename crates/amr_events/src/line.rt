@@ -96,7 +96,8 @@ fn act(
         return Ok(Act::Post(alerts(alloc, cache, stated)?));
     }
     if let Some(stated) = line.get("silence") {
-        return Ok(Act::Silence(silence(alloc, cache.patterns_for_line(), line, stated)?));
+        let silence = silence(alloc, cache.patterns_for_line(), line, stated)?;
+        return Ok(Act::Silence(Box::new(alloc, silence)?));
     }
     if let Some(stated) = line.get("expire") {
         return Ok(Act::Expire(id(stated)?));

@@ -17,7 +17,7 @@ by_number (Err reason) = Err (reason_number reason)
 
 abbrev pub act_of : code.Act → Act
 act_of (Post posted) = events.Act.Post posted
-act_of (Silence silence) = events.Act.Silence silence
+act_of (Silence silence) = events.Act.Silence silence.value
 act_of (Expire id) = events.Act.Expire id
 act_of (Reload read) = events.Act.Reload (by_number read)
 act_of Tick = events.Act.Tick

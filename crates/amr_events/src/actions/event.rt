@@ -14,8 +14,9 @@ use std::marker::Model;
 pub enum Act {
     /// Posts alerts.
     Post(Listing<PostedAlert>),
-    /// Posts a silence.
-    Silence(PostedSilence),
+    /// Posts a silence. It is in memory of its own, so that the events of a script, which mostly post
+    /// alerts, aren't as large as one.
+    Silence(Box<PostedSilence>),
     /// Expires the silence with this id.
     Expire(SilenceId),
     /// Replaces the configuration, unless it can't be loaded for this reason.
