@@ -17,6 +17,7 @@ use crate::explain::{self, Verdict};
 use crate::outcome::Outcome;
 use crate::quiet::QuietGroups;
 use crate::quiet_moves::QuietMoves;
+use crate::stages::cache_sources;
 use crate::state::{Group, Store, views};
 use amr_config::Config;
 use amr_events::actions::Event;
@@ -187,11 +188,7 @@ impl Engine {
     pub fn cache_sources(&mut self, labels: &Labels) -> Result<(), AllocError>
         ensures { self.new ≡ self.old }
     {
-        if self.store.config().rules().is_empty() {
-            return Ok(());
-        }
-        let matched = self.store.rule_matches(labels)?;
-        self.store.cache_sources(matched.get().as_slice())
+        cache_sources(&mut self.store, labels)
     }
 
     /// Explains why an alert with these labels was or wasn't in a notification. It returns one

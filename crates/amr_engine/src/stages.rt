@@ -2,13 +2,11 @@
 //! flush notifies of no member that one of them mutes, and `explain` names the first that does.
 ghost use Rattle.std.specs.Prelude.{◌≡◌, map, IfOk};
 ghost use Rattle.amr_rules.specs.Muting.{inhibition_from};
-ghost use Rattle.amr_config.specs.Stated.RuleMatches.{rule_matches};
 ghost use Rattle.amr_engine.specs.Flush.{let_through};
 ghost use Rattle.amr_engine.specs.Stages.{taken_away};
 
 use crate::explain::Finding;
 use crate::state::{Member, Store};
-use amr_config::stated::RuleMatch;
 use amr_labels::Labels;
 use amr_rules::inhibited_by;
 use amr_time::Moment;
@@ -16,6 +14,7 @@ use std::alloc::{AllocError, Global};
 
 /// Returns the first stage that mutes an alert with these labels on a route: inhibition, active
 /// time intervals, mute time intervals, silences. Returns `None` if none does.
+#[tactic(auto, unfolding(crate::specs::Stages::taken_away))]
 pub(crate) fn taken_away(
     store: &Store,
     at: Moment,
@@ -24,13 +23,25 @@ pub(crate) fn taken_away(
 ) -> Result<Option<Finding>, AllocError>
     ensures { IfOk result (λ found. found ≡ taken_away store.now.state at route labels.now) }
 {
-    let inhibited = inhibition(store, at, labels)?;
-    first_stage(store, at, route, labels, inhibited)
+    if let Some((rule, source)) = inhibition(store, at, labels)? {
+        return Ok(Some(Finding::Inhibited { rule, source }));
+    }
+    let config = store.config();
+    if !config.is_active_at(route, at) {
+        return Ok(Some(Finding::OutsideActive));
+    }
+    if config.is_muted_at(route, at) {
+        return Ok(Some(Finding::TimeMuted));
+    }
+    match store.silenced_by(at, labels)? {
+        Some(id) => Ok(Some(Finding::Silenced { id })),
+        None => Ok(None),
+    }
 }
 
-/// Returns the members that no stage mutes. It works out which silences match a member's labels,
-/// and which label sets can be sources of the rules that have it as a target, only if that isn't
-/// known. What it works out is remembered in the store and is no part of the state.
+/// Returns the members that no stage mutes. It works out first which silences match a member's
+/// labels, and which label sets can be sources of the rules that have it as a target, where that
+/// isn't cached.
 pub(crate) fn let_through(
     store: &mut Store,
     at: Moment,
@@ -44,7 +55,8 @@ pub(crate) fn let_through(
     let mut through = Vec::with_capacity(store.alloc(), members.len())?;
     cache_silences(store, at, members)?;
     for (labels, alert) in members {
-        if taken_away_cached(store, at, route, labels)?.is_none() {
+        cache_sources(store, labels)?;
+        if taken_away(store, at, route, labels)?.is_none() {
             through.push((labels.clone()?, alert.clone()?))?;
         }
     }
@@ -74,54 +86,20 @@ fn label_sets_of(alloc: Global, members: &[Member]) -> Result<Vec<Labels>, Alloc
     Ok(label_sets)
 }
 
-/// Returns what `taken_away` returns. It learns first which label sets can be sources of the rules
-/// that have these labels as a target, so it looks up only once which rules these are.
-fn taken_away_cached(
-    store: &mut Store,
-    at: Moment,
-    route: usize,
-    labels: &Labels,
-) -> Result<Option<Finding>, AllocError>
-    ensures found { IfOk result (λ found. found
-        ≡ taken_away store.old.state at route labels.now) }
-    ensures same { store.new ≡ store.old }
+/// Works out which label sets can be sources of the rules that have these labels as a target, where
+/// that isn't cached. Without rules it looks nothing up.
+pub(crate) fn cache_sources(store: &mut Store, labels: &Labels) -> Result<(), AllocError>
+    ensures { store.new ≡ store.old }
 {
-    let inhibited = inhibition_cached(store, at, labels)?;
-    first_stage(store, at, route, labels, inhibited)
-}
-
-/// Returns the first stage that mutes an alert with these labels on a route, given the inhibition
-/// rule that does, with its source.
-#[tactic(auto, unfolding(crate::specs::Stages::taken_away))]
-fn first_stage(
-    store: &Store,
-    at: Moment,
-    route: usize,
-    labels: &Labels,
-    inhibited: Option<(usize, Labels)>,
-) -> Result<Option<Finding>, AllocError>
-    requires { inhibited ≡ inhibition_from 0 at labels.now store.now.state.alerts
-        store.now.state.config.rules }
-    ensures { IfOk result (λ found. found ≡ taken_away store.now.state at route labels.now) }
-{
-    let config = store.config();
-    if let Some((rule, source)) = inhibited {
-        return Ok(Some(Finding::Inhibited { rule, source }));
+    if store.config().rules().is_empty() {
+        return Ok(());
     }
-    if !config.is_active_at(route, at) {
-        return Ok(Some(Finding::OutsideActive));
-    }
-    if config.is_muted_at(route, at) {
-        return Ok(Some(Finding::TimeMuted));
-    }
-    match store.silenced_by(at, labels)? {
-        Some(id) => Ok(Some(Finding::Silenced { id })),
-        None => Ok(None),
-    }
+    let matched = store.rule_matches(labels)?;
+    store.cache_sources(matched.get().as_slice())
 }
 
 /// Returns the inhibition rule that mutes an alert with these labels, and the labels of the alert
-/// by which it does.
+/// by which it does. Without rules it looks nothing up.
 fn inhibition(
     store: &Store,
     at: Moment,
@@ -130,46 +108,11 @@ fn inhibition(
     ensures { IfOk result (λ found. found ≡ inhibition_from 0 at labels.now
         store.now.state.alerts store.now.state.config.rules) }
 {
-    let matched = store.rule_matches(labels)?;
-    inhibition_by(store, at, matched.get().as_slice(), labels)
-}
-
-/// Returns what `inhibition` returns. It learns first which label sets can be sources of the rules
-/// that have these labels as a target. Without rules it looks nothing up.
-fn inhibition_cached(
-    store: &mut Store,
-    at: Moment,
-    labels: &Labels,
-) -> Result<Option<(usize, Labels)>, AllocError>
-    ensures found { IfOk result (λ found. found ≡ inhibition_from 0 at labels.now
-        store.old.state.alerts store.old.state.config.rules) }
-    ensures same { store.new ≡ store.old }
-{
-    if store.config().rules().is_empty() {
+    let rules = store.config().rules();
+    if rules.is_empty() {
         return Ok(None);
     }
     let matched = store.rule_matches(labels)?;
-    store.cache_sources(matched.get().as_slice())?;
-    inhibition_by(store, at, matched.get().as_slice(), labels)
-}
-
-/// Returns what `inhibition` returns, given which sides of each rule the labels are on.
-fn inhibition_by(
-    store: &Store,
-    at: Moment,
-    matched: &[RuleMatch],
-    labels: &Labels,
-) -> Result<Option<(usize, Labels)>, AllocError>
-    requires { matched.now ≡ rule_matches labels.now store.now.state.config.rules }
-    ensures { IfOk result (λ found. found ≡ inhibition_from 0 at labels.now
-        store.now.state.alerts store.now.state.config.rules) }
-{
-    inhibited_by(
-        store.alloc(),
-        store.config().rules(),
-        matched,
-        store.alerts(),
-        at,
-        labels,
-    )
+    let matched = matched.get().as_slice();
+    inhibited_by(store.alloc(), rules, matched, store.alerts(), at, labels)
 }

@@ -1,7 +1,8 @@
 //! The configuration in force with the members of all groups, and which member is in which group.
 //! `Store` changes it. The group of a member depends on the configuration, so both are kept
 //! together.
-ghost use Rattle.std.specs.Prelude.{◌≡◌, ◌<◌, ◌+◌, ◌++◌, [], IsTrue, Some, None, map, option_map, OnOk, IfOk};
+ghost use Rattle.std.specs.Prelude.{◌≡◌, ◌<◌, ◌+◌, ◌++◌, [], IsTrue, Some, None, map, OnOk, IfOk};
+ghost use Rattle.std.specs.Option.{option_and_then};
 ghost use Rattle.amr_labels.specs.Map as map;
 ghost use Rattle.amr_config.specs.Groups.{groups_of};
 ghost use Rattle.amr_config.specs.Stated.RuleMatches.{rule_matches};
@@ -218,10 +219,7 @@ impl Roster {
         if self.placements.at(number).is_some() == alert.is_some() {
             return self.placements.swap_at(number, alert);
         }
-        let Some(group) = self.groups.number_of(&member.group) else {
-            unreachable!()
-        };
-        let in_group = if_member(alert, group);
+        let in_group = group_if_member(&self.groups, &member.group, alert);
         let was_entered = self.placements.swap_at(number, alert);
         self.members.set(number, in_group);
         was_entered
@@ -295,13 +293,19 @@ impl Roster {
     }
 }
 
-/// Returns the number of the group, if there is an alert to be its member.
-fn if_member(alert: &Option<Alert>, group: usize) -> Option<usize>
-    ensures { result ≡ option_map (λ _. group) alert.now }
+/// Returns the number of a group, if there is an alert to be its member. Without one it looks nothing
+/// up.
+fn group_if_member(
+    groups: &Keyed<RouteLabels, ()>,
+    group: &RouteLabels,
+    alert: &Option<Alert>,
+) -> Option<usize>
+    ensures { result
+        ≡ option_and_then (λ _. number_of route_labels_cmp groups.now group.now) alert.now }
 {
     match alert {
         None => None,
-        Some(_) => Some(group),
+        Some(_) => groups.number_of(group),
     }
 }
 

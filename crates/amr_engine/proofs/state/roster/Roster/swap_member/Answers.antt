@@ -1,16 +1,15 @@
 use Rattle.std.proofs.Common.{◌≡◌, ◌<◌, ◌||◌, ℕ, Bool, true, false, Bor, Option, IsTrue, None, Some, is_some, refl, sym, ap, subst, ◌∙◌}
 use Rattle.std.specs.Bool.{beq}
-use Rattle.std.specs.Option.{option_copied}
+use Rattle.std.specs.Option.{option_copied, option_and_then}
 use Rattle.std.proofs.lemmas.Bool.{true≢false}
 use Rattle.amr_rules.specs.declared.alert.Alert.{Alert}
-use Rattle.std.specs.Prelude.{IfSome, slice_set}
+use Rattle.std.specs.Prelude.{IfSome, slice_set, option_map}
 use Rattle.std.specs.Ordering.{eq_by_cmp}
 use Rattle.amr_labels.specs.Map as map
 use Rattle.amr_tables.specs.Numbered.{map_of, has_place, is_entered, number_of}
 use Rattle.amr_engine.specs.State.State.{member_on_route, route_labels_cmp, group_key}
 use Rattle.amr_engine.specs.State.Rostered.{Rostered}
 use Rattle.amr_engine.proofs.StateLemmas.Rostering.{grouped_set, grouped_stays, place_number, within_if}
-use Rattle.amr_engine.proofs.StateLemmas.Scheduling.{has_number}
 use Rattle.amr_engine.proofs.state.roster.Roster.swap_member.Goals as goal
 
 pub swap_at-requires : goal.swap_at-requires
@@ -18,10 +17,10 @@ swap_at-requires c =
     let key = member_on_route c.args.member.now in
     (key, ap (λ (t : Rostered). number_of route_labels_cmp t.placements key) c.self.view_is ∙ c.requires.place)
 
-pub unreachable-requires : goal.unreachable-requires
-unreachable-requires c =
-    has_number route_labels_cmp c.self.inside.groups c.args.member.now.group (subst (λ (t : Rostered). IsTrue (has_place route_labels_cmp t.groups c.args.member.now.group)) (sym c.self.view_is) c.requires.known)
-    (sym c.number_of.ensures.number ∙ c.in_default.is)
+-- the number of the group of a member, if it is one
+in_group : (found : Option ℕ) (g : ℕ) (alert : Option Alert) → found ≡ Some g → option_and_then (λ _. found) alert ≡ option_map (λ _. g) alert
+in_group found g None is = refl
+in_group found g (Some alert) is = is
 
 pub swap_at-was_entered-requires : goal.swap_at-was_entered-requires
 swap_at-was_entered-requires c =
@@ -35,8 +34,10 @@ set-requires-clause-room c =
 
 pub set-requires-clause-group : goal.set-requires-clause-group
 set-requires-clause-group c =
-    subst (λ (o : Option ℕ). IfSome o (λ g. g < c.self.inside.members.count)) (sym c.if_member-in_group.ensures)
-    (within_if c.args.alert.now c.in-Some.group c.self.inside.members.count (c.self.invariant.group_room c.args.member.now.group c.in-Some.group (sym c.number_of.ensures.number ∙ c.in-Some.is)))
+    let r = c.self.inside in
+    let known = place_number r.groups c.args.member.now.group (subst (λ (t : Rostered). IsTrue (has_place route_labels_cmp t.groups c.args.member.now.group)) (sym c.self.view_is) c.requires.known) in
+    subst (λ (o : Option ℕ). IfSome o (λ g. g < r.members.count)) (sym (c.group_if_member-in_group.ensures ∙ in_group (number_of route_labels_cmp r.groups c.args.member.now.group) known.0 c.args.alert.now known.1))
+    (within_if c.args.alert.now known.0 r.members.count (c.self.invariant.group_room c.args.member.now.group known.0 known.1))
 
 alike : (a b : Bool) → beq a b ≡ true → a ≡ b
 alike true true e = refl
@@ -67,9 +68,10 @@ invariant_of-self-2 c =
     let n = c.args.number in
     let number : number_of route_labels_cmp r.placements key ≡ Some n = ap (λ (t : Rostered). number_of route_labels_cmp t.placements key) c.self.view_is ∙ c.requires.place in
     let group : group_key r.config key ≡ c.args.member.now.group = sym (c.requires.group ∙ ap (λ (t : Rostered). group_key t.config key) (sym c.self.view_is)) in
-    grouped_set r.config r.placements r.groups r.members c.self.invariant c.swap_at-was_entered.new.self c.set.new.self key n c.in-Some.group c.args.alert.now number
-    (ap (number_of route_labels_cmp r.groups) group ∙ sym c.number_of.ensures.number ∙ c.in-Some.is) c.swap_at-was_entered.ensures.keys (c.swap_at-was_entered.ensures.shown key number)
-    (c.set.ensures.groups ∙ ap (slice_set r.members.groups n) c.if_member-in_group.ensures) c.set.ensures.count
+    let known = place_number r.groups c.args.member.now.group (subst (λ (t : Rostered). IsTrue (has_place route_labels_cmp t.groups c.args.member.now.group)) (sym c.self.view_is) c.requires.known) in
+    grouped_set r.config r.placements r.groups r.members c.self.invariant c.swap_at-was_entered.new.self c.set.new.self key n known.0 c.args.alert.now number
+    (ap (number_of route_labels_cmp r.groups) group ∙ known.1) c.swap_at-was_entered.ensures.keys (c.swap_at-was_entered.ensures.shown key number)
+    (c.set.ensures.groups ∙ ap (slice_set r.members.groups n) (c.group_if_member-in_group.ensures ∙ in_group (number_of route_labels_cmp r.groups c.args.member.now.group) known.0 c.args.alert.now known.1)) c.set.ensures.count
 
 pub returns-clause-former : goal.returns-clause-former
 returns-clause-former c = λ key at.
