@@ -19,10 +19,10 @@ use Rattle.amr_engine.specs.declared.state.route_labels.RouteLabels.{RouteLabels
 use Rattle.amr_engine.specs.State.State.{State, on_route}
 use Rattle.amr_engine.specs.Stages.{by_inhibition, by_active_time, by_mute_time, by_silence, taken_away}
 use Rattle.amr_engine.specs.Flush.{log_key_of}
-use Rattle.amr_engine.specs.declared.explain.Finding.{Finding}
-use Rattle.amr_engine.specs.declared.explain.Finding.TheVariants.{Waiting, Inhibited, OutsideActive, TimeMuted, Silenced, Told, Due}
-use Rattle.amr_engine.specs.declared.explain.Verdict.{Verdict}
-use Rattle.amr_engine.specs.declared.explain.Verdict.TheVariants.{Unknown, Ended, AtRoute}
+use Rattle.amr_engine.specs.declared.verdict.Finding.{Finding}
+use Rattle.amr_engine.specs.declared.verdict.Finding.TheVariants.{Waiting, Inhibited, OutsideActive, TimeMuted, Silenced, Told, Due}
+use Rattle.amr_engine.specs.declared.verdict.Verdict.{Verdict}
+use Rattle.amr_engine.specs.declared.verdict.Verdict.TheVariants.{Unknown, Ended, AtRoute}
 use Rattle.amr_engine.specs.Explain.{waiting, finding_of_entry, heard, finding, integrations_or_none, kind_and_place, verdict_at, verdicts_of_group, verdicts_at, verdicts_of_stored, verdicts}
 use Rattle.amr_engine.specs.Told.{HasNotification, LogIsNotified, ToldIsNotified}
 use Rattle.amr_engine.proofs.Listed.{none_listed, first_or_rest, from_map, from_flat_map}

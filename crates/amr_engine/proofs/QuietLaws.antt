@@ -25,7 +25,7 @@ use Rattle.amr_engine.specs.Flush.{Members, let_through, firing_of, resolved_of,
 use Rattle.amr_engine.specs.declared.state.notification.GroupTimer.{GroupTimer}
 use Rattle.amr_engine.specs.declared.state.notification.Notification.{Notification}
 use Rattle.amr_labels.specs.Set.{is_subset, is_empty}
-use Rattle.amr_engine.specs.declared.explain.Finding.TheVariants.{Inhibited, OutsideActive, TimeMuted, Silenced}
+use Rattle.amr_engine.specs.declared.verdict.Finding.TheVariants.{Inhibited, OutsideActive, TimeMuted, Silenced}
 use Rattle.amr_engine.proofs.FewerNotified.{both, is_no, fewer_notified}
 use Rattle.amr_engine.specs.Quiet.{is_outside, no_alert_ends, no_source_ends, no_silence_turns, IsStill, all_fire_until, is_untimed, no_repeat_before, is_notified, are_notified, with_timer_reset, IsAllNotified, IsQuietWith, IsQuiet}
 

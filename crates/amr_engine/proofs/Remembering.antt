@@ -26,7 +26,7 @@ use Rattle.amr_engine.specs.declared.state.notification.GroupTimer.{GroupTimer}
 use Rattle.amr_engine.specs.declared.state.notification.Notification.{Notification}
 use Rattle.amr_engine.specs.State.State.{State, route_labels_cmp, members}
 use Rattle.amr_tables.specs.Numbered.{Numbered}
-use Rattle.amr_engine.specs.declared.explain.Finding.TheVariants.{Inhibited}
+use Rattle.amr_engine.specs.declared.verdict.Finding.TheVariants.{Inhibited}
 use Rattle.amr_engine.specs.Stages.{by_active_time, by_mute_time, by_silence, taken_away}
 use Rattle.amr_engine.specs.declared.quiet.Period.{Period}
 use Rattle.amr_engine.specs.declared.quiet.QuietTime.{QuietTime}

@@ -7,8 +7,8 @@ use Rattle.amr_time.specs.Time.{Moment}
 use Rattle.amr_config.specs.Routing.{is_active_at, is_muted_at}
 use Rattle.amr_rules.specs.Muting.{inhibition_from, silencer_of}
 use Rattle.amr_engine.specs.State.State.{State}
-use Rattle.amr_engine.specs.declared.explain.Finding.{Finding}
-use Rattle.amr_engine.specs.declared.explain.Finding.TheVariants.{Inhibited, OutsideActive, TimeMuted, Silenced}
+use Rattle.amr_engine.specs.declared.verdict.Finding.{Finding}
+use Rattle.amr_engine.specs.declared.verdict.Finding.TheVariants.{Inhibited, OutsideActive, TimeMuted, Silenced}
 
 -- an inhibition rule mutes the alert
 abbrev pub by_inhibition : State → Moment → LabelSet → Option Finding

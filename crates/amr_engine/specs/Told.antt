@@ -18,9 +18,9 @@ use Rattle.amr_engine.specs.State.State.{State, members}
 use Rattle.amr_engine.specs.Stages.{taken_away}
 use Rattle.amr_engine.specs.Flush.{log_key_of}
 use Rattle.amr_engine.specs.Moves.{move}
-use Rattle.amr_engine.specs.declared.explain.Finding.TheVariants.{Told}
-use Rattle.amr_engine.specs.declared.explain.Verdict.{Verdict}
-use Rattle.amr_engine.specs.declared.explain.Verdict.TheVariants.{AtRoute}
+use Rattle.amr_engine.specs.declared.verdict.Finding.TheVariants.{Told}
+use Rattle.amr_engine.specs.declared.verdict.Verdict.{Verdict}
+use Rattle.amr_engine.specs.declared.verdict.Verdict.TheVariants.{AtRoute}
 
 -- a notification of this moment and key has the alert among those that fire
 pub record HasNotification (notes : List Notification) (at : Moment) (key : LogKey) (labels : LabelSet) : Type 0 where

@@ -13,12 +13,13 @@ ghost use Rattle.amr_engine.specs.Placed.{ArePlaced, HasTimers, AreListed};
 ghost use Rattle.amr_engine.specs.State.Seen.{groups_of};
 
 use crate::apply::attempt;
-use crate::explain::{self, Verdict};
+use crate::explain;
 use crate::outcome::Outcome;
 use crate::quiet::QuietGroups;
 use crate::quiet_moves::QuietMoves;
 use crate::stages::cache_sources;
 use crate::state::{Group, Store, views};
+use crate::verdict::Verdict;
 use amr_config::Config;
 use amr_events::actions::Event;
 use amr_labels::Labels;

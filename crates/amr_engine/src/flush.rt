@@ -11,11 +11,12 @@ ghost use Rattle.amr_time.specs.Time.{latest_read};
 ghost use Rattle.amr_rules.specs.Alerts.{is_resolved_at};
 ghost use Rattle.amr_engine.specs.State.State as state;
 ghost use Rattle.amr_engine.specs.State.Kept.{GrownBy, before_open_record};
-ghost use Rattle.amr_engine.specs.Flush.{let_through, firing_of, resolved_of, labels_of, log_key_of, notified_firing, notified_resolved, notifications_of, notify_all, set_timer, drop_member, drop_resolved, run_pipeline, flush};
+ghost use Rattle.amr_engine.specs.Flush.{let_through, firing_of, resolved_of, labels_of, notified_firing, notified_resolved, notifications_of, notify_all, set_timer, drop_member, drop_resolved, run_pipeline, flush};
 ghost use Rattle.amr_engine.specs.Quiet.{with_timer_reset, IsStill};
 ghost use Rattle.amr_engine.specs.Remembered.{IsTrueOf};
 ghost use Rattle.amr_engine.specs.Weight.{turns, flush_weight};
 
+use crate::log_key::log_key;
 use crate::quiet::QuietGroups;
 use crate::quiet_until::{all_notified_until, quiet_until, still_until};
 use crate::stages::let_through;
@@ -23,7 +24,6 @@ use crate::state::{
     Change, FiringAlert, GroupTimer, LogKey, Member, Membership, Notification, ResolvedAlert,
     RouteLabels, Store,
 };
-use amr_config::Config;
 use amr_config::stated::Integration;
 use amr_labels::{LabelMap, Labels, Listing};
 use amr_rules::{LogEntry, labels_of};
@@ -386,24 +386,6 @@ fn notify(
         append(store, notification)?;
     }
     Ok(())
-}
-
-/// Returns the notification log's key for a group and an integration of its receiver.
-pub(crate) fn log_key(
-    alloc: Global,
-    config: &Config,
-    group: &RouteLabels,
-    integration: &Integration,
-) -> Result<LogKey, AllocError>
-    ensures { IfOk result (λ key. key ≡ log_key_of config.now group.now integration.now) }
-{
-    Ok(LogKey {
-        receiver: config.receiver_name(alloc, group.route)?,
-        kind: integration.kind.clone()?,
-        place: integration.place,
-        group: group.labels.clone()?,
-        path: config.path(alloc, group.route)?,
-    })
 }
 
 /// Returns the log entry for a notification about these members.

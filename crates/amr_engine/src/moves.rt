@@ -13,12 +13,9 @@ use crate::flush::{flush, reset_timer};
 use crate::quiet::QuietGroups;
 use crate::quiet_moves::QuietMoves;
 use crate::state::{Change, Due, Store, Timer};
-use crate::too_many::are_too_many;
+use crate::too_many::{MOST_MOVES, are_too_many};
 use amr_time::Moment;
 use std::alloc::AllocError;
-
-/// The most moves that one event may make. It bounds the work of an event far in the future.
-pub(crate) const MOST_MOVES: usize = 1_000_000;
 
 /// Makes every move due at or before a moment, and returns how many there were. Returns `None` if
 /// there are more than `MOST_MOVES`, which it may find out before it makes so many; the caller then

@@ -8,7 +8,7 @@ ghost use Rattle.amr_engine.specs.State.State as state;
 ghost use Rattle.amr_engine.specs.Flush.{let_through, labels_of};
 ghost use Rattle.amr_engine.specs.Quiet.{is_outside, no_alert_ends, no_silence_turns, all_fire_until, is_untimed, is_notified, are_notified, IsStill, IsQuiet, IsAllNotified};
 
-use crate::flush::log_key;
+use crate::log_key::log_key;
 use crate::state::{Member, RouteLabels, Store};
 use amr_config::Config;
 use amr_config::stated::Integration;

@@ -5,8 +5,8 @@ ghost use Rattle.amr_rules.specs.Muting.{inhibition_from};
 ghost use Rattle.amr_engine.specs.Flush.{let_through};
 ghost use Rattle.amr_engine.specs.Stages.{taken_away};
 
-use crate::explain::Finding;
 use crate::state::{Member, Store};
+use crate::verdict::Finding;
 use amr_labels::Labels;
 use amr_rules::inhibited_by;
 use amr_time::Moment;

@@ -9,11 +9,13 @@ ghost use Rattle.amr_engine.specs.Moves.{advance};
 ghost use Rattle.amr_engine.specs.Quiet.{all_fire_until};
 ghost use Rattle.amr_engine.specs.Lasting.{IsFlushedBeyond};
 
-use crate::moves::MOST_MOVES;
 use crate::quiet_until::first_end;
 use crate::state::{Member, RouteLabels, Store};
 use amr_time::Moment;
 use std::alloc::AllocError;
+
+/// The most moves that one event may make. It bounds the work of an event far in the future.
+pub(crate) const MOST_MOVES: usize = 1_000_000;
 
 /// After how many moves of an event the groups are looked at. Few events make so many.
 const MOVES_BEFORE_LOOK: usize = 1_000;

@@ -6,9 +6,10 @@ ghost use Rattle.amr_events.specs.Drafts.{so_far, nothing, begins_with as begins
 
 use crate::actions::Event;
 use crate::error::{Fault, LineError, ScriptError};
+use crate::header::is_header;
 use crate::line::read_line;
 use crate::text_cache::TextCache;
-use crate::version::{Version, is_header};
+use crate::version::Version;
 use json::Scratch;
 use std::alloc::{AllocError, Global};
 

@@ -2,40 +2,9 @@
 ghost use Rattle.std.specs.Prelude.{◌≡◌, Some, None, refl};
 ghost use Rattle.std.proofs.Common.{ap};
 
-use crate::label_map::LabelMap;
-use crate::labels::Labels;
-use crate::listing::Listing;
-use crate::shared::Shared;
-use crate::text::Text;
-use crate::text_map::TextMap;
-
 /// A type whose clones are the same value.
 pub trait Exact: Clone {
     ghost exact: { (x y : Self) → Self.is_clone x y → y ≡ x };
-}
-
-impl Exact for Text {
-    ghost exact = { λ x y same. same };
-}
-
-impl<T: Exact + Drop> Exact for Listing<T> {
-    ghost exact = { λ x y same. same };
-}
-
-impl Exact for TextMap {
-    ghost exact = { λ x y same. same };
-}
-
-impl Exact for Labels {
-    ghost exact = { λ x y same. same };
-}
-
-impl<V: Exact + Drop> Exact for LabelMap<V> {
-    ghost exact = { λ x y same. same };
-}
-
-impl<T: Drop> Exact for Shared<T> {
-    ghost exact = { λ x y same. same };
 }
 
 impl<T: Exact> Exact for Option<T> {

@@ -90,3 +90,7 @@ impl<V: Exact + Drop> Clone for LabelMap<V> {
         })
     }
 }
+
+impl<V: Exact + Drop> Exact for LabelMap<V> {
+    ghost exact = { λ x y same. same };
+}

@@ -11,6 +11,7 @@ ghost use Rattle.amr_labels.specs.Labels.{text_cmp, value_of, label_set_cmp, lab
 ghost use Rattle.amr_labels.specs.Hashes.{label_set_hash};
 ghost use Rattle.amr_labels.specs.ObjectText.{plain_object};
 
+use crate::exact::Exact;
 use crate::keyed_texts::KeyedTexts;
 use crate::names::Names;
 use crate::shared::Shared;
@@ -147,6 +148,10 @@ impl Clone for Labels {
             shared: self.shared.clone()?,
         })
     }
+}
+
+impl Exact for Labels {
+    ghost exact = { λ x y same. same };
 }
 
 impl PartialEq for Labels {

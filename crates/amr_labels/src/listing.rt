@@ -79,3 +79,7 @@ impl<T: Exact + Drop> Clone for Listing<T> {
         })
     }
 }
+
+impl<T: Exact + Drop> Exact for Listing<T> {
+    ghost exact = { λ x y same. same };
+}

@@ -2,6 +2,7 @@
 //! this; nobody can change the value.
 ghost use Rattle.std.specs.Prelude.{◌≡◌, IfOk};
 
+use crate::exact::Exact;
 use std::alloc::{AllocError, Global};
 use std::marker::Model;
 use std::rc::Rc;
@@ -44,4 +45,8 @@ impl<T: Drop> Clone for Shared<T> {
             held: self.held.clone()?,
         })
     }
+}
+
+impl<T: Drop> Exact for Shared<T> {
+    ghost exact = { λ x y same. same };
 }

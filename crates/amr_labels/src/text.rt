@@ -9,6 +9,7 @@ ghost use Rattle.std.specs.Cmp.Lexicographic.{slice_cmp};
 ghost use Rattle.amr_labels.specs.Labels.{is_empty};
 ghost use Rattle.amr_labels.specs.Hashes.{text_fnv_hash};
 
+use crate::exact::Exact;
 use std::alloc::{AllocError, Global};
 use std::cmp::Ordering;
 use std::fmt;
@@ -64,6 +65,10 @@ impl Clone for Text {
             shared: self.shared.clone()?,
         })
     }
+}
+
+impl Exact for Text {
+    ghost exact = { λ x y same. same };
 }
 
 impl PartialEq for Text {

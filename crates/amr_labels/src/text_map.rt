@@ -10,6 +10,7 @@ ghost use Rattle.std.specs.FinMap.{find, is_sorted};
 ghost use Rattle.amr_labels.specs.Map as map;
 ghost use Rattle.amr_labels.specs.Labels.{text_cmp, value_of, is_empty};
 
+use crate::exact::Exact;
 use crate::names::Names;
 use crate::text::Text;
 use std::alloc::{AllocError, Global};
@@ -276,4 +277,8 @@ impl Clone for TextMap {
             pairs: self.pairs.clone()?,
         })
     }
+}
+
+impl Exact for TextMap {
+    ghost exact = { λ x y same. same };
 }

@@ -4,33 +4,20 @@
 ghost use Rattle.std.specs.Prelude.{◌≡◌, [], IsTrue, Option, is_some, false, OnOk, OnErr, IfOk, ◌<◌, map};
 ghost use Rattle.std.specs.Map.Iter.{deref_pair};
 ghost use Rattle.std.specs.Option.{option_copied};
-ghost use Rattle.std.specs.FinMap.{IsAntisymmetric};
 ghost use Rattle.amr_labels.specs.Map as map;
 ghost use Rattle.amr_tables.specs.Places.{value_at, values_of};
 ghost use Rattle.amr_tables.specs.Numbered.{map_of, has_place, next_number, number_of, KeepsPlaces, GetsPlace, GetsNumber, IsValueOf, IsNumber, IsMarkOf, IsSetAt, EntersAt, SamePlaces, SameEntered, NoneEntered, IsNumbering, key_at};
 
+use crate::key::Key;
 use crate::marks::Marks;
 use crate::numbers::Numbers;
 use crate::ranking::Ranking;
 use crate::slots::Slots;
 use crate::table::Table;
 use crate::values::Values;
-use amr_labels::{Exact, Labels};
 use std::alloc::{AllocError, Global};
 use std::cmp::Ordering;
-use std::hash::Hash;
 use std::marker::Model;
-
-/// A type of keys. Keys that compare equal are the same value.
-pub trait Key: Ord + Hash + Exact {
-    ghost exact: { IsAntisymmetric Self.Ord.cmp };
-}
-
-impl Key for Labels {
-    ghost use Rattle.amr_labels.specs.Labels.{label_set_cmp-IsAntisymmetric};
-
-    ghost exact = { label_set_cmp-IsAntisymmetric };
-}
 
 /// A table of values by key. A key gets the next number, and its place, when it is first seen, and
 /// keeps both. Contracts see the numbers of the keys, in the order of the keys, and the value at

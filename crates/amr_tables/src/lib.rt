@@ -5,6 +5,7 @@
 mod earliest;
 mod grouped;
 mod journal;
+mod key;
 mod keyed;
 mod marks;
 mod numbers;
@@ -16,7 +17,8 @@ mod values;
 pub use earliest::Earliest;
 pub use grouped::Grouped;
 pub use journal::Journal;
-pub use keyed::{Key, Keyed};
+pub use key::Key;
+pub use keyed::Keyed;
 pub use marks::Marks;
 pub use ranking::Ranking;
 pub use slots::Slots;

@@ -5,7 +5,7 @@ ghost use Rattle.std.specs.FinMap.{find, put};
 ghost use Rattle.std.specs.Option.{option_copied};
 ghost use Rattle.amr_tables.specs.Numbered.{numbered_key, key_with};
 
-use crate::keyed::Key;
+use crate::key::Key;
 use indexmap::IndexSet;
 use std::alloc::{AllocError, Global};
 use std::marker::Model;

@@ -6,7 +6,7 @@ ghost use Rattle.amr_config.specs.Routing.{chosen_routes};
 ghost use Rattle.amr_config.specs.Groups.{group_at};
 ghost use Rattle.amr_labels.specs.Map as map;
 ghost use Rattle.amr_time.specs.Time.{latest_read};
-ghost use Rattle.amr_engine.specs.State.State.{on_route, group_key, timer_with, place_on, place};
+ghost use Rattle.amr_engine.specs.State.State.{timer_with, place_on, place};
 ghost use Rattle.amr_engine.specs.State.Kept.{GrownBy, before_open_record};
 
 use crate::state::change::Change;
@@ -14,11 +14,11 @@ use crate::state::membership::Membership;
 use crate::state::notification::GroupTimer;
 use crate::state::route_labels::RouteLabels;
 use crate::state::store::Store;
-use amr_config::{Config, RouteGroup};
+use amr_config::RouteGroup;
 use amr_labels::Labels;
 use amr_rules::Alert;
 use amr_time::{Moment, Span};
-use std::alloc::{AllocError, Global};
+use std::alloc::AllocError;
 
 /// Inserts an alert into its group on each route that takes it.
 pub fn place(store: &mut Store, labels: &Labels, alert: &Alert) -> Result<(), AllocError>
@@ -92,19 +92,6 @@ fn place_on(
     let member = Membership::new(&group, labels)?;
     store.change(Change::OfMember(member, Some(alert.clone()?)))?;
     change_timer(store, group, before, after)
-}
-
-/// Returns the group of an alert on a route.
-pub fn group_key(
-    alloc: Global,
-    config: &Config,
-    route: usize,
-    labels: &Labels,
-) -> Result<RouteLabels, AllocError>
-    ensures { IfOk result (λ group. group ≡ group_key config.now (on_route route labels.now)) }
-{
-    let labels = config.group_of(alloc, route, labels)?;
-    Ok(RouteLabels { route, labels })
 }
 
 /// Returns the group timer after an alert is inserted. A new group is flushed first after

@@ -13,8 +13,8 @@ use Rattle.amr_events.specs.Actions.Events.{Event}
 use Rattle.amr_engine.specs.State.State.{start}
 use Rattle.amr_engine.specs.Events.{Outcome, outcome_of, run_of, replaying}
 use Rattle.amr_replay.specs.Session.{outcomes_passed}
-use Rattle.amr_engine.specs.declared.explain.Finding.TheVariants as finding
-use Rattle.amr_engine.specs.declared.explain.Verdict.TheVariants as verdict
+use Rattle.amr_engine.specs.declared.verdict.Finding.TheVariants as finding
+use Rattle.amr_engine.specs.declared.verdict.Verdict.TheVariants as verdict
 use Rattle.amr_engine.specs.Explain.{verdicts}
 use Rattle.amr_replay.proofs.worked.Setting.{ten, config_ops, alert, posts, ticks}
 

@@ -12,8 +12,8 @@ use Rattle.amr_events.specs.Actions.Events.{Event, Act}
 use Rattle.amr_engine.specs.declared.state.notification.GroupTimer.{GroupTimer}
 use Rattle.amr_engine.specs.declared.state.route_labels.RouteLabels.{RouteLabels}
 use Rattle.amr_engine.specs.Events.{run_of, replaying}
-use Rattle.amr_engine.specs.declared.explain.Finding.TheVariants as finding
-use Rattle.amr_engine.specs.declared.explain.Verdict.TheVariants as verdict
+use Rattle.amr_engine.specs.declared.verdict.Finding.TheVariants as finding
+use Rattle.amr_engine.specs.declared.verdict.Verdict.TheVariants as verdict
 use Rattle.amr_engine.specs.Explain.{verdicts}
 use Rattle.amr_replay.proofs.worked.Setting.{ten, root, config_ops, alert, posts, ticks}
 

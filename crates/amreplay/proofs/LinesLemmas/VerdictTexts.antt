@@ -5,9 +5,9 @@ use Rattle.serde_json.proofs.OnLiterals.{serde_json_on_literals}
 use Rattle.serde_json.specs.Data.{Data, string, object}
 use Rattle.serde_json.specs.Written.{compact_text}
 use Rattle.amr_labels.specs.Labels.{Text}
-use Rattle.amr_engine.specs.declared.explain.Finding.{Finding}
-use Rattle.amr_engine.specs.declared.explain.Finding.TheVariants.{Waiting, Inhibited, OutsideActive, TimeMuted, Silenced, Nowhere, Told, Due}
-use Rattle.amr_engine.specs.declared.explain.Verdict.TheVariants.{AtRoute}
+use Rattle.amr_engine.specs.declared.verdict.Finding.{Finding}
+use Rattle.amr_engine.specs.declared.verdict.Finding.TheVariants.{Waiting, Inhibited, OutsideActive, TimeMuted, Silenced, Nowhere, Told, Due}
+use Rattle.amr_engine.specs.declared.verdict.Verdict.TheVariants.{AtRoute}
 use Rattle.amreplay.specs.Lines.Printed.{object_of, number_data, labels_data}
 use Rattle.amreplay.specs.Lines.Verdicts.{finding_name, integration_members, members_before, members_after, with_commas, verdict_data}
 

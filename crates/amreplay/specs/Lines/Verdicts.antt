@@ -6,10 +6,10 @@ use Rattle.json.specs.Print.{quoted}
 use Rattle.serde_json.specs.Data.{Data, string, object}
 use Rattle.serde_json.specs.Written.{compact_text}
 use Rattle.amr_labels.specs.Labels.{Text, text_cmp}
-use Rattle.amr_engine.specs.declared.explain.Finding.{Finding}
-use Rattle.amr_engine.specs.declared.explain.Finding.TheVariants.{Waiting, Inhibited, OutsideActive, TimeMuted, Silenced, Nowhere, Told, Due}
-use Rattle.amr_engine.specs.declared.explain.Verdict.{Verdict}
-use Rattle.amr_engine.specs.declared.explain.Verdict.TheVariants.{Unknown, Ended, AtRoute}
+use Rattle.amr_engine.specs.declared.verdict.Finding.{Finding}
+use Rattle.amr_engine.specs.declared.verdict.Finding.TheVariants.{Waiting, Inhibited, OutsideActive, TimeMuted, Silenced, Nowhere, Told, Due}
+use Rattle.amr_engine.specs.declared.verdict.Verdict.{Verdict}
+use Rattle.amr_engine.specs.declared.verdict.Verdict.TheVariants.{Unknown, Ended, AtRoute}
 use Rattle.amr_events.specs.Posts.Ids.{id_text}
 use Rattle.amreplay.specs.Lines.Printed.{object_of, number_data, moment_data, labels_data, data_line}
 

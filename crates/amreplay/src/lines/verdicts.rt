@@ -6,7 +6,7 @@
 ghost use Rattle.std.specs.Prelude.{◌≡◌, ◌++◌, codes, IfOk, OnOk, string_bytes};
 ghost use Rattle.std.specs.List.{flat_map};
 ghost use Rattle.serde_json.specs.Written.{compact_text};
-ghost use Rattle.amr_engine.specs.declared.explain.Verdict.TheVariants.{AtRoute};
+ghost use Rattle.amr_engine.specs.declared.verdict.Verdict.TheVariants.{AtRoute};
 ghost use Rattle.amreplay.specs.Lines.Verdicts.{finding_name as name_of_finding, integration_members, members_before, members_after, with_commas, verdict_data, verdict_line};
 
 use crate::lines::json_text::{ToJson, lines_text, push};

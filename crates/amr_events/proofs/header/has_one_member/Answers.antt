@@ -7,7 +7,7 @@ use Rattle.serde_json.specs.View.{members_view}
 use Rattle.serde_json.specs.Find.{as_object}
 use Rattle.serde_json.specs.declared.value.Value.{Value}
 use Rattle.amr_events.specs.Versions.{member_count, has_one_member}
-use Rattle.amr_events.proofs.version.has_one_member.Goals as goal
+use Rattle.amr_events.proofs.header.has_one_member.Goals as goal
 
 counted : (es : List (String Global × Value)) → member_count (members_view es) ≡ length es
 counted [] = refl
