@@ -3,7 +3,7 @@
 ghost use Rattle.std.specs.Prelude.{◌≡◌};
 ghost use Rattle.amr_events.specs.Faults.{name_of_fault};
 
-use amr_time::BadTime;
+use amr_time::TimeError;
 use std::alloc::{AllocError, AllocFailed};
 use thiserror::Error;
 
@@ -94,13 +94,13 @@ impl<T: Drop> From<AllocFailed<T>> for LineError {
     }
 }
 
-impl From<BadTime> for LineError {
+impl From<TimeError> for LineError {
     ghost use Rattle.std.specs.Prelude.{◌≡◌};
     ghost use Rattle.amr_events.specs.declared.error.LineError.TheVariants.{Faulty};
 
     ghost from_gives = { λ _ e. e ≡ Faulty };
 
-    fn from(_error: BadTime) -> LineError {
+    fn from(_error: TimeError) -> LineError {
         LineError::Faulty
     }
 }

@@ -1,8 +1,9 @@
 //! Reading posted alerts from a line of a script. Only the shape is checked; whether an alert is
 //! valid is decided when it is posted.
-ghost use Rattle.std.specs.Prelude.{◌≡◌, option_map, IfOk};
+ghost use Rattle.std.specs.Prelude.{◌≡◌, option_map, IfOk, IfErr};
 ghost use Rattle.std.specs.Result.{result_ok};
 ghost use Rattle.serde_json.specs.View.{view};
+ghost use Rattle.amr_time.specs.declared.error.TimeError.TheVariants.{BadTime};
 ghost use Rattle.amr_events.specs.Answers.{Reads};
 ghost use Rattle.amr_events.specs.Tokens.{lent_texts};
 ghost use Rattle.amr_events.specs.Posted.{is_missing as is_missing_text, time_of, time_in, annotations_in, alert_of, alerts_of};
@@ -12,7 +13,7 @@ use crate::posts::PostedAlert;
 use crate::shapes::{member, texts};
 use crate::text_cache::TextCache;
 use amr_labels::{Listing, Text, TextMap};
-use amr_time::{BadTime, Moment, read_moment};
+use amr_time::{Moment, TimeError, read_moment};
 use serde_json::Value;
 use std::alloc::{AllocError, Global};
 
@@ -91,19 +92,21 @@ fn lent<'a>(alloc: Global, texts: &'a [(Text, Text)]) -> Result<Vec<(&'a str, &'
 
 /// Reads the time under a key, if the alert has one.
 #[tactic(auto, unfolding(crate::specs::Posted::time_in))]
-fn time(alert: &Value, key: &str) -> Result<Option<Moment>, BadTime>
-    ensures { result_ok result ≡ time_in key.now (view alert.now) }
+fn time(alert: &Value, key: &str) -> Result<Option<Moment>, TimeError>
+    ensures value { result_ok result ≡ time_in key.now (view alert.now) }
+    ensures refused { IfErr result (λ error. error ≡ BadTime) }
 {
     match member(alert, key) {
-        Some(value) => time_of(value.as_str().ok_or(BadTime)?),
+        Some(value) => time_of(value.as_str().ok_or(TimeError::BadTime)?),
         None => Ok(None),
     }
 }
 
 /// Reads a time, which may be missing.
 #[tactic(auto, unfolding(crate::specs::Posted::time_of))]
-pub(crate) fn time_of(text: &str) -> Result<Option<Moment>, BadTime>
-    ensures { result_ok result ≡ time_of text.now }
+pub(crate) fn time_of(text: &str) -> Result<Option<Moment>, TimeError>
+    ensures value { result_ok result ≡ time_of text.now }
+    ensures refused { IfErr result (λ error. error ≡ BadTime) }
 {
     if is_missing(text) {
         return Ok(None);

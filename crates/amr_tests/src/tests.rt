@@ -2,7 +2,7 @@
 //! pattern, texts of errors, the last moment, copies, and label sets of names that aren't in order.
 use amr_labels::matcher::{MatcherError, Matchers, ParseError};
 use amr_labels::{Labels, Text};
-use amr_time::{BadDuration, BadTime, Moment, Span, next_multiple, write_moment};
+use amr_time::{Moment, Span, TimeError, next_multiple, write_moment};
 use std::alloc::{AllocError, Global};
 use std::test::Fail;
 
@@ -66,9 +66,9 @@ fn a_pattern_that_is_not_read_is_refused(rt: HostRuntime) -> Result<(), Fail> {
 #[test]
 fn errors_say_what_is_wrong(rt: HostRuntime) -> Result<(), Fail> {
     let alloc = rt.alloc();
-    let bad_time = format!(in alloc; "{}", BadTime)?;
+    let bad_time = format!(in alloc; "{}", TimeError::BadTime)?;
     assert_eq!(rt; bad_time.as_str(), "the text isn't a moment of RFC 3339");
-    let bad_duration = format!(in alloc; "{}", BadDuration)?;
+    let bad_duration = format!(in alloc; "{}", TimeError::BadDuration)?;
     assert_eq!(rt; bad_duration.as_str(), "the text isn't a duration");
     let bad_pattern = format!(in alloc; "{}", MatcherError::BadPattern)?;
     assert_eq!(rt; bad_pattern.as_str(), "the pattern is refused");

@@ -1,32 +1,29 @@
 //! Reading moments from RFC 3339, from left to right. Each part is read from the front of the
 //! bytes, and returned with the bytes after it.
-ghost use Rattle.std.specs.Prelude.{◌≡◌, ◌<◌, ◌≤◌, ◌^◌, pos, ◌+◌, ◌*◌, ◌+ℤ◌, ◌-ℤ◌, ◌*ℤ◌, option_map, IfSome, IfOk};
+ghost use Rattle.std.specs.Prelude.{◌≡◌, ◌<◌, ◌≤◌, ◌^◌, pos, ◌+◌, ◌*◌, ◌+ℤ◌, ◌-ℤ◌, ◌*ℤ◌, option_map, IfSome, IfOk, IfErr};
 ghost use Rattle.std.specs.Result.{result_ok};
 ghost use Rattle.jiff_core.specs.Calendar.{IsEpochDay, IsWithin};
+ghost use Rattle.amr_time.specs.declared.error.TimeError.TheVariants.{BadTime};
 ghost use Rattle.amr_time.specs.Time.{latest_read};
 ghost use Rattle.amr_time.specs.MomentText.{IsMomentText};
 ghost use Rattle.amr_time.specs.MomentRead.{mark_at, two_at, four_at, day_at, in_day_at, minutes_at, seconds_at, fraction_digits_at, fraction_at, offset_at, time_mark_at, in_range, moment_at};
 
 use crate::digits::{capped, digit_count, is_digit};
+use crate::error::TimeError;
 use crate::moments::Moment;
 use jiff_core::civil::Date;
-use thiserror::Error;
-
-/// The text isn't a moment.
-#[derive(Clone, Copy, Debug, PartialEq, Eq, Error)]
-#[error("the text isn't a moment of RFC 3339")]
-pub struct BadTime;
 
 /// Reads a moment: a date and a time of day as in RFC 3339, in the years 1970 to 8999, with at most
 /// nine digits of a fraction.
 ///
 /// `T` and `Z` may be in either case. The leap second 60 is refused.
-pub fn read_moment(text: &str) -> Result<Moment, BadTime>
+pub fn read_moment(text: &str) -> Result<Moment, TimeError>
     ensures value { result_ok result ≡ moment_at text.now }
     ensures spelled { IfOk result (λ moment. IsMomentText text.now moment) }
     ensures bound { IfOk result (λ m. m ≤ latest_read) }
+    ensures refused { IfErr result (λ error. error ≡ BadTime) }
 {
-    moment(text.as_bytes()).ok_or(BadTime)
+    moment(text.as_bytes()).ok_or(TimeError::BadTime)
 }
 
 /// Reads a moment from the whole text.

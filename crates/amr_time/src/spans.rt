@@ -1,14 +1,15 @@
 //! Durations, in nanoseconds, and reading them as Alertmanager's configuration writes them.
-ghost use Rattle.std.specs.Prelude.{◌≡◌, ◌+◌, ◌*◌, ◌≤◌, All, IfOk, min, map, length};
+ghost use Rattle.std.specs.Prelude.{◌≡◌, ◌+◌, ◌*◌, ◌≤◌, All, IfOk, IfErr, min, map, length};
 ghost use Rattle.std.specs.Result.{result_ok};
+ghost use Rattle.amr_time.specs.declared.error.TimeError.TheVariants.{BadDuration};
 ghost use Rattle.amr_time.specs.Time.{longest_span, second, minute, hour};
 ghost use Rattle.amr_time.specs.MomentText.{decimal};
 ghost use Rattle.amr_time.specs.SpanText.{IsSpanText};
 ghost use Rattle.amr_time.specs.SpanRead.{word_of, parts_at, span_of, SameOrTooLong};
 
 use crate::digits::{capped, digit_count, is_digit};
+use crate::error::TimeError;
 use std::marker::Model;
-use thiserror::Error;
 
 /// A duration in whole nanoseconds, at most ten years of 365 days.
 #[derive(Clone, Copy, PartialEq, Eq, PartialOrd, Ord)]
@@ -82,15 +83,16 @@ impl Span {
     /// `y` (365 days), `w`, `d`, `h`, `m`, `s` and `ms`, each at most once and in this order, as in
     /// `1h30m`. Fails if it is longer than ten years.
     #[tactic(auto, using(crate::proofs::Durations::same_some, crate::proofs::Durations::too_long, crate::proofs::Durations::same_none), unfolding(crate::specs::SpanRead::span_of))]
-    pub fn read(text: &str) -> Result<Span, BadDuration>
+    pub fn read(text: &str) -> Result<Span, TimeError>
         ensures value { result_ok result ≡ span_of text.now }
         ensures spelled { IfOk result (λ span. IsSpanText text.now span) }
+        ensures refused { IfErr result (λ error. error ≡ BadDuration) }
     {
         if text == "0" {
             return Ok(Span::ZERO);
         }
         if text.is_empty() {
-            return Err(BadDuration);
+            return Err(TimeError::BadDuration);
         }
         let total = parts(&UNITS, text.as_bytes());
         match total {
@@ -98,18 +100,13 @@ impl Span {
                 if nanoseconds < TOO_LONG {
                     Ok(Span::from_nanoseconds(nanoseconds))
                 } else {
-                    Err(BadDuration)
+                    Err(TimeError::BadDuration)
                 }
             }
-            None => Err(BadDuration),
+            None => Err(TimeError::BadDuration),
         }
     }
 }
-
-/// The text isn't a duration.
-#[derive(Clone, Copy, Debug, PartialEq, Eq, Error)]
-#[error("the text isn't a duration")]
-pub struct BadDuration;
 
 /// A unit of duration: its letters, and its length in nanoseconds.
 #[derive(Clone, Copy)]
