@@ -1,12 +1,11 @@
 //! Reading posted silences from a line of a script. The shape is checked first, and patterns are
 //! built last, each once.
-ghost use Rattle.std.specs.Prelude.{◌≡◌, codes, option_map, IfOk, IsErrOf, Any};
+ghost use Rattle.std.specs.Prelude.{◌≡◌, codes, option_map, IfOk, IfErr, Any};
 ghost use Rattle.std.specs.List.{list_any};
 ghost use Rattle.serde_json.specs.View.{view};
 ghost use Rattle.serde_json.specs.Find.{get};
 ghost use Rattle.amr_labels.specs.Labels.{is_empty};
-ghost use Rattle.amr_labels.specs.Matcher.MatcherRefusals.{MayBeRefused};
-ghost use Rattle.amr_labels.specs.declared.matcher.pattern.MatcherError.TheVariants.{BadPattern};
+ghost use Rattle.amr_labels.specs.Matcher.MatcherRefusals.{MayBeRefused, RefusedOnlyIf};
 ghost use Rattle.amr_config.specs.Read.Members.{unless_null};
 ghost use Rattle.amr_events.specs.Answers.{Reads, ReadsBut};
 ghost use Rattle.amr_events.specs.PostedSilences.{operator_by, matcher_of, matchers_of, if_named, id_at, named_id as named_id_of, named_id_at, named_id_in, new_id_in, silence_of};
@@ -85,7 +84,7 @@ impl StatedMatcher {
     /// Builds the pattern.
     fn build(&self, patterns: &mut Patterns) -> Result<Matcher, MatcherError>
         ensures made { IfOk result (λ matcher. matcher ≡ self.now) }
-        ensures refused { IsErrOf result BadPattern → MayBeRefused self.now }
+        ensures refused { IfErr result (RefusedOnlyIf (MayBeRefused self.now)) }
     {
         Matcher::new(
             patterns,
@@ -130,8 +129,8 @@ fn built_matchers(
     }
     match build(alloc, patterns, stated) {
         Ok(matchers) => Ok(Some(matchers)),
-        Err(MatcherError::BadPattern) => Ok(None),
         Err(MatcherError::Memory) => Err(AllocError),
+        Err(_) => Ok(None),
     }
 }
 
@@ -149,7 +148,7 @@ fn build(
     stated: &[StatedMatcher],
 ) -> Result<Matchers, MatcherError>
     ensures made { IfOk result (λ matchers. matchers ≡ stated.now) }
-    ensures refused { IsErrOf result BadPattern → Any MayBeRefused stated.now }
+    ensures refused { IfErr result (RefusedOnlyIf (Any MayBeRefused stated.now)) }
 {
     let mut matchers = Vec::new(alloc);
     for matcher in stated {

@@ -9,3 +9,4 @@ pub mod MatcherKinds
 pub mod MatcherSpelled
 pub mod MatcherRead
 pub mod MatcherFaults
+pub mod RefusedMore

@@ -3,6 +3,7 @@
 
 mod candidates;
 mod comparison;
+mod error;
 pub mod laws;
 mod match_cache;
 mod matcher;
@@ -15,11 +16,11 @@ mod patterns;
 mod search;
 mod ungrouped;
 
+pub use error::MatcherError;
 pub use match_cache::MatchCache;
 pub use matcher::Matcher;
 pub use matchers::Matchers;
-pub use parse::ParseError;
-pub use pattern::{MatcherError, Pattern};
+pub use pattern::Pattern;
 pub use patterns::Patterns;
 
 /// How a matcher compares a label's value with its own.

@@ -1,6 +1,6 @@
 //! Tests of what no command of the program shows: places of faulty matcher texts, a refused
 //! pattern, texts of errors, the last moment, copies, and label sets of names that aren't in order.
-use amr_labels::matcher::{MatcherError, Matchers, ParseError};
+use amr_labels::matcher::{MatcherError, Matchers};
 use amr_labels::{Labels, Text};
 use amr_time::{Moment, Span, TimeError, next_multiple, write_moment};
 use std::alloc::{AllocError, Global};
@@ -39,8 +39,8 @@ const FAULTY: [(&str, usize); 26] = [
 
 fn place_of_fault(alloc: Global, text: &str) -> Result<Option<usize>, AllocError> {
     match Matchers::parse(alloc, text) {
-        Err(ParseError::BadMatcher { at }) => Ok(Some(at)),
-        Err(ParseError::Memory) => Err(AllocError),
+        Err(MatcherError::BadMatcher { at }) => Ok(Some(at)),
+        Err(MatcherError::Memory) => Err(AllocError),
         _ => Ok(None),
     }
 }
@@ -57,7 +57,7 @@ fn faulty_matcher_texts_are_refused_at_their_places(rt: HostRuntime) -> Result<(
 fn a_pattern_that_is_not_read_is_refused(rt: HostRuntime) -> Result<(), Fail> {
     let refused = matches!(
         Matchers::parse(rt.alloc(), "a=~\"(\""),
-        Err(ParseError::BadPattern)
+        Err(MatcherError::BadPattern)
     );
     assert!(rt; refused);
     Ok(())
@@ -71,8 +71,8 @@ fn errors_say_what_is_wrong(rt: HostRuntime) -> Result<(), Fail> {
     let bad_duration = format!(in alloc; "{}", TimeError::BadDuration)?;
     assert_eq!(rt; bad_duration.as_str(), "the text isn't a duration");
     let bad_pattern = format!(in alloc; "{}", MatcherError::BadPattern)?;
-    assert_eq!(rt; bad_pattern.as_str(), "the pattern is refused");
-    let bad_matcher = format!(in alloc; "{}", ParseError::BadMatcher { at: 3 })?;
+    assert_eq!(rt; bad_pattern.as_str(), "a pattern is refused");
+    let bad_matcher = format!(in alloc; "{}", MatcherError::BadMatcher { at: 3 })?;
     assert_eq!(rt;
         bad_matcher.as_str(),
         "no list of matchers continues at byte 3 as the text does"

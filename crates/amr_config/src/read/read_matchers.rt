@@ -12,7 +12,7 @@ use crate::read::error::ConfigError;
 use crate::read::members::{items, member, text};
 use crate::read::place::Place;
 use amr_labels::Text;
-use amr_labels::matcher::{Matcher, MatcherError, Matchers, Operator, ParseError, Patterns};
+use amr_labels::matcher::{Matcher, MatcherError, Matchers, Operator, Patterns};
 use serde_json::Value;
 use std::alloc::{AllocError, Global};
 
@@ -133,9 +133,9 @@ fn spelled(
 {
     match built.matchers_of(alloc, text) {
         Ok(matchers) => Ok(matchers),
-        Err(ParseError::Memory) => Err(ConfigError::Memory),
-        Err(ParseError::BadMatcher { at: _ }) => Err(place.faulty(alloc)),
-        Err(ParseError::BadPattern) => Err(place.faulty(alloc)),
+        Err(MatcherError::Memory) => Err(ConfigError::Memory),
+        Err(MatcherError::BadMatcher { at: _ }) => Err(place.faulty(alloc)),
+        Err(MatcherError::BadPattern) => Err(place.faulty(alloc)),
     }
 }
 
@@ -259,6 +259,6 @@ fn matcher(
     match Matcher::new(built, name, operator, value) {
         Ok(matcher) => Ok(matcher),
         Err(MatcherError::Memory) => Err(ConfigError::Memory),
-        Err(MatcherError::BadPattern) => Err(place.faulty(alloc)),
+        Err(_) => Err(place.faulty(alloc)),
     }
 }

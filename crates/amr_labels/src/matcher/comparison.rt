@@ -1,14 +1,15 @@
 //! How a matcher compares the value of a label with its own value. `matcher.rt` uses it.
-ghost use Rattle.std.specs.Prelude.{◌≡◌, length, IfOk, IsErrOf, IsOk, OnOk, false, true};
+ghost use Rattle.std.specs.Prelude.{◌≡◌, length, IfOk, IfErr, IsOk, OnOk, false, true};
 ghost use Rattle.amr_labels.specs.Matcher.Matchers.{compares, takes_pattern};
 ghost use Rattle.amr_labels.specs.Matcher.Candidates.{kept_where, equal_or_not};
 ghost use Rattle.amr_labels.specs.Matcher.Comparisons.{operator_of, own_value};
 ghost use Rattle.amr_labels.specs.Matcher.Patterns.{MayRefuse};
-ghost use Rattle.amr_labels.specs.declared.matcher.pattern.MatcherError.TheVariants.{BadPattern};
+ghost use Rattle.amr_labels.specs.Matcher.MatcherRefusals.{RefusedOnlyIf};
 
 use crate::matcher::Operator;
+use crate::matcher::error::MatcherError;
 use crate::matcher::match_cache::MatchCache;
-use crate::matcher::pattern::{MatcherError, Pattern};
+use crate::matcher::pattern::Pattern;
 use crate::matcher::patterns::Patterns;
 use crate::{Labels, Shared, Text};
 use std::alloc::{AllocError, Global};
@@ -32,8 +33,8 @@ impl Comparison {
     ) -> Result<Comparison, MatcherError>
         ensures operator { IfOk result (λ comparison. operator_of comparison ≡ operator) }
         ensures own { IfOk result (λ comparison. own_value comparison ≡ own) }
-        ensures refused { IsErrOf result BadPattern → (takes_pattern operator ≡ true)
-            × MayRefuse own }
+        ensures refused { IfErr result
+            (RefusedOnlyIf ((takes_pattern operator ≡ true) × MayRefuse own)) }
     {
         match operator {
             Operator::Equal => Ok(Comparison::Is(own)),

@@ -1,6 +1,6 @@
 //! Matchers: whether one matches a label set, and their order, which is by name, value and
 //! operator.
-ghost use Rattle.std.specs.Prelude.{◌≡◌, length, IfOk, IsErrOf, IsOk, OnOk, false, true};
+ghost use Rattle.std.specs.Prelude.{◌≡◌, length, IfOk, IfErr, IsOk, OnOk, false, true};
 ghost use Rattle.std.proofs.Common.{rules};
 ghost use Rattle.std.specs.Cmp.{partial_order_from_own_ties};
 ghost use Rattle.std.specs.Cmp.Rules.{comparing};
@@ -8,12 +8,12 @@ ghost use Rattle.std.specs.Ordering.{as_partial_cmp, eq_by_cmp};
 ghost use Rattle.amr_labels.specs.Matcher.Candidates.{kept_by};
 ghost use Rattle.amr_labels.specs.Matcher.Matchers.{holds, takes_pattern, operator_place, matcher_cmp, matcher_cmp_total};
 ghost use Rattle.amr_labels.specs.Matcher.Patterns.{MayRefuse};
-ghost use Rattle.amr_labels.specs.declared.matcher.pattern.MatcherError.TheVariants.{BadPattern};
+ghost use Rattle.amr_labels.specs.Matcher.MatcherRefusals.{RefusedOnlyIf};
 
 use crate::matcher::Operator;
 use crate::matcher::comparison::Comparison;
+use crate::matcher::error::MatcherError;
 use crate::matcher::match_cache::MatchCache;
-use crate::matcher::pattern::MatcherError;
 use crate::matcher::patterns::Patterns;
 use crate::{Exact, Labels, Text};
 use std::alloc::{AllocError, Global};
@@ -50,8 +50,8 @@ impl Matcher {
     ) -> Result<Matcher, MatcherError>
         ensures made { IfOk result (λ matcher. matcher
             ≡ record { name = name; operator = operator; value = value }) }
-        ensures refused { IsErrOf result BadPattern → (takes_pattern operator ≡ true)
-            × MayRefuse value }
+        ensures refused { IfErr result
+            (RefusedOnlyIf ((takes_pattern operator ≡ true) × MayRefuse value)) }
     {
         let comparison = Comparison::new(patterns, operator, value)?;
         Ok(Matcher { name, comparison })

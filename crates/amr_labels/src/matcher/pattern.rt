@@ -1,49 +1,17 @@
 //! Patterns that have to match a whole value. `regex` builds and runs them; a pattern that it
 //! refuses makes no matcher.
-ghost use Rattle.std.specs.Prelude.{◌≡◌, ◌≤◌, ◌^◌, length, IfOk, IfSome, IfNone, IsErrOf, OnOk};
+ghost use Rattle.std.specs.Prelude.{◌≡◌, ◌≤◌, ◌^◌, length, IfOk, IfErr, IfSome, IfNone, OnOk};
 ghost use Rattle.amr_labels.specs.Matcher.Candidates.{kept_where, found_or_not};
 ghost use Rattle.amr_labels.specs.Matcher.Patterns.{pattern_matches, MayRefuse};
 ghost use Rattle.amr_labels.specs.Matcher.Searches.{IsFoundAs, search_pattern};
-ghost use Rattle.amr_labels.specs.declared.matcher.pattern.MatcherError.TheVariants.{BadPattern};
+ghost use Rattle.amr_labels.specs.Matcher.MatcherRefusals.{RefusedOnlyIf};
 
+use crate::matcher::error::MatcherError;
 use crate::matcher::search::{Built, Search};
 use crate::{Labels, Text, fnv_hash};
 use regex::RegexBuilder;
-use std::alloc::{AllocError, AllocFailed, Global};
+use std::alloc::{AllocError, Global};
 use std::marker::Model;
-use thiserror::Error;
-
-/// Why a matcher wasn't made.
-#[derive(Debug, Drop, Error)]
-pub enum MatcherError {
-    #[error("out of memory")]
-    Memory,
-    /// `regex` refuses the value as a pattern.
-    #[error("the pattern is refused")]
-    BadPattern,
-}
-
-impl From<AllocError> for MatcherError {
-    ghost use Rattle.std.specs.Prelude.{◌≡◌};
-    ghost use Rattle.amr_labels.specs.declared.matcher.pattern.MatcherError.TheVariants.{Memory};
-
-    ghost from_gives = { λ _ e. e ≡ Memory };
-
-    fn from(_error: AllocError) -> MatcherError {
-        MatcherError::Memory
-    }
-}
-
-impl<T: Drop> From<AllocFailed<T>> for MatcherError {
-    ghost use Rattle.std.specs.Prelude.{◌≡◌};
-    ghost use Rattle.amr_labels.specs.declared.matcher.pattern.MatcherError.TheVariants.{Memory};
-
-    ghost from_gives = { λ _ e. e ≡ Memory };
-
-    fn from(_error: AllocFailed<T>) -> MatcherError {
-        MatcherError::Memory
-    }
-}
 
 /// A pattern that was built. Contracts see its text.
 #[derive(Drop)]
@@ -76,7 +44,7 @@ impl Pattern {
         requires { most ≤ 2 ^ 34 }
         ensures read { IfOk result (λ built. IfSome built (λ pattern. pattern ≡ text.now)) }
         ensures large { IfOk result (λ built. IfNone built (MayRefuse text.now)) }
-        ensures refused { IsErrOf result BadPattern → MayRefuse text.now }
+        ensures refused { IfErr result (RefusedOnlyIf (MayRefuse text.now)) }
     {
         let bare = text.as_str();
         let anchored = format!(in alloc; "^(?:{bare})$")?;

@@ -5,11 +5,12 @@
 //! of a line of a script, share a room. Without it, a mebibyte of such patterns took half a minute
 //! and twelve gigabytes. The lines of a script share a larger one, since its patterns stay for as
 //! long as it does.
-ghost use Rattle.std.specs.Prelude.{◌≡◌, ◌≤◌, ◌^◌, IfOk, IsErrOf};
+ghost use Rattle.std.specs.Prelude.{◌≡◌, ◌≤◌, ◌^◌, IfOk, IfErr};
 ghost use Rattle.amr_labels.specs.Matcher.Patterns.{MayRefuse};
-ghost use Rattle.amr_labels.specs.declared.matcher.pattern.MatcherError.TheVariants.{BadPattern};
+ghost use Rattle.amr_labels.specs.Matcher.MatcherRefusals.{RefusedOnlyIf};
 
-use crate::matcher::pattern::{MatcherError, Pattern};
+use crate::matcher::error::MatcherError;
+use crate::matcher::pattern::Pattern;
 use crate::{Shared, Text};
 use std::alloc::Global;
 use std::collections::BTreeMap;
@@ -71,7 +72,7 @@ impl Patterns {
     /// Returns the pattern of a text. It builds one only if it has none yet.
     pub(crate) fn pattern(&mut self, text: Text) -> Result<Shared<Pattern>, MatcherError>
         ensures read { IfOk result (λ shared. shared ≡ text) }
-        ensures refused { IsErrOf result BadPattern → MayRefuse text }
+        ensures refused { IfErr result (RefusedOnlyIf (MayRefuse text)) }
     {
         if let Some(known) = self.built.get(&text) {
             return Ok(known.clone()?);
@@ -82,7 +83,7 @@ impl Patterns {
     /// Builds a pattern, and keeps it.
     fn build(&mut self, text: Text) -> Result<Shared<Pattern>, MatcherError>
         ensures read { IfOk result (λ shared. shared ≡ text) }
-        ensures refused { IsErrOf result BadPattern → MayRefuse text }
+        ensures refused { IfErr result (RefusedOnlyIf (MayRefuse text)) }
     {
         let pattern = self.build_in_room(&text)?;
         let shared = Shared::new(self.alloc, pattern)?;
@@ -95,7 +96,7 @@ impl Patterns {
     /// is.
     fn build_in_room(&mut self, text: &Text) -> Result<Pattern, MatcherError>
         ensures read { IfOk result (λ pattern. pattern ≡ text.now) }
-        ensures refused { IsErrOf result BadPattern → MayRefuse text.now }
+        ensures refused { IfErr result (RefusedOnlyIf (MayRefuse text.now)) }
     {
         let most = self.room.min(self.script_room).min(LARGEST);
         let limited = build_limited(self.alloc, text, most)?;
@@ -117,7 +118,7 @@ fn build_limited(alloc: Global, text: &Text, most: usize) -> Result<Limited, Mat
     requires { most ≤ 2 ^ 34 }
     ensures read { IfOk result (λ limited. limited.pattern ≡ text.now) }
     ensures limit { IfOk result (λ limited. limited.limit ≤ most) }
-    ensures refused { IsErrOf result BadPattern → MayRefuse text.now }
+    ensures refused { IfErr result (RefusedOnlyIf (MayRefuse text.now)) }
 {
     let mut limit = least_limit(text);
     for _smaller in 0..SMALLER_LIMITS {
