@@ -1,7 +1,7 @@
 //! A cursor over a script. Whatever steps, backs, seeks and trials came before, the session shows
 //! the run of the events before the cursor, from the start. Each event passed has a record, so that
 //! going back takes no memory.
-ghost use Rattle.std.specs.Prelude.{◌≡◌, ◌+◌, ◌-◌, ◌<◌, ◌≤◌, true, [], Some, Err, IsOk, IsErr, IsOkAnd, IfOk, IfErr, OnOk, OnErr, length, map, slice_get};
+ghost use Rattle.std.specs.Prelude.{◌≡◌, ◌+◌, ◌-◌, ◌<◌, ◌≤◌, true, [], Some, Err, IsOk, IsOkAnd, IfOk, IfErr, OnOk, OnErr, length, map, slice_get};
 ghost use Rattle.amr_events.specs.Actions.Events.{is_label};
 ghost use Rattle.amr_engine.specs.Events.{Refused, outcome_of};
 ghost use Rattle.amr_engine.specs.Outcomes.{outcome_view};
@@ -31,14 +31,11 @@ pub enum SessionError {
     Memory,
     #[error("the cursor is at the end of the script")]
     AtEnd,
+    #[error("the cursor is at the start of the script")]
+    AtStart,
     #[error("the script has fewer events")]
     OutOfRange,
 }
-
-/// The cursor is at the start of the script, so there is no event to undo.
-#[derive(Clone, Copy, Debug, PartialEq, Eq, Error)]
-#[error("the cursor is at the start of the script")]
-pub struct AtStart;
 
 impl From<AllocError> for SessionError {
     ghost use Rattle.std.specs.Prelude.{◌≡◌};
@@ -179,14 +176,15 @@ impl Session {
     }
 
     /// Undoes the last event. It takes no memory, so it only fails at the start.
-    pub fn back(&mut self) -> Result<(), AtStart>
-        ensures at_start { self.old.cursor ≡ 0 → IsErr result × (self.new ≡ self.old) }
+    pub fn back(&mut self) -> Result<(), SessionError>
+        ensures at_start { self.old.cursor ≡ 0 → (result ≡ Err SessionError.AtStart)
+            × (self.new ≡ self.old) }
         ensures back { 0 < self.old.cursor → IsOk result
             × (self.new
             ≡ at_cursor self.old.config self.old.version self.old.events (self.old.cursor - 1)) }
     {
         if self.cursor == 0 {
-            return Err(AtStart);
+            return Err(SessionError::AtStart);
         }
         self.unstep();
         Ok(())
