@@ -9,4 +9,4 @@ pub mod laws;
 mod navigation;
 mod queries;
 
-pub use conversation::{ConversationError, converse};
+pub use conversation::converse;

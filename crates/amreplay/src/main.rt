@@ -6,14 +6,13 @@ ghost use Rattle.std.specs.Prelude.{◌≡◌};
 
 mod command_lines;
 mod commands;
+mod fault;
 mod lines;
 mod program;
 
+use crate::fault::{Fault, status_of, write_fault};
 use crate::lines::{CheckedReader, CheckedWriter};
-use crate::program::{
-    Fault, Form, check_config, command_of, read_config_file, run_script, run_session, status_of,
-    write_fault,
-};
+use crate::program::{Form, check_config, command_of, read_config_file, run_script, run_session};
 use std::alloc::AllocError;
 use std::io::{BufWriter, ErrorKind};
 use std::process::ExitCode;

@@ -1,19 +1,13 @@
--- Which end has failed, one turn after another.
-use Rattle.std.proofs.Common.{◌≡◌, ℕ, Bool, Ok, Result, ◌∙◌}
-use Rattle.std.proofs.lemmas.Result.{MatchResult-at_ok}
-use Rattle.amreplay.specs.declared.commands.conversation.ConversationError.{ConversationError}
-use Rattle.amreplay.specs.declared.commands.conversation.ConversationError.TheVariants.{Reading, Writing}
-use Rattle.amreplay.specs.Commands.Converse.{EndsBy, BreaksBy}
+-- An end that fails in a turn didn't fail before it.
+use Rattle.std.proofs.Common.{◌≡◌, ℕ, Bool, Err, ◌∙◌}
+use Rattle.amreplay.specs.declared.fault.Fault.{Fault}
+use Rattle.amreplay.specs.declared.fault.Fault.TheVariants.{CannotReadCommands, CannotWrite}
+use Rattle.amreplay.specs.Ends.{EndsBy, ReadsBy}
 
--- neither end failed in the turn, nor before it
-pub ended_before : {T : Type 0} (r : Result T ConversationError) (turn : T) (first read read' : Bool) (calls : ℕ) (start write write' : Bool)
-    → r ≡ Ok turn → EndsBy r read read' calls write write' → read ≡ first → write ≡ start → (read' ≡ first) × (write' ≡ start)
-ended_before r turn first read read' calls start write write' e ended f s =
-    let kept = MatchResult-at_ok _ _ turn e ended in
-    (kept.0 ∙ f, kept.1 ∙ s)
+pub ReadsBy-before : {T U : Type 0} (fault : Fault) (first failed failed' : Bool) (calls : ℕ) → ReadsBy {T} (Err fault) failed failed' calls → failed ≡ first → ReadsBy {U} (Err fault) first failed' calls
+ReadsBy-before CannotReadCommands first failed failed' calls ended before = ended
+ReadsBy-before fault first failed failed' calls kept before = kept ∙ before
 
--- one end failed in the turn, and neither before it
-pub BreaksBy-before : (error : ConversationError) (first read read' : Bool) (calls : ℕ) (start write write' : Bool)
-    → BreaksBy error read read' calls write write' → read ≡ first → write ≡ start → BreaksBy error first read' calls start write'
-BreaksBy-before Reading first read read' calls start write write' (ended, kept) f s = (ended, kept ∙ s)
-BreaksBy-before Writing first read read' calls start write write' (kept, failed) f s = (kept ∙ f, failed)
+pub EndsBy-before : {T U : Type 0} (fault : Fault) (first failed failed' : Bool) → EndsBy {T} (Err fault) failed failed' → failed ≡ first → EndsBy {U} (Err fault) first failed'
+EndsBy-before CannotWrite first failed failed' ended before = ended
+EndsBy-before fault first failed failed' kept before = kept ∙ before

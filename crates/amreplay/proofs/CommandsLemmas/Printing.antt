@@ -6,7 +6,7 @@ use Rattle.std.proofs.lemmas.Result.{MatchResult-at_ok, MatchResult-at_err}
 use Rattle.amreplay.specs.declared.command_lines.line.Line.{Line}
 use Rattle.amreplay.specs.Commands.Replies.{Incident}
 use Rattle.amreplay.specs.declared.commands.conversation.Turn.{Turn}
-use Rattle.amreplay.specs.declared.commands.conversation.ConversationError.{ConversationError}
+use Rattle.amreplay.specs.declared.fault.Fault.{Fault}
 use Rattle.amreplay.specs.CommandLines.Line.{Holds}
 use Rattle.amreplay.specs.Commands.Talk.{AnsweredLine, reply, MayBe, out, Answers, Progress, StopsShort, StopsInside, Takes}
 use Rattle.amreplay.specs.Commands.Converse.{Printed, Stands, PrintedAt, Turned, Turns}
@@ -59,9 +59,9 @@ module _ {E : Type 0} (incident : Incident) (source left left' start mid now : O
   StopsInside-heard x same hears e consumes consumed (rest, t, holds) =
       (bytes ++ xs, subst (λ l. Consumes source left' (bytes ++ l)) (sym same) (Consumes-trans source left left' bytes ys consumed consumes), MatchResult-at_err _ _ x e (hears start bytes rest t holds))
 
-module _ (incident incident' : Incident) (source left left' start now now' : Option (List ℕ)) (bytes : List ℕ) (cursor cursor' : ℕ) (line line' : Line) (r : Result Turn ConversationError) where
+module _ (incident incident' : Incident) (source left left' start now now' : Option (List ℕ)) (bytes : List ℕ) (cursor cursor' : ℕ) (line line' : Line) (r : Result Turn Fault) where
   turned : incident' ≡ incident → Turns incident' left left' now now' cursor cursor' line line' r → Consumes source left bytes → Stands incident start now bytes cursor line
-      → (bytes' : List ℕ) × Consumes source left' bytes' × MatchResult r (λ turn. Turned turn incident left' start now' bytes' cursor' line') (λ error. PrintedAt error incident start now' bytes')
+      → (bytes' : List ℕ) × Consumes source left' bytes' × MatchResult r (λ turn. Turned turn incident left' start now' bytes' cursor' line') (λ fault. PrintedAt fault incident start now' bytes')
   turned same turns consumed stands = subst (λ es. Turns es left left' now now' cursor cursor' line line' r) same turns source start bytes consumed stands
 
   -- a turn without a failure
@@ -72,11 +72,11 @@ module _ (incident incident' : Incident) (source left left' start now now' : Opt
       (bytes', consumed', MatchResult-at_ok _ _ turn e did)
 
   -- a turn in which an end failed
-  pub PrintedAt-at_err : (error : ConversationError) → incident' ≡ incident → Turns incident' left left' now now' cursor cursor' line line' r → r ≡ Err error → Consumes source left bytes → Stands incident start now bytes cursor line
-      → (bytes' : List ℕ) × Consumes source left' bytes' × PrintedAt error incident start now' bytes'
-  PrintedAt-at_err error same turns e consumed stands =
+  pub PrintedAt-at_err : (fault : Fault) → incident' ≡ incident → Turns incident' left left' now now' cursor cursor' line line' r → r ≡ Err fault → Consumes source left bytes → Stands incident start now bytes cursor line
+      → (bytes' : List ℕ) × Consumes source left' bytes' × PrintedAt fault incident start now' bytes'
+  PrintedAt-at_err fault same turns e consumed stands =
       let (bytes', consumed', did) = turned same turns consumed stands in
-      (bytes', consumed', MatchResult-at_err _ _ error e did)
+      (bytes', consumed', MatchResult-at_err _ _ fault e did)
 
 -- nothing was read yet
 pub Stands-new : (incident : Incident) (w : Option (List ℕ)) (cursor : ℕ) (line : Line) → cursor ≡ 0 → Holds line [] → Stands incident w w [] cursor line

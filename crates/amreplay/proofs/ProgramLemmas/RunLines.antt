@@ -12,10 +12,10 @@ use Rattle.amr_events.specs.Actions.Events.{Event}
 use Rattle.amr_engine.specs.State.State.{State, start}
 use Rattle.amr_engine.specs.Events.{Outcome, outcome_of, after_event, after_events, run_of}
 use Rattle.amreplay.specs.Lines.Printed.{event_lines}
-use Rattle.amreplay.specs.Program.Runs.{lines_from, run_lines, LeavesAt, RunLeavesAt, RunLeaves}
+use Rattle.amreplay.specs.Program.Runs.{lines_from, run_lines, Leaves, RunLeaves}
 use Rattle.amreplay.specs.Lines.CheckedWriter.{AppendsBeginning}
-use Rattle.amreplay.specs.declared.program.run.RunError.{RunError}
-use Rattle.amreplay.specs.declared.program.run.RunError.TheVariants.{Memory, CannotWrite}
+use Rattle.amreplay.specs.declared.fault.Fault.{Fault}
+use Rattle.amreplay.specs.declared.fault.Fault.TheVariants.{CannotWrite, Memory}
 use Rattle.amreplay.proofs.LinesLemmas.Parts.{AppendsBeginning-after}
 
 lines_from-append : (n : ℕ) (s : State) (events more : List Event)
@@ -81,9 +81,10 @@ module _ (a b c : Option Text) (config : Config) (events : List Event) (k : ℕ)
       )
 
   -- the run stops at an event
-  pub RunLeavesAt-event : (error : RunError) → LeavesAt b c (event_lines (k + 1) event outcome) error → RunLeavesAt a c config events error
-  RunLeavesAt-event Memory left = (k, subst (Appends a c) (append-nil (run_lines config (take k events))) (Appends-trans a b c _ _ before left))
-  RunLeavesAt-event CannotWrite left = AppendsBeginning-after a b c _ _ rest_lines.0 _ before left rest_lines.1
+  pub RunLeaves-event : (fault : Fault) → Leaves b c (event_lines (k + 1) event outcome) (Err fault) → RunLeaves a c config events (Err fault)
+  RunLeaves-event CannotWrite left = AppendsBeginning-after a b c _ _ rest_lines.0 _ before left rest_lines.1
+  RunLeaves-event Memory left = (k, subst (Appends a c) (append-nil (run_lines config (take k events))) (Appends-trans a b c _ _ before left))
+  RunLeaves-event fault left = absurd left
 
 -- the lines of the first events are a prefix of all
 run_lines-split : (config : Config) (events : List Event) (k : ℕ) → (rest : Text) × (run_lines config events ≡ run_lines config (take k events) ++ rest)
@@ -94,20 +95,22 @@ run_lines-split config events k = (
 )
 
 -- the writer can't be flushed
-pub RunLeaves-unflushed : (a b c : Option Text) (config : Config) (events : List Event) (ended : Result (Unit {0}) RunError)
+pub RunLeaves-unflushed : (a b c : Option Text) (config : Config) (events : List Event) (ended : Result (Unit {0}) Fault)
     → RunLeaves a b config events ended → Keeps b c → AppendsBeginning a c (run_lines config events)
 RunLeaves-unflushed a b c config events (Ok u) left kept =
     record { written = run_lines config events; unwritten = []; parts = sym (append-nil (run_lines config events)); appended = Appends-kept a b c _ left kept }
+RunLeaves-unflushed a b c config events (Err CannotWrite) left kept =
+    record { written = left.written; unwritten = left.unwritten; parts = left.parts; appended = Appends-kept a b c _ left.appended kept }
 RunLeaves-unflushed a b c config events (Err Memory) left kept =
     let split = run_lines-split config events left.0 in
     record { written = run_lines config (take left.0 events); unwritten = split.0; parts = split.1; appended = Appends-kept a b c _ left.1 kept }
-RunLeaves-unflushed a b c config events (Err CannotWrite) left kept =
-    record { written = left.written; unwritten = left.unwritten; parts = left.parts; appended = Appends-kept a b c _ left.appended kept }
+RunLeaves-unflushed a b c config events (Err fault) left kept = absurd left
 
 -- the writer is flushed
-pub RunLeaves-flushed : (a b c : Option Text) (config : Config) (events : List Event) (ended : Result (Unit {0}) RunError)
+pub RunLeaves-flushed : (a b c : Option Text) (config : Config) (events : List Event) (ended : Result (Unit {0}) Fault)
     → RunLeaves a b config events ended → Keeps b c → RunLeaves a c config events ended
 RunLeaves-flushed a b c config events (Ok u) left kept = Appends-kept a b c _ left kept
-RunLeaves-flushed a b c config events (Err Memory) left kept = (left.0, Appends-kept a b c _ left.1 kept)
 RunLeaves-flushed a b c config events (Err CannotWrite) left kept =
     record { written = left.written; unwritten = left.unwritten; parts = left.parts; appended = Appends-kept a b c _ left.appended kept }
+RunLeaves-flushed a b c config events (Err Memory) left kept = (left.0, Appends-kept a b c _ left.1 kept)
+RunLeaves-flushed a b c config events (Err fault) left kept = absurd left

@@ -4,7 +4,7 @@ use Rattle.std.proofs.KnownBytes.{Appends-kept}
 use Rattle.std.specs.Io.KnownBytes.{Appends, Keeps}
 use Rattle.amr_labels.specs.Labels.{Text}
 use Rattle.amr_config.specs.Stated.Config.{Config}
-use Rattle.amreplay.specs.declared.program.fault.Fault.TheVariants.{CannotWrite}
+use Rattle.amreplay.specs.declared.fault.Fault.TheVariants.{CannotWrite}
 use Rattle.amreplay.specs.Program.Files.{ConfigFileIs}
 use Rattle.amreplay.specs.Program.Checked.{counts_line, CheckLeaves}
 

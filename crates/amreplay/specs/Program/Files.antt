@@ -1,12 +1,11 @@
 -- What the bytes of the two files spell, and what a run over them leaves in a writer.
-use Rattle.std.specs.Prelude.{◌≡◌, ◌⊎◌, ℕ, Bool, true, false, List, [], take, length, Option, Some, None, Result, Ok, Err, nat_lt, if◌then◌else◌}
+use Rattle.std.specs.Prelude.{◌≡◌, ◌⊎◌, ℕ, Bool, true, false, List, [], length, Option, Some, None, Result, Ok, Err, nat_lt, if◌then◌else◌}
 use Rattle.std.specs.Str.{is_utf8}
-use Rattle.std.specs.Io.KnownBytes.{Appends, Keeps}
+use Rattle.std.specs.Io.KnownBytes.{Keeps}
 use Rattle.serde_json.specs.Data.{Data}
 use Rattle.serde_json.specs.Read.{read}
 use Rattle.amr_labels.specs.Labels.{Text}
 use Rattle.amr_config.specs.Stated.Config as config
-use Rattle.amr_events.specs.Actions.Events.{Event}
 use Rattle.amr_config.specs.declared.read.error.Refusal.{Refusal}
 use Rattle.amr_config.specs.declared.read.error.Refusal.TheVariants.{BadConfig}
 use Rattle.amr_config.specs.declared.read.error.ConfigError.{ConfigError}
@@ -15,10 +14,9 @@ use Rattle.amr_config.specs.Read.Reading.{ConfigIs}
 use Rattle.amr_events.specs.Scripts.{ScriptIs}
 use Rattle.amr_events.specs.Scripts as scripts
 use Rattle.amr_replay.specs.Session.{View, at_cursor}
-use Rattle.amreplay.specs.declared.program.fault.Fault.{Fault}
-use Rattle.amreplay.specs.declared.program.fault.Fault.TheVariants.{Config, Script, CannotReadConfig, CannotReadScript, CannotReadCommands, CannotWrite, Memory, Usage}
-use Rattle.amreplay.specs.Lines.CheckedWriter.{AppendsBeginning}
-use Rattle.amreplay.specs.Program.Runs.{run_lines}
+use Rattle.amreplay.specs.declared.fault.Fault.{Fault}
+use Rattle.amreplay.specs.declared.fault.Fault.TheVariants.{Config, Script, CannotReadConfig, CannotReadScript, CannotReadCommands, CannotWrite, Memory, Usage}
+use Rattle.amreplay.specs.Program.Runs.{RunLeaves}
 
 -- the value that bytes spell, if they are JSON in UTF-8
 unfoldable pub json_of : List ℕ → Option Data
@@ -78,22 +76,10 @@ Opens bytes script_bytes (Ok session) =
     Hold bytes script_bytes session.config (script_of session) × (session ≡ at_cursor session.config session.version session.events 0)
 Opens bytes script_bytes (Err fault) = AreRefused bytes script_bytes fault
 
--- what a run that stops leaves: the lines of the first events if memory runs out, and a prefix of
--- the lines if the writer fails
-abbrev pub StopLeaves : Option Text → Option Text → config.Config → List Event → Fault → Type 0
-StopLeaves old new config events (Config refusal) = ⊥
-StopLeaves old new config events (Script fault) = ⊥
-StopLeaves old new config events CannotReadConfig = ⊥
-StopLeaves old new config events CannotReadScript = ⊥
-StopLeaves old new config events CannotReadCommands = ⊥
-StopLeaves old new config events CannotWrite = AppendsBeginning old new (run_lines config events)
-StopLeaves old new config events Memory = (k : ℕ) × Appends old new (run_lines config (take k events))
-StopLeaves old new config events Usage = ⊥
-
 -- A run over two files. If one is refused, its fault is returned and nothing is written; otherwise
 -- the lines of the run are written.
 abbrev pub FilesLeave : Option Text → Option Text → List ℕ → List ℕ → Result (Unit {0}) Fault → Type 0
-FilesLeave old new bytes script_bytes (Ok u) = (held : config.Config) × (script : scripts.Script) × Hold bytes script_bytes held script × Appends old new (run_lines held script.events)
+FilesLeave old new bytes script_bytes (Ok u) = (held : config.Config) × (script : scripts.Script) × Hold bytes script_bytes held script × RunLeaves old new held script.events (Ok u)
 FilesLeave old new bytes script_bytes (Err fault) =
     (AreRefused bytes script_bytes fault × Keeps old new)
-    ⊎ ((held : config.Config) × (script : scripts.Script) × Hold bytes script_bytes held script × StopLeaves old new held script.events fault)
+    ⊎ ((held : config.Config) × (script : scripts.Script) × Hold bytes script_bytes held script × RunLeaves old new held script.events (Err fault))

@@ -1,14 +1,12 @@
 -- What a session over two files reads of its commands, and leaves in a writer.
-use Rattle.std.specs.Prelude.{◌≡◌, ◌⊎◌, ℕ, List, Option, Result, Ok, Err}
+use Rattle.std.specs.Prelude.{◌⊎◌, ℕ, List, Option, Result, Ok, Err}
 use Rattle.std.specs.Io.KnownBytes.{Keeps}
 use Rattle.amr_labels.specs.Labels.{Text}
 use Rattle.amr_config.specs.Stated.Config as config
 use Rattle.amr_events.specs.Scripts.{Script}
-use Rattle.amreplay.specs.declared.commands.conversation.ConversationError.{ConversationError}
 use Rattle.amreplay.specs.Commands.Replies.{Incident}
 use Rattle.amreplay.specs.Commands.Converse.{Converses}
-use Rattle.amreplay.specs.declared.program.fault.Fault.{Fault}
-use Rattle.amreplay.specs.Program.Faults.{broken_fault}
+use Rattle.amreplay.specs.declared.fault.Fault.{Fault}
 use Rattle.amreplay.specs.Program.Files.{Hold, AreRefused}
 
 abbrev pub incident_with : config.Config → Script → Incident
@@ -21,5 +19,4 @@ SessionLeaves source left old new bytes script_bytes (Ok u) =
     (held : config.Config) × (script : Script) × Hold bytes script_bytes held script × Converses (incident_with held script) source left old new (Ok u)
 SessionLeaves source left old new bytes script_bytes (Err fault) =
     (AreRefused bytes script_bytes fault × Keeps source left × Keeps old new)
-    ⊎ ((held : config.Config) × (script : Script) × Hold bytes script_bytes held script × (error : ConversationError) × (fault ≡ broken_fault error)
-    × Converses (incident_with held script) source left old new (Err error))
+    ⊎ ((held : config.Config) × (script : Script) × Hold bytes script_bytes held script × Converses (incident_with held script) source left old new (Err fault))

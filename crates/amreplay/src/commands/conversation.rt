@@ -5,29 +5,21 @@ ghost use Rattle.std.specs.Io.KnownBytes.{Consumes, Keeps, IsAtEnd};
 ghost use Rattle.amreplay.specs.Lines.CheckedReader.{CountsCall};
 ghost use Rattle.amreplay.specs.Lines.CheckedWriter.{FailsAt};
 ghost use Rattle.amreplay.specs.Commands.Replies.{incident_of};
-ghost use Rattle.amreplay.specs.Commands.Converse.{Converses, Turns, Printed, Stands, EndsBy, CountsTurn};
+ghost use Rattle.amreplay.specs.Commands.Converse.{Converses, Turns, Printed, Stands, CountsTurn};
 ghost use Rattle.amreplay.specs.Commands.Talk.{StopsShort};
+ghost use Rattle.amreplay.specs.Ends.{EndsBy, ReadsBy};
 
 use crate::command_lines::Line;
 use crate::commands::dispatch::answer_line;
 use crate::commands::input::take_bytes;
+use crate::fault::Fault;
 use crate::lines::{CheckedReader, CheckedWriter, WriteFailed};
 use amr_replay::Session;
 use std::alloc::Global;
 use std::io::{Read, Write};
-use thiserror::Error;
 
 /// How many bytes are asked for at once.
 const CHUNK: usize = 4096;
-
-/// Which end failed.
-#[derive(Clone, Copy, Debug, PartialEq, Eq, Error)]
-pub enum ConversationError {
-    #[error("cannot read commands")]
-    Reading,
-    #[error("cannot write")]
-    Writing,
-}
 
 /// Whether there may be more to read.
 #[derive(Clone, Copy, Debug, PartialEq, Eq)]
@@ -45,21 +37,20 @@ pub fn converse<R: Read, W: Write>(
     session: &mut Session,
     commands: &mut CheckedReader<R>,
     out: &mut CheckedWriter<W>,
-) -> Result<(), ConversationError>
+) -> Result<(), Fault>
     requires { session.old.cursor ≡ 0 }
     ensures conversed { Converses (incident_of session.old) (R.remaining commands.old.reader)
         (R.remaining commands.new.reader)
         (W.contents out.old.writer) (W.contents out.new.writer) result }
-    ensures ended { EndsBy result commands.old.failed commands.new.failed commands.new.calls
-        out.old.failed out.new.failed }
+    ensures read { ReadsBy result commands.old.failed commands.new.failed commands.new.calls }
+    ensures written { EndsBy result out.old.failed out.new.failed }
 {
     let mut line = Line::new(alloc);
     let mut chunk = [0u8; CHUNK];
     loop {
-        match take_turn(alloc, session, &mut line, &mut chunk, commands, out) {
-            Ok(Turn::More) => {}
-            Ok(Turn::Ended) => return Ok(()),
-            Err(error) => return Err(error),
+        match take_turn(alloc, session, &mut line, &mut chunk, commands, out)? {
+            Turn::More => {}
+            Turn::Ended => return Ok(()),
         }
     }
 }
@@ -72,7 +63,7 @@ fn take_turn<R: Read, W: Write>(
     chunk: &mut [u8],
     commands: &mut CheckedReader<R>,
     out: &mut CheckedWriter<W>,
-) -> Result<Turn, ConversationError>
+) -> Result<Turn, Fault>
     requires { 0 < length chunk.old }
     ensures kept { incident_of session.new ≡ incident_of session.old }
     ensures turned { Turns (incident_of session.old) (R.remaining commands.old.reader)
@@ -81,20 +72,16 @@ fn take_turn<R: Read, W: Write>(
         session.new.cursor
         line.old line.new result }
     ensures counted { CountsTurn result commands.old.calls commands.new.calls }
-    ensures ended { EndsBy result commands.old.failed commands.new.failed commands.new.calls
-        out.old.failed out.new.failed }
+    ensures read { ReadsBy result commands.old.failed commands.new.failed commands.new.calls }
+    ensures written { EndsBy result out.old.failed out.new.failed }
 {
-    match read_once(commands, chunk) {
-        Err(_) => Err(ConversationError::Reading),
-        Ok(0) => match finish(alloc, session, line, out) {
-            Ok(()) => Ok(Turn::Ended),
-            Err(_) => Err(ConversationError::Writing),
-        },
-        Ok(n) => match take_bytes(alloc, session, line, &chunk[..n], out) {
-            Ok(()) => Ok(Turn::More),
-            Err(_) => Err(ConversationError::Writing),
-        },
+    let n = read_once(commands, chunk)?;
+    if n == 0 {
+        finish(alloc, session, line, out)?;
+        return Ok(Turn::Ended);
     }
+    take_bytes(alloc, session, line, &chunk[..n], out)?;
+    Ok(Turn::More)
 }
 
 /// Answers the last line, which has no line feed.
@@ -120,20 +107,20 @@ fn finish<W: Write>(
 fn read_once<R: Read>(
     commands: &mut CheckedReader<R>,
     chunk: &mut [u8],
-) -> Result<usize, ConversationError>
+) -> Result<usize, Fault>
     requires { 0 < length chunk.old }
     ensures read { MatchResult result
         (λ n. (n ≤ length chunk.new)
         × Consumes (R.remaining commands.old.reader) (R.remaining commands.new.reader)
         (take n chunk.new)
         × (n ≡ 0 → IsAtEnd (R.remaining commands.new.reader)))
-        (λ error. (error ≡ ConversationError.Reading)
+        (λ fault. (fault ≡ Fault.CannotReadCommands)
         × Keeps (R.remaining commands.old.reader) (R.remaining commands.new.reader)) }
     ensures counted { CountsCall result commands.old.failed commands.new.failed commands.old.calls
         commands.new.calls }
 {
     match commands.read(chunk) {
         Ok(n) => Ok(n),
-        Err(_) => Err(ConversationError::Reading),
+        Err(_) => Err(Fault::CannotReadCommands),
     }
 }

@@ -1,11 +1,11 @@
 //! The command `check`: validates a configuration and prints how many receivers, routes and
 //! inhibition rules it has.
 ghost use Rattle.std.specs.Prelude.{◌≡◌, IfOk, string_bytes};
-ghost use Rattle.amreplay.specs.Program.Ends.{EndsBy};
+ghost use Rattle.amreplay.specs.Ends.{EndsBy};
 ghost use Rattle.amreplay.specs.Program.Checked.{counts_line, CheckLeaves};
 
 use crate::lines::{CheckedWriter, flush, write_whole};
-use crate::program::fault::Fault;
+use crate::fault::Fault;
 use crate::program::load::read_config;
 use amr_config::Config;
 use std::alloc::{AllocError, Global};

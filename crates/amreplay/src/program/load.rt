@@ -4,11 +4,11 @@ ghost use Rattle.std.specs.Prelude.{◌≡◌, ℕ, List, [], option_map, IfOk};
 ghost use Rattle.serde_json.specs.View.{view};
 ghost use Rattle.amreplay.specs.Program.Files.{json_of, ReadsAs, FilesAre, Opens};
 ghost use Rattle.amreplay.specs.Program.Input.{MayHold};
-ghost use Rattle.amreplay.specs.Program.Ends.{EndsScriptBy};
+ghost use Rattle.amreplay.specs.Ends.{EndsScriptBy};
 ghost use Rattle.amr_config.specs.declared.read.error.Refusal.TheVariants.{BadConfig};
 
 use crate::lines::{CheckedReader, ReadFailed};
-use crate::program::fault::Fault;
+use crate::fault::Fault;
 use crate::program::input::read_script;
 use amr_config::Config;
 use amr_config::read::{ConfigError, Refusal, load_config};

@@ -3,54 +3,22 @@
 ghost use Rattle.std.specs.Prelude.{◌≡◌, ◌+◌, List, [], IfOk, OnOk, length, ℕ, string_bytes};
 ghost use Rattle.amreplay.specs.Lines.Printed.{event_lines};
 ghost use Rattle.amreplay.specs.Program.Files.{FilesLeave};
-ghost use Rattle.amreplay.specs.Program.Runs.{Leaves, RunLeaves, LeavesAt};
+ghost use Rattle.amreplay.specs.Program.Runs.{Leaves, RunLeaves};
 ghost use Rattle.amreplay.specs.Program.Input.{MayHold};
-ghost use Rattle.amreplay.specs.Program.Ends.{StoppedBy, EndsBy, EndsScriptBy};
+ghost use Rattle.amreplay.specs.Ends.{EndsBy, EndsScriptBy};
 ghost use Rattle.amr_engine.specs.Outcomes.{outcome_view};
 ghost use Rattle.amr_engine.specs.Events.{outcome_of, after_event, without_notifications};
 ghost use Rattle.amr_engine.specs.State.State.{start};
 
-use crate::lines::{CheckedReader, CheckedWriter, WriteFailed, event_text, flush, write_whole};
-use crate::program::fault::Fault;
+use crate::lines::{CheckedReader, CheckedWriter, event_text, flush, write_whole};
+use crate::fault::Fault;
 use crate::program::load::read_files;
 use amr_engine::{Engine, Outcome};
 use amr_events::Script;
 use amr_events::actions::Event;
-use std::alloc::{AllocError, Global};
+use std::alloc::Global;
 use std::io::{Read, Write};
 use std::mem::forget;
-use thiserror::Error;
-
-/// Why a run ended before its last line.
-#[derive(Debug, Drop, Error)]
-pub enum RunError {
-    #[error("out of memory")]
-    Memory,
-    #[error("cannot write")]
-    CannotWrite,
-}
-
-impl From<AllocError> for RunError {
-    ghost use Rattle.std.specs.Prelude.{◌≡◌};
-    ghost use Rattle.amreplay.specs.declared.program.run.RunError.TheVariants.{Memory};
-
-    ghost from_gives = { λ _ e. e ≡ Memory };
-
-    fn from(_error: AllocError) -> RunError {
-        RunError::Memory
-    }
-}
-
-impl From<WriteFailed> for RunError {
-    ghost use Rattle.std.specs.Prelude.{◌≡◌};
-    ghost use Rattle.amreplay.specs.declared.program.run.RunError.TheVariants.{CannotWrite};
-
-    ghost from_gives = { λ _ e. e ≡ CannotWrite };
-
-    fn from(_error: WriteFailed) -> RunError {
-        RunError::CannotWrite
-    }
-}
 
 /// Runs a script under a configuration, and writes the lines of its events.
 ///
@@ -75,8 +43,7 @@ pub fn run_script<R: Read, W: Write>(
     // The process ends next. To free a large state piece by piece would only take time.
     forget(engine);
     forget(script);
-    ended?;
-    Ok(())
+    ended
 }
 
 /// Applies all events, writes their lines, and flushes the writer, even if memory ran out.
@@ -85,11 +52,11 @@ fn write_run<W: Write>(
     engine: &mut Engine,
     script: &Script,
     out: &mut CheckedWriter<W>,
-) -> Result<(), RunError>
+) -> Result<(), Fault>
     requires { engine.old.state ≡ start engine.old.state.config }
     ensures left { RunLeaves (W.contents out.old.writer) (W.contents out.new.writer)
         engine.old.state.config script.now.events result }
-    ensures error { StoppedBy result out.old.failed out.new.failed }
+    ensures ended { EndsBy result out.old.failed out.new.failed }
 {
     let ended = write_events(alloc, engine, script, out);
     flush(out)?;
@@ -102,11 +69,11 @@ fn write_events<W: Write>(
     engine: &mut Engine,
     script: &Script,
     out: &mut CheckedWriter<W>,
-) -> Result<(), RunError>
+) -> Result<(), Fault>
     requires { engine.old.state ≡ start engine.old.state.config }
     ensures left { RunLeaves (W.contents out.old.writer) (W.contents out.new.writer)
         engine.old.state.config script.now.events result }
-    ensures error { StoppedBy result out.old.failed out.new.failed }
+    ensures ended { EndsBy result out.old.failed out.new.failed }
 {
     for number in 0..script.len() {
         pass_event(alloc, engine, number as u64 + 1, script.event(number), out)?;
@@ -122,13 +89,13 @@ fn pass_event<W: Write>(
     number: u64,
     event: &Event,
     out: &mut CheckedWriter<W>,
-) -> Result<(), RunError>
+) -> Result<(), Fault>
     ensures left { Leaves (W.contents out.old.writer) (W.contents out.new.writer)
         (event_lines number event.now (outcome_of engine.old.state event.now)) result }
     ensures passed { OnOk result (engine.new.state
         ≡ without_notifications (after_event engine.old.state event.now)) }
     ensures forgotten { OnOk result (engine.new.records ≡ []) }
-    ensures error { StoppedBy result out.old.failed out.new.failed }
+    ensures ended { EndsBy result out.old.failed out.new.failed }
 {
     let outcome = engine.apply(event)?;
     engine.forget();
@@ -144,10 +111,10 @@ fn write_event<W: Write>(
     event: &Event,
     outcome: &Outcome,
     out: &mut CheckedWriter<W>,
-) -> Result<(), RunError>
+) -> Result<(), Fault>
     ensures left { Leaves (W.contents out.old.writer) (W.contents out.new.writer)
         (event_lines number event.now (outcome_view outcome.now)) result }
-    ensures error { StoppedBy result out.old.failed out.new.failed }
+    ensures ended { EndsBy result out.old.failed out.new.failed }
 {
     let text = event_text(alloc, number, event, outcome)?;
     write_whole(out, text.as_bytes())?;

@@ -2,12 +2,12 @@
 //! itself is in `commands`.
 ghost use Rattle.std.specs.Prelude.{ℕ, List};
 ghost use Rattle.amreplay.specs.Program.Input.{MayHold};
-ghost use Rattle.amreplay.specs.Program.Ends.{EndsBy, ReadsBy, EndsScriptBy};
+ghost use Rattle.amreplay.specs.Ends.{EndsBy, ReadsBy, EndsScriptBy};
 ghost use Rattle.amreplay.specs.Program.Sessions.{SessionLeaves};
 
 use crate::commands::converse;
 use crate::lines::{CheckedReader, CheckedWriter};
-use crate::program::fault::Fault;
+use crate::fault::Fault;
 use crate::program::load::open_session;
 use std::alloc::Global;
 use std::io::{Read, Write};
@@ -35,6 +35,5 @@ pub fn run_session<S: Read, R: Read, W: Write>(
     let ended = converse(alloc, &mut session, commands, out);
     // The process ends next. To free a large state piece by piece would only take time.
     forget(session);
-    ended?;
-    Ok(())
+    ended
 }

@@ -1,10 +1,10 @@
-use Rattle.std.proofs.Common.{[], ◌∙◌, refl}
+use Rattle.std.proofs.Common.{[], ◌∙◌, refl, ap, Ok}
 use Rattle.std.proofs.KnownBytes.{Consumes-nil}
-use Rattle.std.proofs.lemmas.Result.{MatchResult-at_err}
+use Rattle.std.proofs.lemmas.Result.{err_from_is_err_and}
 use Rattle.amreplay.specs.Commands.Replies.{incident_of}
 use Rattle.amreplay.specs.declared.commands.conversation.Turn.TheVariants.{More, Ended}
 use Rattle.amreplay.proofs.CommandsLemmas.Printing.{Stands-new, Turned-at_ok, PrintedAt-at_err}
-use Rattle.amreplay.proofs.CommandsLemmas.Ending.{ended_before, BreaksBy-before}
+use Rattle.amreplay.proofs.CommandsLemmas.Ending.{ReadsBy-before, EndsBy-before}
 use Rattle.amreplay.proofs.commands.conversation.converse.Goals as goal
 
 pub loop-line-init : goal.loop-line-init
@@ -15,24 +15,30 @@ loop-line-init g c =
 pub loop-line-preserved : goal.loop-line-preserved
 loop-line-preserved g c =
     let (same, bytes, consumed, stands) = c.loop-line.invariant.stands in
-    let (bytes', consumed', stands') = Turned-at_ok _ _ _ _ _ _ _ _ bytes _ _ _ _ c.take_turn.result More same c.take_turn.ensures.turned (rw c.in-Ok-More.field-0-is at c.in-Ok-More.is) consumed stands in
-    let kept = ended_before c.take_turn.result _ _ _ _ _ _ _ _ (rw c.in-Ok-More.field-0-is at c.in-Ok-More.is) c.take_turn.ensures.ended c.loop-line.invariant.read c.loop-line.invariant.written in
-    record { stands = (c.take_turn.ensures.kept ∙ same, bytes', consumed', stands'); read = kept.0; written = kept.1 }
+    let (bytes', consumed', stands') = Turned-at_ok _ _ _ _ _ _ _ _ bytes _ _ _ _ c.take_turn.result More same c.take_turn.ensures.turned (c.in_ok-take_turn.was ∙ ap Ok c.in-More.is) consumed stands in
+    record {
+      stands = (c.take_turn.ensures.kept ∙ same, bytes', consumed', stands');
+      read = c.in_ok-take_turn.ensures.read ∙ c.loop-line.invariant.read;
+      written = c.in_ok-take_turn.ensures.written ∙ c.loop-line.invariant.written;
+    }
 
-pub returns-in-Ok-Ended-clause-conversed : goal.returns-in-Ok-Ended-clause-conversed
-returns-in-Ok-Ended-clause-conversed g c =
+pub returns-in-Ended-clause-conversed : goal.returns-in-Ended-clause-conversed
+returns-in-Ended-clause-conversed g c =
     let (same, bytes, consumed, stands) = c.loop-line.invariant.stands in
-    Turned-at_ok _ _ _ _ _ _ _ _ bytes _ _ _ _ c.take_turn.result Ended same c.take_turn.ensures.turned (rw c.in-Ok-Ended.field-0-is at c.in-Ok-Ended.is) consumed stands
+    Turned-at_ok _ _ _ _ _ _ _ _ bytes _ _ _ _ c.take_turn.result Ended same c.take_turn.ensures.turned (c.in_ok-take_turn.was ∙ ap Ok c.in-Ended.is) consumed stands
 
-pub returns-in-Ok-Ended-clause-ended : goal.returns-in-Ok-Ended-clause-ended
-returns-in-Ok-Ended-clause-ended g c =
-    ended_before c.take_turn.result _ _ _ _ _ _ _ _ (rw c.in-Ok-Ended.field-0-is at c.in-Ok-Ended.is) c.take_turn.ensures.ended c.loop-line.invariant.read c.loop-line.invariant.written
-
-pub returns-in-Err-clause-conversed : goal.returns-in-Err-clause-conversed
-returns-in-Err-clause-conversed g c =
+pub returns-in_err-take_turn-clause-conversed : goal.returns-in_err-take_turn-clause-conversed
+returns-in_err-take_turn-clause-conversed g c =
+    let p = err_from_is_err_and c.from_residual.result c.from_residual.ensures.1 in
     let (same, bytes, consumed, stands) = c.loop-line.invariant.stands in
-    PrintedAt-at_err _ _ _ _ _ _ _ _ bytes _ _ _ _ c.take_turn.result _ same c.take_turn.ensures.turned c.in-Err.is consumed stands
+    rw (p.1, p.2) (PrintedAt-at_err _ _ _ _ _ _ _ _ bytes _ _ _ _ c.take_turn.result _ same c.take_turn.ensures.turned c.in_err-take_turn.was consumed stands)
 
-pub returns-in-Err-clause-ended : goal.returns-in-Err-clause-ended
-returns-in-Err-clause-ended g c =
-    BreaksBy-before _ _ _ _ _ _ _ _ (MatchResult-at_err _ _ _ c.in-Err.is c.take_turn.ensures.ended) c.loop-line.invariant.read c.loop-line.invariant.written
+pub returns-in_err-take_turn-clause-read : goal.returns-in_err-take_turn-clause-read
+returns-in_err-take_turn-clause-read g c =
+    let p = err_from_is_err_and c.from_residual.result c.from_residual.ensures.1 in
+    rw (p.1, p.2) (ReadsBy-before _ _ _ _ _ c.in_err-take_turn.ensures.read c.loop-line.invariant.read)
+
+pub returns-in_err-take_turn-clause-written : goal.returns-in_err-take_turn-clause-written
+returns-in_err-take_turn-clause-written g c =
+    let p = err_from_is_err_and c.from_residual.result c.from_residual.ensures.1 in
+    rw (p.1, p.2) (EndsBy-before _ _ _ _ c.in_err-take_turn.ensures.written c.loop-line.invariant.written)

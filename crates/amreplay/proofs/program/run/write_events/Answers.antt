@@ -2,7 +2,7 @@ use Rattle.std.proofs.Common.{◌∙◌, ap, refl, take}
 use Rattle.std.proofs.lemmas.Result.{err_from_is_err_and}
 use Rattle.amr_engine.specs.Events.{outcome_of, after_event, run_of, without_notifications}
 use Rattle.amr_engine.proofs.Unnotified.{outcome_without, after_without}
-use Rattle.amreplay.proofs.ProgramLemmas.RunLines.{run_more, run_lines-none, Appends-next, RunLeavesAt-event}
+use Rattle.amreplay.proofs.ProgramLemmas.RunLines.{run_more, run_lines-none, Appends-next, RunLeaves-event}
 use Rattle.amreplay.proofs.program.run.write_events.Goals as goal
 
 pub loop-number-init : goal.loop-number-init
@@ -16,13 +16,13 @@ loop-number-preserved g c =
       state = c.in_ok-pass_event.ensures.passed ∙ ap (λ s. without_notifications (after_event s e)) c.loop-number.invariant.state ∙ after_without before e
           ∙ ap without_notifications (run_more c.args.engine.now.state.config c.args.script.now.events c.loop-number.number e c.event.ensures);
       written = Appends-next _ _ _ _ _ _ e _ c.event.ensures (ap (λ s. outcome_of s e) c.loop-number.invariant.state ∙ outcome_without before e) c.loop-number.invariant.written c.in_ok-pass_event.ensures.left;
-      failed = c.in_ok-pass_event.ensures.error ∙ c.loop-number.invariant.failed;
+      failed = c.in_ok-pass_event.ensures.ended ∙ c.loop-number.invariant.failed;
     }
 
 pub returns-in_err-pass_event-clause-left : goal.returns-in_err-pass_event-clause-left
 returns-in_err-pass_event-clause-left g c =
     let e = c.event.result.now in
     let before = run_of c.args.engine.now.state.config (take c.loop-number.number c.args.script.now.events) in
-    let left = RunLeavesAt-event _ _ _ _ _ _ e _ c.event.ensures (ap (λ s. outcome_of s e) c.loop-number.invariant.state ∙ outcome_without before e) c.loop-number.invariant.written _ c.in_err-pass_event.ensures.left in
+    let left = RunLeaves-event _ _ _ _ _ _ e _ c.event.ensures (ap (λ s. outcome_of s e) c.loop-number.invariant.state ∙ outcome_without before e) c.loop-number.invariant.written _ c.in_err-pass_event.ensures.left in
     let p = err_from_is_err_and c.from_residual.result c.from_residual.ensures.1 in
     rw (p.1, p.2) left

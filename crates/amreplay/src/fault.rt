@@ -1,11 +1,10 @@
-//! What stops the program: the line for standard error, and the exit status. `main` writes it last.
-//! The line takes no memory, so it can also report that memory ran out.
+//! What stops the program: the line for standard error, and the exit status. Checks, runs and
+//! sessions return it, and `main` writes it last. The line takes no memory, so it can also report
+//! that memory ran out.
 ghost use Rattle.std.specs.Prelude.{◌≡◌};
 ghost use Rattle.amreplay.specs.Lines.CheckedWriter.{WritesText, FailsAt};
 
-use crate::commands::ConversationError;
 use crate::lines::{CheckedWriter, WriteFailed, write_parts};
-use crate::program::run::RunError;
 use amr_config::read::{ConfigError, Refusal};
 use amr_events::{Fault as ScriptFault, ScriptError};
 use itoa::Buffer;
@@ -39,7 +38,7 @@ pub enum Fault {
 
 impl From<AllocError> for Fault {
     ghost use Rattle.std.specs.Prelude.{◌≡◌};
-    ghost use Rattle.amreplay.specs.declared.program.fault.Fault.TheVariants.{Memory};
+    ghost use Rattle.amreplay.specs.declared.fault.Fault.TheVariants.{Memory};
 
     ghost from_gives = { λ _ fault. fault ≡ Memory };
 
@@ -50,7 +49,7 @@ impl From<AllocError> for Fault {
 
 impl From<ConfigError> for Fault {
     ghost use Rattle.std.specs.Prelude.{◌≡◌};
-    ghost use Rattle.amreplay.specs.Program.Faults.{config_fault};
+    ghost use Rattle.amreplay.specs.Faults.{config_fault};
 
     ghost from_gives = { λ error fault. fault ≡ config_fault error };
 
@@ -64,7 +63,7 @@ impl From<ConfigError> for Fault {
 
 impl From<ScriptError> for Fault {
     ghost use Rattle.std.specs.Prelude.{◌≡◌};
-    ghost use Rattle.amreplay.specs.Program.Faults.{script_fault};
+    ghost use Rattle.amreplay.specs.Faults.{script_fault};
 
     ghost from_gives = { λ error fault. fault ≡ script_fault error };
 
@@ -76,42 +75,14 @@ impl From<ScriptError> for Fault {
     }
 }
 
-impl From<RunError> for Fault {
-    ghost use Rattle.std.specs.Prelude.{◌≡◌};
-    ghost use Rattle.amreplay.specs.Program.Faults.{stop_fault};
-
-    ghost from_gives = { λ error fault. fault ≡ stop_fault error };
-
-    fn from(error: RunError) -> Fault {
-        match error {
-            RunError::Memory => Fault::Memory,
-            RunError::CannotWrite => Fault::CannotWrite,
-        }
-    }
-}
-
 impl From<WriteFailed> for Fault {
     ghost use Rattle.std.specs.Prelude.{◌≡◌};
-    ghost use Rattle.amreplay.specs.declared.program.fault.Fault.TheVariants.{CannotWrite};
+    ghost use Rattle.amreplay.specs.declared.fault.Fault.TheVariants.{CannotWrite};
 
     ghost from_gives = { λ _ fault. fault ≡ CannotWrite };
 
     fn from(_error: WriteFailed) -> Fault {
         Fault::CannotWrite
-    }
-}
-
-impl From<ConversationError> for Fault {
-    ghost use Rattle.std.specs.Prelude.{◌≡◌};
-    ghost use Rattle.amreplay.specs.Program.Faults.{broken_fault};
-
-    ghost from_gives = { λ error fault. fault ≡ broken_fault error };
-
-    fn from(error: ConversationError) -> Fault {
-        match error {
-            ConversationError::Reading => Fault::CannotReadCommands,
-            ConversationError::Writing => Fault::CannotWrite,
-        }
     }
 }
 
@@ -123,7 +94,7 @@ enum Place<'a> {
     AtLine(u64),
 }
 
-ghost use Rattle.amreplay.specs.Program.Faults.{fault_line, fault_prefix, fault_name, fault_place, config_place as config_place_of, script_place as script_place_of, path_place as place_of_path, line_with_place, place_of as place_seen, status_of as fault_status};
+ghost use Rattle.amreplay.specs.Faults.{fault_line, fault_prefix, fault_name, fault_place, config_place as config_place_of, script_place as script_place_of, path_place as place_of_path, line_with_place, place_of as place_seen, status_of as fault_status};
 
 /// Writes the line of a fault. It takes no memory.
 pub fn write_fault<W: Write>(fault: &Fault, out: &mut CheckedWriter<W>) -> Result<(), WriteFailed>

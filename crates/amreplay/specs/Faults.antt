@@ -10,14 +10,10 @@ use Rattle.amr_events.specs.declared.error.Fault.TheVariants.{BadLine, LineTooLo
 use Rattle.amr_events.specs.declared.error.ScriptError.{ScriptError}
 use Rattle.amr_events.specs.Faults.{name_of_fault}
 use Rattle.amr_events.specs.declared.error.ScriptError.TheVariants as script_error
-use Rattle.amreplay.specs.declared.commands.conversation.ConversationError.{ConversationError}
-use Rattle.amreplay.specs.declared.commands.conversation.ConversationError.TheVariants as conversation_error
-use Rattle.amreplay.specs.declared.program.run.RunError.{RunError}
-use Rattle.amreplay.specs.declared.program.run.RunError.TheVariants as run_error
-use Rattle.amreplay.specs.declared.program.fault.Fault.{Fault}
-use Rattle.amreplay.specs.declared.program.fault.Fault.TheVariants.{Config, Script, CannotReadConfig, CannotReadScript, CannotReadCommands, CannotWrite, Memory, Usage}
-use Rattle.amreplay.specs.declared.program.fault.Place.{Place}
-use Rattle.amreplay.specs.declared.program.fault.Place.TheVariants as place
+use Rattle.amreplay.specs.declared.fault.Fault.{Fault}
+use Rattle.amreplay.specs.declared.fault.Fault.TheVariants.{Config, Script, CannotReadConfig, CannotReadScript, CannotReadCommands, CannotWrite, Memory, Usage}
+use Rattle.amreplay.specs.declared.fault.Place.{Place}
+use Rattle.amreplay.specs.declared.fault.Place.TheVariants as place
 
 -- the fault of an error
 abbrev pub config_fault : ConfigError → Fault
@@ -27,14 +23,6 @@ config_fault (config_error.Refused refusal) = Config refusal
 abbrev pub script_fault : ScriptError → Fault
 script_fault script_error.Memory = Memory
 script_fault (script_error.Refused fault) = Script fault
-
-abbrev pub stop_fault : RunError → Fault
-stop_fault run_error.Memory = Memory
-stop_fault run_error.CannotWrite = CannotWrite
-
-abbrev pub broken_fault : ConversationError → Fault
-broken_fault conversation_error.Reading = CannotReadCommands
-broken_fault conversation_error.Writing = CannotWrite
 
 -- what the line of a fault begins with
 abbrev pub fault_prefix : Fault → List ℕ
