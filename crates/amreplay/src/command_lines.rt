@@ -6,5 +6,5 @@ mod digits;
 mod line;
 mod parts;
 
-pub use command::{Command, Move, ParsedLine, Query, Unread};
+pub use command::{Command, Move, ParsedLine, Query};
 pub use line::{Content, LONGEST, Line};

@@ -1,5 +1,5 @@
 -- What parsing a command line may return.
-use Rattle.std.specs.Prelude.{◌≡◌, ◌⊎◌, ⊤, true, Result, MatchResult}
+use Rattle.std.specs.Prelude.{◌≡◌, ◌⊎◌, ⊤, true}
 use Rattle.std.specs.Str.{is_utf8}
 use Rattle.amr_labels.specs.Labels.{Text}
 use Rattle.amr_events.specs.Actions.Events.{Event}
@@ -11,8 +11,7 @@ use Rattle.amreplay.specs.declared.command_lines.command.Query.TheVariants.{Expl
 use Rattle.amreplay.specs.declared.command_lines.command.Command.{Command}
 use Rattle.amreplay.specs.declared.command_lines.command.Command.TheVariants as command
 use Rattle.amreplay.specs.declared.command_lines.command.ParsedLine.{ParsedLine}
-use Rattle.amreplay.specs.declared.command_lines.command.ParsedLine.TheVariants.{Nothing, Asks, Malformed, BadMoment, BadArgument}
-use Rattle.amreplay.specs.declared.command_lines.command.Unread.{Unread}
+use Rattle.amreplay.specs.declared.command_lines.command.ParsedLine.TheVariants.{Nothing, Asks, Malformed, BadMoment, BadArgument, NoMemory}
 use Rattle.amreplay.specs.CommandLines.Parts.{without_outer_space, word_in, argument_in}
 use Rattle.amreplay.specs.CommandLines.Command.{word_named, word_of_command, said_by, said_in, said_of}
 
@@ -42,6 +41,7 @@ word_of (Asks command) = word_of_command command
 word_of (Malformed word) = word
 word_of BadMoment = word.SeekTime
 word_of (BadArgument word) = word
+word_of (NoMemory word) = word
 
 -- the argument of the command is JSON
 abbrev pub HasJson : Command → Type 0
@@ -56,18 +56,13 @@ ReadingTakesMemory (Asks command) = HasJson command
 ReadingTakesMemory (Malformed word) = ⊥
 ReadingTakesMemory BadMoment = ⊥
 ReadingTakesMemory (BadArgument word) = ⊤
+ReadingTakesMemory (NoMemory word) = ⊥
 
--- this was returned, or memory ran out
-abbrev pub Reads : ParsedLine → Result ParsedLine Unread → Type 0
-Reads parsed result = MatchResult result (λ read. read ≡ parsed) (λ unread. ReadingTakesMemory parsed × (word_of parsed ≡ unread.word))
+-- What was read satisfies this, or memory ran out. Then what the line says takes memory, and all that
+-- was read of it is its word.
+abbrev pub ReadsSuch : (ParsedLine → Type 0) → ParsedLine → ParsedLine → Type 0
+ReadsSuch IsSuch parsed read = IsSuch read ⊎ (ReadingTakesMemory parsed × (read ≡ NoMemory (word_of parsed)))
 
--- what was returned satisfies this, or memory ran out
-abbrev pub ReadsSuch : (ParsedLine → Type 0) → ParsedLine → Result ParsedLine Unread → Type 0
-ReadsSuch IsSuch parsed result = MatchResult result IsSuch (λ unread. ReadingTakesMemory parsed × (word_of parsed ≡ unread.word))
-
--- the line has this word, and an argument for which memory may run out
-pub record FailsToRead (version : Version) (line : Text) (word : Word) : Type 0 where
-  pub parsed : ParsedLine
-  pub says : LineSays version line parsed
-  pub takes : ReadingTakesMemory parsed
-  pub named : word_of parsed ≡ word
+-- this was read, or memory ran out
+abbrev pub Reads : ParsedLine → ParsedLine → Type 0
+Reads parsed read = ReadsSuch (λ such. such ≡ parsed) parsed read

@@ -23,7 +23,7 @@ use Rattle.amreplay.specs.declared.command_lines.command.Query.TheVariants.{Expl
 use Rattle.amreplay.specs.declared.command_lines.command.Command.{Command}
 use Rattle.amreplay.specs.declared.command_lines.command.Command.TheVariants as command
 use Rattle.amreplay.specs.declared.command_lines.command.ParsedLine.{ParsedLine}
-use Rattle.amreplay.specs.declared.command_lines.command.ParsedLine.TheVariants.{Nothing, Asks, Malformed, BadMoment, BadArgument}
+use Rattle.amreplay.specs.declared.command_lines.command.ParsedLine.TheVariants.{Nothing, Asks, Malformed, BadMoment, BadArgument, NoMemory}
 use Rattle.amreplay.specs.declared.commands.answer.Refusal.TheVariants as refusal
 use Rattle.amreplay.specs.Commands.Refusals.{refusal_number}
 
@@ -115,6 +115,7 @@ reply_of incident n (Asks command) = reply_to incident n command
 reply_of incident n (Malformed word) = refusal_reply n word (refusal_number refusal.BadLine)
 reply_of incident n BadMoment = refusal_reply n word.SeekTime (refusal_number refusal.BadTime)
 reply_of incident n (BadArgument word) = refusal_reply n word (refusal_number refusal.BadLine)
+reply_of incident n (NoMemory word) = refusal_reply n word (refusal_number refusal.Memory)
 
 -- parsing it takes memory, or executing it
 abbrev pub MayFindNoMemory : Incident → ℕ → ParsedLine → Type 0
@@ -123,3 +124,4 @@ MayFindNoMemory incident n (Asks command) = TakesMemory incident n command
 MayFindNoMemory incident n (Malformed word) = ⊥
 MayFindNoMemory incident n BadMoment = ⊥
 MayFindNoMemory incident n (BadArgument word) = ⊤
+MayFindNoMemory incident n (NoMemory word) = ⊥

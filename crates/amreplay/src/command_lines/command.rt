@@ -1,9 +1,9 @@
 //! Parsing a command line: the word, and the argument that its command takes. A session calls
 //! `ParsedLine::read` for each line. Nothing here is executed.
-ghost use Rattle.std.specs.Prelude.{◌≡◌, MatchResult};
+ghost use Rattle.std.specs.Prelude.{◌≡◌};
 ghost use Rattle.std.specs.Str.{is_utf8};
 ghost use Rattle.amreplay.specs.CommandLines.Command.{word_named, word_of_move, word_of_query, word_of_command, said_alone, seek_said, seek_time_said, trial_said, explain_said, with_argument, said_by, said_in, said_of, moment_in};
-ghost use Rattle.amreplay.specs.CommandLines.ParsedLine.{FailsToRead, LineSays, Reads, ReadsSuch, TextSays, WordSays};
+ghost use Rattle.amreplay.specs.CommandLines.ParsedLine.{LineSays, Reads, ReadsSuch, TextSays, WordSays};
 
 use crate::command_lines::digits::{all_digits, number};
 use crate::command_lines::parts::{argument, trimmed, word};
@@ -14,7 +14,6 @@ use amr_labels::Labels;
 use amr_time::{Moment, read_moment};
 use std::alloc::Global;
 use std::str::from_utf8;
-use thiserror::Error;
 
 /// A command that moves the cursor.
 #[derive(Drop)]
@@ -103,13 +102,8 @@ pub enum ParsedLine {
     BadMoment,
     /// The argument isn't an event, or not a label set.
     BadArgument(Word),
-}
-
-/// Memory ran out for the argument of this word.
-#[derive(Clone, Copy, Debug, PartialEq, Eq, Error)]
-#[error("memory ran out for the word's argument")]
-pub struct Unread {
-    pub word: Word,
+    /// Memory ran out for the argument.
+    NoMemory(Word),
 }
 
 /// The words that are commands.
@@ -130,11 +124,11 @@ const KNOWN_WORDS: [Word; 12] = [
 
 /// Parses a text without white space at its ends.
 #[tactic(auto, unfolding(crate::specs::CommandLines::Command::said_in))]
-fn read_text(alloc: Global, version: Version, text: &[u8]) -> Result<ParsedLine, Unread>
+fn read_text(alloc: Global, version: Version, text: &[u8]) -> ParsedLine
     ensures { ReadsSuch (TextSays version text.now) (said_in version text.now) result }
 {
     if text.is_empty() {
-        return Ok(ParsedLine::Nothing);
+        return ParsedLine::Nothing;
     }
     read_argument(alloc, version, word_of(word(text)), argument(text))
 }
@@ -151,61 +145,54 @@ fn is_text(line: &[u8]) -> bool
 
 /// Parses a word's argument.
 #[tactic(auto, unfolding(crate::specs::CommandLines::Command::said_by))]
-fn read_argument(
-    alloc: Global,
-    version: Version,
-    word: Word,
-    argument: &[u8],
-) -> Result<ParsedLine, Unread>
+fn read_argument(alloc: Global, version: Version, word: Word, argument: &[u8]) -> ParsedLine
     ensures { ReadsSuch (WordSays version word argument.now) (said_by version word argument.now)
         result }
 {
     match word {
-        Word::Step => Ok(alone(Command::Move(Move::Step), argument)),
-        Word::Back => Ok(alone(Command::Move(Move::Back), argument)),
-        Word::Seek => Ok(seek(argument)),
-        Word::SeekTime => Ok(seek_time(argument)),
+        Word::Step => alone(Command::Move(Move::Step), argument),
+        Word::Back => alone(Command::Move(Move::Back), argument),
+        Word::Seek => seek(argument),
+        Word::SeekTime => seek_time(argument),
         Word::Trial => trial(alloc, version, argument),
         Word::Explain => explain(alloc, argument),
-        Word::Alerts => Ok(alone(Command::Query(Query::Alerts), argument)),
-        Word::Silences => Ok(alone(Command::Query(Query::Silences), argument)),
-        Word::Groups => Ok(alone(Command::Query(Query::Groups), argument)),
-        Word::Log => Ok(alone(Command::Query(Query::Log), argument)),
-        Word::Transcript => Ok(alone(Command::Query(Query::Transcript), argument)),
-        Word::Cursor => Ok(alone(Command::Cursor, argument)),
-        Word::Unknown => Ok(ParsedLine::Malformed(word)),
+        Word::Alerts => alone(Command::Query(Query::Alerts), argument),
+        Word::Silences => alone(Command::Query(Query::Silences), argument),
+        Word::Groups => alone(Command::Query(Query::Groups), argument),
+        Word::Log => alone(Command::Query(Query::Log), argument),
+        Word::Transcript => alone(Command::Query(Query::Transcript), argument),
+        Word::Cursor => alone(Command::Cursor, argument),
+        Word::Unknown => ParsedLine::Malformed(word),
     }
 }
 
 /// Parses the argument of `explain`, which is a label set as a JSON object.
-fn explain(alloc: Global, argument: &[u8]) -> Result<ParsedLine, Unread>
+fn explain(alloc: Global, argument: &[u8]) -> ParsedLine
     ensures { Reads (with_argument Word.Explain explain_said argument.now) result }
 {
     if argument.is_empty() {
-        return Ok(ParsedLine::Malformed(Word::Explain));
+        return ParsedLine::Malformed(Word::Explain);
     }
     match read_labels(alloc, argument) {
-        Ok(labels) => Ok(ParsedLine::Asks(Command::Query(Query::Explain(labels)))),
-        Err(LineError::Faulty) => Ok(ParsedLine::BadArgument(Word::Explain)),
-        Err(LineError::Memory) => Err(Unread {
-            word: Word::Explain,
-        }),
+        Ok(labels) => ParsedLine::Asks(Command::Query(Query::Explain(labels))),
+        Err(LineError::Faulty) => ParsedLine::BadArgument(Word::Explain),
+        Err(LineError::Memory) => ParsedLine::NoMemory(Word::Explain),
     }
 }
 
 /// Parses the argument of `trial`, which is an event as on a line of a script of this version.
 #[tactic(auto, unfolding(crate::specs::CommandLines::Command::said_by))]
-fn trial(alloc: Global, version: Version, argument: &[u8]) -> Result<ParsedLine, Unread>
+fn trial(alloc: Global, version: Version, argument: &[u8]) -> ParsedLine
     ensures { ReadsSuch (WordSays version Word.Trial argument.now)
         (said_by version Word.Trial argument.now) result }
 {
     if argument.is_empty() {
-        return Ok(ParsedLine::Malformed(Word::Trial));
+        return ParsedLine::Malformed(Word::Trial);
     }
     match read_event(alloc, version, argument) {
-        Ok(event) => Ok(ParsedLine::Asks(Command::Trial(event))),
-        Err(ScriptError::Refused(_)) => Ok(ParsedLine::BadArgument(Word::Trial)),
-        Err(ScriptError::Memory) => Err(Unread { word: Word::Trial }),
+        Ok(event) => ParsedLine::Asks(Command::Trial(event)),
+        Err(ScriptError::Refused(_)) => ParsedLine::BadArgument(Word::Trial),
+        Err(ScriptError::Memory) => ParsedLine::NoMemory(Word::Trial),
     }
 }
 
@@ -271,12 +258,11 @@ impl ParsedLine {
     /// Parses the bytes of a line, in a session of a script of this version. Only the arguments of
     /// `trial` and `explain` take memory.
     #[tactic(auto, unfolding(crate::specs::CommandLines::Command::said_of))]
-    pub fn read(alloc: Global, version: Version, line: &[u8]) -> Result<ParsedLine, Unread>
-        ensures { MatchResult result (LineSays version line.now)
-            (λ unread. FailsToRead version line.now unread.word) }
+    pub fn read(alloc: Global, version: Version, line: &[u8]) -> ParsedLine
+        ensures { ReadsSuch (LineSays version line.now) (said_of version line.now) result }
     {
         if !is_text(line) {
-            return Ok(ParsedLine::Malformed(Word::Unknown));
+            return ParsedLine::Malformed(Word::Unknown);
         }
         read_text(alloc, version, trimmed(line))
     }

@@ -72,10 +72,8 @@ fn answer_bytes(alloc: Global, session: &mut Session, bytes: &[u8]) -> Answer
         → HasLineOutcome (incident_of session.old) session.old.cursor session.new.cursor
         bytes.now result }
 {
-    match ParsedLine::read(alloc, session.version(), bytes) {
-        Ok(parsed) => answer_parsed(alloc, session, parsed),
-        Err(unread) => Answer::Refused(unread.word, Refusal::Memory),
-    }
+    let parsed = ParsedLine::read(alloc, session.version(), bytes);
+    answer_parsed(alloc, session, parsed)
 }
 
 /// Executes what a line was parsed as.
@@ -89,6 +87,7 @@ fn answer_parsed(alloc: Global, session: &mut Session, parsed: ParsedLine) -> An
         ParsedLine::Malformed(word) => Answer::Refused(word, Refusal::BadLine),
         ParsedLine::BadMoment => Answer::Refused(Word::SeekTime, Refusal::BadTime),
         ParsedLine::BadArgument(word) => Answer::Refused(word, Refusal::BadLine),
+        ParsedLine::NoMemory(word) => Answer::Refused(word, Refusal::Memory),
     }
 }
 
