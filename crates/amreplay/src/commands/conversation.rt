@@ -104,10 +104,7 @@ fn finish<W: Write>(
 }
 
 /// Reads once.
-fn read_once<R: Read>(
-    commands: &mut CheckedReader<R>,
-    chunk: &mut [u8],
-) -> Result<usize, Fault>
+fn read_once<R: Read>(commands: &mut CheckedReader<R>, chunk: &mut [u8]) -> Result<usize, Fault>
     requires { 0 < length chunk.old }
     ensures read { MatchResult result
         (λ n. (n ≤ length chunk.new)

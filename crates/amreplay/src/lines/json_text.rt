@@ -4,10 +4,10 @@ ghost use Rattle.std.specs.Prelude.{◌≡◌, ◌++◌, codes, map, IfOk, OnOk,
 ghost use Rattle.std.specs.List.{flat_map};
 ghost use Rattle.serde_json.specs.Data.{Data, array, boolean, string};
 ghost use Rattle.serde_json.specs.View.{items_of};
-ghost use Rattle.serde_json.specs.Written.{compact_text, comma_if};
+ghost use Rattle.serde_json.specs.Written.{compact_text};
 ghost use Rattle.amreplay.specs.Lines.Printed.{data_line};
 
-use crate::lines::strings::{push_string, push_texts};
+use crate::lines::strings::{push_comma, push_string, push_texts};
 use amr_events::posts::SilenceId;
 use amr_labels::{LabelMap, Labels, Shared, Text, TextMap};
 use amr_time::{Moment, push_moment};
@@ -79,16 +79,6 @@ pub(crate) fn push_array<T: ToJson>(
         later = true;
     }
     out.push(']')
-}
-
-/// Appends a comma if there is something before.
-pub(crate) fn push_comma(out: &mut String, later: bool) -> Result<(), AllocError>
-    ensures { OnOk result (string_bytes out.new ≡ string_bytes out.old ++ comma_if later) }
-{
-    if later {
-        out.push(',')?;
-    }
-    Ok(())
 }
 
 impl<T: ToJson + Drop> ToJson for Shared<T> {

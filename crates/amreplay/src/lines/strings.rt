@@ -6,7 +6,6 @@ ghost use Rattle.serde_json.specs.Written.{compact_text, comma_if};
 ghost use Rattle.amr_labels.specs.Labels.{text_cmp};
 ghost use Rattle.amreplay.specs.Lines.Printed.{texts_data};
 
-use crate::lines::json_text::push_comma;
 use crate::lines::plain::needs_no_escape;
 use amr_labels::Text;
 use json::Writer;
@@ -69,4 +68,14 @@ fn push_escaped(out: &mut String, text: &str) -> Result<(), AllocError>
         Ok(text) => out.push_str(text),
         Err(_) => unreachable!(),
     }
+}
+
+/// Appends a comma if there is something before.
+pub(crate) fn push_comma(out: &mut String, later: bool) -> Result<(), AllocError>
+    ensures { OnOk result (string_bytes out.new ≡ string_bytes out.old ++ comma_if later) }
+{
+    if later {
+        out.push(',')?;
+    }
+    Ok(())
 }

@@ -4,8 +4,8 @@ ghost use Rattle.std.specs.Prelude.{◌≡◌, IfOk, string_bytes};
 ghost use Rattle.amreplay.specs.Ends.{EndsBy};
 ghost use Rattle.amreplay.specs.Program.Checked.{counts_line, CheckLeaves};
 
-use crate::lines::{CheckedWriter, flush, write_whole};
 use crate::fault::Fault;
+use crate::lines::{CheckedWriter, flush, write_whole};
 use crate::program::load::read_config;
 use amr_config::Config;
 use std::alloc::{AllocError, Global};

@@ -8,10 +8,12 @@ ghost use Rattle.amreplay.specs.Program.Files.{ConfigFileIs};
 ghost use Rattle.amreplay.specs.Program.Input.{StandFor, MayHold};
 
 use crate::lines::{CheckedReader, ReadFailed};
-use crate::program::load::LONGEST_CONFIG;
 use amr_events::{Script, ScriptError, ScriptReader};
 use std::alloc::{AllocError, Global};
 use std::io::Read;
+
+/// The most bytes of a configuration, 1 MiB.
+pub(crate) const LONGEST_CONFIG: usize = 1_048_576;
 
 /// How many bytes are asked for at once.
 const CHUNK: usize = 8192;

@@ -7,9 +7,9 @@ ghost use Rattle.amreplay.specs.Program.Input.{MayHold};
 ghost use Rattle.amreplay.specs.Ends.{EndsScriptBy};
 ghost use Rattle.amr_config.specs.declared.read.error.Refusal.TheVariants.{BadConfig};
 
-use crate::lines::{CheckedReader, ReadFailed};
 use crate::fault::Fault;
-use crate::program::input::read_script;
+use crate::lines::{CheckedReader, ReadFailed};
+use crate::program::input::{LONGEST_CONFIG, read_script};
 use amr_config::Config;
 use amr_config::read::{ConfigError, Refusal, load_config};
 use amr_events::Script;
@@ -18,9 +18,6 @@ use amr_replay::Session;
 use serde_json::Value;
 use std::alloc::{AllocError, Global};
 use std::io::Read;
-
-/// The most bytes of a configuration, 1 MiB.
-pub(crate) const LONGEST_CONFIG: usize = 1_048_576;
 
 /// Opens a session of a script under a configuration, with the cursor at the start. If both files
 /// are faulty, the fault is that of the configuration.

@@ -10,8 +10,8 @@ ghost use Rattle.amr_engine.specs.Outcomes.{outcome_view};
 ghost use Rattle.amr_engine.specs.Events.{outcome_of, after_event, without_notifications};
 ghost use Rattle.amr_engine.specs.State.State.{start};
 
-use crate::lines::{CheckedReader, CheckedWriter, event_text, flush, write_whole};
 use crate::fault::Fault;
+use crate::lines::{CheckedReader, CheckedWriter, event_text, flush, write_whole};
 use crate::program::load::read_files;
 use amr_engine::{Engine, Outcome};
 use amr_events::Script;

@@ -6,8 +6,8 @@ ghost use Rattle.amreplay.specs.Ends.{EndsBy, ReadsBy, EndsScriptBy};
 ghost use Rattle.amreplay.specs.Program.Sessions.{SessionLeaves};
 
 use crate::commands::converse;
-use crate::lines::{CheckedReader, CheckedWriter};
 use crate::fault::Fault;
+use crate::lines::{CheckedReader, CheckedWriter};
 use crate::program::load::open_session;
 use std::alloc::Global;
 use std::io::{Read, Write};

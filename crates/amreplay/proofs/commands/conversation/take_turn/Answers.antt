@@ -8,7 +8,9 @@ pub returns-in_err-n-clause-turned : goal.returns-in_err-n-clause-turned
 returns-in_err-n-clause-turned g c =
     let p = err_from_is_err_and c.from_residual-in_err-n.result c.from_residual-in_err-n.ensures.1 in
     rw (p.1, p.2, c.in_err-n.ensures.read.0) (λ source start bytes consumed stands. (
-      bytes, Consumes-kept _ _ _ bytes consumed c.in_err-n.ensures.read.1, (_, stands.0, stands.1),
+      bytes,
+      Consumes-kept _ _ _ bytes consumed c.in_err-n.ensures.read.1,
+      (_, stands.0, stands.1),
     ))
 
 pub returns-in_err-finish-clause-turned : goal.returns-in_err-finish-clause-turned
