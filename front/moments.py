@@ -50,9 +50,9 @@ def length_text(length: int) -> str:
         return f"{length / SECOND:.3f}".rstrip("0").rstrip(".") + " s"
     seconds = length // SECOND
     units = [(86_400, "d"), (3_600, "h"), (60, "m"), (1, "s")]
-    place = next(i for i, (size, _) in enumerate(units) if seconds >= size)
+    index = next(i for i, (size, _) in enumerate(units) if seconds >= size)
     parts = []
-    for size, name in units[place : place + 2]:
+    for size, name in units[index : index + 2]:
         count, seconds = divmod(seconds, size)
         if count:
             parts.append(f"{count} {name}")

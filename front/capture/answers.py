@@ -14,46 +14,46 @@ SHOWN_BYTES = 60
 class Answer:
     """A value within an answer, which knows where it stands, so that a wrong shape is reported there."""
 
-    def __init__(self, value: Any, place: str) -> None:
+    def __init__(self, value: Any, location: str) -> None:
         self.value = value
-        self.place = place
+        self.location = location
 
     @staticmethod
-    def of(body: bytes, place: str) -> Answer:
+    def of(body: bytes, location: str) -> Answer:
         """Reads the body of an answer."""
         try:
-            return Answer(json.loads(body), place)
+            return Answer(json.loads(body), location)
         except RecursionError:
-            raise fault(f"{place}: too many levels") from None
+            raise fault(f"{location}: too many levels") from None
         except ValueError:
             start = one_line(body[:SHOWN_BYTES].decode("utf-8", "replace"))
             begins = f"; it begins with {start}" if start else ""
-            raise fault(f"{place}: the answer isn't JSON, or it is cut off{begins}") from None
+            raise fault(f"{location}: the answer isn't JSON, or it is cut off{begins}") from None
 
     @staticmethod
-    def of_prometheus(body: bytes, place: str) -> Answer:
+    def of_prometheus(body: bytes, location: str) -> Answer:
         """Reads the body of an answer of Prometheus, and returns its data."""
-        answer = Answer.of(body, place)
+        answer = Answer.of(body, location)
         if answer.member("status").text() != "success":
             said = answer.value.get("error")
-            raise fault(f"{place}: {said if isinstance(said, str) else 'no success'}")
+            raise fault(f"{location}: {said if isinstance(said, str) else 'no success'}")
         return answer.member("data")
 
     def wrong(self, wanted: str) -> Exception:
         """Returns the fault that the value has another shape."""
-        return fault(f"{self.place}: not {wanted}, as in the API")
+        return fault(f"{self.location}: not {wanted}, as in the API")
 
     def member(self, key: str) -> Answer:
         """Returns a member that has to be there."""
         value = self.object().get(key)
         if value is None:
-            raise fault(f"{self.place}: no {key}, as in the API")
-        return Answer(value, f"{self.place}.{key}")
+            raise fault(f"{self.location}: no {key}, as in the API")
+        return Answer(value, f"{self.location}.{key}")
 
     def optional(self, key: str) -> Answer | None:
         """Returns a member, or nothing if it isn't there."""
         value = self.object().get(key)
-        return None if value is None else Answer(value, f"{self.place}.{key}")
+        return None if value is None else Answer(value, f"{self.location}.{key}")
 
     def object(self) -> dict[str, Any]:
         """Returns the value as an object."""
@@ -65,7 +65,7 @@ class Answer:
         """Returns the items of a list."""
         if not isinstance(self.value, list):
             raise self.wrong("a list")
-        return [Answer(value, f"{self.place}[{i}]") for i, value in enumerate(self.value)]
+        return [Answer(value, f"{self.location}[{i}]") for i, value in enumerate(self.value)]
 
     def text(self) -> str:
         """Returns the value as a text that can be written as UTF-8."""
@@ -96,7 +96,7 @@ class Answer:
     def texts(self) -> dict[str, str]:
         """Returns the value as an object of texts."""
         return {
-            Answer(key, self.place).text(): Answer(text, f"{self.place}.{key}").text()
+            Answer(key, self.location).text(): Answer(text, f"{self.location}.{key}").text()
             for key, text in self.object().items()
         }
 

@@ -57,10 +57,10 @@ class Life:
 
     def outage_between(self, last: int, next_one: int) -> Outage | None:
         """Returns the outage that kept an evaluation from being made, given the one before it."""
-        place = bisect_right(self._befores, last)
-        if place == len(self.outages):
+        index = bisect_right(self._befores, last)
+        if index == len(self.outages):
             return None
-        outage = self.outages[place]
+        outage = self.outages[index]
         return None if outage.after >= next_one or self._has_sign(next_one, outage.before) else outage
 
     def is_lost(self, at: int) -> bool:
@@ -68,14 +68,14 @@ class Life:
 
         A new process knows its Alertmanagers no later than it scrapes, which is when an outage without a known start ends.
         """
-        place = bisect_right(self.starts, at)
-        if place > 0 and at - self.starts[place - 1] < WITHOUT_ALERTMANAGERS:
+        index = bisect_right(self.starts, at)
+        if index > 0 and at - self.starts[index - 1] < WITHOUT_ALERTMANAGERS:
             return True
         return self.outage_between(at - 1, at) is not None
 
     def _has_sign(self, start: int, end: int) -> bool:
-        place = bisect_left(self.signs, start)
-        return place < len(self.signs) and self.signs[place] < end
+        index = bisect_left(self.signs, start)
+        return index < len(self.signs) and self.signs[index] < end
 
 
 @dataclass(frozen=True)
@@ -165,7 +165,7 @@ def _firing_posts(moments: list[int], timing: Timing) -> Iterator[Post]:
 
 def _appears_again(firing: list[int], pending: list[int], after: int) -> int:
     """Returns when an alert is pending or fires again, which is when Prometheus forgets that it was resolved."""
-    found = [moments[place] for moments in (firing, pending) if (place := bisect_left(moments, after)) < len(moments)]
+    found = [moments[index] for moments in (firing, pending) if (index := bisect_left(moments, after)) < len(moments)]
     return min(found, default=1 << 62)
 
 
@@ -193,8 +193,8 @@ def life_of(pulses: list[int], starts: list[int], signs: list[int], end: int) ->
 
 def _outages_by_starts(alive: list[int], starts: list[int]) -> list[Outage]:
     """Returns the time between the last sign of life and the next start, for each start."""
-    places = [(bisect_left(alive, start), start) for start in starts]
-    return [Outage(alive[place - 1], start) for place, start in places if place > 0]
+    indexes = [(bisect_left(alive, start), start) for start in starts]
+    return [Outage(alive[index - 1], start) for index, start in indexes if index > 0]
 
 
 def _outages_by_pauses(pulses: list[int]) -> list[Outage]:
@@ -210,5 +210,5 @@ def usual_pause(pulses: list[int]) -> int:
 
 def first_samples_after(outages: list[Outage], moments: list[int]) -> set[int]:
     """Returns the first of a group's samples after each outage. The moments are in order."""
-    places = [bisect_left(moments, outage.before) for outage in outages]
-    return {moments[place] for place in places if place < len(moments)}
+    indexes = [bisect_left(moments, outage.before) for outage in outages]
+    return {moments[index] for index in indexes if index < len(moments)}

@@ -255,7 +255,7 @@ def _matrices(
 def _value(value: Answer) -> float:
     if not isinstance(value.value, list) or len(value.value) != 2:
         raise value.wrong("a sample")
-    return Answer(value.value[1], value.place).number()
+    return Answer(value.value[1], value.location).number()
 
 
 def _pulses(server: Server, start: int, end: int, step: int, progress: Progress) -> list[int]:

@@ -25,17 +25,17 @@ class PrometheusConfig:
     alertmanagers: int = 1
 
 
-def prometheus_config(text: str, place: str) -> PrometheusConfig:
+def prometheus_config(text: str, location: str) -> PrometheusConfig:
     """Reads the text of `prometheus.yml`."""
     try:
         tree = tree_of(text)
     except BadYaml as error:
-        raise fault(f"{place}: {error}") from None
+        raise fault(f"{location}: {error}") from None
     general, alerting = _member(tree, "global"), _member(tree, "alerting")
     entries = _items(_member(alerting, "alertmanagers"))
-    steps = _steps(_member(alerting, "alert_relabel_configs"), place)
+    steps = _steps(_member(alerting, "alert_relabel_configs"), location)
     if len(entries) == 1:
-        steps += _steps(_member(entries[0], "alert_relabel_configs"), place)
+        steps += _steps(_member(entries[0], "alert_relabel_configs"), location)
     return PrometheusConfig(
         _texts(_member(general, "external_labels")),
         steps,
@@ -46,13 +46,13 @@ def prometheus_config(text: str, place: str) -> PrometheusConfig:
     )
 
 
-def _steps(node: Node | None, place: str) -> list[Step]:
-    return [_step(each, f"{place}: alert_relabel_configs[{i}]") for i, each in enumerate(_items(node))]
+def _steps(node: Node | None, location: str) -> list[Step]:
+    return [_step(each, f"{location}: alert_relabel_configs[{i}]") for i, each in enumerate(_items(node))]
 
 
-def _step(node: Node, place: str) -> Step:
+def _step(node: Node, location: str) -> Step:
     sources = [each.text for each in _items(_member(node, "source_labels")) if isinstance(each, Scalar)]
-    return step_of(_texts(node), sources, place)
+    return step_of(_texts(node), sources, location)
 
 
 def _member(node: Node | None, key: str) -> Node | None:

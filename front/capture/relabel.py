@@ -37,18 +37,18 @@ class Step:
         return self.separator.join(labels.get(name, "") for name in self.source_labels)
 
 
-def step_of(fields: Mapping[str, str], source_labels: list[str], place: str) -> Step:
+def step_of(fields: Mapping[str, str], source_labels: list[str], location: str) -> Step:
     """Returns the step that a configuration has, with Prometheus's defaults."""
     action = fields.get("action", "replace").lower()
     if action not in ACTIONS:
-        raise fault(f"{place}: the action {action} isn't known")
+        raise fault(f"{location}: the action {action} isn't known")
     try:
         modulus = int(fields.get("modulus", "0"))
     except ValueError:
-        raise fault(f"{place}: the modulus isn't a number") from None
+        raise fault(f"{location}: the modulus isn't a number") from None
     if action == "hashmod" and modulus < 1:
-        raise fault(f"{place}: hashmod needs a modulus")
-    pattern = _pattern(fields.get("regex", "(.*)"), place)
+        raise fault(f"{location}: hashmod needs a modulus")
+    pattern = _pattern(fields.get("regex", "(.*)"), location)
     target, replacement = fields.get("target_label", ""), fields.get("replacement", "$1")
     return Step(action, tuple(source_labels), fields.get("separator", ";"), pattern, target, replacement, modulus)
 
@@ -62,7 +62,7 @@ def relabelled(labels: Labels, steps: list[Step]) -> Labels | None:
     return {name: value for name, value in result.items() if value}
 
 
-def _pattern(text: str, place: str) -> re.Pattern[str]:
+def _pattern(text: str, location: str) -> re.Pattern[str]:
     """Returns a pattern of Go's library. It matches whole values. Its flags at the start are moved to its group."""
     for name, members in CLASSES.items():
         text = text.replace(name, members)
@@ -75,7 +75,7 @@ def _pattern(text: str, place: str) -> re.Pattern[str]:
             warnings.simplefilter("ignore", FutureWarning)
             return re.compile(body, re.ASCII)
     except (re.error, OverflowError, RecursionError) as error:
-        raise fault(f"{place}: the pattern {text!r} can't be read here: {error}") from None
+        raise fault(f"{location}: the pattern {text!r} can't be read here: {error}") from None
 
 
 def _expanded(template: str, found: re.Match[str]) -> str:

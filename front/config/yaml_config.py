@@ -33,7 +33,7 @@ class Unread:
 
 @dataclass
 class Reading:
-    """A configuration as the program reads it, with the line of each place in the user's file. `bad_zone` says where and why a `location` can't be
+    """A configuration as the program reads it, with the line of each path in the user's file. `bad_zone` says where and why a `location` can't be
     written in UTC."""
 
     value: Any
@@ -44,7 +44,7 @@ class Reading:
     bad_zone: str = ""
 
     def line_of(self, path: str) -> int | None:
-        """Returns the line of a place, or of the nearest place around it that has one."""
+        """Returns the line of a path, or of the nearest path around it that has one."""
         while path not in self.lines and path:
             path = re.sub(r"(\.?[^.\[]*|\[\d+\])$", "", path, count=1) if re.search(r"[.\[]", path) else ""
         return self.lines.get(path)
@@ -119,7 +119,7 @@ class _Reader:
 
     def _object(self, node: Mapping, shape: Shape, path: str) -> dict[str, Any]:
         if isinstance(shape, Texts):
-            return {key.text: self._text(value, self._placed(key, path)) for key, value in node.pairs}
+            return {key.text: self._text(value, self._recorded(key, path)) for key, value in node.pairs}
         if isinstance(shape, Integration):
             return self._integration(node, shape, path)
         if isinstance(shape, Object):
@@ -133,10 +133,10 @@ class _Reader:
             if member is None:
                 self._note_unread(key, shape, path)
             elif not _is_absent(value, member):
-                found[key.text] = self.read(value, member, self._placed(key, path))
+                found[key.text] = self.read(value, member, self._recorded(key, path))
         return found
 
-    def _placed(self, key: Scalar, path: str) -> str:
+    def _recorded(self, key: Scalar, path: str) -> str:
         """Returns the path of a member, whose line is that of its key."""
         member = _joined(path, key.text)
         self.reading.lines[member] = key.line

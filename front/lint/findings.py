@@ -22,9 +22,9 @@ class Finding:
 
     def text(self, file: str) -> str:
         """Returns `FILE:LINE: error: PATH: WHAT; WRITE`."""
-        place = f"{file}:{self.line}" if self.line else file
+        location = f"{file}:{self.line}" if self.line else file
         path = f"{self.path}: " if self.path else ""
-        return f"{place}: {self.level}: {path}{self.what}" + (f"; {self.write}" if self.write else "")
+        return f"{location}: {self.level}: {path}{self.what}" + (f"; {self.write}" if self.write else "")
 
 
 def value_text(value: Any) -> str:

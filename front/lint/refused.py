@@ -1,4 +1,4 @@
-"""Why the program refused a configuration: the places in the user's file, with words for each."""
+"""Why the program refused a configuration: the values in the user's file, with words for each."""
 
 from __future__ import annotations
 
@@ -11,7 +11,7 @@ from ..program import Refusal
 from ..refusals import CONFIGURATIONS
 from ..story.config import Route, routes_of
 from .findings import ERROR, Finding, value_text
-from .places import last_key, value_at
+from .paths import last_key, value_at
 from .values import words_for
 
 LEVELS_AT_MOST = 32
@@ -38,7 +38,7 @@ def explain(refusal: Refusal, reading: Reading) -> list[Finding]:
 
 
 def _search(number: int, config: Any) -> Found:
-    """Returns the places that a refusal without a path may be about."""
+    """Returns the paths that a refusal without a path may be about."""
     searches: dict[int, Callable[[dict[str, Any], list[Route]], Found]] = {
         6: _unknown_receivers,
         7: _equal_receivers,
@@ -110,13 +110,13 @@ def _groupings(_: dict[str, Any], routes: list[Route]) -> Found:
     for route in routes:
         names = route.value.get("group_by") or []
         for i, name in enumerate(names):
-            place = f"{route.path}.group_by[{i}]"
+            path = f"{route.path}.group_by[{i}]"
             if not name:
-                found.append((place, "the name is empty", "remove it"))
+                found.append((path, "the name is empty", "remove it"))
             elif name in names[:i]:
-                found.append((place, f"{value_text(name)} is there twice", "remove it"))
+                found.append((path, f"{value_text(name)} is there twice", "remove it"))
             elif name == "..." and len(names) > 1:
-                found.append((place, "`...` isn't alone", "write ['...'] alone to group by all labels"))
+                found.append((path, "`...` isn't alone", "write ['...'] alone to group by all labels"))
     return found
 
 

@@ -91,28 +91,28 @@ def _alerts(alerts: Any) -> Iterator[Fault]:
         yield "alerts", f"{value_text(alerts)} is no list", f"write [{value_text(alerts)}]"
         return
     for i, alert in enumerate(alerts):
-        place = f"alerts[{i}]"
+        path = f"alerts[{i}]"
         if not isinstance(alert, dict):
-            yield place, f"{value_text(alert)} is no object", ""
+            yield path, f"{value_text(alert)} is no object", ""
             continue
         if "labels" not in alert:
-            yield place, "labels is required, and isn't there", ""
+            yield path, "labels is required, and isn't there", ""
         for key in ("labels", "annotations"):
-            yield from _texts(alert.get(key, {}), f"{place}.{key}", key == "annotations")
+            yield from _texts(alert.get(key, {}), f"{path}.{key}", key == "annotations")
         for key in ("startsAt", "endsAt"):
             if alert.get(key) not in (None, ""):
-                yield from _moment(alert, key, f"{place}.{key}")
+                yield from _moment(alert, key, f"{path}.{key}")
 
 
-def _texts(value: Any, place: str, may_be_null: bool) -> Iterator[Fault]:
+def _texts(value: Any, path: str, may_be_null: bool) -> Iterator[Fault]:
     if value is None and may_be_null:
         return
     if not isinstance(value, dict):
-        yield place, f"{value_text(value)} is no object of texts", ""
+        yield path, f"{value_text(value)} is no object of texts", ""
         return
     for name, each in value.items():
         if not isinstance(each, str):
-            yield f"{place}.{name}", f"{value_text(each)} is no text", f'write "{each}"' if isinstance(
+            yield f"{path}.{name}", f"{value_text(each)} is no text", f'write "{each}"' if isinstance(
                 each, (int, float)
             ) else "write a text"
 
@@ -133,36 +133,36 @@ def _silence(silence: Any) -> Iterator[Fault]:
         yield from _matcher(matcher, f"silence.matchers[{i}]")
 
 
-def _matcher(matcher: Any, place: str) -> Iterator[Fault]:
+def _matcher(matcher: Any, path: str) -> Iterator[Fault]:
     if not isinstance(matcher, dict):
-        yield place, f"{value_text(matcher)} is no object", 'write {"name":"alertname","value":"X"}'
+        yield path, f"{value_text(matcher)} is no object", 'write {"name":"alertname","value":"X"}'
         return
     for key in ("name", "value"):
         if not isinstance(matcher.get(key), str):
-            yield f"{place}.{key}", f"{value_text(matcher.get(key))} is no text", f"a matcher has a {key}"
+            yield f"{path}.{key}", f"{value_text(matcher.get(key))} is no text", f"a matcher has a {key}"
     for key in ("isRegex", "isEqual"):
         if not isinstance(matcher.get(key), (bool, type(None))):
-            yield f"{place}.{key}", f"{value_text(matcher[key])} is no boolean", "write true or false"
+            yield f"{path}.{key}", f"{value_text(matcher[key])} is no boolean", "write true or false"
 
 
-def _uuid(value: Any, place: str, write: str) -> Iterator[Fault]:
+def _uuid(value: Any, path: str, write: str) -> Iterator[Fault]:
     if value is None:
-        yield place, f"{place} is required, and isn't there", write
+        yield path, f"{path} is required, and isn't there", write
     elif not isinstance(value, str) or not UUID.fullmatch(value):
-        yield place, f"{value_text(value)} is no UUID", "write it as 5b1e0000-0000-4000-8000-000000000001"
+        yield path, f"{value_text(value)} is no UUID", "write it as 5b1e0000-0000-4000-8000-000000000001"
 
 
-def _moment(value: dict[str, Any], key: str, place: str) -> Iterator[Fault]:
+def _moment(value: dict[str, Any], key: str, path: str) -> Iterator[Fault]:
     moment = value.get(key)
     if moment is None:
-        yield place, f"{key} is required, and isn't there", "write a moment, as 2024-05-01T10:00:00Z"
+        yield path, f"{key} is required, and isn't there", "write a moment, as 2024-05-01T10:00:00Z"
         return
     try:
         is_moment = nanoseconds(moment) >= 0
     except (ValueError, TypeError):
         is_moment = False
     if not is_moment:
-        yield place, f"{value_text(moment)} is no moment", "write it as 2024-05-01T10:00:00Z, or with +02:00 in place of Z"
+        yield path, f"{value_text(moment)} is no moment", "write it as 2024-05-01T10:00:00Z, or with +02:00 in place of Z"
 
 
 def unknown_keys_of(lines: list[bytes], numbers: list[int]) -> Iterator[Finding]:
@@ -178,11 +178,11 @@ def unknown_keys_of(lines: list[bytes], numbers: list[int]) -> Iterator[Finding]
                 yield from _unknown(number, matcher, MATCHER_KEYS, f"silence.matchers[{i}].")
 
 
-def _unknown(number: int, value: dict[str, Any], known: tuple[str, ...], place: str) -> Iterator[Finding]:
+def _unknown(number: int, value: dict[str, Any], known: tuple[str, ...], path: str) -> Iterator[Finding]:
     for key in value:
         if key not in known:
             near = meant(key, known)
             if near:
                 yield Finding(
-                    WARNING, number, place + key, f"unknown key {key}, which is ignored", f"did you mean {near}?"
+                    WARNING, number, path + key, f"unknown key {key}, which is ignored", f"did you mean {near}?"
                 )

@@ -10,7 +10,7 @@ from ..meant import meant
 from ..moments import length_of
 from ..story.matching import matchers_in
 from .findings import value_text
-from .places import ABSENT, last_key
+from .paths import ABSENT, last_key
 
 Words = tuple[str, str]
 

@@ -33,8 +33,8 @@ def read_words(words: list[str]) -> Options:
     add("--against", metavar="OTHER_CONFIG", help="replay the script under this configuration too, and compare")
     add("--ignore-reloads", action="store_true", help="leave the script's reloads out")
     add("--try", dest="tried", metavar="EVENT", help="a line of a script that never happened: what would it have done?")
-    add("--from", dest="start", metavar="PLACE", help="the first event of the page: its number, or a moment")
-    add("--to", dest="end", metavar="PLACE", help="the last event of the page: its number, or a moment")
+    add("--from", dest="start", metavar="POSITION", help="the first event of the page: its number, or a moment")
+    add("--to", dest="end", metavar="POSITION", help="the last event of the page: its number, or a moment")
     add(
         "--explain",
         metavar="LABELS",

@@ -11,7 +11,7 @@ Note = dict[str, Any]
 
 @dataclass(frozen=True)
 class Comparison:
-    """Places in the two lists of notifications. What is in none of them is in both runs, at one moment."""
+    """Indexes in the two lists of notifications. What is in none of them is in both runs, at one moment."""
 
     first_alone: list[int]
     second_alone: list[int]
@@ -31,7 +31,7 @@ def compare(first: list[Note], second: list[Note]) -> Comparison:
 
 
 def _unmatched(first: list[Note], second: list[Note]) -> tuple[list[int], list[int]]:
-    """Returns the places of those that aren't in the other list at the same moment."""
+    """Returns the indexes of those that aren't in the other list at the same moment."""
     waiting: dict[tuple[str, str], list[int]] = defaultdict(list)
     for j, note in enumerate(second):
         waiting[note["at"], _content(note)].append(j)

@@ -39,7 +39,7 @@ def change(before: bytes, after: bytes) -> Change:
 
 
 def _alike(before: bytes, i: int, after: bytes, j: int) -> int:
-    """Returns how many bytes of whole lines are alike from two places on."""
+    """Returns how many bytes of whole lines are alike from two indexes on."""
     count, size = 0, FIRST_BLOCK
     end = min(len(before) - i, len(after) - j)
     while count < end and size > 0:
@@ -72,7 +72,7 @@ def _is_there(before: bytes, i: int, after: bytes, j: int, size: int) -> bool:
 
 
 def _until_alike(before: bytes, i: int, after: bytes, j: int) -> tuple[list[bytes], list[bytes]]:
-    """Returns the lines from two places on that stand before the next line that both have."""
+    """Returns the lines from two indexes on that stand before the next line that both have."""
     count = 2
     while count <= MANY_LINES:
         left, right = _some_lines(before, i, count), _some_lines(after, j, count)

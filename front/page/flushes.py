@@ -105,19 +105,19 @@ def _was_due(gap: Gap, key: Key, at: int) -> bool:
 
 def _list(source: Source, lines: list[bytes], gaps: list[Gap], script: Path) -> None:
     """Replays the script with the ticks in it, and keeps what is listed at each."""
-    ticked, places, last = [], [], 0
+    ticked, positions, last = [], [], 0
     for gap in gaps:
         ticked += lines[last : gap.cursor - 1]
         last = gap.cursor - 1
         for at in sorted(gap.ticks):
             ticked.append(json.dumps({"at": moment_text(at), "tick": True}).encode())
-            places.append((gap, at, len(ticked)))
+            positions.append((gap, at, len(ticked)))
     script.write_bytes(script_of(Path(source.script).read_bytes()).text(ticked + lines[last:]))
-    commands = [command for _, _, place in places for command in (f"seek {place}", "groups")]
+    commands = [command for _, _, position in positions for command in (f"seek {position}", "groups")]
     answers = answers_of(Source(source.program, source.config, str(script)), commands)
     text = b""
     groups: Next = {}
-    for (gap, at, _), answer in zip(places, answers[1::2]):
+    for (gap, at, _), answer in zip(positions, answers[1::2]):
         differs = change(text, answer.text)
         text = answer.text
         for key in _next(differs.gone):

@@ -59,11 +59,11 @@ def thinned(entries: list[Entry], stops: list[int]) -> list[Entry]:
     thin = []
     for entry in entries:
         values: dict[int, Value] = {}
-        place = 0
+        index = 0
         for cursor, value in entry.values:
-            while stops[place] < cursor:
-                place += 1
-            values[stops[place]] = value
+            while stops[index] < cursor:
+                index += 1
+            values[stops[index]] = value
         thin.append(Entry(entry.key, _without_repeats(values)))
     return [entry for entry in thin if entry.values]
 

@@ -135,14 +135,14 @@ def _other(options: Options, inputs: Inputs, script: Given) -> Replay | None:
 def _part(options: Options, lines: list[bytes]) -> Part:
     """Returns the events that are wanted."""
     count = len(lines)
-    first = 1 if options.start is None else _place(options.start, lines, "--from")
-    last = count if options.end is None else _place(options.end, lines, "--to")
+    first = 1 if options.start is None else _position(options.start, lines, "--from")
+    last = count if options.end is None else _position(options.end, lines, "--to")
     if first < 1 or last > count or first > last + 1 or (first > last and (options.start or options.end) is not None):
         raise Fault(f"amreplay: there is no event from {options.start or 1} to {options.end or count}", 2)
     return Part(first, last)
 
 
-def _place(text: str, lines: list[bytes], option: str) -> int:
+def _position(text: str, lines: list[bytes], option: str) -> int:
     """Returns the number of an event: as it is written, or of the first from a moment on, or of the last up to it."""
     if text.isascii() and text.isdigit():
         return int(text)

@@ -35,7 +35,7 @@ class RowWriter:
         self._configs = configs
         self._numbers = [configs.number(config) for config in told.story.configs]
         self._rows = [row for row in told.story.rows if any(self._is_shown(span) for span in row.spans)]
-        self._places = {key_of(row): place for place, row in enumerate(self._rows)}
+        self._indexes = {key_of(row): index for index, row in enumerate(self._rows)}
 
     def written(self) -> dict[str, Any]:
         """Returns the rows, the receivers and the configurations of the run, as the page has them."""
@@ -88,9 +88,9 @@ class RowWriter:
         """Returns the number of a verdict, by the program's line."""
         return self.verdicts.setdefault(line, len(self.verdicts))
 
-    def place(self, row: Row) -> int:
-        """Returns the place of a row on the page, or -1."""
-        return self._places.get(key_of(row), -1)
+    def index(self, row: Row) -> int:
+        """Returns the index of a row on the page, or -1."""
+        return self._indexes.get(key_of(row), -1)
 
     def span(self, span: Span) -> list[Any]:
         """Returns a span as the page has it."""
@@ -104,14 +104,14 @@ class RowWriter:
         firing = entry.firing
         told = [
             [
-                self.place(each.row),
+                self.index(each.row),
                 self._moment_or_0(each.first.at),
                 self._moment_or_0(each.first.known),
                 each.first.delay // 1_000_000,
                 int(each.is_late),
             ]
             for each in entry.told
-            if self.place(each.row) >= 0
+            if self.index(each.row) >= 0
         ]
         end = 0 if firing.is_open else self._moment(firing.end)
         return [
@@ -166,9 +166,9 @@ class RowWriter:
         is_silence = isinstance(trial.what, str)
         what = self._tables.text(trial.what) if isinstance(trial.what, str) else self._tables.labels(dict(trial.what))
         rows = [
-            [self._places[each.key], self._moment_or_0(each.first), [self.span(span) for span in each.spans]]
+            [self._indexes[each.key], self._moment_or_0(each.first), [self.span(span) for span in each.spans]]
             for each in trial.outcomes
-            if each.key in self._places
+            if each.key in self._indexes
         ]
         return [0 if is_silence else 1, what, trial.more, trial.fewer, rows]
 

@@ -130,7 +130,7 @@ def act(event: Event, tables: Tables) -> list[Any]:
 
 
 def outcome(printed: list[bytes]) -> tuple[int, list[int]]:
-    """Returns the reason that refused an event, or 0, and the places of the alerts that were skipped."""
+    """Returns the reason that refused an event, or 0, and the positions of the alerts that were skipped."""
     reason = 0
     skipped: list[int] = []
     for line in map(json.loads, printed):

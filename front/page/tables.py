@@ -26,11 +26,11 @@ class Tables:
         return list(self._sets)[number]
 
     def written(self) -> dict[str, Any]:
-        """Returns the tables as the page has them: texts, sets as lists of numbers, and each set's place in the order of label sets."""
+        """Returns the tables as the page has them: texts, sets as lists of numbers, and each set's rank in the order of label sets."""
         sets = [[self.text(text) for pair in each for text in pair] for each in self._sets]
         in_order = sorted(self._sets)
-        places = {each: place for place, each in enumerate(in_order)}
-        return {"texts": list(self._texts), "sets": sets, "places": [places[each] for each in self._sets]}
+        ranks = {each: rank for rank, each in enumerate(in_order)}
+        return {"texts": list(self._texts), "sets": sets, "places": [ranks[each] for each in self._sets]}
 
 
 def pairs(labels: dict[str, str]) -> Pairs:

@@ -101,8 +101,8 @@ def trying(found: Told, telling: Telling, room: Path) -> list[Task]:
     at_most = max(FEW_TRIALS, min(TRIALS_AT_MOST, EVENTS_AT_MOST // max(1, found.story.events)))
     until = time.monotonic() + SECONDS_AT_MOST
     return [
-        partial(_try, found, telling, room / f"without-{place}", what, until)
-        for place, what in enumerate(found.mutes[:at_most])
+        partial(_try, found, telling, room / f"without-{index}", what, until)
+        for index, what in enumerate(found.mutes[:at_most])
     ]
 
 

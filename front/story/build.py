@@ -108,8 +108,8 @@ def _rows(tracked: Tracked) -> list[Row]:
         told = [sent.at for sent in row.sent if sent.is_firing]
         for firing in tracked.firings:
             spans = row.spans_in(firing.posted, firing.end)
-            place = bisect_left(told, firing.posted)
-            at = told[place] if place < len(told) and told[place] <= firing.end else None
+            index = bisect_left(told, firing.posted)
+            at = told[index] if index < len(told) and told[index] <= firing.end else None
             if spans or at is not None:
                 first = firing.end if at is None else at
                 known = (

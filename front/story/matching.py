@@ -54,43 +54,43 @@ def matchers_in(text: str) -> tuple[Matcher, ...] | None:
     if text.startswith("{") and text.endswith("}"):
         text = text[1:-1]
     found: list[Matcher] = []
-    place = 0
+    offset = 0
     while True:
-        place = _after_space(text, place)
-        if place == len(text):
+        offset = _after_space(text, offset)
+        if offset == len(text):
             return tuple(found)
-        name, place = _word(text, place)
-        operator = OPERATOR.match(text, place)
+        name, offset = _word(text, offset)
+        operator = OPERATOR.match(text, offset)
         if not name or not operator:
             return None
-        value, place = _word(text, _after_space(text, operator.end()))
+        value, offset = _word(text, _after_space(text, operator.end()))
         if value is None:
             return None
         found.append((name, value, operator[0] in ("=", "=~"), operator[0].endswith("~")))
-        if place < len(text):
-            if text[place] != ",":
+        if offset < len(text):
+            if text[offset] != ",":
                 return None
-            place += 1
+            offset += 1
 
 
-def _word(text: str, place: int) -> tuple[str | None, int]:
-    """Returns the bare word or the text in quotes at a place, and the place after it and white space."""
-    if not text.startswith('"', place):
-        found = BARE.match(text, place)
+def _word(text: str, offset: int) -> tuple[str | None, int]:
+    """Returns the bare word or the text in quotes at an offset, and the offset after it and white space."""
+    if not text.startswith('"', offset):
+        found = BARE.match(text, offset)
         word = found[0] if found else ""
-        return word, _after_space(text, place + len(word))
-    word, place = "", place + 1
-    while place < len(text) and text[place] != '"':
-        if text[place] == "\\" and place + 1 < len(text):
-            place += 1
-            word += {"n": "\n", "t": "\t", '"': '"', "\\": "\\"}.get(text[place], "\\" + text[place])
+        return word, _after_space(text, offset + len(word))
+    word, offset = "", offset + 1
+    while offset < len(text) and text[offset] != '"':
+        if text[offset] == "\\" and offset + 1 < len(text):
+            offset += 1
+            word += {"n": "\n", "t": "\t", '"': '"', "\\": "\\"}.get(text[offset], "\\" + text[offset])
         else:
-            word += text[place]
-        place += 1
-    return (word, _after_space(text, place + 1)) if place < len(text) else (None, place)
+            word += text[offset]
+        offset += 1
+    return (word, _after_space(text, offset + 1)) if offset < len(text) else (None, offset)
 
 
-def _after_space(text: str, place: int) -> int:
-    while place < len(text) and text[place].isspace():
-        place += 1
-    return place
+def _after_space(text: str, offset: int) -> int:
+    while offset < len(text) and text[offset].isspace():
+        offset += 1
+    return offset

@@ -14,7 +14,7 @@ WAITING, DUE, TOLD, NOWHERE = "Waiting", "Due", "Told", "Nowhere"
 @dataclass(frozen=True)
 class Span:
     """From `start` to just before `end` the program's verdict was this one. `line` is its own line at the start, and `config` the
-    place in `Story.configs` of the configuration in force."""
+    index in `Story.configs` of the configuration in force."""
 
     start: int
     end: int

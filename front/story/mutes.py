@@ -103,7 +103,7 @@ class _Finder:
         self._lengths = [(min(chain.moments), max(chain.moments)) for chain in self.chains]
 
     def pairs(self, wanted: Iterable[Pairs]) -> tuple[list[Pair], Mutes]:
-        """Returns the pairs of as many alerts as aren't too many, and a place for what is found of each."""
+        """Returns the pairs of as many alerts as aren't too many, and a list for what is found of each."""
         mutes = Mutes()
         found: list[Pair] = []
         questions = 0
@@ -224,9 +224,9 @@ class _Asker:
     def ask(self, pairs: list[Pair]) -> list[list[Span]]:
         """Returns the times in which each pair's alert is muted by what it stands beside."""
         asked: dict[int, list[int]] = defaultdict(list)
-        for place, pair in enumerate(pairs):
+        for index, pair in enumerate(pairs):
             for at in pair.moments:
-                asked[at].append(place)
+                asked[at].append(index)
         answers: list[list[Optional[Config]]] = [[] for _ in pairs]
         with tempfile.TemporaryDirectory() as room:
             script, config = Path(room) / "alone.jsonl", Path(room) / "alone.json"
@@ -236,8 +236,8 @@ class _Asker:
             said = converse(Source(self._program, str(config), str(script)), commands)
             for at in sorted(asked):
                 next(said)
-                for place in asked[at]:
-                    answers[place].append(self._read(next(said).lines))
+                for index in asked[at]:
+                    answers[index].append(self._read(next(said).lines))
             for _ in said:
                 pass
         return [self._spans(pair, lines) for pair, lines in zip(pairs, answers)]
@@ -245,8 +245,8 @@ class _Asker:
     def _commands(self, pairs: list[Pair], asked: dict[int, list[int]], cursors: dict[int, int]) -> Iterator[str]:
         for at in sorted(asked):
             yield f"seek {cursors[at]}"
-            for place in asked[at]:
-                yield f"explain {json.dumps(self._marked(pairs[place], place), ensure_ascii=False)}"
+            for index in asked[at]:
+                yield f"explain {json.dumps(self._marked(pairs[index], index), ensure_ascii=False)}"
 
     def _write(self, path: Path, pairs: list[Pair], moments: list[int]) -> dict[int, int]:
         """Writes the script, and returns the cursor of each moment. Each has a tick after all events up to it."""
@@ -273,21 +273,21 @@ class _Asker:
         events = self._finder.events
         start = events[0].at
         always = [
-            {"labels": self._marked(pair, place), "startsAt": start, "endsAt": moment_text(LAST)}
-            for place, pair in enumerate(pairs)
+            {"labels": self._marked(pair, index), "startsAt": start, "endsAt": moment_text(LAST)}
+            for index, pair in enumerate(pairs)
         ]
         yield from _posts(start, always)
         beside: dict[Pairs, list[int]] = defaultdict(list)
-        for place, pair in enumerate(pairs):
+        for index, pair in enumerate(pairs):
             if pair.source is not None:
-                beside[pair.source].append(place)
+                beside[pair.source].append(index)
         chains = {pair.chain for pair in pairs}
         for event in events:
             if event.act == "alerts":
                 copies = [
-                    {**alert, "labels": {**dict(labels), self._label: str(place)}}
+                    {**alert, "labels": {**dict(labels), self._label: str(index)}}
                     for alert, labels in ((each, pairs_of(each["labels"])) for each in event.value)
-                    for place in beside.get(labels, ())
+                    for index in beside.get(labels, ())
                 ]
                 yield from _posts(event.at, copies)
             elif event.act == "reload":
@@ -306,10 +306,10 @@ class _Asker:
         matchers = [*event.value["matchers"], {"name": f"{self._label}_with", "value": str(chain)}]
         yield {"at": event.at, "silence": {**event.value, "matchers": matchers}, "newId": event.new_id}
 
-    def _marked(self, pair: Pair, place: int) -> dict[str, str]:
+    def _marked(self, pair: Pair, index: int) -> dict[str, str]:
         """Returns the labels of a pair's alert. One label keeps it apart from all other pairs, and one joins it to its silence."""
         chain = {} if pair.chain is None else {f"{self._label}_with": str(pair.chain)}
-        return {**dict(pair.alert), self._label: str(place), **chain}
+        return {**dict(pair.alert), self._label: str(index), **chain}
 
     def _config(self, config: Config) -> Config:
         """Returns a configuration with the rules of another one, each of which mutes within a pair alone."""

@@ -38,12 +38,12 @@ def ticked(script: Script, steps: list[Step], wanted: set[int]) -> Ticked:
     ticks = sorted(at for at in wanted if accepted and accepted[0] <= at < accepted[-1])
     lines: list[bytes] = []
     samples: list[Sample] = []
-    place = 0
+    index = 0
     for step, line in zip(steps, script.lines):
-        while step.refused is None and place < len(ticks) and ticks[place] < step.at:
-            lines.append(json.dumps({"at": moment_text(ticks[place]), "tick": True}).encode())
-            samples.append(Sample(len(lines), ticks[place], None))
-            place += 1
+        while step.refused is None and index < len(ticks) and ticks[index] < step.at:
+            lines.append(json.dumps({"at": moment_text(ticks[index]), "tick": True}).encode())
+            samples.append(Sample(len(lines), ticks[index], None))
+            index += 1
         lines.append(line)
         if step.refused is None:
             samples.append(Sample(len(lines), step.at, step))

@@ -47,18 +47,18 @@ class States:
             self.verdicts.append(verdict)
 
     def at(self, moment: int) -> Optional[str]:
-        place = max(0, bisect_right(self.moments, moment) - 1)
-        return self.verdicts[place] if self.verdicts else None
+        index = max(0, bisect_right(self.moments, moment) - 1)
+        return self.verdicts[index] if self.verdicts else None
 
     def next(self, moment: int) -> Optional[int]:
         """Returns the next moment at which the verdict is another one."""
-        place = bisect_right(self.moments, moment)
-        return self.moments[place] if place < len(self.moments) else None
+        index = bisect_right(self.moments, moment)
+        return self.moments[index] if index < len(self.moments) else None
 
     def spans(self, start: int, end: int) -> Iterator[tuple[int, int, str]]:
         """Yields the times within a time in which the item is muted."""
-        place = max(0, bisect_right(self.moments, start) - 1)
-        for i in range(place, len(self.moments)):
+        index = max(0, bisect_right(self.moments, start) - 1)
+        for i in range(index, len(self.moments)):
             until = self.moments[i + 1] if i + 1 < len(self.moments) else end
             verdict, first, last = self.verdicts[i], max(start, self.moments[i] if i else start), min(end, until)
             if verdict is not None and first < last:

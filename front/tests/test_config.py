@@ -1,4 +1,4 @@
-"""Tests how `alertmanager.yml` is read: by its schema, with the lines of its places."""
+"""Tests how `alertmanager.yml` is read: by its schema, with the lines of its paths."""
 from __future__ import annotations
 
 import json
@@ -75,7 +75,7 @@ class Config(unittest.TestCase):
         self.assertEqual(reading.value["receivers"][0]["webhook_configs"], [{}])
         self.assertNotIn(b"secret", reading.as_json())
 
-    def test_places_have_lines(self) -> None:
+    def test_paths_have_lines(self) -> None:
         reading = read_config(WORKING)
         self.assertEqual(reading.line_of("route.routes[0].match.code"), 11)
         self.assertEqual(reading.line_of("receivers[1].webhook_configs"), 19)

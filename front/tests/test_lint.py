@@ -168,9 +168,9 @@ class Configurations(WithRoom):
         zones = [{"location": "Europe/Paris"}, {"location": "Europe/Pariss"}]
         config = {**OPS, "time_intervals": [{"name": "nights", "time_intervals": zones}]}
         path = self.write("config.json", json.dumps(config, indent=1))
-        place = f"{path}:21: error: time_intervals[0].time_intervals[1].location: "
+        location = f"{path}:21: error: time_intervals[0].time_intervals[1].location: "
         said = "there is no zone Europe/Pariss on this machine; did you mean Europe/Paris? (5 BadConfig)\n"
-        self.assertIn(place + said, run_word("lint", path)[1])
+        self.assertIn(location + said, run_word("lint", path)[1])
 
     def test_json_output(self) -> None:
         status, printed, _ = run_word("lint", self.write_json("config.json", with_route(group_wait=30)), "--json")

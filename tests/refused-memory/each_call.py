@@ -1,4 +1,4 @@
-"""Refuses each growth of memory of each call of a session, at each place of its cursor."""
+"""Refuses each growth of memory of each call of a session, at each position of its cursor."""
 
 import json
 import sys
@@ -46,7 +46,7 @@ class EachCall:
         return session
 
     def calls(self, cursor):
-        """Returns every call that may be made at a place of the cursor."""
+        """Returns every call that may be made at a position of the cursor."""
         moments = [json.loads(event)["at"].encode() for event in self.events]
         last_at = moments[-1]
         reload = json.dumps({"at": last_at.decode(), "reload": RELOAD}).encode()

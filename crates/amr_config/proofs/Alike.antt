@@ -35,11 +35,11 @@ of_mapped f v d None = refl
 of_mapped f v d (Some x) = refl
 
 module _ (a b : Config) (same : map routing_part a.routes ≡ map routing_part b.routes) where
-  at_place : {X : Type 0} (f : RoutingPart → X) (d : X) (routes : List Route) (n : ℕ) → option_map_or f (slice_get (map routing_part routes) n) d ≡ option_map_or (λ route. f (routing_part route)) (slice_get routes n) d
-  at_place f d routes n = ap (λ o. option_map_or f o d) (slice_get-map routing_part routes n) ∙ of_mapped f routing_part d (slice_get routes n)
+  at_index : {X : Type 0} (f : RoutingPart → X) (d : X) (routes : List Route) (n : ℕ) → option_map_or f (slice_get (map routing_part routes) n) d ≡ option_map_or (λ route. f (routing_part route)) (slice_get routes n) d
+  at_index f d routes n = ap (λ o. option_map_or f o d) (slice_get-map routing_part routes n) ∙ of_mapped f routing_part d (slice_get routes n)
 
   part : {X : Type 0} (f : RoutingPart → X) (d : X) (n : ℕ) → option_map_or (λ route. f (routing_part route)) (slice_get a.routes n) d ≡ option_map_or (λ route. f (routing_part route)) (slice_get b.routes n) d
-  part f d n = sym (at_place f d a.routes n) ∙ ap (λ parts. option_map_or f (slice_get parts n) d) same ∙ at_place f d b.routes n
+  part f d n = sym (at_index f d a.routes n) ∙ ap (λ parts. option_map_or f (slice_get parts n) d) same ∙ at_index f d b.routes n
 
   parents : (n : ℕ) → parent_of a n ≡ parent_of b n
   parents n = part (λ p. p.parent) None n
@@ -94,7 +94,7 @@ same_known a b alike labels =
     let groups = same_groups a b alike.routes labels in
     λ i. record { groups = groups i; rules = rules i }
 
--- ---- lists whose elements are alike, place by place
+-- ---- lists whose elements are alike, one by one
 
 module _ {X Y : Type 0} (f : X → Y) (xs ys : List X) (k : ℕ) (x y : X) (within : k < length xs) (within_other : k < length ys) (x_is : x ≡ get_or xs k x) (y_is : y ≡ get_or ys k y) where
   pub alike_more : map f (take k xs) ≡ map f (take k ys) → f x ≡ f y → map f (take (k + 1) xs) ≡ map f (take (k + 1) ys)

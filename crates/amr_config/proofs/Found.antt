@@ -39,20 +39,20 @@ module _ (config : Config) where
   own_past n past = decides_no false refl (λ (has : HasOwnPath config n). omega (arith, has.is_there, past))
 
 module _ (config : Config) (settings : List Settings) where
-  pub receiver_found : (receivers : List Receiver) (places : List (Option ℕ)) (n : ℕ) (r : Option (Bor (Option ℕ))) → settings ≡ settings_of_all config → AreReceivers receivers settings places → IsItemAt places n r
+  pub receiver_found : (receivers : List Receiver) (indexes : List (Option ℕ)) (n : ℕ) (r : Option (Bor (Option ℕ))) → settings ≡ settings_of_all config → AreReceivers receivers settings indexes → IsItemAt indexes n r
       → MatchOption r (length config.routes ≤ n) (λ found. receiver_at receivers found.now ≡ receiver_named receivers (receiver_name_of config n))
   unfolding settings_of
-  receiver_found receivers places n None e are h =
-      let past : length places ≤ n = h.3 in
-      omega (arith, as_many config settings e, sym (length-map places (receiver_at receivers)) ∙ ap length are ∙ length-map settings (λ (s : Settings). receiver_named receivers s.receiver), past)
-  receiver_found receivers places n (Some x) e are h =
-      let within : n < length places = h.3.0 in
+  receiver_found receivers indexes n None e are h =
+      let past : length indexes ≤ n = h.3 in
+      omega (arith, as_many config settings e, sym (length-map indexes (receiver_at receivers)) ∙ ap length are ∙ length-map settings (λ (s : Settings). receiver_named receivers s.receiver), past)
+  receiver_found receivers indexes n (Some x) e are h =
+      let within : n < length indexes = h.3.0 in
       let there : n < length config.routes =
-      omega (arith, as_many config settings e, sym (length-map places (receiver_at receivers)) ∙ ap length are ∙ length-map settings (λ (s : Settings). receiver_named receivers s.receiver), within) in
+      omega (arith, as_many config settings e, sym (length-map indexes (receiver_at receivers)) ∙ ap length are ∙ length-map settings (λ (s : Settings). receiver_named receivers s.receiver), within) in
       let f = λ (s : Settings). receiver_named receivers s.receiver in
-      let place : slice_get places n ≡ Some x.now = slice_get-get_or places n None within ∙ ap (λ p. Some p) (sym (h.4 (omega arith) None)) in
+      let index : slice_get indexes n ≡ Some x.now = slice_get-get_or indexes n None within ∙ ap (λ p. Some p) (sym (h.4 (omega arith) None)) in
       same_Some (receiver_at receivers x.now) (receiver_named receivers (receiver_name_of config n))
-      (sym (slice_get-map (receiver_at receivers) places n ∙ ap (option_map (receiver_at receivers)) place)
+      (sym (slice_get-map (receiver_at receivers) indexes n ∙ ap (option_map (receiver_at receivers)) index)
       ∙ ap (λ rs. slice_get rs n) are ∙ slice_get-map f settings n ∙ ap (option_map f) (its_settings config settings e n there))
 
 pub name_past : (config : Config) (n : ℕ) → length config.routes ≤ n → receiver_name_of config n ≡ []

@@ -4,7 +4,7 @@ pub mod Found
 pub mod Inherited
 pub mod Lines
 pub mod OwnPaths
-pub mod Places
+pub mod Indexes
 pub mod Ranges
 pub mod Receivers
 pub mod Cached

@@ -1,4 +1,4 @@
--- The first route with each path, and which places no other is like.
+-- The first route with each path, and which routes no other is like.
 use Rattle.std.proofs.Common.{◌≡◌, ℕ, zero, suc, ◌+◌, ◌-◌, ◌<◌, ◌≤◌, Bool, true, false, cond, List, [], ◌∷◌, ◌++◌, length, get_or, set, map, Option, Some, None, MatchOption, option_and_then, unwrap_or, refl, sym, ap, subst, ◌∙◌, ⊎_elim, arith}
 use Rattle.std.specs.Prelude.{IfSome}
 use Rattle.std.specs.Bool.{Decides}
@@ -20,7 +20,7 @@ use Rattle.std.proofs.lemmas.Option.{slice_get-get_or}
 use Rattle.amr_labels.specs.Matcher.Matchers.{Matcher, matcher_cmp, matcher_cmp_total, matcher_cmp-IsAntisymmetric}
 use Rattle.amr_config.specs.declared.stated.route.Route.{Route}
 use Rattle.amr_config.specs.Stated.Config.{Config}
-use Rattle.amr_config.specs.Paths.{Path, path_hash, IsFirst, IsFirstLike, AreFirsts, AreOwn, AreFirstPlaces, IsAlone, AreAlone}
+use Rattle.amr_config.specs.Paths.{Path, path_hash, IsFirst, IsFirstLike, AreFirsts, AreOwn, AreFirstIndexes, IsAlone, AreAlone}
 use Rattle.amr_config.specs.Routing.{parent_of, line_within, line_of, path_of, sorted_matchers}
 use Rattle.amr_config.specs.declared.settings.Settings.{Settings}
 use Rattle.amr_config.specs.Settled.{settings_of, settings_of_all, AreParentsFirst}
@@ -225,8 +225,8 @@ module _ (config : Config) where
     its : (n : ℕ) → n < length firsts → IsFirstLike config n (get_or firsts n 0)
     its n there = are.each n (omega (arith, there, are.all))
 
-    pub are_first_places : AreFirstPlaces firsts
-    are_first_places n there =
+    pub are_first_indexes : AreFirstIndexes firsts
+    are_first_indexes n there =
         let first = its n there in
         let again = its (get_or firsts n 0) (omega (arith, there, first.within)) in
         (first.within, two_firsts (get_or firsts (get_or firsts n 0) 0) (get_or firsts n 0) again.is_first first.is_first again.same)
@@ -244,23 +244,23 @@ module _ (config : Config) where
       each = λ n within.
           let there : n < limit = omega (arith, within, e) in
           decides_too (get_or own n false) (get_or own n false) refl
-          (λ (only : IsAlone (λ place. get_or firsts place 0) (length firsts) n) other less same. let less_too : other < limit = omega (arith, less, e) in only other (omega (arith, less_too, are.all)) (same_first n other there less_too same))
+          (λ (only : IsAlone (λ index. get_or firsts index 0) (length firsts) n) other less same. let less_too : other < limit = omega (arith, less, e) in only other (omega (arith, less_too, are.all)) (same_first n other there less_too same))
           (λ (only : IsAlone (path_of config) (length config.routes) n) other less same. let less_too : other < limit = omega (arith, less, are.all) in only other (omega (arith, less_too, e)) (same_path n other there less_too same))
           (alone.each n (omega (arith, there, are.all)));
       all = alone.all ∙ are.all ∙ e;
     }
 
--- ---- which places have a number alone
+-- ---- which indexes have a number alone
 
 module _ (numbers : List ℕ) where
-  alone_less : (limit n : ℕ) → IsAlone (λ place. get_or numbers place 0) (limit + 1) n → IsAlone (λ place. get_or numbers place 0) limit n
+  alone_less : (limit n : ℕ) → IsAlone (λ index. get_or numbers index 0) (limit + 1) n → IsAlone (λ index. get_or numbers index 0) limit n
   alone_less limit n only other within same = only other (omega (arith, within)) same
 
-  alone_more : (limit n : ℕ) → (get_or numbers limit 0 ≡ get_or numbers n 0 → limit ≡ n) → IsAlone (λ place. get_or numbers place 0) limit n → IsAlone (λ place. get_or numbers place 0) (limit + 1) n
+  alone_more : (limit n : ℕ) → (get_or numbers limit 0 ≡ get_or numbers n 0 → limit ≡ n) → IsAlone (λ index. get_or numbers index 0) limit n → IsAlone (λ index. get_or numbers index 0) (limit + 1) n
   alone_more limit n next only other within same =
       ⊎_elim (λ (e : other ≡ limit). e ∙ next (ap (λ k. get_or numbers k 0) (sym e) ∙ same)) (λ (ne : other ≡ limit → ⊥). only other (below other limit within ne) same) (cases_eq other limit)
 
-  module _ (are : AreFirstPlaces numbers) (limit : ℕ) (there : limit < length numbers) (alone : List Bool) (known : AreAlone numbers limit alone) where
+  module _ (are : AreFirstIndexes numbers) (limit : ℕ) (there : limit < length numbers) (alone : List Bool) (known : AreAlone numbers limit alone) where
     -- ---- a number that has not been seen
 
     module _ (late : limit ≤ get_or numbers limit 0) where
@@ -307,7 +307,7 @@ module _ (numbers : List ℕ) where
             (λ (e : n ≡ first). decides_no (get_or left n false) (left_first n e)
             (λ only. let h : limit ≡ n = only limit (omega arith) (sym first_has_it ∙ ap (λ k. get_or numbers k 0) (sym e)) in omega (arith, h, less)))
             (λ (apart : n ≡ first → ⊥). decides_too (get_or alone n false) (get_or left n false) (not_left n less apart)
-            (λ (only : IsAlone (λ place. get_or numbers place 0) limit n). alone_more limit n (λ same. absurd (apart (sym (only first before (first_has_it ∙ same))))) only) (alone_less limit n) (known.each n less))
+            (λ (only : IsAlone (λ index. get_or numbers index 0) limit n). alone_more limit n (λ same. absurd (apart (sym (only first before (first_has_it ∙ same))))) only) (alone_less limit n) (known.each n less))
             (cases_eq n first))
             (cases_eq n limit);
         all = length_push (set alone first false) false ∙ ap (λ k. k + 1) (length-set alone first false ∙ known.all);

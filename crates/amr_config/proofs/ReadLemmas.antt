@@ -1,5 +1,5 @@
 pub mod Answered
-pub mod EntryPlacing
+pub mod EntryInsertion
 pub mod Failing
 pub mod Integrations
 pub mod Judged

@@ -20,7 +20,7 @@ routing_part route = record { parent = route.parent; matchers = route.matchers; 
 abbrev pub sides : InhibitRule → List Matcher × List Matcher
 sides rule = (rule.source, rule.target)
 
--- Routes in the same places say the same of alerts and their groups, and so do rules of their
+-- Routes at the same indexes say the same of alerts and their groups, and so do rules of their
 -- sides. Receivers, times and intervals may differ.
 pub record AreAlike (config other : Config) : Type 0 where
   pub routes : map routing_part config.routes ≡ map routing_part other.routes

@@ -11,10 +11,10 @@ use Rattle.amr_config.specs.declared.stated.interval.NamedInterval.{NamedInterva
 abbrev pub interval_named : List NamedInterval → Text → Option NamedInterval
 interval_named intervals name = find (λ found. eq_by_cmp text_cmp found.name name) intervals
 
--- the time interval at this place, if there is one
+-- the time interval at this index, if there is one
 abbrev pub interval_at : List NamedInterval → Option ℕ → Option NamedInterval
-interval_at intervals place = option_and_then (slice_get intervals) place
+interval_at intervals index = option_and_then (slice_get intervals) index
 
--- under each name is the place of the time interval with that name
+-- under each name is the index of the time interval with that name
 abbrev pub AreIntervals : List NamedInterval → BTreeMap Text ℕ → Type 0
-AreIntervals intervals places = (name : Text) → interval_at intervals (tree.get text_cmp places name) ≡ interval_named intervals name
+AreIntervals intervals indexes = (name : Text) → interval_at intervals (tree.get text_cmp indexes name) ≡ interval_named intervals name

@@ -60,11 +60,11 @@ pub record AreOwn (config : Config) (own : List Bool) : Type 0 where
   pub each : (n : ℕ) → n < length config.routes → Decides (get_or own n false) (IsAlone (path_of config) (length config.routes) n)
   pub all : length own ≡ length config.routes
 
--- each number is a place that has it, and no later than where it stands
-abbrev pub AreFirstPlaces : List ℕ → Type 0
-AreFirstPlaces numbers = (n : ℕ) → n < length numbers → (get_or numbers n 0 ≤ n) × (get_or numbers (get_or numbers n 0) 0 ≡ get_or numbers n 0)
+-- each number is an index that has it, and no later than where it stands
+abbrev pub AreFirstIndexes : List ℕ → Type 0
+AreFirstIndexes numbers = (n : ℕ) → n < length numbers → (get_or numbers n 0 ≤ n) × (get_or numbers (get_or numbers n 0) 0 ≡ get_or numbers n 0)
 
--- what is said of each place is whether no other before the limit has its number
+-- what is said of each index is whether no other before the limit has its number
 pub record AreAlone (numbers : List ℕ) (limit : ℕ) (alone : List Bool) : Type 0 where
-  pub each : (n : ℕ) → n < limit → Decides (get_or alone n false) (IsAlone (λ place. get_or numbers place 0) limit n)
+  pub each : (n : ℕ) → n < limit → Decides (get_or alone n false) (IsAlone (λ index. get_or numbers index 0) limit n)
   pub all : length alone ≡ limit

@@ -14,22 +14,22 @@ use Rattle.amr_config.specs.declared.settings.Settings.{Settings}
 abbrev pub receiver_named : List Receiver → Text → Option Receiver
 receiver_named receivers name = find (λ receiver. eq_by_cmp text_cmp receiver.name name) receivers
 
--- the receiver at this place, if there is one
+-- the receiver at this index, if there is one
 abbrev pub receiver_at : List Receiver → Option ℕ → Option Receiver
-receiver_at receivers place = option_and_then (slice_get receivers) place
+receiver_at receivers index = option_and_then (slice_get receivers) index
 
--- under each name is the place of the receiver with that name
-abbrev pub ArePlaces : List Receiver → BTreeMap Text ℕ → Type 0
-ArePlaces receivers places = (name : Text) → receiver_at receivers (tree.get text_cmp places name) ≡ receiver_named receivers name
+-- under each name is the index of the receiver with that name
+abbrev pub AreIndexes : List Receiver → BTreeMap Text ℕ → Type 0
+AreIndexes receivers indexes = (name : Text) → receiver_at receivers (tree.get text_cmp indexes name) ≡ receiver_named receivers name
 
--- at these places are the receivers that the routes name
+-- at these indexes are the receivers that the routes name
 abbrev pub AreReceivers : List Receiver → List Settings → List (Option ℕ) → Type 0
-AreReceivers receivers settings places = map (receiver_at receivers) places ≡ map (λ its. receiver_named receivers its.receiver) settings
+AreReceivers receivers settings indexes = map (receiver_at receivers) indexes ≡ map (λ its. receiver_named receivers its.receiver) settings
 
 -- the parent from which a route inherits its receiver; none if it states one
 abbrev pub receiver_parent : Route → Option ℕ
 receiver_parent route = option_map_or (λ name. None) route.receiver route.parent
 
--- the place of the receiver of the route with this number, if there is one
-abbrev pub place_at : List (Option ℕ) → ℕ → Option ℕ
-place_at places route = option_and_then (λ place. place) (slice_get places route)
+-- the index of the receiver of the route with this number, if there is one
+abbrev pub index_at : List (Option ℕ) → ℕ → Option ℕ
+index_at indexes route = option_and_then (λ index. index) (slice_get indexes route)

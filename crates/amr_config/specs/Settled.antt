@@ -50,9 +50,9 @@ AreParentsFirst config = (n parent : ℕ) → parent_of config n ≡ Some parent
 pub record AreSettled (parts : Parts) : Type 0 where
   pub settings : parts.settings ≡ settings_of_all (config_of_parts parts)
   pub parents : AreParentsFirst (config_of_parts parts)
-  pub receivers : AreReceivers parts.stated.receivers parts.settings parts.receiver_places
+  pub receivers : AreReceivers parts.stated.receivers parts.settings parts.receiver_indexes
   pub own_paths : AreOwn (config_of_parts parts) parts.own_paths
-  pub intervals : AreIntervals parts.stated.time_intervals parts.interval_places
+  pub intervals : AreIntervals parts.stated.time_intervals parts.interval_indexes
   pub rule_names : IfSome parts.rule_names (AreNamesOf parts.stated.rules)
 
 -- the receiver of a route, given its parent's settings, if it has a parent

@@ -15,9 +15,9 @@ ghost use Rattle.amr_config.specs.Settled.{settings_of, stated_config, AreParent
 
 use crate::defaults::{GROUP_INTERVAL_MINUTES, GROUP_WAIT_SECONDS, REPEAT_INTERVAL_HOURS};
 use crate::inherit::inherit;
-use crate::interval_places::interval_places;
+use crate::interval_indexes::interval_indexes;
 use crate::own_paths::own_paths;
-use crate::receiver_places::receiver_places;
+use crate::receiver_indexes::receiver_indexes;
 use crate::route_path::RoutePath;
 use crate::rule_names::rule_names;
 use crate::settings::Settings;
@@ -37,12 +37,12 @@ use std::rc::Rc;
 pub(crate) struct Parts {
     pub(crate) stated: Stated,
     pub(crate) settings: Listing<Settings>,
-    /// For each route, the place of its receiver.
-    pub(crate) receiver_places: Listing<Option<usize>>,
+    /// For each route, the index of its receiver.
+    pub(crate) receiver_indexes: Listing<Option<usize>>,
     /// For each route, whether no other route has its path.
     pub(crate) own_paths: Listing<bool>,
-    /// For each name of a time interval, its place.
-    pub(crate) interval_places: BTreeMap<Text, usize>,
+    /// For each name of a time interval, its index.
+    pub(crate) interval_indexes: BTreeMap<Text, usize>,
     pub(crate) rule_names: Option<Names>,
 }
 
@@ -88,15 +88,15 @@ impl Config {
     {
         let settings = inherit(alloc, &stated)?;
         let rule_names = rule_names(alloc, stated.rules.as_slice())?;
-        let receiver_places = receiver_places(alloc, &stated, settings.as_slice())?;
-        let interval_places = interval_places(alloc, stated.time_intervals.as_slice())?;
+        let receiver_indexes = receiver_indexes(alloc, &stated, settings.as_slice())?;
+        let interval_indexes = interval_indexes(alloc, stated.time_intervals.as_slice())?;
         let own_paths = own_paths(alloc, &stated, settings.as_slice())?;
         let parts = Parts {
             stated,
             settings,
-            receiver_places,
+            receiver_indexes,
             own_paths,
-            interval_places,
+            interval_indexes,
             rule_names,
         };
         Ok(Config {
@@ -269,8 +269,8 @@ impl Config {
         ensures { option_copied result
             ≡ receiver_named self.now.receivers (receiver_name_of self.now route) }
     {
-        match self.shared.receiver_places.as_slice().get(route) {
-            Some(place) => receiver_at(self.shared.stated.receivers.as_slice(), *place),
+        match self.shared.receiver_indexes.as_slice().get(route) {
+            Some(index) => receiver_at(self.shared.stated.receivers.as_slice(), *index),
             None => self.receiver(""),
         }
     }
@@ -321,8 +321,8 @@ impl Config {
     fn interval_named(&self, name: &Text) -> Option<&NamedInterval>
         ensures { option_copied result ≡ interval_named self.now.time_intervals name.now }
     {
-        let place = self.shared.interval_places.get(name).copied();
-        interval_at(self.shared.stated.time_intervals.as_slice(), place)
+        let index = self.shared.interval_indexes.get(name).copied();
+        interval_at(self.shared.stated.time_intervals.as_slice(), index)
     }
 
     /// Returns the settings of a route: its own, inherited, or default.
@@ -338,22 +338,22 @@ impl Config {
     }
 }
 
-/// Returns the time interval at a place, if there is one.
-fn interval_at(intervals: &[NamedInterval], place: Option<usize>) -> Option<&NamedInterval>
-    ensures { option_copied result ≡ interval_at intervals.now place }
+/// Returns the time interval at an index, if there is one.
+fn interval_at(intervals: &[NamedInterval], index: Option<usize>) -> Option<&NamedInterval>
+    ensures { option_copied result ≡ interval_at intervals.now index }
 {
-    match place {
-        Some(place) => intervals.get(place),
+    match index {
+        Some(index) => intervals.get(index),
         None => None,
     }
 }
 
-/// Returns the receiver at a place, if there is one.
-fn receiver_at(receivers: &[Receiver], place: Option<usize>) -> Option<&Receiver>
-    ensures { option_copied result ≡ receiver_at receivers.now place }
+/// Returns the receiver at an index, if there is one.
+fn receiver_at(receivers: &[Receiver], index: Option<usize>) -> Option<&Receiver>
+    ensures { option_copied result ≡ receiver_at receivers.now index }
 {
-    match place {
-        Some(place) => receivers.get(place),
+    match index {
+        Some(index) => receivers.get(index),
         None => None,
     }
 }

@@ -19,15 +19,15 @@ impl Config {
     }
 }
 
-/// Returns whether each route is like the other one at its place.
+/// Returns whether each route is like the other one at its index.
 fn are_routes_alike(routes: &[Route], others: &[Route]) -> bool
     ensures { Decides result (map routing_part routes.now ≡ map routing_part others.now) }
 {
     if routes.len() != others.len() {
         return false;
     }
-    for (place, route) in routes.iter().enumerate() {
-        if !is_route_alike(route, &others[place]) {
+    for (index, route) in routes.iter().enumerate() {
+        if !is_route_alike(route, &others[index]) {
             return false;
         }
     }
@@ -39,11 +39,11 @@ fn are_routes_alike(routes: &[Route], others: &[Route]) -> bool
 fn is_route_alike(route: &Route, other: &Route) -> bool
     ensures { Decides result (routing_part route.now ≡ routing_part other.now) }
 {
-    is_place_alike(route, other) && takes_alike(route, other)
+    is_parent_alike(route, other) && takes_alike(route, other)
 }
 
 /// Returns whether two routes have the same parent, and the same `continue`.
-fn is_place_alike(route: &Route, other: &Route) -> bool
+fn is_parent_alike(route: &Route, other: &Route) -> bool
     ensures { Decides result ((route.now.parent ≡ other.now.parent)
         × (route.now.continues ≡ other.now.continues)) }
 {
@@ -87,15 +87,15 @@ fn are_names_alike(names: &Names, others: &Names) -> bool
     names.as_slice() == others.as_slice()
 }
 
-/// Returns whether each rule is like the other one at its place.
+/// Returns whether each rule is like the other one at its index.
 fn are_rules_alike(rules: &[InhibitRule], others: &[InhibitRule]) -> bool
     ensures { Decides result (map sides rules.now ≡ map sides others.now) }
 {
     if rules.len() != others.len() {
         return false;
     }
-    for (place, rule) in rules.iter().enumerate() {
-        if !is_rule_alike(rule, &others[place]) {
+    for (index, rule) in rules.iter().enumerate() {
+        if !is_rule_alike(rule, &others[index]) {
             return false;
         }
     }

@@ -3,7 +3,7 @@
 //! routes share with their parent is then never compared, and the time is about linear in the size
 //! of the configuration, whatever the parents' matchers.
 ghost use Rattle.std.specs.Prelude.{◌≡◌, ◌-◌, [], length, IfOk, option_and_then, slice_get, unwrap_or};
-ghost use Rattle.amr_config.specs.Paths.{AreFirsts, AreFirstPlaces, AreAlone, AreOwn, path_hash};
+ghost use Rattle.amr_config.specs.Paths.{AreFirsts, AreFirstIndexes, AreAlone, AreOwn, path_hash};
 ghost use Rattle.amr_config.specs.Settled.{stated_config, settings_of_all, AreParentsFirst};
 
 use crate::route_path::RoutePath;
@@ -90,15 +90,15 @@ fn above(firsts: &[usize], parent: Option<usize>) -> Option<usize>
     }
 }
 
-/// Returns for each place whether no other place has its number, where each number is the first
-/// place that has it.
+/// Returns for each index whether no other index has its number, where each number is the first
+/// index that has it.
 fn alone(alloc: Global, numbers: &[usize]) -> Result<Listing<bool>, AllocError>
-    requires { AreFirstPlaces numbers.now }
+    requires { AreFirstIndexes numbers.now }
     ensures { IfOk result (λ alone. AreAlone numbers.now (length numbers.now) alone) }
 {
     let mut alone = Vec::with_capacity(alloc, numbers.len())?;
-    for (place, first) in numbers.iter().enumerate() {
-        if *first < place {
+    for (index, first) in numbers.iter().enumerate() {
+        if *first < index {
             alone[*first] = false;
             alone.push(false)?;
         } else {

@@ -9,7 +9,6 @@ pub mod laws;
 mod load;
 mod members;
 mod names;
-mod place;
 mod read;
 mod read_intervals;
 mod read_matchers;
@@ -17,6 +16,7 @@ mod read_receivers;
 mod read_routes;
 mod read_rules;
 mod validate;
+mod value_path;
 mod whole;
 
 pub use error::{Cause, ConfigError, Refusal};

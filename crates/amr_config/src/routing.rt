@@ -43,16 +43,16 @@ impl Standing {
 
 /// Returns the numbers of the routes that are chosen by these standings.
 fn chosen_numbers(alloc: Global, standings: &[Standing]) -> Result<Vec<usize>, AllocError>
-    ensures { IfOk result (λ places. places.items
+    ensures { IfOk result (λ indexes. indexes.items
         ≡ chosen_numbers standings.now (length standings.now)) }
 {
-    let mut places = Vec::new(alloc);
-    for (place, standing) in standings.iter().enumerate() {
+    let mut indexes = Vec::new(alloc);
+    for (index, standing) in standings.iter().enumerate() {
         if standing.is_chosen() {
-            places.push(place)?;
+            indexes.push(index)?;
         }
     }
-    Ok(places)
+    Ok(indexes)
 }
 
 /// Returns the standings of all routes.

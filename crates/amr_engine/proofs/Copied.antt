@@ -16,7 +16,7 @@ use Rattle.amr_config.specs.Routing.{chosen_routes, is_chosen}
 use Rattle.amr_rules.specs.declared.alert.Alert.{Alert}
 use Rattle.amr_rules.specs.Alerts.{alert_to_store}
 use Rattle.amr_engine.specs.declared.state.route_labels.RouteLabels.{RouteLabels}
-use Rattle.amr_engine.specs.State.State.{State, on_route, route_labels_cmp, route_labels_cmp_total, route_labels_cmp-IsAntisymmetric, place_on, place}
+use Rattle.amr_engine.specs.State.State.{State, on_route, route_labels_cmp, route_labels_cmp_total, route_labels_cmp-IsAntisymmetric, insert_into_group, insert_into_groups}
 use Rattle.amr_engine.specs.Events.{put, with_config}
 use Rattle.amr_engine.specs.Weight.{copies}
 
@@ -40,7 +40,7 @@ apart q k differ =
     ] refl
 
 -- a member elsewhere leaves a key free
-still_free : (s : State) (labels : LabelSet) (alert : Alert) (route : ℕ) (q : RouteLabels) → (q ≡ on_route route labels → ⊥) → get s.placements q ≡ None → get (place_on labels alert s route).placements q ≡ None
+still_free : (s : State) (labels : LabelSet) (alert : Alert) (route : ℕ) (q : RouteLabels) → (q ≡ on_route route labels → ⊥) → get s.placements q ≡ None → get (insert_into_group labels alert s route).placements q ≡ None
 still_free s labels alert route q differ free =
     get-insert route_labels_cmp_total s.placements (on_route route labels) alert q
     ∙ ap (λ b. cond b (Some alert) (get s.placements q)) (apart q (on_route route labels) differ) ∙ free
@@ -51,15 +51,15 @@ IsFree s labels from = (route : ℕ) → from ≤ route → get s.placements (on
 
 module _ (p : ℕ → Bool) (labels : LabelSet) (alert : Alert) where
   abbrev placed : State → ℕ → ℕ → State
-  placed s from n = fold (place_on labels alert) s (filter p (range_with_len from n))
+  placed s from n = fold (insert_into_group labels alert) s (filter p (range_with_len from n))
 
   placed_len : (n from : ℕ) (s : State) → IsFree s labels from → len (placed s from n).placements ≡ len s.placements + length (filter p (range_with_len from n))
   placed_len zero from s free = omega arith
   placed_len (suc n) from s free =
-      elim (p from) as (λ b. len (fold (place_on labels alert) s (cond b (from ∷ filter p (range_with_len (from + 1) n)) (filter p (range_with_len (from + 1) n)))).placements
+      elim (p from) as (λ b. len (fold (insert_into_group labels alert) s (cond b (from ∷ filter p (range_with_len (from + 1) n)) (filter p (range_with_len (from + 1) n)))).placements
       ≡ len s.placements + length (cond b (from ∷ filter p (range_with_len (from + 1) n)) (filter p (range_with_len (from + 1) n)))) [
         | true ↦
-            let next : State = place_on labels alert s from in
+            let next : State = insert_into_group labels alert s from in
             let free_next : IsFree next labels (from + 1) = λ route le.
             still_free s labels alert from (on_route route labels)
             (λ e. let same : route ≡ from = ap (λ (x : RouteLabels). x.route) e in omega (arith, same, le)) (free route (omega (arith, le))) in
@@ -69,29 +69,29 @@ module _ (p : ℕ → Bool) (labels : LabelSet) (alert : Alert) where
         | false ↦ placed_len n (from + 1) s (λ route le. free route (omega (arith, le)))
       ]
 
-placed_free : (labels : LabelSet) (alert : Alert) (rs : List ℕ) (s : State) (q : RouteLabels) → (q.labels ≡ labels → ⊥) → get s.placements q ≡ None → get (fold (place_on labels alert) s rs).placements q ≡ None
+placed_free : (labels : LabelSet) (alert : Alert) (rs : List ℕ) (s : State) (q : RouteLabels) → (q.labels ≡ labels → ⊥) → get s.placements q ≡ None → get (fold (insert_into_group labels alert) s rs).placements q ≡ None
 placed_free labels alert [] s q differ free = free
-placed_free labels alert (r ∷ rs) s q differ free = placed_free labels alert rs (place_on labels alert s r) q differ (still_free s labels alert r q (λ e. differ (ap (λ (x : RouteLabels). x.labels) e)) free)
+placed_free labels alert (r ∷ rs) s q differ free = placed_free labels alert rs (insert_into_group labels alert s r) q differ (still_free s labels alert r q (λ e. differ (ap (λ (x : RouteLabels). x.labels) e)) free)
 
-place_on-config : (labels : LabelSet) (alert : Alert) (rs : List ℕ) (s : State) → (fold (place_on labels alert) s rs).config ≡ s.config
-place_on-config labels alert [] s = refl
-place_on-config labels alert (r ∷ rs) s = place_on-config labels alert rs (place_on labels alert s r)
+insert_into_group-config : (labels : LabelSet) (alert : Alert) (rs : List ℕ) (s : State) → (fold (insert_into_group labels alert) s rs).config ≡ s.config
+insert_into_group-config labels alert [] s = refl
+insert_into_group-config labels alert (r ∷ rs) s = insert_into_group-config labels alert rs (insert_into_group labels alert s r)
 
-pub place-config : (s : State) (alert : LabelSet × Alert) → (place s alert).config ≡ s.config
-unfolding place
-place-config s alert = place_on-config alert.0 alert.1 (chosen_routes s.config alert.0) s
+pub insert_into_groups-config : (s : State) (alert : LabelSet × Alert) → (insert_into_groups s alert).config ≡ s.config
+unfolding insert_into_groups
+insert_into_groups-config s alert = insert_into_group-config alert.0 alert.1 (chosen_routes s.config alert.0) s
 
 pub put-config : (s : State) (alert : LabelSet × Alert) → (put s alert).config ≡ s.config
 unfolding put
-put-config s alert = place-config (record s { alerts = insert s.alerts alert.0 (alert_to_store s.moment (get s.alerts alert.0) alert.1) }) (alert.0, alert_to_store s.moment (get s.alerts alert.0) alert.1)
+put-config s alert = insert_into_groups-config (record s { alerts = insert s.alerts alert.0 (alert_to_store s.moment (get s.alerts alert.0) alert.1) }) (alert.0, alert_to_store s.moment (get s.alerts alert.0) alert.1)
 
-place_len : (s : State) (alert : LabelSet × Alert) → IsFree s alert.0 0 → len (place s alert).placements ≡ len s.placements + length (chosen_routes s.config alert.0)
-unfolding place chosen_routes
-place_len s alert free = placed_len (is_chosen s.config alert.0) alert.0 alert.1 (length s.config.routes) 0 s free
+inserted_len : (s : State) (alert : LabelSet × Alert) → IsFree s alert.0 0 → len (insert_into_groups s alert).placements ≡ len s.placements + length (chosen_routes s.config alert.0)
+unfolding insert_into_groups chosen_routes
+inserted_len s alert free = placed_len (is_chosen s.config alert.0) alert.0 alert.1 (length s.config.routes) 0 s free
 
-place_free : (s : State) (alert : LabelSet × Alert) (labels : LabelSet) → label_set_cmp alert.0 labels ≡ Less → IsFree s labels 0 → IsFree (place s alert) labels 0
-unfolding place
-place_free s alert labels less free = λ route le.
+inserted_free : (s : State) (alert : LabelSet × Alert) (labels : LabelSet) → label_set_cmp alert.0 labels ≡ Less → IsFree s labels 0 → IsFree (insert_into_groups s alert) labels 0
+unfolding insert_into_groups
+inserted_free s alert labels less free = λ route le.
     placed_free alert.0 alert.1 (chosen_routes s.config alert.0) s (on_route route labels)
     (λ same. let level : Equal ≡ Less = sym (tied_itself label_set_cmp_total alert.0) ∙ ap (label_set_cmp alert.0) (sym same) ∙ less in absurd (cc)) (free route le)
 
@@ -109,21 +109,21 @@ is_less Less p = refl
 is_less Equal p = absurd p
 is_less Greater p = absurd p
 
-rest_free : (s : State) (alert : LabelSet × Alert) (alerts : List (LabelSet × Alert)) → T (below_all label_set_cmp alert.0 alerts) → AreFree s alerts → AreFree (place s alert) alerts
+rest_free : (s : State) (alert : LabelSet × Alert) (alerts : List (LabelSet × Alert)) → T (below_all label_set_cmp alert.0 alerts) → AreFree s alerts → AreFree (insert_into_groups s alert) alerts
 unfolding AreFree
 rest_free s alert [] below free = tt
 rest_free s alert (other ∷ alerts) below free =
     let parts = both_parts (is_lt (label_set_cmp alert.0 other.0)) (below_all label_set_cmp alert.0 alerts) below in
-    (place_free s alert other.0 (is_less (label_set_cmp alert.0 other.0) parts.0) free.0, rest_free s alert alerts parts.1 free.1)
+    (inserted_free s alert other.0 (is_less (label_set_cmp alert.0 other.0) parts.0) free.0, rest_free s alert alerts parts.1 free.1)
 
 placed_all : (config : Config) (alerts : List (LabelSet × Alert)) (s : State) → s.config ≡ config → T (is_sorted label_set_cmp alerts) → AreFree s alerts
-    → len (fold place s alerts).placements ≡ len s.placements + copies config alerts
+    → len (fold insert_into_groups s alerts).placements ≡ len s.placements + copies config alerts
 unfolding AreFree
 placed_all config [] s same sorted free = omega arith
 placed_all config (alert ∷ alerts) s same sorted free =
     let parts = both_parts (below_all label_set_cmp alert.0 alerts) (is_sorted label_set_cmp alerts) sorted in
-    placed_all config alerts (place s alert) (place-config s alert ∙ same) parts.1 (rest_free s alert alerts parts.0 free.1)
-    ∙ ap (λ k. k + copies config alerts) (place_len s alert free.0 ∙ ap (λ c. len s.placements + length (chosen_routes c alert.0)) same)
+    placed_all config alerts (insert_into_groups s alert) (insert_into_groups-config s alert ∙ same) parts.1 (rest_free s alert alerts parts.0 free.1)
+    ∙ ap (λ k. k + copies config alerts) (inserted_len s alert free.0 ∙ ap (λ c. len s.placements + length (chosen_routes c alert.0)) same)
     ∙ omega (arith, sum_by-cons (λ (a : LabelSet × Alert). length (chosen_routes config a.0)) alert alerts)
 
 none_placed : (s : State) (config : Config) (alerts : List (LabelSet × Alert)) → AreFree (record s { config = config; placements = empty; timers = empty }) alerts

@@ -24,7 +24,7 @@ use Rattle.amr_engine.specs.declared.state.notification.LogKey.{LogKey}
 use Rattle.amr_engine.specs.declared.state.notification.GroupTimer.{GroupTimer}
 use Rattle.amr_engine.specs.declared.state.notification.Notification.{Notification}
 use Rattle.amr_engine.specs.declared.state.route_labels.RouteLabels.{RouteLabels}
-use Rattle.amr_engine.specs.State.State.{State, on_route, route_labels_cmp, route_labels_cmp_total, route_labels_cmp-IsAntisymmetric, group_key, members, place_on, place}
+use Rattle.amr_engine.specs.State.State.{State, on_route, route_labels_cmp, route_labels_cmp_total, route_labels_cmp-IsAntisymmetric, group_key, members, insert_into_group, insert_into_groups}
 use Rattle.amr_engine.specs.declared.quiet.Period.{Period}
 use Rattle.amr_engine.specs.declared.quiet.QuietTime.{QuietTime}
 use Rattle.amr_engine.specs.Events as events
@@ -134,29 +134,29 @@ put_elsewhere {X = X} R exact test k v gone (e ∷ es) =
     ] refl
 
 module _ (labels : LabelSet) (alert : Alert) where
-  place_on_members : (s : State) (route : ℕ) (asked : RouteLabels) → (asked ≡ group_key s.config (on_route route labels) → ⊥) → members (place_on labels alert s route) asked ≡ members s asked
+  inserted_one_members : (s : State) (route : ℕ) (asked : RouteLabels) → (asked ≡ group_key s.config (on_route route labels) → ⊥) → members (insert_into_group labels alert s route) asked ≡ members s asked
   unfolding members
-  place_on_members s route asked other =
+  inserted_one_members s route asked other =
       ap (map (λ (placement : RouteLabels × Alert). (placement.0.labels, placement.1)))
       (ap (filter (λ (placement : RouteLabels × Alert). eq_by_cmp route_labels_cmp (group_key s.config placement.0) asked)) (entries-insert route_labels_cmp_total s.placements (on_route route labels) alert)
       ∙ put_elsewhere route_labels_cmp route_labels_cmp-IsAntisymmetric (λ route_labels. eq_by_cmp route_labels_cmp (group_key s.config route_labels) asked) (on_route route labels) alert
       (apart route_labels_cmp-IsAntisymmetric (group_key s.config (on_route route labels)) asked (λ e. other (sym e))) (entries s.placements))
 
   -- an alert that is inserted into groups leaves those notified that are still known
-  left_by_places : (routes : List ℕ) (s : State) (times : Times) (group : RouteLabels) (time : QuietTime) → get (fold without_group times (map (group_at s.config labels) routes)) group ≡ Some time
-      → (IsNotifiedIn s group time.period → IsNotifiedIn (fold (place_on labels alert) s routes) group time.period) × (get times group ≡ Some time)
-  left_by_places [] s times group time known = (λ notified. notified, known)
-  left_by_places (route ∷ routes) s times group time known =
-      let rest = left_by_places routes (place_on labels alert s route) (without_group times (group_at s.config labels route)) group time known in
+  left_by_insertions : (routes : List ℕ) (s : State) (times : Times) (group : RouteLabels) (time : QuietTime) → get (fold without_group times (map (group_at s.config labels) routes)) group ≡ Some time
+      → (IsNotifiedIn s group time.period → IsNotifiedIn (fold (insert_into_group labels alert) s routes) group time.period) × (get times group ≡ Some time)
+  left_by_insertions [] s times group time known = (λ notified. notified, known)
+  left_by_insertions (route ∷ routes) s times group time known =
+      let rest = left_by_insertions routes (insert_into_group labels alert s route) (without_group times (group_at s.config labels route)) group time known in
       let here = still_known times (group_key s.config (on_route route labels)) group time rest.1 in
-      (λ notified. rest.0 (stays_notified s (place_on labels alert s route) group refl (λ integration. refl) (place_on_members s route group here.0) time.period notified), here.1)
+      (λ notified. rest.0 (stays_notified s (insert_into_group labels alert s route) group refl (λ integration. refl) (inserted_one_members s route group here.0) time.period notified), here.1)
 
 left_by_post : (s : State) (times : Times) (alert : LabelSet × Alert) (group : RouteLabels) (time : QuietTime) → get (without_joined s.config times alert.0) group ≡ Some time
     → (IsNotifiedIn s group time.period → IsNotifiedIn (events.put s alert) group time.period) × (get times group ≡ Some time)
-unfolding events.put place groups_of
+unfolding events.put insert_into_groups groups_of
 left_by_post s times alert group time known =
     let stored : Alert = alert_to_store s.moment (get s.alerts alert.0) alert.1 in
-    let after = left_by_places alert.0 stored (chosen_routes s.config alert.0) (record s { alerts = insert s.alerts alert.0 stored }) times group time known in
+    let after = left_by_insertions alert.0 stored (chosen_routes s.config alert.0) (record s { alerts = insert s.alerts alert.0 stored }) times group time known in
     (λ notified. after.0 (beside_notified s s.moment (insert s.alerts alert.0 stored) s.silences s.timers s.notes group time.period notified), after.1)
 
 -- a post of alerts leaves the groups notified that none of them joins

@@ -12,7 +12,7 @@ use Rattle.amr_rules.specs.declared.alert.Alert.{Alert}
 use Rattle.amr_rules.specs.Alerts.{alert_to_store, is_resolved_at}
 use Rattle.amr_engine.specs.declared.state.notification.GroupTimer.{GroupTimer}
 use Rattle.amr_engine.specs.declared.state.route_labels.RouteLabels.{RouteLabels}
-use Rattle.amr_engine.specs.State.State.{State, on_route, route_labels_cmp, route_labels_cmp_total, route_labels_cmp-IsAntisymmetric, group_key, timer_with, place_on, place}
+use Rattle.amr_engine.specs.State.State.{State, on_route, route_labels_cmp, route_labels_cmp_total, route_labels_cmp-IsAntisymmetric, group_key, timer_with, insert_into_group, insert_into_groups}
 use Rattle.amr_engine.specs.Events.{put, with_config}
 use Rattle.amr_engine.specs.Placed.{IsTimed, IsPlaced}
 use Rattle.amr_engine.proofs.PlacedLists.{Each, IsAmong, among_entries, each_weaker, contains_cases, contains_none, each_contained, same_or_apart, get-inserted, get-insert_apart, get-each}
@@ -56,16 +56,16 @@ module _ (labels : LabelSet) (alert : Alert) (s : State) (route : ℕ) where
   abbrev own_timer : GroupTimer
   own_timer = timer_with s.moment (group_wait_of s.config route) alert (get s.timers (group_key s.config (on_route route labels)))
 
-  own_group_timed : IsTimed (place_on labels alert s route) (group_key s.config (on_route route labels))
+  own_group_timed : IsTimed (insert_into_group labels alert s route) (group_key s.config (on_route route labels))
   own_group_timed = record {
     timer = own_timer;
     known = get-inserted route_labels_cmp_total route_labels_cmp-IsAntisymmetric s.timers (group_key s.config (on_route route labels)) own_timer;
     not_empty = timer_opened s.moment (group_wait_of s.config route) alert (get s.timers (group_key s.config (on_route route labels)));
   }
 
-  still_timed : (group : RouteLabels) → IsTimed s group → IsTimed (place_on labels alert s route) group
+  still_timed : (group : RouteLabels) → IsTimed s group → IsTimed (insert_into_group labels alert s route) group
   still_timed group before = elim (key_or_apart group (group_key s.config (on_route route labels))) [
-    | inl same ↦ subst (IsTimed (place_on labels alert s route)) (sym same) own_group_timed
+    | inl same ↦ subst (IsTimed (insert_into_group labels alert s route)) (sym same) own_group_timed
     | inr apart ↦ record {
       timer = before.timer;
       known = get-insert_apart route_labels_cmp_total route_labels_cmp-IsAntisymmetric s.timers (group_key s.config (on_route route labels)) own_timer group apart.1 ∙ before.known;
@@ -73,33 +73,33 @@ module _ (labels : LabelSet) (alert : Alert) (s : State) (route : ℕ) where
     }
   ]
 
-  placed_here : get (place_on labels alert s route).placements (on_route route labels) ≡ Some alert
+  placed_here : get (insert_into_group labels alert s route).placements (on_route route labels) ≡ Some alert
   placed_here = get-inserted route_labels_cmp_total route_labels_cmp-IsAntisymmetric s.placements (on_route route labels) alert
 
-  placed_elsewhere : (q : RouteLabels) → eq_by_cmp route_labels_cmp q (on_route route labels) ≡ false → get (place_on labels alert s route).placements q ≡ get s.placements q
+  placed_elsewhere : (q : RouteLabels) → eq_by_cmp route_labels_cmp q (on_route route labels) ≡ false → get (insert_into_group labels alert s route).placements q ≡ get s.placements q
   placed_elsewhere q apart = get-insert_apart route_labels_cmp_total route_labels_cmp-IsAntisymmetric s.placements (on_route route labels) alert q apart
 
-  place_on_in_groups : Contains (chosen_routes s.config labels) route → AreInGroups s → AreInGroups (place_on labels alert s route)
-  place_on_in_groups takes before = record {
+  inserted_one_in_groups : Contains (chosen_routes s.config labels) route → AreInGroups s → AreInGroups (insert_into_group labels alert s route)
+  inserted_one_in_groups takes before = record {
     chosen_only = λ member copy e. elim (key_or_apart member (on_route route labels)) [
       | inl same ↦ subst (λ (m : RouteLabels). Contains (chosen_routes s.config m.labels) m.route) (sym same) takes
       | inr apart ↦ before.chosen_only member copy (sym (placed_elsewhere member apart.1) ∙ e)
     ];
     timed = λ member copy e. elim (key_or_apart member (on_route route labels)) [
-      | inl same ↦ subst (λ (m : RouteLabels). IsTimed (place_on labels alert s route) (group_key s.config m)) (sym same) own_group_timed
+      | inl same ↦ subst (λ (m : RouteLabels). IsTimed (insert_into_group labels alert s route) (group_key s.config m)) (sym same) own_group_timed
       | inr apart ↦ still_timed (group_key s.config member) (before.timed member copy (sym (placed_elsewhere member apart.1) ∙ e))
     ];
   }
 
   -- the copy on a route stays, since only equal ones are inserted
-  still_placed : (n : ℕ) → get s.placements (on_route n labels) ≡ Some alert → get (place_on labels alert s route).placements (on_route n labels) ≡ Some alert
+  still_placed : (n : ℕ) → get s.placements (on_route n labels) ≡ Some alert → get (insert_into_group labels alert s route).placements (on_route n labels) ≡ Some alert
   still_placed n e = elim (key_or_apart (on_route n labels) (on_route route labels)) [
-    | inl same ↦ ap (get (place_on labels alert s route).placements) same ∙ placed_here
+    | inl same ↦ ap (get (insert_into_group labels alert s route).placements) same ∙ placed_here
     | inr apart ↦ placed_elsewhere (on_route n labels) apart.1 ∙ e
   ]
 
   -- alerts with other labels stay as they are
-  others_stay : (q : RouteLabels) → (q.labels ≡ labels → ⊥) → get (place_on labels alert s route).placements q ≡ get s.placements q
+  others_stay : (q : RouteLabels) → (q.labels ≡ labels → ⊥) → get (insert_into_group labels alert s route).placements q ≡ get s.placements q
   others_stay q differ = elim (key_or_apart q (on_route route labels)) [
     | inl same ↦ absurd (differ (ap (λ (x : RouteLabels). x.labels) same))
     | inr apart ↦ placed_elsewhere q apart.1
@@ -108,65 +108,65 @@ module _ (labels : LabelSet) (alert : Alert) (s : State) (route : ℕ) where
 -- ---- an alert on all its routes
 
 module _ (labels : LabelSet) (alert : Alert) where
-  on_each_in_groups : (rs : List ℕ) (s : State) → Each (Contains (chosen_routes s.config labels)) rs → AreInGroups s → AreInGroups (fold (place_on labels alert) s rs)
+  on_each_in_groups : (rs : List ℕ) (s : State) → Each (Contains (chosen_routes s.config labels)) rs → AreInGroups s → AreInGroups (fold (insert_into_group labels alert) s rs)
   on_each_in_groups [] s take before = before
-  on_each_in_groups (r ∷ rs) s take before = on_each_in_groups rs (place_on labels alert s r) take.1 (place_on_in_groups labels alert s r take.0 before)
+  on_each_in_groups (r ∷ rs) s take before = on_each_in_groups rs (insert_into_group labels alert s r) take.1 (inserted_one_in_groups labels alert s r take.0 before)
 
-  on_each_still : (rs : List ℕ) (s : State) (n : ℕ) → get s.placements (on_route n labels) ≡ Some alert → get (fold (place_on labels alert) s rs).placements (on_route n labels) ≡ Some alert
+  on_each_still : (rs : List ℕ) (s : State) (n : ℕ) → get s.placements (on_route n labels) ≡ Some alert → get (fold (insert_into_group labels alert) s rs).placements (on_route n labels) ≡ Some alert
   on_each_still [] s n e = e
-  on_each_still (r ∷ rs) s n e = on_each_still rs (place_on labels alert s r) n (still_placed labels alert s r n e)
+  on_each_still (r ∷ rs) s n e = on_each_still rs (insert_into_group labels alert s r) n (still_placed labels alert s r n e)
 
-  on_each_placed : (rs : List ℕ) (s : State) (n : ℕ) → Contains rs n → get (fold (place_on labels alert) s rs).placements (on_route n labels) ≡ Some alert
+  on_each_placed : (rs : List ℕ) (s : State) (n : ℕ) → Contains rs n → get (fold (insert_into_group labels alert) s rs).placements (on_route n labels) ≡ Some alert
   on_each_placed [] s n has = absurd (contains_none n has)
   on_each_placed (r ∷ rs) s n has = elim (contains_cases r rs n has) [
-    | inl same ↦ on_each_still rs (place_on labels alert s r) n (subst (λ (x : ℕ). get (place_on labels alert s r).placements (on_route x labels) ≡ Some alert) same (placed_here labels alert s r))
-    | inr later ↦ on_each_placed rs (place_on labels alert s r) n later
+    | inl same ↦ on_each_still rs (insert_into_group labels alert s r) n (subst (λ (x : ℕ). get (insert_into_group labels alert s r).placements (on_route x labels) ≡ Some alert) same (placed_here labels alert s r))
+    | inr later ↦ on_each_placed rs (insert_into_group labels alert s r) n later
   ]
 
-  on_each_others : (rs : List ℕ) (s : State) (q : RouteLabels) → (q.labels ≡ labels → ⊥) → get (fold (place_on labels alert) s rs).placements q ≡ get s.placements q
+  on_each_others : (rs : List ℕ) (s : State) (q : RouteLabels) → (q.labels ≡ labels → ⊥) → get (fold (insert_into_group labels alert) s rs).placements q ≡ get s.placements q
   on_each_others [] s q differ = refl
-  on_each_others (r ∷ rs) s q differ = on_each_others rs (place_on labels alert s r) q differ ∙ others_stay labels alert s r q differ
+  on_each_others (r ∷ rs) s q differ = on_each_others rs (insert_into_group labels alert s r) q differ ∙ others_stay labels alert s r q differ
 
-  on_each_alerts : (rs : List ℕ) (s : State) → (fold (place_on labels alert) s rs).alerts ≡ s.alerts
+  on_each_alerts : (rs : List ℕ) (s : State) → (fold (insert_into_group labels alert) s rs).alerts ≡ s.alerts
   on_each_alerts [] s = refl
-  on_each_alerts (r ∷ rs) s = on_each_alerts rs (place_on labels alert s r)
+  on_each_alerts (r ∷ rs) s = on_each_alerts rs (insert_into_group labels alert s r)
 
-  on_each_config : (rs : List ℕ) (s : State) → (fold (place_on labels alert) s rs).config ≡ s.config
+  on_each_config : (rs : List ℕ) (s : State) → (fold (insert_into_group labels alert) s rs).config ≡ s.config
   on_each_config [] s = refl
-  on_each_config (r ∷ rs) s = on_each_config rs (place_on labels alert s r)
+  on_each_config (r ∷ rs) s = on_each_config rs (insert_into_group labels alert s r)
 
-  on_each_moment : (rs : List ℕ) (s : State) → (fold (place_on labels alert) s rs).moment ≡ s.moment
+  on_each_moment : (rs : List ℕ) (s : State) → (fold (insert_into_group labels alert) s rs).moment ≡ s.moment
   on_each_moment [] s = refl
-  on_each_moment (r ∷ rs) s = on_each_moment rs (place_on labels alert s r)
+  on_each_moment (r ∷ rs) s = on_each_moment rs (insert_into_group labels alert s r)
 
 module _ (s : State) (labels : LabelSet) (alert : Alert) where
-  place_in_groups : AreInGroups s → AreInGroups (place s (labels, alert))
-  unfolding place
-  place_in_groups = on_each_in_groups labels alert (chosen_routes s.config labels) s (each_contained (chosen_routes s.config labels) (chosen_routes s.config labels) (λ y c. c))
+  inserted_in_groups : AreInGroups s → AreInGroups (insert_into_groups s (labels, alert))
+  unfolding insert_into_groups
+  inserted_in_groups = on_each_in_groups labels alert (chosen_routes s.config labels) s (each_contained (chosen_routes s.config labels) (chosen_routes s.config labels) (λ y c. c))
 
-  place_still : (n : ℕ) → get s.placements (on_route n labels) ≡ Some alert → get (place s (labels, alert)).placements (on_route n labels) ≡ Some alert
-  unfolding place
-  place_still = on_each_still labels alert (chosen_routes s.config labels) s
+  inserted_still : (n : ℕ) → get s.placements (on_route n labels) ≡ Some alert → get (insert_into_groups s (labels, alert)).placements (on_route n labels) ≡ Some alert
+  unfolding insert_into_groups
+  inserted_still = on_each_still labels alert (chosen_routes s.config labels) s
 
-  place_placed : (n : ℕ) → Contains (chosen_routes s.config labels) n → get (place s (labels, alert)).placements (on_route n labels) ≡ Some alert
-  unfolding place
-  place_placed = on_each_placed labels alert (chosen_routes s.config labels) s
+  inserted_placed : (n : ℕ) → Contains (chosen_routes s.config labels) n → get (insert_into_groups s (labels, alert)).placements (on_route n labels) ≡ Some alert
+  unfolding insert_into_groups
+  inserted_placed = on_each_placed labels alert (chosen_routes s.config labels) s
 
-  place_others : (q : RouteLabels) → (q.labels ≡ labels → ⊥) → get (place s (labels, alert)).placements q ≡ get s.placements q
-  unfolding place
-  place_others = on_each_others labels alert (chosen_routes s.config labels) s
+  inserted_others : (q : RouteLabels) → (q.labels ≡ labels → ⊥) → get (insert_into_groups s (labels, alert)).placements q ≡ get s.placements q
+  unfolding insert_into_groups
+  inserted_others = on_each_others labels alert (chosen_routes s.config labels) s
 
-  place_alerts : (place s (labels, alert)).alerts ≡ s.alerts
-  unfolding place
-  place_alerts = on_each_alerts labels alert (chosen_routes s.config labels) s
+  inserted_alerts : (insert_into_groups s (labels, alert)).alerts ≡ s.alerts
+  unfolding insert_into_groups
+  inserted_alerts = on_each_alerts labels alert (chosen_routes s.config labels) s
 
-  place_config : (place s (labels, alert)).config ≡ s.config
-  unfolding place
-  place_config = on_each_config labels alert (chosen_routes s.config labels) s
+  inserted_config : (insert_into_groups s (labels, alert)).config ≡ s.config
+  unfolding insert_into_groups
+  inserted_config = on_each_config labels alert (chosen_routes s.config labels) s
 
-  place_moment : (place s (labels, alert)).moment ≡ s.moment
-  unfolding place
-  place_moment = on_each_moment labels alert (chosen_routes s.config labels) s
+  inserted_moment : (insert_into_groups s (labels, alert)).moment ≡ s.moment
+  unfolding insert_into_groups
+  inserted_moment = on_each_moment labels alert (chosen_routes s.config labels) s
 
 pub in_groups : (at : Moment) (s : State) → IsPlaced at s → AreInGroups s
 in_groups at s placed = record { chosen_only = placed.chosen_only; timed = placed.timed }
@@ -178,7 +178,7 @@ module _ (at : Moment) (s : State) (labels : LabelSet) (stored : Alert) where
   with_stored = record s { alerts = insert s.alerts labels stored }
 
   abbrev after : State
-  after = place with_stored (labels, stored)
+  after = insert_into_groups with_stored (labels, stored)
 
   -- the alert itself is on its routes, and the others are where they were
   store_copied : IsPlaced at s → (asked : LabelSet) (found : Alert) → get (insert s.alerts labels stored) asked ≡ Some found → is_resolved_at at found ≡ false
@@ -188,23 +188,23 @@ module _ (at : Moment) (s : State) (labels : LabelSet) (stored : Alert) where
         let value : ◌≡◌ {A = Option Alert} (Some stored) (Some found) =
         sym (get-inserted label_set_cmp_total label_set_cmp-IsAntisymmetric s.alerts labels stored) ∙ ap (get (insert s.alerts labels stored)) (sym same) ∙ e in
         subst (λ (l : LabelSet). get after.placements (on_route route l) ≡ Some found) (sym same)
-        (place_placed with_stored labels stored route (subst (λ (l : LabelSet). Contains (chosen_routes s.config l) route) same takes) ∙ value)
+        (inserted_placed with_stored labels stored route (subst (λ (l : LabelSet). Contains (chosen_routes s.config l) route) same takes) ∙ value)
     | inr apart ↦
-        place_others with_stored labels stored (on_route route asked) apart.0
+        inserted_others with_stored labels stored (on_route route asked) apart.0
         ∙ placed.copied asked found (sym (get-insert_apart label_set_cmp_total label_set_cmp-IsAntisymmetric s.alerts labels stored asked apart.1) ∙ e) fires route takes
   ]
 
   stored_is_placed : IsPlaced at s → IsPlaced at after
   stored_is_placed placed = record {
     copied = λ asked found e fires route takes.
-        store_copied placed asked found (ap (λ m. get m asked) (sym (place_alerts with_stored labels stored)) ∙ e) fires route
-        (subst (λ (c : Config). Contains (chosen_routes c asked) route) (place_config with_stored labels stored) takes);
+        store_copied placed asked found (ap (λ m. get m asked) (sym (inserted_alerts with_stored labels stored)) ∙ e) fires route
+        (subst (λ (c : Config). Contains (chosen_routes c asked) route) (inserted_config with_stored labels stored) takes);
     chosen_only = then.chosen_only;
     timed = then.timed;
   }
     where
       then : AreInGroups after
-      then = place_in_groups with_stored labels stored (record { chosen_only = placed.chosen_only; timed = λ member copy e. timed_as s with_stored (group_key s.config member) refl (placed.timed member copy e) })
+      then = inserted_in_groups with_stored labels stored (record { chosen_only = placed.chosen_only; timed = λ member copy e. timed_as s with_stored (group_key s.config member) refl (placed.timed member copy e) })
 
 pub put_placed : (at : Moment) (s : State) (alert : LabelSet × Alert) → IsPlaced at s → IsPlaced at (put s alert)
 unfolding put
@@ -212,7 +212,7 @@ put_placed at s alert = stored_is_placed at s alert.0 (alert_to_store s.moment (
 
 pub put_moment : (s : State) (alert : LabelSet × Alert) → (put s alert).moment ≡ s.moment
 unfolding put
-put_moment s alert = place_moment (record s { alerts = insert s.alerts alert.0 (alert_to_store s.moment (get s.alerts alert.0) alert.1) }) alert.0 (alert_to_store s.moment (get s.alerts alert.0) alert.1)
+put_moment s alert = inserted_moment (record s { alerts = insert s.alerts alert.0 (alert_to_store s.moment (get s.alerts alert.0) alert.1) }) alert.0 (alert_to_store s.moment (get s.alerts alert.0) alert.1)
 
 pub post_placed : (at : Moment) (alerts : List (LabelSet × Alert)) (s : State) → IsPlaced at s → IsPlaced at (fold put s alerts)
 post_placed at [] s placed = placed
@@ -227,42 +227,42 @@ post_moment (alert ∷ alerts) s = post_moment alerts (put s alert) ∙ put_mome
 pair_of : (k l : LabelSet) (a b : Alert) → k ≡ l → a ≡ b → ◌≡◌ {A = LabelSet × Alert} (k, a) (l, b)
 pair_of k l a b p q = λ i. (p i, q i)
 
-fold_in_groups : (es : List (LabelSet × Alert)) (s : State) → AreInGroups s → AreInGroups (fold place s es)
+fold_in_groups : (es : List (LabelSet × Alert)) (s : State) → AreInGroups s → AreInGroups (fold insert_into_groups s es)
 fold_in_groups [] s before = before
-fold_in_groups (e ∷ es) s before = fold_in_groups es (place s e) (place_in_groups s e.0 e.1 before)
+fold_in_groups (e ∷ es) s before = fold_in_groups es (insert_into_groups s e) (inserted_in_groups s e.0 e.1 before)
 
-fold_alerts : (es : List (LabelSet × Alert)) (s : State) → (fold place s es).alerts ≡ s.alerts
+fold_alerts : (es : List (LabelSet × Alert)) (s : State) → (fold insert_into_groups s es).alerts ≡ s.alerts
 fold_alerts [] s = refl
-fold_alerts (e ∷ es) s = fold_alerts es (place s e) ∙ place_alerts s e.0 e.1
+fold_alerts (e ∷ es) s = fold_alerts es (insert_into_groups s e) ∙ inserted_alerts s e.0 e.1
 
-fold_config : (es : List (LabelSet × Alert)) (s : State) → (fold place s es).config ≡ s.config
+fold_config : (es : List (LabelSet × Alert)) (s : State) → (fold insert_into_groups s es).config ≡ s.config
 fold_config [] s = refl
-fold_config (e ∷ es) s = fold_config es (place s e) ∙ place_config s e.0 e.1
+fold_config (e ∷ es) s = fold_config es (insert_into_groups s e) ∙ inserted_config s e.0 e.1
 
-fold_moment : (es : List (LabelSet × Alert)) (s : State) → (fold place s es).moment ≡ s.moment
+fold_moment : (es : List (LabelSet × Alert)) (s : State) → (fold insert_into_groups s es).moment ≡ s.moment
 fold_moment [] s = refl
-fold_moment (e ∷ es) s = fold_moment es (place s e) ∙ place_moment s e.0 e.1
+fold_moment (e ∷ es) s = fold_moment es (insert_into_groups s e) ∙ inserted_moment s e.0 e.1
 
 module _ (labels : LabelSet) (alert : Alert) where
   -- an entry with these labels has this alert
   abbrev Agrees : LabelSet × Alert → Type 0
   Agrees e = e.0 ≡ labels → e.1 ≡ alert
 
-  placed_again : (s : State) (e : LabelSet × Alert) (n : ℕ) → Agrees e → get s.placements (on_route n labels) ≡ Some alert → get (place s e).placements (on_route n labels) ≡ Some alert
+  placed_again : (s : State) (e : LabelSet × Alert) (n : ℕ) → Agrees e → get s.placements (on_route n labels) ≡ Some alert → get (insert_into_groups s e).placements (on_route n labels) ≡ Some alert
   placed_again s e n agrees is = elim (labels_or_apart labels e.0) [
-    | inl same ↦ subst (λ (x : LabelSet × Alert). get (place s x).placements (on_route n labels) ≡ Some alert) (pair_of labels e.0 alert e.1 same (sym (agrees (sym same)))) (place_still s labels alert n is)
-    | inr apart ↦ place_others s e.0 e.1 (on_route n labels) apart.0 ∙ is
+    | inl same ↦ subst (λ (x : LabelSet × Alert). get (insert_into_groups s x).placements (on_route n labels) ≡ Some alert) (pair_of labels e.0 alert e.1 same (sym (agrees (sym same)))) (inserted_still s labels alert n is)
+    | inr apart ↦ inserted_others s e.0 e.1 (on_route n labels) apart.0 ∙ is
   ]
 
-  fold_again : (es : List (LabelSet × Alert)) (s : State) (n : ℕ) → Each Agrees es → get s.placements (on_route n labels) ≡ Some alert → get (fold place s es).placements (on_route n labels) ≡ Some alert
+  fold_again : (es : List (LabelSet × Alert)) (s : State) (n : ℕ) → Each Agrees es → get s.placements (on_route n labels) ≡ Some alert → get (fold insert_into_groups s es).placements (on_route n labels) ≡ Some alert
   fold_again [] s n agree is = is
-  fold_again (e ∷ es) s n agree is = fold_again es (place s e) n agree.1 (placed_again s e n agree.0 is)
+  fold_again (e ∷ es) s n agree is = fold_again es (insert_into_groups s e) n agree.1 (placed_again s e n agree.0 is)
 
-  fold_placed : (es : List (LabelSet × Alert)) (s : State) (n : ℕ) → Each Agrees es → IsAmong (labels, alert) es → Contains (chosen_routes s.config labels) n → get (fold place s es).placements (on_route n labels) ≡ Some alert
+  fold_placed : (es : List (LabelSet × Alert)) (s : State) (n : ℕ) → Each Agrees es → IsAmong (labels, alert) es → Contains (chosen_routes s.config labels) n → get (fold insert_into_groups s es).placements (on_route n labels) ≡ Some alert
   fold_placed [] s n agree among takes = absurd among
   fold_placed (e ∷ es) s n agree among takes = elim among [
-    | inl same ↦ fold_again es (place s e) n agree.1 (subst (λ (x : LabelSet × Alert). get (place s x).placements (on_route n labels) ≡ Some alert) same (place_placed s labels alert n takes))
-    | inr later ↦ fold_placed es (place s e) n agree.1 later (subst (λ (c : Config). Contains (chosen_routes c labels) n) (sym (place_config s e.0 e.1)) takes)
+    | inl same ↦ fold_again es (insert_into_groups s e) n agree.1 (subst (λ (x : LabelSet × Alert). get (insert_into_groups s x).placements (on_route n labels) ≡ Some alert) same (inserted_placed s labels alert n takes))
+    | inr later ↦ fold_placed es (insert_into_groups s e) n agree.1 later (subst (λ (c : Config). Contains (chosen_routes c labels) n) (sym (inserted_config s e.0 e.1)) takes)
   ]
 
 module _ (at : Moment) (s : State) (config : Config) where
@@ -293,7 +293,7 @@ module _ (at : Moment) (s : State) (config : Config) where
     timed = then.timed;
   }
     where
-      then : AreInGroups (fold place emptied (entries s.alerts))
+      then : AreInGroups (fold insert_into_groups emptied (entries s.alerts))
       then = fold_in_groups (entries s.alerts) emptied none_in_groups
 
   pub reload_moment : (with_config s config).moment ≡ s.moment

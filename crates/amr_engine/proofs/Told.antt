@@ -24,7 +24,7 @@ use Rattle.amr_engine.specs.declared.state.due.Kind.TheVariants.{AlertRemoval, G
 use Rattle.amr_engine.specs.declared.state.notification.LogKey.{LogKey}
 use Rattle.amr_engine.specs.declared.state.notification.Notification.{Notification}
 use Rattle.amr_engine.specs.declared.state.route_labels.RouteLabels.{RouteLabels}
-use Rattle.amr_engine.specs.State.State.{State, start, on_route, log_key_cmp, log_key_cmp_total, log_key_cmp-IsAntisymmetric, members, place, place_on}
+use Rattle.amr_engine.specs.State.State.{State, start, on_route, log_key_cmp, log_key_cmp_total, log_key_cmp-IsAntisymmetric, members, insert_into_groups, insert_into_group}
 use Rattle.amr_engine.specs.Flush.{Members, firing_of, resolved_of, labels_of, log_key_of, let_through, notified_firing, notified_resolved, notifications_of, record_notification, notify, notify_all, drop_member, mark_if_empty, drop_resolved, run_pipeline, flush}
 use Rattle.amr_engine.specs.Moves.{move, move_of_kind, Advances}
 use Rattle.amr_engine.specs.Events.{put, put_all, valid_alerts, with_config, with_silences, on_ok, after_act, run_of}
@@ -145,13 +145,13 @@ move_holds due s holds = kind_holds due.kind due s holds
 
 -- ---- an action
 
-place_holds : (s : State) (alert : LabelSet × Alert) → LogIsNotified s → LogIsNotified (place s alert)
-unfolding place
-place_holds s alert holds = fold_holds LogIsNotified (place_on alert.0 alert.1) (λ s route holds. holds) (chosen_routes s.config alert.0) s holds
+inserted_holds : (s : State) (alert : LabelSet × Alert) → LogIsNotified s → LogIsNotified (insert_into_groups s alert)
+unfolding insert_into_groups
+inserted_holds s alert holds = fold_holds LogIsNotified (insert_into_group alert.0 alert.1) (λ s route holds. holds) (chosen_routes s.config alert.0) s holds
 
 put_holds : (s : State) (alert : LabelSet × Alert) → LogIsNotified s → LogIsNotified (put s alert)
 unfolding put
-put_holds s alert holds = place_holds _ _ holds
+put_holds s alert holds = inserted_holds _ _ holds
 
 put_all_holds : (s : State) (alerts : List (LabelSet × Alert)) (after : State) → LogIsNotified s → put_all s alerts ≡ Ok after → LogIsNotified after
 put_all_holds s [] after holds e = absurd (cc)
@@ -164,7 +164,7 @@ ok_holds f holds (Err reason) after e = absurd (cc)
 
 with_config_holds : (s : State) (config : Config) → LogIsNotified s → LogIsNotified (with_config s config)
 unfolding with_config
-with_config_holds s config holds = fold_holds LogIsNotified place place_holds (entries s.alerts) (record s { config = config; placements = empty; timers = empty }) holds
+with_config_holds s config holds = fold_holds LogIsNotified insert_into_groups inserted_holds (entries s.alerts) (record s { config = config; placements = empty; timers = empty }) holds
 
 act_holds : (s : State) (act : Act) (after : State) → LogIsNotified s → after_act s act ≡ Ok after → LogIsNotified after
 unfolding after_act

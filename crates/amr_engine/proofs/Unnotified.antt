@@ -18,7 +18,7 @@ use Rattle.amr_engine.specs.declared.state.due.Kind.TheVariants.{AlertRemoval, G
 use Rattle.amr_engine.specs.declared.state.notification.LogKey.{LogKey}
 use Rattle.amr_engine.specs.declared.state.notification.Notification.{Notification}
 use Rattle.amr_engine.specs.declared.state.route_labels.RouteLabels.{RouteLabels}
-use Rattle.amr_engine.specs.State.State.{State, on_route, members, place, place_on}
+use Rattle.amr_engine.specs.State.State.{State, on_route, members, insert_into_groups, insert_into_group}
 use Rattle.amr_engine.specs.State.Dues.{Due, dues, next_due}
 use Rattle.amr_engine.specs.Stages.{taken_away}
 use Rattle.amr_engine.specs.Flush.{Members, notify, notify_all, record_notification, notifications_of, drop_member, mark_if_empty, drop_resolved, run_pipeline, flush, firing_of, resolved_of, let_through, log_key_of}
@@ -127,13 +127,13 @@ module _ (earlier : List Notification) where
 
   -- ---- the action
 
-  place_after : (s : State) (alert : LabelSet × Alert) → place (after s) alert ≡ after (place s alert)
-  unfolding place
-  place_after s alert = fold_after (place_on alert.0 alert.1) (λ _ _. refl) (chosen_routes s.config alert.0) s
+  inserted_after : (s : State) (alert : LabelSet × Alert) → insert_into_groups (after s) alert ≡ after (insert_into_groups s alert)
+  unfolding insert_into_groups
+  inserted_after s alert = fold_after (insert_into_group alert.0 alert.1) (λ _ _. refl) (chosen_routes s.config alert.0) s
 
   put_after : (s : State) (alert : LabelSet × Alert) → put (after s) alert ≡ after (put s alert)
   unfolding put
-  put_after s alert = place_after _ _
+  put_after s alert = inserted_after _ _
 
   put_all_after : (s : State) (alerts : List (LabelSet × Alert)) → put_all (after s) alerts ≡ on_ok after (put_all s alerts)
   put_all_after s [] = refl
@@ -141,7 +141,7 @@ module _ (earlier : List Notification) where
 
   with_config_after : (s : State) (config : Config) → with_config (after s) config ≡ after (with_config s config)
   unfolding with_config
-  with_config_after s config = fold_after place place_after (entries s.alerts) (record s { config = config; placements = empty; timers = empty })
+  with_config_after s config = fold_after insert_into_groups inserted_after (entries s.alerts) (record s { config = config; placements = empty; timers = empty })
 
   reloaded_after : (s : State) (config : Result Config Reason) → on_ok (with_config (after s)) config ≡ on_ok after (on_ok (with_config s) config)
   reloaded_after s (Ok config) = ap (λ (x : State). Ok x) (with_config_after s config)

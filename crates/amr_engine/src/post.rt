@@ -9,7 +9,7 @@ ghost use Rattle.amr_engine.specs.State.Kept.{GrownBy, before_open_record};
 ghost use Rattle.amr_engine.specs.Events.{put, skipped_from};
 ghost use Rattle.amr_engine.specs.Weight.{alert_weight, alerts_weight};
 
-use crate::state::{Change, Store, place};
+use crate::state::{Change, Store, insert_into_groups};
 use amr_events::posts::PostedAlert;
 use amr_labels::{Labels, Listing};
 use amr_rules::{Alert, complete_alert, merge};
@@ -71,7 +71,7 @@ fn put(store: &mut Store, labels: &Labels, alert: Alert) -> Result<(), AllocErro
     let stored = joined(store, labels, alert);
     let change = Change::OfAlert(labels.clone()?, Some(stored.clone()?));
     store.change(change)?;
-    place(store, labels, &stored)
+    insert_into_groups(store, labels, &stored)
 }
 
 /// Stores the valid alerts, in order.

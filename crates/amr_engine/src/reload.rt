@@ -2,12 +2,12 @@
 //! and the notification log do.
 ghost use Rattle.std.specs.Prelude.{◌≡◌, ◌*◌, OnOk};
 ghost use Rattle.std.specs.List.{fold};
-ghost use Rattle.amr_engine.specs.State.State.{place};
+ghost use Rattle.amr_engine.specs.State.State.{insert_into_groups};
 ghost use Rattle.amr_engine.specs.State.Kept.{GrownBy, before_open_record};
 ghost use Rattle.amr_engine.specs.Events.{with_config};
 ghost use Rattle.amr_engine.specs.Weight.{copies, reload_entries};
 
-use crate::state::{Store, place, views};
+use crate::state::{Store, insert_into_groups, views};
 use amr_config::Config;
 use amr_labels::Labels;
 use amr_rules::Alert;
@@ -24,17 +24,17 @@ pub(crate) fn reload(store: &mut Store, config: Config) -> Result<(), AllocError
 {
     let alerts = views::alerts(store)?;
     store.replace_config(config)?;
-    place_all(store, alerts.as_slice())
+    insert_all(store, alerts.as_slice())
 }
 
 /// Inserts alerts into the groups of their chosen routes, in order.
-fn place_all(store: &mut Store, alerts: &[(Labels, Alert)]) -> Result<(), AllocError>
-    ensures ok { OnOk result (store.new.state ≡ fold place store.old.state alerts.now) }
+fn insert_all(store: &mut Store, alerts: &[(Labels, Alert)]) -> Result<(), AllocError>
+    ensures ok { OnOk result (store.new.state ≡ fold insert_into_groups store.old.state alerts.now) }
     ensures kept { before_open_record store.new ≡ before_open_record store.old }
     ensures grown { GrownBy (2 * copies store.old.state.config alerts.now) store.old store.new }
 {
     for (labels, alert) in alerts {
-        place(store, labels, alert)?;
+        insert_into_groups(store, labels, alert)?;
     }
     Ok(())
 }

@@ -1,14 +1,14 @@
 //! The state of the replayed Alertmanager: stored alerts, groups and their members, silences, the
 //! notification log and the notifications, with the journal that undoes events. The engine changes
 //! it through `Store` and lists it through `views`. Of the rules, only when a timer is due (`due.rt`)
-//! and how an alert joins its groups (`placing.rt`) are here.
+//! and how an alert joins its groups (`inserting.rt`) are here.
 
 mod change;
 mod due;
+mod inserting;
 mod members;
 mod membership;
 mod notification;
-mod placing;
 mod roster;
 mod route_labels;
 mod store;
@@ -18,10 +18,10 @@ pub mod views;
 
 pub use change::Change;
 pub use due::{Due, Timer};
+pub use inserting::insert_into_groups;
 pub use members::Member;
 pub use membership::Membership;
 pub use notification::{FiringAlert, GroupTimer, LogKey, Notification, ResolvedAlert};
-pub use placing::place;
 pub use route_labels::{RouteLabels, group_key};
 pub use store::Store;
 pub use views::Group;

@@ -86,7 +86,7 @@ module _ (depth : ℕ) where
     such = such;
   }
 
-  -- the members of an object that begins at one place have been read up to another
+  -- the members of an object that begins at one position have been read up to another
   pub record MembersLeft (start now : List Token) (found : Members) : Type 0 where
     pub turns : ℕ
     pub enough : length now ≤ turns
@@ -144,7 +144,7 @@ module _ {A : Type 0} (reads : Data → Option A) where
   onto_none (Some p) = refl
 
   module _ (depth : ℕ) where
-    -- the items of an array that begins at one place have been read up to another
+    -- the items of an array that begins at one position have been read up to another
     pub record ItemsLeft (start now : List Token) (front : List A) : Type 0 where
       pub turns : ℕ
       pub enough : length now ≤ turns

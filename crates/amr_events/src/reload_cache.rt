@@ -5,7 +5,7 @@ ghost use Rattle.std.specs.Coded.{codes};
 ghost use Rattle.amr_labels.specs.Map as map;
 ghost use Rattle.amr_events.specs.ReloadCache.{Spells};
 
-use crate::places::{HashValue, Places};
+use crate::buckets::{Buckets, HashValue};
 use amr_config::Config;
 use amr_labels::fnv_hash;
 use std::alloc::{AllocError, Global};
@@ -27,14 +27,14 @@ impl HashValue for CachedReload {
 /// Configurations that were read before, by the texts of their values.
 #[derive(Drop)]
 pub(crate) struct ReloadCache {
-    reloads: Places<CachedReload>,
+    reloads: Buckets<CachedReload>,
 }
 
 impl ReloadCache {
     /// Returns a cache that holds no configuration.
     pub(crate) fn new(alloc: Global) -> ReloadCache {
         ReloadCache {
-            reloads: Places::new(alloc),
+            reloads: Buckets::new(alloc),
         }
     }
 
@@ -57,12 +57,12 @@ impl ReloadCache {
     }
 }
 
-/// Returns the configuration at one of these places that was read from the value of a text.
-fn config_among<'a>(places: &'a [Option<CachedReload>], text: &str) -> Option<&'a Config>
+/// Returns the configuration in one of these buckets that was read from the value of a text.
+fn config_among<'a>(buckets: &'a [Option<CachedReload>], text: &str) -> Option<&'a Config>
     ensures { IfSome result (λ config. Spells text.now config.now) }
 {
-    for place in places {
-        match place {
+    for bucket in buckets {
+        match bucket {
             Some(cached) if cached.text.as_str() == text => return Some(&cached.config),
             _ => {}
         }

@@ -7,7 +7,7 @@ ghost use Rattle.std.specs.Prelude.{◌≡◌, true, reverse, IfOk, IfSome};
 ghost use Rattle.amr_labels.specs.Map as map;
 ghost use Rattle.amr_events.specs.Tokens.{lent_texts};
 
-use crate::places::{HashValue, Places};
+use crate::buckets::{Buckets, HashValue};
 use crate::posts::PostedLabels;
 use crate::reload_cache::ReloadCache;
 use amr_labels::matcher::Patterns;
@@ -18,8 +18,8 @@ use std::alloc::{AllocError, Global};
 /// mostly takes one or two comparisons.
 #[derive(Drop)]
 pub(crate) struct TextCache {
-    texts: Places<Text>,
-    labels: Places<PostedLabels>,
+    texts: Buckets<Text>,
+    labels: Buckets<PostedLabels>,
     /// An empty map, if one was needed. All alerts without annotations share it.
     none: Option<TextMap>,
     patterns: Patterns,
@@ -30,8 +30,8 @@ impl TextCache {
     /// Returns a cache of texts, labels, patterns and configurations that holds none.
     pub(crate) fn new(alloc: Global) -> TextCache {
         TextCache {
-            texts: Places::new(alloc),
-            labels: Places::new(alloc),
+            texts: Buckets::new(alloc),
+            labels: Buckets::new(alloc),
             none: None,
             patterns: Patterns::new(alloc),
             reloads: ReloadCache::new(alloc),
@@ -149,12 +149,12 @@ fn hash_after(hash_value: usize, name: &str, text: &str) -> usize {
     with_name.rotate_left(5) ^ fnv_hash(text)
 }
 
-/// Returns the text at one of these places.
-fn text_among<'a>(places: &'a [Option<Text>], text: &str) -> Option<&'a Text>
+/// Returns the text in one of these buckets.
+fn text_among<'a>(buckets: &'a [Option<Text>], text: &str) -> Option<&'a Text>
     ensures { IfSome result (λ known. known.now ≡ text.now) }
 {
-    for place in places {
-        match place {
+    for bucket in buckets {
+        match bucket {
             Some(known) if known.as_str() == text => return Some(known),
             _ => {}
         }
@@ -162,15 +162,15 @@ fn text_among<'a>(places: &'a [Option<Text>], text: &str) -> Option<&'a Text>
     None
 }
 
-/// Returns the labels of names and texts at one of these places.
+/// Returns the labels of names and texts in one of these buckets.
 fn labels_among<'a>(
-    places: &'a [Option<PostedLabels>],
+    buckets: &'a [Option<PostedLabels>],
     stated: &[(&str, &str)],
 ) -> Option<&'a PostedLabels>
     ensures { IfSome result (λ known. known.now ≡ lent_texts stated.now) }
 {
-    for place in places {
-        match place {
+    for bucket in buckets {
+        match bucket {
             Some(known) if are_stated(known.pairs(), stated) => return Some(known),
             _ => {}
         }
@@ -185,8 +185,8 @@ fn are_stated(pairs: &[(Text, Text)], stated: &[(&str, &str)]) -> bool
     if pairs.len() != stated.len() {
         return false;
     }
-    for (place, pair) in pairs.iter().enumerate() {
-        let (name, text) = stated[place];
+    for (index, pair) in pairs.iter().enumerate() {
+        let (name, text) = stated[index];
         if !is_stated(pair, name, text) {
             return false;
         }

@@ -30,7 +30,7 @@ same_texts a b =
     ] refl
 
 module _ {X : Type 0} (name : Text) (pairs : List (Text × X)) (i : ℕ) (d : Text × X) (within : i < length pairs) where
-  -- the name of the pair at a place is the one that is looked for
+  -- the name of the pair at an index is the one that is looked for
   pub found_here : pointwise nat_eq (get_or pairs i d).0 name ≡ true → find text_cmp name (drop i pairs) ≡ Some (get_or pairs i d).1
   found_here e =
       ap (find text_cmp name) (drop_more pairs i d within)

@@ -238,9 +238,9 @@ fn headed(first: u8, text: &[u8]) -> u64
     ])
 }
 
-/// Returns the byte at a place, or 0 if the text ends before it.
-fn byte_at(text: &[u8], place: usize) -> u8
-    ensures { result ≡ get_or text.now place 0 }
+/// Returns the byte at an index, or 0 if the text ends before it.
+fn byte_at(text: &[u8], index: usize) -> u8
+    ensures { result ≡ get_or text.now index 0 }
 {
-    text.get(place).copied().unwrap_or(0)
+    text.get(index).copied().unwrap_or(0)
 }

@@ -1,4 +1,4 @@
-pub mod Places
+pub mod Positions
 pub mod Passed
 pub mod Recorded
 pub mod Said

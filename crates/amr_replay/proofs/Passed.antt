@@ -11,7 +11,7 @@ use Rattle.amr_engine.specs.declared.outcome.Outcome as code
 use Rattle.amr_engine.specs.Outcomes.{outcome_view}
 use Rattle.amr_engine.specs.Events.{outcome_of}
 use Rattle.amr_replay.specs.Session.{state_at, outcomes_of, outcomes_passed, events_until}
-use Rattle.amr_replay.proofs.Places.{run_more}
+use Rattle.amr_replay.proofs.Positions.{run_more}
 
 -- the first of the events from n up to m
 first_of_rest : (es : List Event) (n m : ℕ) (e : Event) → slice_get es n ≡ Some e → n < m → drop n (take m es) ≡ e ∷ drop (n + 1) (take m es)

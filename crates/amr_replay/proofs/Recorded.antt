@@ -17,7 +17,7 @@ use Rattle.amr_engine.specs.Weight.{event_weight}
 use Rattle.amr_engine.specs.Events.{Refused, outcome_of, after_event, after_events}
 use Rattle.amr_replay.specs.Session.{state_at}
 use Rattle.amr_replay.specs.Records.{IsRecord, AreRecords, HasEntries}
-use Rattle.amr_replay.proofs.Places.{front, item}
+use Rattle.amr_replay.proofs.Positions.{front, item}
 
 abbrev Records : Type 0
 Records = List (List Change)

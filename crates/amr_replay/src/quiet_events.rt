@@ -1,5 +1,6 @@
-//! What is noted of the moves from the state at each place of a session's cursor. A seek back and
-//! forth, and trials at one place, make the same moves again, and this saves working them out.
+//! What is noted of the moves from the state at each position of a session's cursor. A seek back
+//! and forth, and trials at one position, make the same moves again, and this saves working them
+//! out.
 ghost use Rattle.std.specs.Prelude.{◌≡◌, [], List};
 ghost use Rattle.amr_config.specs.Stated.Config.{Config};
 ghost use Rattle.amr_events.specs.Actions.Events.{Event};
@@ -12,12 +13,12 @@ use std::alloc::Global;
 use std::marker::Model;
 use std::mem;
 
-/// What is noted of the moves from the state at each place of a cursor, from the start of the
+/// What is noted of the moves from the state at each position of a cursor, from the start of the
 /// script. It is no part of what a session shows.
 #[derive(Drop)]
 pub(crate) struct QuietEvents {
     alloc: Global,
-    places: Vec<QuietMoves>,
+    by_cursor: Vec<QuietMoves>,
 }
 
 impl Model for QuietEvents {
@@ -28,21 +29,21 @@ impl Model for QuietEvents {
 
     ghost coded = { Prim.hlevel codes };
 
-    ghost view = { λ events. events.places.items };
+    ghost view = { λ events. events.by_cursor.items };
 }
 
 impl QuietEvents {
-    /// Returns a table with no place, which knows of no move.
+    /// Returns a table with no position, which knows of no move.
     pub(crate) fn new(alloc: Global) -> QuietEvents
         ensures { result ≡ [] }
     {
         QuietEvents {
             alloc,
-            places: Vec::new(alloc),
+            by_cursor: Vec::new(alloc),
         }
     }
 
-    /// Takes out what is noted at a place of the cursor.
+    /// Takes out what is noted at a position of the cursor.
     pub(crate) fn take(&mut self, cursor: usize) -> QuietMoves
         ensures taken { (config : Config) (script : List Event) → AreNoted config script self.old
             → AreQuietMoves result (state_at config script cursor) }
@@ -50,24 +51,24 @@ impl QuietEvents {
             → AreNoted config script self.new }
     {
         let nothing = QuietMoves::new(self.alloc);
-        if cursor < self.places.len() {
-            mem::replace(&mut self.places[cursor], nothing)
+        if cursor < self.by_cursor.len() {
+            mem::replace(&mut self.by_cursor[cursor], nothing)
         } else {
             nothing
         }
     }
 
-    /// Notes the moves from the state at a place of the cursor. It is forgotten if there is no
+    /// Notes the moves from the state at a position of the cursor. It is forgotten if there is no
     /// memory for it, since that only costs time later.
     pub(crate) fn put(&mut self, cursor: usize, quiet: QuietMoves)
         ensures { (config : Config) (script : List Event) → AreNoted config script self.old
             → AreQuietMoves quiet (state_at config script cursor)
             → AreNoted config script self.new }
     {
-        if cursor < self.places.len() {
-            self.places[cursor] = quiet;
-        } else if cursor == self.places.len() {
-            let _forgotten = self.places.push(quiet);
+        if cursor < self.by_cursor.len() {
+            self.by_cursor[cursor] = quiet;
+        } else if cursor == self.by_cursor.len() {
+            let _forgotten = self.by_cursor.push(quiet);
         }
     }
 }

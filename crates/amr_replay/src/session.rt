@@ -237,7 +237,7 @@ impl Session {
         self.move_to(to)
     }
 
-    /// Moves the cursor to a place in the script.
+    /// Moves the cursor to a position in the script.
     fn move_to(&mut self, to: usize) -> Result<Vec<Outcome>, AllocError>
         requires { to ≤ length self.old.events }
         ensures outcomes { IfOk result (λ outcomes. map outcome_view outcomes.items
@@ -261,7 +261,7 @@ impl Session {
         }
     }
 
-    /// Moves the cursor back to an earlier place.
+    /// Moves the cursor back to an earlier position.
     fn rewind(&mut self, to: usize)
         requires { to ≤ self.old.cursor }
         ensures { self.new
@@ -272,7 +272,7 @@ impl Session {
         }
     }
 
-    /// Passes the events up to a place, until memory runs out.
+    /// Passes the events up to a position, until memory runs out.
     fn forward(&mut self, to: usize) -> Result<Vec<Outcome>, AllocError>
         requires from { self.old.cursor ≤ to }
         requires inside { to ≤ length self.old.events }

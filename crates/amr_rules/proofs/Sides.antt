@@ -12,7 +12,7 @@ pub sides_counted : (labels : LabelSet) (rules : List InhibitRule) (matched : Li
 unfolding rule_matches
 sides_counted labels rules matched is = ap length is ∙ length-map rules (rule_match labels)
 
--- those of a rule are at its place
+-- those of a rule are at its index
 pub side_at : (labels : LabelSet) (rules : List InhibitRule) (matched : List RuleMatch) (i : ℕ) (rule : InhibitRule) (d : RuleMatch) → matched ≡ rule_matches labels rules
     → i < length rules → rule ≡ get_or rules i rule → get_or matched i d ≡ rule_match labels rule
 unfolding rule_matches

@@ -48,13 +48,13 @@ rows_among from label_sets listed = map (row_of label_sets) (unexpired_of from l
 abbrev pub silence_rows : Moment → List LabelSet → Silences → List SilenceRow
 silence_rows from label_sets silences = rows_among from label_sets (entries silences)
 
--- whether the silence matches the label set at this place of the list
+-- whether the silence matches the label set at this index of the list
 abbrev pub matches_at : ℕ → SilenceRow → Bool
-matches_at place row = get_or row.matches place false
+matches_at index row = get_or row.matches index false
 
--- the periods of the silences that match the label set at this place of the list
+-- the periods of the silences that match the label set at this index of the list
 abbrev pub periods_at : ℕ → List SilenceRow → List SilencePeriod
-periods_at place rows = map (λ row. row.period) (filter (matches_at place) rows)
+periods_at index rows = map (λ row. row.period) (filter (matches_at index) rows)
 
 -- a period goes from its start to just before its end
 abbrev pub covers : Moment → SilencePeriod → Bool

@@ -14,13 +14,13 @@ pub trait AlertStore {
     ghost alerts: { Self → Alerts };
 
     /// Lists the stored alerts that match the rule's source matchers and agree with a target on the
-    /// labels in `equal`, with their labels and in the order of the labels. The rule's place in the
+    /// labels in `equal`, with their labels and in the order of the labels. The rule's index in the
     /// configuration, from 0, helps a store to find what it knows of the rule; no answer depends on
     /// it.
     fn sources(
         &self,
         alloc: Global,
-        place: usize,
+        index: usize,
         rule: &InhibitRule,
         target: &Labels,
     ) -> Result<Vec<(&Labels, &Alert)>, AllocError>

@@ -79,30 +79,30 @@ pub fn inhibited_by<A: AlertStore>(
     ensures exactly { IfOk result (λ found.
         is_inhibited rules.now (A.alerts alerts.now) now target.now ≡ is_some found) }
 {
-    for (place, rule) in rules.iter().enumerate() {
+    for (index, rule) in rules.iter().enumerate() {
         if let Some(source) = inhibitor_by(
             alloc,
             now,
             target,
             alerts,
-            place,
+            index,
             rule,
-            matched[place],
+            matched[index],
         )? {
-            return Ok(Some((place, source.clone()?)));
+            return Ok(Some((index, source.clone()?)));
         }
     }
     Ok(None)
 }
 
-/// Returns the least label set of a stored alert that mutes a target by the rule at a place of the
+/// Returns the least label set of a stored alert that mutes a target by the rule at an index of the
 /// configuration. `side` says which sides of the rule the target is on.
 fn inhibitor_by<'a, A: AlertStore>(
     alloc: Global,
     now: Moment,
     target: &Labels,
     alerts: &'a A,
-    place: usize,
+    index: usize,
     rule: &InhibitRule,
     side: RuleMatch,
 ) -> Result<Option<&'a Labels>, AllocError>
@@ -113,7 +113,7 @@ fn inhibitor_by<'a, A: AlertStore>(
     if !side.is_target {
         return Ok(None);
     }
-    let sources = alerts.sources(alloc, place, rule, target)?;
+    let sources = alerts.sources(alloc, index, rule, target)?;
     first_source(alloc, now, target, side.is_source, &sources, rule)
 }
 

@@ -64,22 +64,22 @@ fn row_of(
     })
 }
 
-/// Lists the periods of the silences that match the label set at a place of the list, in the order
+/// Lists the periods of the silences that match the label set at an index of the list, in the order
 /// of their ids.
 pub fn periods_at(
     alloc: Global,
     rows: &[SilenceRow],
-    place: usize,
+    index: usize,
 ) -> Result<Listing<SilencePeriod>, AllocError>
-    ensures at { IfOk result (λ periods. periods ≡ periods_at place rows.now) }
+    ensures at { IfOk result (λ periods. periods ≡ periods_at index rows.now) }
     ensures known { IfOk result (λ periods. (from : Moment) (label_sets : List LabelSet)
-        (silences : Silences) → place < length label_sets
+        (silences : Silences) → index < length label_sets
         → rows.now ≡ silence_rows from label_sets silences
-        → periods ≡ silence_periods from (get_or label_sets place map.empty) silences) }
+        → periods ≡ silence_periods from (get_or label_sets index map.empty) silences) }
 {
     let mut periods = Listing::new(alloc);
     for row in rows {
-        if row.matches_at(place) {
+        if row.matches_at(index) {
             periods.push(row.period)?;
         }
     }
@@ -87,11 +87,11 @@ pub fn periods_at(
 }
 
 impl SilenceRow {
-    /// Returns whether the silence matches the label set at a place of the list.
-    fn matches_at(&self, place: usize) -> bool
-        ensures { result ≡ matches_at place self.now }
+    /// Returns whether the silence matches the label set at an index of the list.
+    fn matches_at(&self, index: usize) -> bool
+        ensures { result ≡ matches_at index self.now }
     {
         let matches = self.matches.as_slice();
-        matches.get(place).copied().unwrap_or(false)
+        matches.get(index).copied().unwrap_or(false)
     }
 }

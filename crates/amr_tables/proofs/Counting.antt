@@ -39,15 +39,15 @@ equal Less e = absurd (true≢false (sym e))
 equal Equal e = refl
 equal Greater e = absurd (true≢false (sym e))
 
--- the next place
-next_place : (n place len : ℕ) → cond (nat_lt place len) (Some (suc n + place)) None ≡ cond (nat_lt (1 + place) (suc len)) (Some (n + (1 + place))) None
-next_place n place len =
-    let a : nat_lt place len ≡ nat_lt (1 + place) (suc len) = grind (arith, nat_tests) in
-    let b : suc n + place ≡ n + (1 + place) = omega arith in
+-- the next index
+next_index : (n index len : ℕ) → cond (nat_lt index len) (Some (suc n + index)) None ≡ cond (nat_lt (1 + index) (suc len)) (Some (n + (1 + index))) None
+next_index n index len =
+    let a : nat_lt index len ≡ nat_lt (1 + index) (suc len) = grind (arith, nat_tests) in
+    let b : suc n + index ≡ n + (1 + index) = omega arith in
     λ i. cond (a i) (Some (b i)) None
 
-first_place : (n len : ℕ) → Some n ≡ cond (nat_lt 0 (suc len)) (Some (n + 0)) None
-first_place n len =
+first_index : (n len : ℕ) → Some n ≡ cond (nat_lt 0 (suc len)) (Some (n + 0)) None
+first_index n len =
     let a : true ≡ nat_lt 0 (suc len) = grind (arith, nat_tests) in
     let b : n ≡ n + 0 = omega arith in
     λ i. cond (a i) (Some (b i)) None
@@ -64,14 +64,14 @@ module _ {K : Type 0} {R : K → K → Ordering} (o : IsTotalOrder R) where
       ap is_some (find-put R o q k n (numbered_from R (suc n) ks)) ∙ either (eq_by_cmp R q k) n _
       ∙ ap (λ b. eq_by_cmp R q k || b) (has-numbered q (suc n) ks)
 
-  -- which is its place
+  -- which is its index
   find-from : (q : K) (n : ℕ) (ks : List K) → find R q (numbered_from R n ks) ≡ cond (nat_lt (position_or_len (eq_by_cmp R q) ks) (length ks)) (Some (n + position_or_len (eq_by_cmp R q) ks)) None
   find-from q n [] = refl
   find-from q n (k ∷ ks) =
       find-put R o q k n (numbered_from R (suc n) ks)
       ∙ elim (eq_by_cmp R q k) as (λ b. cond b (Some n) (find R q (numbered_from R (suc n) ks)) ≡ cond (nat_lt (cond (not b) (1 + position_or_len (eq_by_cmp R q) ks) 0) (suc (length ks))) (Some (n + cond (not b) (1 + position_or_len (eq_by_cmp R q) ks) 0)) None) [
-        | true ↦ first_place n (length ks)
-        | false ↦ find-from q (suc n) ks ∙ next_place n (position_or_len (eq_by_cmp R q) ks) (length ks)
+        | true ↦ first_index n (length ks)
+        | false ↦ find-from q (suc n) ks ∙ next_index n (position_or_len (eq_by_cmp R q) ks) (length ks)
       ]
 
   pub find-numbered : (q : K) (ks : List K) → find R q (numbered_from R 0 ks) ≡ position (eq_by_cmp R q) ks
@@ -110,8 +110,8 @@ module _ {K : Type 0} {R : K → K → Ordering} (o : IsTotalOrder R) where
     pub any_is : (k : K) (ks : List K) → list_any (E k) ks ≡ list_any (eq_by_cmp R k) ks
     any_is k ks = λ i. list_any (λ y. ties k y i) ks
 
-    pub place_is : (k : K) (ks : List K) → position (E k) ks ≡ find R k (numbered_from R 0 ks)
-    place_is k ks = (λ i. position (λ y. ties k y i) ks) ∙ sym (find-numbered k ks)
+    pub index_is : (k : K) (ks : List K) → position (E k) ks ≡ find R k (numbered_from R 0 ks)
+    index_is k ks = (λ i. position (λ y. ties k y i) ks) ∙ sym (find-numbered k ks)
 
     none_of : (k : K) (ks : List K) → AllByRecursion (λ y. E k y ≡ false) ks → list_any (eq_by_cmp R k) ks ≡ false
     none_of k [] h = refl

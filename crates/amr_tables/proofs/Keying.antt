@@ -56,7 +56,7 @@ module _ {K : Type 0} (R : K → K → Ordering) where
       ] refl
 
   module _ (o : IsTotalOrder R) (E : K → K → Bool) (ties : (x y : K) → E x y ≡ eq_by_cmp R x y) where
-    -- the key with a number is the one at that place of the list
+    -- the key with a number is the one at that index of the list
     from : (n m : ℕ) (ks : List K) → IsDistinct E ks → key_with (numbered_from R n ks) m ≡ (if nat_lt m n then None else slice_get ks (m - n))
     from n m [] d = nothing (nat_lt m n)
       where

@@ -103,14 +103,14 @@ module _ {K : Type 0} {R : K → K → Ordering} (o : IsTotalOrder R) where
   pub not_after_then : (x y z : K) → is_gt (R x y) ≡ false → is_gt (R y z) ≡ false → is_gt (R x z) ≡ false
   not_after_then x y z g h = then_not x y z (R x y) (R y z) refl refl g h
 
--- ---- places above others
+-- ---- nodes above others
 
 parity : (n q r : ℕ) → r < 2 → 2 * q + r ≡ n → (n ≡ q * 2) ⊎ (n ≡ q * 2 + 1)
 parity n q zero h e = inl (omega (arith, e))
 parity n q (suc zero) h e = inr (omega (arith, e))
 parity n q (suc (suc r)) h e = absurd (omega (arith, h))
 
--- a place is one of the two below its half
+-- a node is one of the two below its half
 pub halves : (n : ℕ) → (n ≡ n / 2 * 2) ⊎ (n ≡ n / 2 * 2 + 1)
 halves n = parity n (n / 2) (n % 2) (mod-lt n (omega arith)) (div-add-mod n 2)
 
@@ -128,7 +128,7 @@ module _ (rank : ℕ → ℕ → Ordering) (t : Earliest) where
     beats : (q : ℕ) → 1 ≤ q → q < length t.moments → (is_gt (cmp (winner_at t q) (winner_at t (q * 2))) ≡ false) × (is_gt (cmp (winner_at t q) (winner_at t (q * 2 + 1))) ≡ false)
     beats q one inner = better order (winner_at t (q * 2)) (winner_at t (q * 2 + 1)) (winner_at t q) _ refl (played q one inner)
 
-    -- the winner of the first place is not after that of any other
+    -- the winner of the first node is not after that of any other
     first_of : (fuel p : ℕ) → p ≤ fuel → 1 ≤ p → p < length t.moments + length t.moments → is_gt (cmp (winner_at t 1) (winner_at t p)) ≡ false
     first_of fuel zero within one inner = absurd (omega (arith, one))
     first_of fuel (suc zero) within one inner = itself (timer_total order) (timer_at t (winner_at t 1))
@@ -202,65 +202,65 @@ module _ (rank : ℕ → ℕ → Ordering) (t : Earliest) where
 
 -- ---- what a new winner changes
 
-winner_apart : (t : Earliest) (place w other : ℕ) → other ≢ place → winner_at (record t { winners = slice_set t.winners place w }) other ≡ winner_at t other
-winner_apart t place w other apart =
-    ap (λ x. if nat_lt other (length t.moments) then x else other - length t.moments) (get_or-set_other t.winners place other w 0 apart)
+winner_apart : (t : Earliest) (node w other : ℕ) → other ≢ node → winner_at (record t { winners = slice_set t.winners node w }) other ≡ winner_at t other
+winner_apart t node w other apart =
+    ap (λ x. if nat_lt other (length t.moments) then x else other - length t.moments) (get_or-set_other t.winners node other w 0 apart)
 
-winner_new : (t : Earliest) (place w : ℕ) → place < length t.moments → length t.winners ≡ length t.moments → winner_at (record t { winners = slice_set t.winners place w }) place ≡ w
-winner_new t place w inner places =
-    ap (λ b. if b then get_or (slice_set t.winners place w) place 0 else place - length t.moments) (inner_is place (length t.moments) inner)
-    ∙ get_or-set_same t.winners place w 0 (omega (arith, inner, places))
+winner_new : (t : Earliest) (node w : ℕ) → node < length t.moments → length t.winners ≡ length t.moments → winner_at (record t { winners = slice_set t.winners node w }) node ≡ w
+winner_new t node w inner nodes =
+    ap (λ b. if b then get_or (slice_set t.winners node w) node 0 else node - length t.moments) (inner_is node (length t.moments) inner)
+    ∙ get_or-set_same t.winners node w 0 (omega (arith, inner, nodes))
   where
     inner_is : (a b : ℕ) → a < b → nat_lt a b ≡ true
     inner_is a b h = grind (arith, nat_tests)
 
 module _ (rank : ℕ → ℕ → Ordering) where
-  later_alike : (t u : Earliest) (place : ℕ) → u.moments ≡ t.moments → winner_at u (place * 2) ≡ winner_at t (place * 2) → winner_at u (place * 2 + 1) ≡ winner_at t (place * 2 + 1) → later_winner rank u place ≡ later_winner rank t place
-  later_alike t u place moments left right =
+  later_alike : (t u : Earliest) (node : ℕ) → u.moments ≡ t.moments → winner_at u (node * 2) ≡ winner_at t (node * 2) → winner_at u (node * 2 + 1) ≡ winner_at t (node * 2 + 1) → later_winner rank u node ≡ later_winner rank t node
+  later_alike t u node moments left right =
       λ i. if is_lt (timer_cmp rank (value_at (moments i) (right i), right i) (value_at (moments i) (left i), left i)) then right i else left i
 
-  -- a place was played: it has its winner, and the others whose winners it isn't below keep theirs
-  pub played_here : (t : Earliest) (place : ℕ) → 1 ≤ place → place < length t.moments → length t.winners ≡ length t.moments
-      → winner_at (record t { winners = slice_set t.winners place (later_winner rank t place) }) place ≡ later_winner rank (record t { winners = slice_set t.winners place (later_winner rank t place) }) place
-  played_here t place one inner places =
-      winner_new t place (later_winner rank t place) inner places
-      ∙ sym (later_alike t _ place refl (winner_apart t place _ (place * 2) (λ e. absurd (omega (arith, e, one)))) (winner_apart t place _ (place * 2 + 1) (λ e. absurd (omega (arith, e, one)))))
+  -- a node was played: it has its winner, and the others whose winners it isn't below keep theirs
+  pub played_here : (t : Earliest) (node : ℕ) → 1 ≤ node → node < length t.moments → length t.winners ≡ length t.moments
+      → winner_at (record t { winners = slice_set t.winners node (later_winner rank t node) }) node ≡ later_winner rank (record t { winners = slice_set t.winners node (later_winner rank t node) }) node
+  played_here t node one inner nodes =
+      winner_new t node (later_winner rank t node) inner nodes
+      ∙ sym (later_alike t _ node refl (winner_apart t node _ (node * 2) (λ e. absurd (omega (arith, e, one)))) (winner_apart t node _ (node * 2 + 1) (λ e. absurd (omega (arith, e, one)))))
 
-  pub played_there : (t : Earliest) (place w j : ℕ) → j ≢ place → j * 2 ≢ place → j * 2 + 1 ≢ place → winner_at t j ≡ later_winner rank t j
-      → winner_at (record t { winners = slice_set t.winners place w }) j ≡ later_winner rank (record t { winners = slice_set t.winners place w }) j
-  played_there t place w j apart left right played =
-      winner_apart t place w j apart ∙ played
-      ∙ sym (later_alike t _ j refl (winner_apart t place w (j * 2) left) (winner_apart t place w (j * 2 + 1) right))
+  pub played_there : (t : Earliest) (node w j : ℕ) → j ≢ node → j * 2 ≢ node → j * 2 + 1 ≢ node → winner_at t j ≡ later_winner rank t j
+      → winner_at (record t { winners = slice_set t.winners node w }) j ≡ later_winner rank (record t { winners = slice_set t.winners node w }) j
+  played_there t node w j apart left right played =
+      winner_apart t node w j apart ∙ played
+      ∙ sym (later_alike t _ j refl (winner_apart t node w (j * 2) left) (winner_apart t node w (j * 2 + 1) right))
 
 -- ---- what a new moment changes
 
 -- The tables t, after a number got a new moment, and u, after matches were played from the number's
--- own place up to this one.
-pub record IsClimbed (rank : ℕ → ℕ → Ordering) (n : ℕ) (t u : Earliest) (place : ℕ) : Type 0 where
+-- own node up to this one.
+pub record IsClimbed (rank : ℕ → ℕ → Ordering) (n : ℕ) (t u : Earliest) (node : ℕ) : Type 0 where
   pub either : (j : ℕ) → 1 ≤ j → j < length t.moments → (winner_at t (j * 2) ≡ winner_at t j) ⊎ (winner_at t (j * 2 + 1) ≡ winner_at t j)
   -- matches of other numbers stand
   pub stand : (j : ℕ) → 1 ≤ j → j < length t.moments → winner_at t (j * 2) ≢ n → winner_at t (j * 2 + 1) ≢ n → winner_at t j ≡ later_winner rank t j
-  -- the number won no place above this one if not this one, and none beside it
-  pub won : (j : ℕ) → 1 ≤ j → j < place * 2 → winner_at t j ≡ n → (winner_at t place ≡ n) × ((j ≡ place) ⊎ (j * 2 ≤ place))
-  pub same : (j : ℕ) → j < place * 2 → j ≢ place → winner_at u j ≡ winner_at t j
-  pub played : (j : ℕ) → 1 ≤ j → j < length t.moments → place < j * 2 → winner_at u j ≡ later_winner rank u j
+  -- the number won no node above this one if not this one, and none beside it
+  pub won : (j : ℕ) → 1 ≤ j → j < node * 2 → winner_at t j ≡ n → (winner_at t node ≡ n) × ((j ≡ node) ⊎ (j * 2 ≤ node))
+  pub same : (j : ℕ) → j < node * 2 → j ≢ node → winner_at u j ≡ winner_at t j
+  pub played : (j : ℕ) → 1 ≤ j → j < length t.moments → node < j * 2 → winner_at u j ≡ later_winner rank u j
 
 module _ (rank : ℕ → ℕ → Ordering) (t : Earliest) (played : IsTournament rank t) where
-  own_place : (n : ℕ) → winner_at t (length t.moments + n) ≡ n
-  own_place n = grind (arith, nat_tests)
+  own_node : (n : ℕ) → winner_at t (length t.moments + n) ≡ n
+  own_node n = grind (arith, nat_tests)
 
-  at_own_place : (p n : ℕ) → length t.moments ≤ p → winner_at t p ≡ n → p ≡ length t.moments + n
-  at_own_place p n past wins = grind (arith, nat_tests)
+  at_own_node : (p n : ℕ) → length t.moments ≤ p → winner_at t p ≡ n → p ≡ length t.moments + n
+  at_own_node p n past wins = grind (arith, nat_tests)
 
   one_of : (l r w : ℕ) (b : Bool) → w ≡ (if b then r else l) → (l ≡ w) ⊎ (r ≡ w)
   one_of l r w true e = inr (sym e)
   one_of l r w false e = inl (sym e)
 
-  -- a number wins its own place, and no other place after the half of it
+  -- a number wins its own node, and no other node after the half of it
   wins_before : (fuel p n : ℕ) → length t.moments ≤ p + fuel → 1 ≤ p → winner_at t p ≡ n → (p ≡ length t.moments + n) ⊎ (p * 2 ≤ length t.moments + n)
-  wins_before zero p n within one wins = inl (at_own_place p n (omega (arith, within)) wins)
+  wins_before zero p n within one wins = inl (at_own_node p n (omega (arith, within)) wins)
   wins_before (suc fuel) p n within one wins =
-      by_place (split (length t.moments) p)
+      by_node (split (length t.moments) p)
       (λ is. wins_before fuel (p * 2) n (omega (arith, within, one)) (omega (arith, one)) is)
       (λ is. wins_before fuel (p * 2 + 1) n (omega (arith, within, one)) (omega (arith, one)) is)
     where
@@ -268,12 +268,12 @@ module _ (rank : ℕ → ℕ → Ordering) (t : Earliest) (played : IsTournament
       raised c less (inl is) = inr (omega (arith, less, is))
       raised c less (inr is) = inr (omega (arith, less, is))
 
-      by_place : (length t.moments ≤ p) ⊎ (p < length t.moments)
+      by_node : (length t.moments ≤ p) ⊎ (p < length t.moments)
           → (winner_at t (p * 2) ≡ n → (p * 2 ≡ length t.moments + n) ⊎ (p * 2 * 2 ≤ length t.moments + n))
           → (winner_at t (p * 2 + 1) ≡ n → (p * 2 + 1 ≡ length t.moments + n) ⊎ ((p * 2 + 1) * 2 ≤ length t.moments + n))
           → (p ≡ length t.moments + n) ⊎ (p * 2 ≤ length t.moments + n)
-      by_place (inl past) left right = inl (at_own_place p n past wins)
-      by_place (inr inner) left right = by_side (one_of (winner_at t (p * 2)) (winner_at t (p * 2 + 1)) (winner_at t p) _ (played p one inner))
+      by_node (inl past) left right = inl (at_own_node p n past wins)
+      by_node (inr inner) left right = by_side (one_of (winner_at t (p * 2)) (winner_at t (p * 2 + 1)) (winner_at t p) _ (played p one inner))
         where
           by_side : (winner_at t (p * 2) ≡ winner_at t p) ⊎ (winner_at t (p * 2 + 1) ≡ winner_at t p) → (p ≡ length t.moments + n) ⊎ (p * 2 ≤ length t.moments + n)
           by_side (inl is) = raised (p * 2) (omega arith) (left (is ∙ wins))
@@ -311,7 +311,7 @@ module _ (rank : ℕ → ℕ → Ordering) (t : Earliest) (played : IsTournament
     begun = record {
       either = λ j one inner. sides j (one_of (winner_at t (j * 2)) (winner_at t (j * 2 + 1)) (winner_at t j) _ (played j one (subst (λ l. j < l) len inner)));
       stand = λ j one inner left right. stands j one (subst (λ l. j < l) len inner) left right;
-      won = λ j one less wins. (as_before (length t.moments + n) ∙ own_place n, won_before j one wins);
+      won = λ j one less wins. (as_before (length t.moments + n) ∙ own_node n, won_before j one wins);
       same = λ j less apart. refl;
       played = λ j one inner late. stands j one (subst (λ l. j < l) len inner) (not_won (j * 2) (omega (arith, one)) late) (not_won (j * 2 + 1) (omega (arith, one)) (omega (arith, late)));
     }
@@ -329,143 +329,143 @@ same_or_apart a b = from (split a b) (split b a)
     from (inr h) q = inr (λ e. absurd (omega (arith, h, e)))
     from (inl h) (inr k) = inr (λ e. absurd (omega (arith, k, e)))
 
-module _ (rank : ℕ → ℕ → Ordering) (t u : Earliest) (place : ℕ) (is : u ≡ record t { winners = slice_set t.winners place (later_winner rank t place) })
-    (one : 1 ≤ place) (inner : place < length t.moments) (places : length t.winners ≡ length t.moments) where
+module _ (rank : ℕ → ℕ → Ordering) (t u : Earliest) (node : ℕ) (is : u ≡ record t { winners = slice_set t.winners node (later_winner rank t node) })
+    (one : 1 ≤ node) (inner : node < length t.moments) (nodes : length t.winners ≡ length t.moments) where
   len_is : length u.moments ≡ length t.moments
   len_is = ap (λ (x : Earliest). length x.moments) is
 
-  moved : (j : ℕ) → winner_at (record t { winners = slice_set t.winners place (later_winner rank t place) }) j ≡ later_winner rank (record t { winners = slice_set t.winners place (later_winner rank t place) }) j
+  moved : (j : ℕ) → winner_at (record t { winners = slice_set t.winners node (later_winner rank t node) }) j ≡ later_winner rank (record t { winners = slice_set t.winners node (later_winner rank t node) }) j
       → winner_at u j ≡ later_winner rank u j
   moved j = subst (λ (x : Earliest). winner_at x j ≡ later_winner rank x j) (sym is)
 
-  -- after the last places a place was played
-  pub played_from : ((j : ℕ) → 1 ≤ j → place < j → j < length t.moments → winner_at t j ≡ later_winner rank t j)
-      → (j : ℕ) → 1 ≤ j → place ≤ j → j < length u.moments → winner_at u j ≡ later_winner rank u j
-  played_from played j some from within = moved j (by (same_or_apart j place))
+  -- after the last nodes a node was played
+  pub played_from : ((j : ℕ) → 1 ≤ j → node < j → j < length t.moments → winner_at t j ≡ later_winner rank t j)
+      → (j : ℕ) → 1 ≤ j → node ≤ j → j < length u.moments → winner_at u j ≡ later_winner rank u j
+  played_from played j some from within = moved j (by (same_or_apart j node))
     where
-      by : (j ≡ place) ⊎ (j ≢ place) → winner_at (record t { winners = slice_set t.winners place (later_winner rank t place) }) j ≡ later_winner rank (record t { winners = slice_set t.winners place (later_winner rank t place) }) j
-      by (inl e) = subst (λ x. winner_at (record t { winners = slice_set t.winners place (later_winner rank t place) }) x ≡ later_winner rank (record t { winners = slice_set t.winners place (later_winner rank t place) }) x) (sym e) (played_here rank t place one inner places)
+      by : (j ≡ node) ⊎ (j ≢ node) → winner_at (record t { winners = slice_set t.winners node (later_winner rank t node) }) j ≡ later_winner rank (record t { winners = slice_set t.winners node (later_winner rank t node) }) j
+      by (inl e) = subst (λ x. winner_at (record t { winners = slice_set t.winners node (later_winner rank t node) }) x ≡ later_winner rank (record t { winners = slice_set t.winners node (later_winner rank t node) }) x) (sym e) (played_here rank t node one inner nodes)
       by (inr apart) =
-          let after : place < j = grind (arith, from, apart) in
-          played_there rank t place (later_winner rank t place) j apart (λ e. absurd (omega (arith, after, e))) (λ e. absurd (omega (arith, after, e))) (played j some after (omega (arith, within, len_is)))
+          let after : node < j = grind (arith, from, apart) in
+          played_there rank t node (later_winner rank t node) j apart (λ e. absurd (omega (arith, after, e))) (λ e. absurd (omega (arith, after, e))) (played j some after (omega (arith, within, len_is)))
 
-module _ (rank : ℕ → ℕ → Ordering) (n : ℕ) (t u : Earliest) (place : ℕ) (climbed : IsClimbed rank n t u place) (moments : u.moments ≡ t.moments) where
+module _ (rank : ℕ → ℕ → Ordering) (n : ℕ) (t u : Earliest) (node : ℕ) (climbed : IsClimbed rank n t u node) (moments : u.moments ≡ t.moments) where
   -- a match of other numbers stands where the winners are as before
   left : (v : Earliest) → v.moments ≡ t.moments → (j : ℕ) → 1 ≤ j → j < length t.moments → winner_at v j ≡ winner_at t j → winner_at v (j * 2) ≡ winner_at t (j * 2) → winner_at v (j * 2 + 1) ≡ winner_at t (j * 2 + 1)
       → winner_at t (j * 2) ≢ n → winner_at t (j * 2 + 1) ≢ n → winner_at v j ≡ later_winner rank v j
   left v alike j one inner here l r not_l not_r = here ∙ climbed.stand j one inner not_l not_r ∙ sym (later_alike rank t v j alike l r)
 
-  -- the first place has been played
-  pub ended : place ≤ 1 → IsTournament rank u
+  -- the first node has been played
+  pub ended : node ≤ 1 → IsTournament rank u
   ended first j one inner = climbed.played j one (subst (λ ms. j < length ms) moments inner) (omega (arith, first, one))
 
-  -- another number wins this place as before, so all matches above stand
-  pub stopped : winner_at u place ≡ winner_at t place → winner_at u place ≢ n → IsTournament rank u
-  stopped as_was apart j one inner = by (split (j * 2) place)
+  -- another number wins this node as before, so all matches above stand
+  pub stopped : winner_at u node ≡ winner_at t node → winner_at u node ≢ n → IsTournament rank u
+  stopped as_was apart j one inner = by (split (j * 2) node)
     where
       within : j < length t.moments
       within = subst (λ ms. j < length ms) moments inner
 
-      kept : (c : ℕ) → c < place * 2 → winner_at u c ≡ winner_at t c
-      kept c less = from (same_or_apart c place)
+      kept : (c : ℕ) → c < node * 2 → winner_at u c ≡ winner_at t c
+      kept c less = from (same_or_apart c node)
         where
-          from : (c ≡ place) ⊎ (c ≢ place) → winner_at u c ≡ winner_at t c
+          from : (c ≡ node) ⊎ (c ≢ node) → winner_at u c ≡ winner_at t c
           from (inl is) = subst (λ x. winner_at u x ≡ winner_at t x) (sym is) as_was
           from (inr other) = climbed.same c less other
 
-      other : (c : ℕ) → 1 ≤ c → c < place * 2 → winner_at t c ≢ n
+      other : (c : ℕ) → 1 ≤ c → c < node * 2 → winner_at t c ≢ n
       other c some less wins = apart (as_was ∙ (climbed.won c some less wins).0)
 
-      by : (j * 2 ≤ place) ⊎ (place < j * 2) → winner_at u j ≡ later_winner rank u j
+      by : (j * 2 ≤ node) ⊎ (node < j * 2) → winner_at u j ≡ later_winner rank u j
       by (inr late) = climbed.played j one within late
       by (inl above) =
           left u moments j one within (kept j (omega (arith, above, one))) (kept (j * 2) (omega (arith, above, one))) (kept (j * 2 + 1) (omega (arith, above, one)))
           (other (j * 2) (omega (arith, one)) (omega (arith, above, one))) (other (j * 2 + 1) (omega arith) (omega (arith, above, one)))
 
-  module _ (one : 1 ≤ place / 2) (inner : place / 2 < length t.moments) (places : length u.winners ≡ length u.moments) where
-    low : place / 2 * 2 ≤ place
-    low = from (halves place)
+  module _ (one : 1 ≤ node / 2) (inner : node / 2 < length t.moments) (nodes : length u.winners ≡ length u.moments) where
+    low : node / 2 * 2 ≤ node
+    low = from (halves node)
       where
-        from : (place ≡ place / 2 * 2) ⊎ (place ≡ place / 2 * 2 + 1) → place / 2 * 2 ≤ place
+        from : (node ≡ node / 2 * 2) ⊎ (node ≡ node / 2 * 2 + 1) → node / 2 * 2 ≤ node
         from (inl e) = omega (arith, e)
         from (inr e) = omega (arith, e)
 
-    high : place ≤ place / 2 * 2 + 1
-    high = from (halves place)
+    high : node ≤ node / 2 * 2 + 1
+    high = from (halves node)
       where
-        from : (place ≡ place / 2 * 2) ⊎ (place ≡ place / 2 * 2 + 1) → place ≤ place / 2 * 2 + 1
+        from : (node ≡ node / 2 * 2) ⊎ (node ≡ node / 2 * 2 + 1) → node ≤ node / 2 * 2 + 1
         from (inl e) = omega (arith, e)
         from (inr e) = omega (arith, e)
 
-    -- a place before this one that the number won is at most the half of this one
-    at_half : (j : ℕ) → 1 ≤ j → j < place / 2 * 2 → winner_at t j ≡ n → j ≤ place / 2
+    -- a node before this one that the number won is at most the half of this one
+    at_half : (j : ℕ) → 1 ≤ j → j < node / 2 * 2 → winner_at t j ≡ n → j ≤ node / 2
     at_half j some less wins = from (climbed.won j some (omega (arith, less, low)) wins).1
       where
-        from : (j ≡ place) ⊎ (j * 2 ≤ place) → j ≤ place / 2
+        from : (j ≡ node) ⊎ (j * 2 ≤ node) → j ≤ node / 2
         from (inl is) = absurd (omega (arith, is, less, low))
         from (inr is) = omega (arith, is, high)
 
-    here : (j : ℕ) → j ≡ place / 2 → winner_at t j ≡ n → (winner_at t (place / 2) ≡ n) × ((j ≡ place / 2) ⊎ (j * 2 ≤ place / 2))
+    here : (j : ℕ) → j ≡ node / 2 → winner_at t j ≡ n → (winner_at t (node / 2) ≡ n) × ((j ≡ node / 2) ⊎ (j * 2 ≤ node / 2))
     here j is wins = (subst (λ x. winner_at t x ≡ n) is wins, inl is)
 
-    won_half : (fuel j : ℕ) → place / 2 ≤ j + fuel → 1 ≤ j → j < place / 2 * 2 → winner_at t j ≡ n → (winner_at t (place / 2) ≡ n) × ((j ≡ place / 2) ⊎ (j * 2 ≤ place / 2))
+    won_half : (fuel j : ℕ) → node / 2 ≤ j + fuel → 1 ≤ j → j < node / 2 * 2 → winner_at t j ≡ n → (winner_at t (node / 2) ≡ n) × ((j ≡ node / 2) ⊎ (j * 2 ≤ node / 2))
     won_half zero j within some less wins =
         let most = at_half j some less wins in
         here j (omega (arith, within, most)) wins
     won_half (suc fuel) j within some less wins =
-        by (same_or_apart j (place / 2))
+        by (same_or_apart j (node / 2))
         (λ small is. (won_half fuel (j * 2) (omega (arith, within, some)) (omega (arith, some)) (omega (arith, small)) is).0)
         (λ small is. (won_half fuel (j * 2 + 1) (omega (arith, within, some)) (omega arith) (omega (arith, small)) is).0)
       where
-        by : (j ≡ place / 2) ⊎ (j ≢ place / 2) → (j < place / 2 → winner_at t (j * 2) ≡ n → winner_at t (place / 2) ≡ n) → (j < place / 2 → winner_at t (j * 2 + 1) ≡ n → winner_at t (place / 2) ≡ n)
-            → (winner_at t (place / 2) ≡ n) × ((j ≡ place / 2) ⊎ (j * 2 ≤ place / 2))
+        by : (j ≡ node / 2) ⊎ (j ≢ node / 2) → (j < node / 2 → winner_at t (j * 2) ≡ n → winner_at t (node / 2) ≡ n) → (j < node / 2 → winner_at t (j * 2 + 1) ≡ n → winner_at t (node / 2) ≡ n)
+            → (winner_at t (node / 2) ≡ n) × ((j ≡ node / 2) ⊎ (j * 2 ≤ node / 2))
         by (inl is) l r = here j is wins
         by (inr apart) l r = from (climbed.either j some (omega (arith, before, inner)))
           where
-            before : j < place / 2
+            before : j < node / 2
             before =
                 let most = at_half j some less wins in
                 grind (arith, most, apart)
 
-            from : (winner_at t (j * 2) ≡ winner_at t j) ⊎ (winner_at t (j * 2 + 1) ≡ winner_at t j) → (winner_at t (place / 2) ≡ n) × ((j ≡ place / 2) ⊎ (j * 2 ≤ place / 2))
+            from : (winner_at t (j * 2) ≡ winner_at t j) ⊎ (winner_at t (j * 2 + 1) ≡ winner_at t j) → (winner_at t (node / 2) ≡ n) × ((j ≡ node / 2) ⊎ (j * 2 ≤ node / 2))
             from (inl is) = (l before (is ∙ wins), inr (at_half (j * 2) (omega (arith, some)) (omega (arith, before)) (is ∙ wins)))
             from (inr is) =
                 let half = at_half (j * 2 + 1) (omega arith) (omega (arith, before)) (is ∙ wins) in
                 (r before (is ∙ wins), inr (omega (arith, half)))
 
-    pub half_as_was : winner_at u (place / 2) ≡ winner_at t (place / 2)
-    half_as_was = climbed.same (place / 2) (omega (arith, low, one)) (λ e. absurd (omega (arith, e, low, one)))
+    pub half_as_was : winner_at u (node / 2) ≡ winner_at t (node / 2)
+    half_as_was = climbed.same (node / 2) (omega (arith, low, one)) (λ e. absurd (omega (arith, e, low, one)))
 
     abbrev half_played : Earliest
-    half_played = record u { winners = slice_set u.winners (place / 2) (later_winner rank u (place / 2)) }
+    half_played = record u { winners = slice_set u.winners (node / 2) (later_winner rank u (node / 2)) }
 
-    same_half : (j : ℕ) → j < place / 2 * 2 → j ≢ place / 2 → winner_at half_played j ≡ winner_at t j
+    same_half : (j : ℕ) → j < node / 2 * 2 → j ≢ node / 2 → winner_at half_played j ≡ winner_at t j
     same_half j less apart =
-        winner_apart u (place / 2) (later_winner rank u (place / 2)) j apart
+        winner_apart u (node / 2) (later_winner rank u (node / 2)) j apart
         ∙ climbed.same j (omega (arith, less, low)) (λ e. absurd (omega (arith, e, less, low)))
 
-    played_half : (j : ℕ) → 1 ≤ j → j < length t.moments → place / 2 < j * 2 → winner_at half_played j ≡ later_winner rank half_played j
-    played_half j some within late = by (same_or_apart j (place / 2)) (split (j * 2) place)
+    played_half : (j : ℕ) → 1 ≤ j → j < length t.moments → node / 2 < j * 2 → winner_at half_played j ≡ later_winner rank half_played j
+    played_half j some within late = by (same_or_apart j (node / 2)) (split (j * 2) node)
       where
-        by : (j ≡ place / 2) ⊎ (j ≢ place / 2) → (j * 2 ≤ place) ⊎ (place < j * 2) → winner_at half_played j ≡ later_winner rank half_played j
+        by : (j ≡ node / 2) ⊎ (j ≢ node / 2) → (j * 2 ≤ node) ⊎ (node < j * 2) → winner_at half_played j ≡ later_winner rank half_played j
         by (inl e) where_is =
             subst (λ x. winner_at half_played x ≡ later_winner rank half_played x) (sym e)
-            (played_here rank u (place / 2) one (subst (λ ms. place / 2 < length ms) (sym moments) inner) places)
+            (played_here rank u (node / 2) one (subst (λ ms. node / 2 < length ms) (sym moments) inner) nodes)
         by (inr apart) (inr after) =
-            played_there rank u (place / 2) (later_winner rank u (place / 2)) j apart (λ e. absurd (omega (arith, e, late))) (λ e. absurd (omega (arith, e, late))) (climbed.played j some within after)
+            played_there rank u (node / 2) (later_winner rank u (node / 2)) j apart (λ e. absurd (omega (arith, e, late))) (λ e. absurd (omega (arith, e, late))) (climbed.played j some within after)
         by (inr apart) (inl before) =
-            let less : j < place / 2 = grind (arith, before, high, apart) in
+            let less : j < node / 2 = grind (arith, before, high, apart) in
             left half_played moments j some within (same_half j (omega (arith, less)) apart)
             (same_half (j * 2) (omega (arith, less)) (λ e. absurd (omega (arith, e, late)))) (same_half (j * 2 + 1) (omega (arith, less)) (λ e. absurd (omega (arith, e, late))))
             (λ wins. absurd (omega (arith, at_half (j * 2) (omega (arith, some)) (omega (arith, less)) wins, late)))
             (λ wins. absurd (omega (arith, at_half (j * 2 + 1) (omega arith) (omega (arith, less)) wins, late)))
 
-    -- the place above was played
-    pub climbs : (v : Earliest) → v ≡ half_played → IsClimbed rank n t v (place / 2)
-    climbs v is = subst (λ x. IsClimbed rank n t x (place / 2)) (sym is) (record {
+    -- the node above was played
+    pub climbs : (v : Earliest) → v ≡ half_played → IsClimbed rank n t v (node / 2)
+    climbs v is = subst (λ x. IsClimbed rank n t x (node / 2)) (sym is) (record {
       either = climbed.either;
       stand = climbed.stand;
-      won = λ j some less wins. won_half (place / 2) j (omega arith) some less wins;
+      won = λ j some less wins. won_half (node / 2) j (omega arith) some less wins;
       same = same_half;
       played = played_half;
     })
@@ -475,11 +475,11 @@ length_set [] n x = refl
 length_set (y ∷ xs) zero x = refl
 length_set (y ∷ xs) (suc n) x = ap suc (length_set xs n x)
 
--- the half of a place after the first is a place, and an inner one
-pub half_bounds : (place n : ℕ) → 1 < place → place < n + n → (1 ≤ place / 2) × (place / 2 < n)
-half_bounds place n h within = from (halves place)
+-- the half of a node after the first is a node, and an inner one
+pub half_bounds : (node n : ℕ) → 1 < node → node < n + n → (1 ≤ node / 2) × (node / 2 < n)
+half_bounds node n h within = from (halves node)
   where
-    from : (place ≡ place / 2 * 2) ⊎ (place ≡ place / 2 * 2 + 1) → (1 ≤ place / 2) × (place / 2 < n)
+    from : (node ≡ node / 2 * 2) ⊎ (node ≡ node / 2 * 2 + 1) → (1 ≤ node / 2) × (node / 2 < n)
     from (inl e) = (omega (arith, h, e), omega (arith, within, e))
     from (inr e) = (omega (arith, h, e), omega (arith, within, e))
 
@@ -494,7 +494,7 @@ module _ (rank other : ℕ → ℕ → Ordering) (t : Earliest) (agree : AgreeOn
 
   -- a tournament stands under another order that agrees on all numbers with moments
   pub tournament_agrees : IsTournament rank t → IsTournament other t
-  tournament_agrees played place one inner =
-      let l = winner_at t (place * 2) in
-      let r = winner_at t (place * 2 + 1) in
-      played place one inner ∙ ap (λ o. if is_lt o then r else l) (sym (same_match (moment_at t r) (moment_at t l) r l refl refl))
+  tournament_agrees played node one inner =
+      let l = winner_at t (node * 2) in
+      let r = winner_at t (node * 2 + 1) in
+      played node one inner ∙ ap (λ o. if is_lt o then r else l) (sym (same_match (moment_at t r) (moment_at t l) r l refl refl))

@@ -5,7 +5,7 @@ use Rattle.std.specs.declared.cmp.Ordering.TheVariants.{Less, Equal, Greater}
 use Rattle.amr_tables.specs.Places.{value_at}
 use Rattle.std.specs.Ordering.{nat_cmp, ordering_then, is_lt}
 
--- the moment of each number, if it has one, and the winner of each inner place
+-- the moment of each number, if it has one, and the winner of each inner node
 pub record Earliest : Type 0 where
   pub moments : List (Option ℕ)
   pub winners : List ℕ
@@ -18,9 +18,9 @@ moment_at e n = value_at e.moments n
 abbrev pub timer_at : Earliest → ℕ → Option ℕ × ℕ
 timer_at t n = (moment_at t n, n)
 
--- who wins a place: a number at its own place, and else who was noted
+-- who wins a node: a number at its own node, and else who was noted
 abbrev pub winner_at : Earliest → ℕ → ℕ
-winner_at t place = if nat_lt place (length t.moments) then get_or t.winners place 0 else place - length t.moments
+winner_at t node = if nat_lt node (length t.moments) then get_or t.winners node 0 else node - length t.moments
 
 module _ (rank : ℕ → ℕ → Ordering) where
   -- the earlier moment is first; of equal moments, the number that the order puts first; a number
@@ -31,14 +31,14 @@ module _ (rank : ℕ → ℕ → Ordering) where
   timer_cmp (None, a) (Some other, b) = Greater
   timer_cmp (None, a) (None, b) = Equal
 
-  -- who wins of the winners of the two places below
+  -- who wins of the winners of the two nodes below
   abbrev pub later_winner : Earliest → ℕ → ℕ
-  later_winner t place =
-      if is_lt (timer_cmp (timer_at t (winner_at t (place * 2 + 1))) (timer_at t (winner_at t (place * 2)))) then winner_at t (place * 2 + 1) else winner_at t (place * 2)
+  later_winner t node =
+      if is_lt (timer_cmp (timer_at t (winner_at t (node * 2 + 1))) (timer_at t (winner_at t (node * 2)))) then winner_at t (node * 2 + 1) else winner_at t (node * 2)
 
-  -- at each inner place the winner of those below is noted
+  -- at each inner node the winner of those below is noted
   abbrev pub IsTournament : Earliest → Type 0
-  IsTournament t = (place : ℕ) → 1 ≤ place → place < length t.moments → winner_at t place ≡ later_winner t place
+  IsTournament t = (node : ℕ) → 1 ≤ node → node < length t.moments → winner_at t node ≡ later_winner t node
 
   -- no number has an earlier moment, and of those with the same moment the order puts none before
   abbrev pub IsEarliest : Earliest → ℕ → Type 0

@@ -14,9 +14,9 @@ use std::marker::Model;
 use std::mem;
 
 /// Moments by number, in nanoseconds since 1970; a number may have none. The numbers play a
-/// tournament, which the earliest moment wins: of the places from 1 on, those from the number of
-/// numbers on are the numbers themselves, and at each other place k plays the winner of place 2k
-/// against that of place 2k + 1. A new moment of a number changes only the places above it.
+/// tournament, which the earliest moment wins: of the nodes from 1 on, those from the number of
+/// numbers on are the numbers themselves, and at each other node k plays the winner of node 2k
+/// against that of node 2k + 1. A new moment of a number changes only the nodes above it.
 #[derive(Drop)]
 pub struct Earliest {
     alloc: Global,
@@ -91,15 +91,15 @@ impl Earliest {
         Ok(())
     }
 
-    /// Plays all matches anew, the last places first.
+    /// Plays all matches anew, the last nodes first.
     fn play_all<O: Ranking>(&mut self, order: &O)
         ensures moments { self.new.moments ≡ self.old.moments }
         ensures kept { IsTournament (O.rank order.now) self.new }
     {
-        let mut place = self.moments.len();
-        while place > 1 {
-            place -= 1;
-            self.play(order, place);
+        let mut node = self.moments.len();
+        while node > 1 {
+            node -= 1;
+            self.play(order, node);
         }
     }
 
@@ -115,41 +115,41 @@ impl Earliest {
             return;
         }
         self.moments[number] = moment;
-        let mut place = self.moments.len() + number;
-        while place > 1 {
-            place /= 2;
-            let former = self.play(order, place);
-            if former != number && self.winner(place) == former {
+        let mut node = self.moments.len() + number;
+        while node > 1 {
+            node /= 2;
+            let former = self.play(order, node);
+            if former != number && self.winner(node) == former {
                 return;
             }
         }
     }
 
-    /// Lets the winners below a place play, and notes who wins. Returns who won there before.
-    fn play<O: Ranking>(&mut self, order: &O, place: usize) -> usize
-        requires first { 1 ≤ place }
-        requires inner { place < length self.old.moments }
-        ensures former { result ≡ winner_at self.old place }
+    /// Lets the winners below a node play, and notes who wins. Returns who won there before.
+    fn play<O: Ranking>(&mut self, order: &O, node: usize) -> usize
+        requires first { 1 ≤ node }
+        requires inner { node < length self.old.moments }
+        ensures former { result ≡ winner_at self.old node }
         ensures moments { self.new.moments ≡ self.old.moments }
-        ensures winners { self.new.winners ≡ slice_set self.old.winners place
-            (later_winner (O.rank order.now) self.old place) }
+        ensures winners { self.new.winners ≡ slice_set self.old.winners node
+            (later_winner (O.rank order.now) self.old node) }
     {
-        let left = self.winner(place * 2);
-        let right = self.winner(place * 2 + 1);
+        let left = self.winner(node * 2);
+        let right = self.winner(node * 2 + 1);
         let is_right = self.compare(order, right, left) == Ordering::Less;
         let winner = if is_right { right } else { left };
-        mem::replace(&mut self.winners[place], winner)
+        mem::replace(&mut self.winners[node], winner)
     }
 
-    /// Returns the winner of a place.
-    fn winner(&self, place: usize) -> usize
-        ensures { result ≡ winner_at self.now place }
+    /// Returns the winner of a node.
+    fn winner(&self, node: usize) -> usize
+        ensures { result ≡ winner_at self.now node }
     {
         let numbers = self.moments.len();
-        if place < numbers {
-            self.winners[place]
+        if node < numbers {
+            self.winners[node]
         } else {
-            place - numbers
+            node - numbers
         }
     }
 

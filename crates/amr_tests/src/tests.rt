@@ -1,4 +1,4 @@
-//! Tests of what no command of the program shows: places of faulty matcher texts, a refused
+//! Tests of what no command of the program shows: offsets of faulty matcher texts, a refused
 //! pattern, texts of errors, the last moment, copies, and label sets of names that aren't in order.
 use amr_labels::matcher::{MatcherError, Matchers};
 use amr_labels::{Labels, Text};
@@ -37,7 +37,7 @@ const FAULTY: [(&str, usize); 26] = [
     ("c=~\"[\",,", 7),
 ];
 
-fn place_of_fault(alloc: Global, text: &str) -> Result<Option<usize>, AllocError> {
+fn offset_of_fault(alloc: Global, text: &str) -> Result<Option<usize>, AllocError> {
     match Matchers::parse(alloc, text) {
         Err(MatcherError::BadMatcher { at }) => Ok(Some(at)),
         Err(MatcherError::Memory) => Err(AllocError),
@@ -46,9 +46,9 @@ fn place_of_fault(alloc: Global, text: &str) -> Result<Option<usize>, AllocError
 }
 
 #[test]
-fn faulty_matcher_texts_are_refused_at_their_places(rt: HostRuntime) -> Result<(), Fail> {
-    for (text, place) in &FAULTY {
-        assert_eq!(rt; place_of_fault(rt.alloc(), text)?, Some(*place), "{text}");
+fn faulty_matcher_texts_are_refused_at_their_offsets(rt: HostRuntime) -> Result<(), Fail> {
+    for (text, offset) in &FAULTY {
+        assert_eq!(rt; offset_of_fault(rt.alloc(), text)?, Some(*offset), "{text}");
     }
     Ok(())
 }

@@ -29,8 +29,8 @@ abbrev pub month_names : List (List ℕ)
 month_names = codes "january" ∷ codes "february" ∷ codes "march" ∷ codes "april" ∷ codes "may" ∷ codes "june" ∷ codes "july" ∷ codes "august" ∷ codes "september" ∷ codes "october" ∷ codes "november" ∷ codes "december" ∷ []
 
 -- the index of the name that the text is, ignoring case, from 0
-abbrev pub place_of : List (List ℕ) → List ℕ → Option ℕ
-place_of names text = position (str_eq_ignore_ascii_case text) names
+abbrev pub index_of : List (List ℕ) → List ℕ → Option ℕ
+index_of names text = position (str_eq_ignore_ascii_case text) names
 
 -- one digit or more, and nothing else
 abbrev pub is_number : List ℕ → Bool
@@ -41,11 +41,11 @@ unfoldable pub number_within : ℕ → ℕ → List ℕ → Option ℕ
 number_within least greatest text = if is_number text && nat_le least (decimal text) && nat_le (decimal text) greatest then Some (decimal text) else None
 
 abbrev pub weekday_at : List ℕ → Option ℕ
-weekday_at text = place_of weekday_names text
+weekday_at text = index_of weekday_names text
 
 -- a name or a number, from 1
 unfoldable pub month_at : List ℕ → Option ℕ
-month_at text = option_or (option_map (λ place. place + 1) (place_of month_names text)) (number_within 1 12 text)
+month_at text = option_or (option_map (λ index. index + 1) (index_of month_names text)) (number_within 1 12 text)
 
 abbrev pub year_at : List ℕ → Option ℕ
 year_at text = number_within 0 18_446_744_073_709_551_615 text

@@ -113,16 +113,16 @@ impl DayRange {
 fn ends(bytes: &[u8]) -> (&[u8], &[u8])
     ensures { (result.0.now, result.1.now) ≡ ends_of bytes.now }
 {
-    let place = colon_place(bytes);
-    if place < bytes.len() {
-        (&bytes[..place], &bytes[place + 1..])
+    let index = colon_index(bytes);
+    if index < bytes.len() {
+        (&bytes[..index], &bytes[index + 1..])
     } else {
         (bytes, bytes)
     }
 }
 
 /// Returns how many bytes are before the first colon.
-fn colon_place(bytes: &[u8]) -> usize
+fn colon_index(bytes: &[u8]) -> usize
     ensures { result ≡ length (before_colon bytes.now) }
 {
     bytes.iter().take_while(|byte| **byte != b':').count()
@@ -190,7 +190,7 @@ const MONTHS: [&str; 12] = [
 ];
 
 /// Returns the index of the name that the text is, ignoring ASCII case.
-fn place_of(names: &[&str], bytes: &[u8]) -> Option<usize>
+fn index_of(names: &[&str], bytes: &[u8]) -> Option<usize>
     ensures { result ≡ position (λ name. str_eq_ignore_ascii_case bytes.now name.now) names.now }
 {
     names.iter().position(|name| is_name(bytes, name))
@@ -206,8 +206,8 @@ fn is_name(bytes: &[u8], name: &str) -> bool
 fn weekday(bytes: &[u8]) -> Option<u64>
     ensures { result ≡ weekday_at bytes.now }
 {
-    let place = place_of(&WEEKDAYS, bytes)?;
-    Some(place as u64)
+    let index = index_of(&WEEKDAYS, bytes)?;
+    Some(index as u64)
 }
 
 /// Reads the name or the number of a month, as its number from 1.
@@ -215,8 +215,8 @@ fn weekday(bytes: &[u8]) -> Option<u64>
 fn month(bytes: &[u8]) -> Option<u64>
     ensures { result ≡ month_at bytes.now }
 {
-    match place_of(&MONTHS, bytes) {
-        Some(place) => Some(place as u64 + 1),
+    match index_of(&MONTHS, bytes) {
+        Some(index) => Some(index as u64 + 1),
         None => number(1, 12, bytes),
     }
 }

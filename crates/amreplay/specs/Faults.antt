@@ -12,8 +12,8 @@ use Rattle.amr_events.specs.Faults.{name_of_fault}
 use Rattle.amr_events.specs.declared.error.ScriptError.TheVariants as script_error
 use Rattle.amreplay.specs.declared.fault.Fault.{Fault}
 use Rattle.amreplay.specs.declared.fault.Fault.TheVariants.{Config, Script, CannotReadConfig, CannotReadScript, CannotReadCommands, CannotWrite, Memory, Usage}
-use Rattle.amreplay.specs.declared.fault.Place.{Place}
-use Rattle.amreplay.specs.declared.fault.Place.TheVariants as place
+use Rattle.amreplay.specs.declared.fault.Location.{Location}
+use Rattle.amreplay.specs.declared.fault.Location.TheVariants as location
 
 -- the fault of an error
 abbrev pub config_fault : ConfigError → Fault
@@ -45,47 +45,48 @@ fault_name CannotWrite = codes "cannot write"
 fault_name Memory = codes "out of memory"
 fault_name Usage = codes "usage"
 
--- the place of a fault: none that is printed, a path in the configuration, or a line of the script
-pub data FaultPlace : Type 0 where
-  Nowhere : FaultPlace
-  AtPath : List ℕ → FaultPlace
-  AtLine : ℕ → FaultPlace
+-- the location of a fault: none that is printed, a path in the configuration, or a line of the
+-- script
+pub data FaultLocation : Type 0 where
+  Nowhere : FaultLocation
+  AtPath : List ℕ → FaultLocation
+  AtLine : ℕ → FaultLocation
 
-abbrev pub place_of : Place → FaultPlace
-place_of place.Nowhere = Nowhere
-place_of (place.AtPath path) = AtPath path.now
-place_of (place.AtLine line) = AtLine line
+abbrev pub location_of : Location → FaultLocation
+location_of location.Nowhere = Nowhere
+location_of (location.AtPath path) = AtPath path.now
+location_of (location.AtLine line) = AtLine line
 
-abbrev pub path_place : List ℕ → FaultPlace
-path_place [] = Nowhere
-path_place (b ∷ bs) = AtPath (b ∷ bs)
+abbrev pub path_location : List ℕ → FaultLocation
+path_location [] = Nowhere
+path_location (b ∷ bs) = AtPath (b ∷ bs)
 
-abbrev pub config_place : Refusal → FaultPlace
-config_place (BadConfig path) = path_place path
-config_place (Other cause) = Nowhere
+abbrev pub config_location : Refusal → FaultLocation
+config_location (BadConfig path) = path_location path
+config_location (Other cause) = Nowhere
 
-abbrev pub script_place : ScriptFault → FaultPlace
-script_place (BadLine line) = AtLine line
-script_place (LineTooLong line) = AtLine line
-script_place TooManyEvents = Nowhere
+abbrev pub script_location : ScriptFault → FaultLocation
+script_location (BadLine line) = AtLine line
+script_location (LineTooLong line) = AtLine line
+script_location TooManyEvents = Nowhere
 
-abbrev pub fault_place : Fault → FaultPlace
-fault_place (Config refusal) = config_place refusal
-fault_place (Script fault) = script_place fault
-fault_place CannotReadConfig = Nowhere
-fault_place CannotReadScript = Nowhere
-fault_place CannotReadCommands = Nowhere
-fault_place CannotWrite = Nowhere
-fault_place Memory = Nowhere
-fault_place Usage = Nowhere
+abbrev pub fault_location : Fault → FaultLocation
+fault_location (Config refusal) = config_location refusal
+fault_location (Script fault) = script_location fault
+fault_location CannotReadConfig = Nowhere
+fault_location CannotReadScript = Nowhere
+fault_location CannotReadCommands = Nowhere
+fault_location CannotWrite = Nowhere
+fault_location Memory = Nowhere
+fault_location Usage = Nowhere
 
-abbrev pub line_with_place : List ℕ → List ℕ → FaultPlace → List ℕ
-line_with_place prefix name Nowhere = prefix ++ (name ++ codes "\n")
-line_with_place prefix name (AtPath path) = prefix ++ (name ++ (codes " at " ++ (path ++ codes "\n")))
-line_with_place prefix name (AtLine line) = prefix ++ (name ++ (codes " at line " ++ (decimal line ++ codes "\n")))
+abbrev pub line_with_location : List ℕ → List ℕ → FaultLocation → List ℕ
+line_with_location prefix name Nowhere = prefix ++ (name ++ codes "\n")
+line_with_location prefix name (AtPath path) = prefix ++ (name ++ (codes " at " ++ (path ++ codes "\n")))
+line_with_location prefix name (AtLine line) = prefix ++ (name ++ (codes " at line " ++ (decimal line ++ codes "\n")))
 
 abbrev pub fault_line : Fault → List ℕ
-fault_line fault = line_with_place (fault_prefix fault) (fault_name fault) (fault_place fault)
+fault_line fault = line_with_location (fault_prefix fault) (fault_name fault) (fault_location fault)
 
 abbrev pub status_of : Fault → ℕ
 status_of (Config refusal) = 1

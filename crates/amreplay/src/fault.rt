@@ -88,13 +88,13 @@ impl From<WriteFailed> for Fault {
 
 /// What the line of a fault has after its name.
 #[derive(Clone, Copy, Debug)]
-enum Place<'a> {
+enum Location<'a> {
     Nowhere,
     AtPath(&'a str),
     AtLine(u64),
 }
 
-ghost use Rattle.amreplay.specs.Faults.{fault_line, fault_prefix, fault_name, fault_place, config_place as config_place_of, script_place as script_place_of, path_place as place_of_path, line_with_place, place_of as place_seen, status_of as fault_status};
+ghost use Rattle.amreplay.specs.Faults.{fault_line, fault_prefix, fault_name, fault_location, config_location as config_location_of, script_location as script_location_of, path_location as location_of_path, line_with_location, location_of as location_seen, status_of as fault_status};
 
 /// Writes the line of a fault. It takes no memory.
 pub fn write_fault<W: Write>(fault: &Fault, out: &mut CheckedWriter<W>) -> Result<(), WriteFailed>
@@ -102,23 +102,23 @@ pub fn write_fault<W: Write>(fault: &Fault, out: &mut CheckedWriter<W>) -> Resul
         result (fault_line fault.now) }
     ensures failed { FailsAt result out.old.failed out.new.failed }
 {
-    write_line(prefix_of(fault), name_of(fault), &place_of(fault), out)
+    write_line(prefix_of(fault), name_of(fault), &location_of(fault), out)
 }
 
-/// Writes the line of a fault from its prefix, its name and its place.
+/// Writes the line of a fault from its prefix, its name and its location.
 fn write_line<W: Write>(
     prefix: &str,
     name: &str,
-    place: &Place,
+    location: &Location,
     out: &mut CheckedWriter<W>,
 ) -> Result<(), WriteFailed>
     ensures written { WritesText (W.contents out.old.writer) (W.contents out.new.writer)
-        result (line_with_place prefix.now name.now (place_seen place.now)) }
+        result (line_with_location prefix.now name.now (location_seen location.now)) }
     ensures failed { FailsAt result out.old.failed out.new.failed }
 {
-    match place {
-        Place::Nowhere => write_parts(out, &[prefix.as_bytes(), name.as_bytes(), b"\n"]),
-        Place::AtPath(path) => write_parts(
+    match location {
+        Location::Nowhere => write_parts(out, &[prefix.as_bytes(), name.as_bytes(), b"\n"]),
+        Location::AtPath(path) => write_parts(
             out,
             &[
                 prefix.as_bytes(),
@@ -128,7 +128,7 @@ fn write_line<W: Write>(
                 b"\n",
             ],
         ),
-        Place::AtLine(line) => {
+        Location::AtLine(line) => {
             let mut digits = Buffer::new();
             let digits = digits.format(*line);
             write_parts(
@@ -172,46 +172,46 @@ fn name_of(fault: &Fault) -> &'static str
     }
 }
 
-/// Returns the place of a fault.
-fn place_of(fault: &Fault) -> Place<'_>
-    ensures { place_seen result ≡ fault_place fault.now }
+/// Returns the location of a fault.
+fn location_of(fault: &Fault) -> Location<'_>
+    ensures { location_seen result ≡ fault_location fault.now }
 {
     match fault {
-        Fault::Config(refusal) => config_place(refusal),
-        Fault::Script(fault) => script_place(*fault),
-        _ => Place::Nowhere,
+        Fault::Config(refusal) => config_location(refusal),
+        Fault::Script(fault) => script_location(*fault),
+        _ => Location::Nowhere,
     }
 }
 
-/// Returns the place of a refusal: the path in the configuration, if it has one.
-fn config_place(refusal: &Refusal) -> Place<'_>
-    ensures { place_seen result ≡ config_place_of refusal.now }
+/// Returns the location of a refusal: the path in the configuration, if it has one.
+fn config_location(refusal: &Refusal) -> Location<'_>
+    ensures { location_seen result ≡ config_location_of refusal.now }
 {
     match refusal {
-        Refusal::BadConfig { path } => path_place(path.as_str()),
-        Refusal::Other(_) => Place::Nowhere,
+        Refusal::BadConfig { path } => path_location(path.as_str()),
+        Refusal::Other(_) => Location::Nowhere,
     }
 }
 
-/// Returns the place at a path. The empty path, which is the whole configuration, isn't printed.
-fn path_place(path: &str) -> Place<'_>
-    ensures { place_seen result ≡ place_of_path path.now }
+/// Returns the location at a path. The empty path, which is the whole configuration, isn't printed.
+fn path_location(path: &str) -> Location<'_>
+    ensures { location_seen result ≡ location_of_path path.now }
 {
     if path.is_empty() {
-        Place::Nowhere
+        Location::Nowhere
     } else {
-        Place::AtPath(path)
+        Location::AtPath(path)
     }
 }
 
-/// Returns the place of a script's fault: its line, if it has one.
-fn script_place(fault: ScriptFault) -> Place<'static>
-    ensures { place_seen result ≡ script_place_of fault }
+/// Returns the location of a script's fault: its line, if it has one.
+fn script_location(fault: ScriptFault) -> Location<'static>
+    ensures { location_seen result ≡ script_location_of fault }
 {
     match fault {
-        ScriptFault::BadLine { line } => Place::AtLine(line),
-        ScriptFault::LineTooLong { line } => Place::AtLine(line),
-        ScriptFault::TooManyEvents => Place::Nowhere,
+        ScriptFault::BadLine { line } => Location::AtLine(line),
+        ScriptFault::LineTooLong { line } => Location::AtLine(line),
+        ScriptFault::TooManyEvents => Location::Nowhere,
     }
 }
 

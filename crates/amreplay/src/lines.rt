@@ -17,7 +17,7 @@ mod word;
 pub use checked_reader::{CheckedReader, ReadFailed};
 pub use checked_writer::{CheckedWriter, WriteFailed, flush, write_parts, write_whole};
 pub use last_lines::{
-    cursor_text, moves_text, write_back, write_backward_seek, write_place, write_refused,
+    cursor_text, moves_text, write_back, write_backward_seek, write_position, write_refused,
 };
 pub use lines::{event_text, notes_text};
 pub use listings::{alert_lines, group_lines, log_lines, silence_lines};

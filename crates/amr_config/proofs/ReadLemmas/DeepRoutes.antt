@@ -15,28 +15,28 @@ or_true : (b : Bool) → (b || true) ≡ true
 or_true true = refl
 or_true false = refl
 
--- an item that passes the test has a place
-any_found : (p : Data → Bool) (ds : Items) → any_item p ds ≡ true → (place : ℕ) × (d : Data) × (get_item place ds ≡ Some d) × (p d ≡ true)
+-- an item that passes the test has an index
+any_found : (p : Data → Bool) (ds : Items) → any_item p ds ≡ true → (index : ℕ) × (d : Data) × (get_item index ds ≡ Some d) × (p d ≡ true)
 any_found p no_items e = no_truth e
 any_found p (item d ds) e = go (p d) refl e (any_found p ds)
   where
-    go : (b : Bool) → p d ≡ b → (b || any_item p ds) ≡ true → (any_item p ds ≡ true → (place : ℕ) × (e : Data) × (get_item place ds ≡ Some e) × (p e ≡ true)) → (place : ℕ) × (e : Data) × (get_item place (item d ds) ≡ Some e) × (p e ≡ true)
+    go : (b : Bool) → p d ≡ b → (b || any_item p ds) ≡ true → (any_item p ds ≡ true → (index : ℕ) × (e : Data) × (get_item index ds ≡ Some e) × (p e ≡ true)) → (index : ℕ) × (e : Data) × (get_item index (item d ds) ≡ Some e) × (p e ≡ true)
     go true is e later = (0, d, refl, is)
     go false is e later =
-        let (place, found, at, holds) = later e in
-        (suc place, found, at, holds)
+        let (index, found, at, holds) = later e in
+        (suc index, found, at, holds)
 
-any_from : (p : Data → Bool) (ds : Items) (place : ℕ) (d : Data) → get_item place ds ≡ Some d → p d ≡ true → any_item p ds ≡ true
-any_from p no_items place d at holds = absurd (cc)
+any_from : (p : Data → Bool) (ds : Items) (index : ℕ) (d : Data) → get_item index ds ≡ Some d → p d ≡ true → any_item p ds ≡ true
+any_from p no_items index d at holds = absurd (cc)
 any_from p (item e ds) zero d at holds =
     let same : e ≡ d = cc in
     rw same (rw holds)
-any_from p (item e ds) (suc place) d at holds = rw (any_from p ds place d at holds) (or_true (p e))
+any_from p (item e ds) (suc index) d at holds = rw (any_from p ds index d at holds) (or_true (p e))
 
 any_weaker : (p q : Data → Bool) (ds : Items) → ((d : Data) → p d ≡ true → q d ≡ true) → any_item p ds ≡ true → any_item q ds ≡ true
 any_weaker p q ds weaker e =
-    let (place, d, at, holds) = any_found p ds e in
-    any_from q ds place d at (weaker d holds)
+    let (index, d, at, holds) = any_found p ds e in
+    any_from q ds index d at (weaker d holds)
 
 -- an item that is found is in an array
 list_there : (p : Data → Bool) (o : Option Data) → any_item p (list_in o) ≡ true → (list : Items) × (o ≡ Some (array list)) × (any_item p list ≡ true)
@@ -56,14 +56,14 @@ goes_down whole zero d level at e =
     (d, subst (λ n. IsAtLevel whole d n) same at)
 goes_down whole (suc left) d level at e =
     let (list, is, any) = list_there (is_deeper left) (member_of (codes "routes") d) e in
-    let (place, child, found, deeper) = any_found (is_deeper left) list any in
-    let (route, below) = goes_down whole left child (level + 1) (Below d list place child level at is found) deeper in
+    let (index, child, found, deeper) = any_found (is_deeper left) list any in
+    let (route, below) = goes_down whole left child (level + 1) (Below d list index child level at is found) deeper in
     let same : level + 1 + left ≡ level + suc left = omega arith in
     (route, subst (λ n. IsAtLevel whole route n) same below)
 
-one_up : (left : ℕ) (above d : Data) (list : Items) (place : ℕ) → member_of (codes "routes") above ≡ Some (array list) → get_item place list ≡ Some d → is_deeper left d ≡ true → is_deeper (suc left) above ≡ true
+one_up : (left : ℕ) (above d : Data) (list : Items) (index : ℕ) → member_of (codes "routes") above ≡ Some (array list) → get_item index list ≡ Some d → is_deeper left d ≡ true → is_deeper (suc left) above ≡ true
 unfolding is_deeper
-one_up left above d list place is at e = rw is (any_from (is_deeper left) list place d at e)
+one_up left above d list index is at e = rw is (any_from (is_deeper left) list index d at e)
 
 -- the levels below the root count from there
 goes_up : (whole root d : Data) (level : ℕ) → IsAtLevel whole d level → member_of (codes "route") whole ≡ Some root → (left most : ℕ) → level + left ≡ suc most → is_deeper left d ≡ true → is_deeper most root ≡ true
@@ -71,12 +71,12 @@ goes_up whole root _ _ (Root top is) there left most sum e =
     let same : top ≡ root = cc in
     let as_many : left ≡ most = omega arith in
     rw same at (rw as_many at e)
-goes_up whole root _ _ (Below above list place d level at is found) there left most sum e =
-    goes_up whole root above level at there (suc left) most (omega arith) (one_up left above d list place is found e)
+goes_up whole root _ _ (Below above list index d level at is found) there left most sum e =
+    goes_up whole root above level at there (suc left) most (omega arith) (one_up left above d list index is found e)
 
 root_there : (whole d : Data) (level : ℕ) → IsAtLevel whole d level → (root : Data) × (member_of (codes "route") whole ≡ Some root)
 root_there whole _ _ (Root root is) = (root, is)
-root_there whole _ _ (Below above list place d level at is found) = root_there whole above level at
+root_there whole _ _ (Below above list index d level at is found) = root_there whole above level at
 
 shallower : (most : ℕ) (d : Data) → is_deeper (suc most) d ≡ true → is_deeper most d ≡ true
 unfolding is_deeper

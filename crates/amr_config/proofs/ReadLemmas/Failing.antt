@@ -15,7 +15,7 @@ pub fails_later : {A B : Type 0} (e : ConfigError) (part : Reading A) (rest : A 
 unfolding next
 fails_later e part rest x is h = rw is h
 
--- at a faulty place
+-- at a faulty value
 pub fails_at : (A : Type 0) (e : ConfigError) (path : List ℕ) → IsFault e path → Fails {Y = A} e (faulty path)
 fails_at A Memory path h = tt
 fails_at A (Refused refusal) path h = rw h refl

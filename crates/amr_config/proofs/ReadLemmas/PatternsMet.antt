@@ -18,7 +18,7 @@ is_met path [] after refused takes = rw takes (0, omega arith, refl)
 is_met path (m ∷ before) after refused takes =
     still_met (takes_pattern m.operator) (λ (m : Matcher). (path, m.value)) m (filter (λ (m : Matcher). takes_pattern m.operator) (before ++ refused ∷ after)) (path, refused.value) (is_met path before after refused takes)
 
--- a text with a pattern that may be refused may be a faulty place
+-- a text with a pattern that may be refused may be a faulty value
 pub stops_refused : (e : ConfigError) (path : List ℕ) (matchers : List Matcher) → OneMayBeRefused matchers → IsFault e path → Stops e (MayGive (matchers_met path matchers))
 stops_refused Memory path matchers one h = tt
 stops_refused (Refused r) path matchers (before, after, refused, is, (takes, may)) h =

@@ -8,7 +8,7 @@ use Rattle.amr_config.specs.Read.Members.{member_of}
 -- route are routes, one level below it.
 pub data IsAtLevel (whole : Data) : Data → ℕ → Type 0 where
   Root : (root : Data) → member_of (codes "route") whole ≡ Some root → IsAtLevel whole root 1
-  Below : (above : Data) (list : Items) (place : ℕ) (route : Data) (level : ℕ) → IsAtLevel whole above level → member_of (codes "routes") above ≡ Some (array list) → get_item place list ≡ Some route → IsAtLevel whole route (level + 1)
+  Below : (above : Data) (list : Items) (index : ℕ) (route : Data) (level : ℕ) → IsAtLevel whole above level → member_of (codes "routes") above ≡ Some (array list) → get_item index list ≡ Some route → IsAtLevel whole route (level + 1)
 
 -- some route is at level 33 or deeper
 abbrev pub HasDeepRoute : Data → Type 0

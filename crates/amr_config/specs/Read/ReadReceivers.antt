@@ -56,9 +56,9 @@ with_entries [] kind entries = entries
 with_entries (x ∷ xs) kind entries = if is_gt (text_cmp x.kind kind) then entries ++ x ∷ xs else x ∷ with_entries xs kind entries
 
 -- the index of the first integration with a greater name
-abbrev pub place_after : List Integration → Text → ℕ
-place_after [] kind = 0
-place_after (x ∷ xs) kind = if is_gt (text_cmp x.kind kind) then 0 else place_after xs kind + 1
+abbrev pub index_after : List Integration → Text → ℕ
+index_after [] kind = 0
+index_after (x ∷ xs) kind = if is_gt (text_cmp x.kind kind) then 0 else index_after xs kind + 1
 
 abbrev pub entries_under : List ℕ → Data → List Integration → Option Text → Reading (List Integration)
 entries_under path d integrations None = give integrations

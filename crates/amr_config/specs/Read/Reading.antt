@@ -16,7 +16,7 @@ abbrev pub unless_refused : Stated → Option Refusal → Result Config Refusal
 unless_refused stated None = Ok (stated_config stated)
 unless_refused stated (Some refusal) = Err refusal
 
--- too many levels come first, then the first faulty place of the walk, then the refusal with the
+-- too many levels come first, then the first faulty value of the walk, then the refusal with the
 -- least number
 unfoldable pub reading_of : Data → Reading Config
 reading_of d = if is_too_deep d then plain (Err (Other TooDeep)) else (walked_at d >>= λ stated. plain (unless_refused stated (refusal_of stated)))

@@ -13,7 +13,7 @@ use thiserror::Error;
 pub enum Cause {
     /// A value has a wrong shape, or is no valid text, duration, matcher, pattern or name of a time
     /// interval.
-    #[error("the configuration has a faulty place")]
+    #[error("the configuration has a faulty value")]
     BadConfig = 5,
     #[error("a route names a receiver that doesn't exist")]
     UnknownReceiver = 6,

@@ -4,14 +4,14 @@
 #![tactic(auto, unfolding(crate::specs::Read::Readings::next))]
 
 ghost use Rattle.serde_json.specs.View.{view};
-ghost use Rattle.amr_config.specs.Read.Paths.{place_path};
+ghost use Rattle.amr_config.specs.Read.Paths.{path_text};
 ghost use Rattle.amr_config.specs.Read.Answers.{Gives, Changes};
 ghost use Rattle.amr_config.specs.Read.Members.{optional_member};
 ghost use Rattle.amr_config.specs.Read.ReadIntervals.{name_into, names_at};
 
 use crate::read::error::ConfigError;
 use crate::read::members::{items, member, text};
-use crate::read::place::Place;
+use crate::read::value_path::ValuePath;
 use crate::read::whole::Whole;
 use amr_labels::{Listing, Text};
 use serde_json::Value;
@@ -22,16 +22,16 @@ use std::alloc::Global;
 pub(crate) fn names_member(
     alloc: Global,
     whole: &Whole,
-    place: &Place,
+    path: &ValuePath,
     value: &Value,
     key: &str,
 ) -> Result<Option<Listing<Text>>, ConfigError>
     ensures { Gives (λ s. s) result
-        (optional_member (names_at (view whole.now.value.now)) (place_path place.now) key.now
+        (optional_member (names_at (view whole.now.value.now)) (path_text path.now) key.now
         (view value.now)) }
 {
     match member(value, key) {
-        Some(found) => Ok(Some(names(alloc, whole, &Place::Member(place, key), found)?)),
+        Some(found) => Ok(Some(names(alloc, whole, &ValuePath::Member(path, key), found)?)),
         None => Ok(None),
     }
 }
@@ -41,16 +41,16 @@ pub(crate) fn names_member(
 fn names(
     alloc: Global,
     whole: &Whole,
-    place: &Place,
+    path: &ValuePath,
     value: &Value,
 ) -> Result<Listing<Text>, ConfigError>
     ensures { Gives (λ ts. ts) result
-        (names_at (view whole.now.value.now) (place_path place.now) (view value.now)) }
+        (names_at (view whole.now.value.now) (path_text path.now) (view value.now)) }
 {
-    let items = items(alloc, place, value)?;
+    let items = items(alloc, path, value)?;
     let mut names = Listing::new(alloc);
     for (index, item) in items.iter().enumerate() {
-        add_name(alloc, whole, place, index, item, &mut names)?;
+        add_name(alloc, whole, path, index, item, &mut names)?;
     }
     Ok(names)
 }
@@ -60,16 +60,16 @@ fn names(
 fn add_name(
     alloc: Global,
     whole: &Whole,
-    place: &Place,
+    path: &ValuePath,
     index: usize,
     item: &Value,
     names: &mut Listing<Text>,
 ) -> Result<(), ConfigError>
     ensures { Changes (λ ts. ts) result names.new
-        (name_into (view whole.now.value.now) (place_path place.now) index (view item.now)
+        (name_into (view whole.now.value.now) (path_text path.now) index (view item.now)
         names.old) }
 {
-    let here = Place::Item(place, index);
+    let here = ValuePath::Item(path, index);
     let name = Text::from_str(alloc, text(alloc, &here, item)?)?;
     if !whole.defines(&name) {
         return Err(here.faulty(alloc));

@@ -45,9 +45,9 @@ pub fn what_is_read_is_stated()
 {}
 
 /// Says which fault is answered. A value without a route that is too deep is refused with the path
-/// of its first faulty place, walking through members by key in byte order and through lists in
-/// order. If no place is faulty, the configuration is validated. Instead of either, the answer may
-/// be a pattern before the first faulty place, if `regex` refuses it.
+/// of its first faulty value, walking through members by key in byte order and through lists in
+/// order. If no value is faulty, the configuration is validated. Instead of either, the answer may
+/// be a pattern before the first faulty value, if `regex` refuses it.
 pub fn answers_go_by_the_first_fault()
     ensures { AnswersGoByTheFirstFault }
 {}

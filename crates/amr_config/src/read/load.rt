@@ -15,10 +15,10 @@ use std::alloc::Global;
 
 /// Reads a configuration: the tree of Alertmanager's configuration file, as JSON. A member that is
 /// `null` counts as absent; unknown keys are ignored. Each pattern is built once, when it is met;
-/// if `regex` refuses it, its place is faulty.
+/// if `regex` refuses it, its value is faulty.
 ///
 /// If there are several faults, `TooDeep` is answered first, then `BadConfig` with the first faulty
-/// place, walking through members by key in byte order and through lists in order, then the refusal
+/// value, walking through members by key in byte order and through lists in order, then the refusal
 /// with the least number.
 pub fn load_config(alloc: Global, value: &Value) -> Result<Config, ConfigError>
     ensures { Answers (λ config. config) result (ConfigIs (view value.now)) }

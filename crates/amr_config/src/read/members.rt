@@ -6,12 +6,12 @@ ghost use Rattle.std.specs.Prelude.{◌≡◌, ℕ, Bool, List, option_map};
 ghost use Rattle.std.specs.Ordering.{eq_by_cmp};
 ghost use Rattle.amr_labels.specs.Labels.{text_cmp};
 ghost use Rattle.serde_json.specs.View.{view, items_view};
-ghost use Rattle.amr_config.specs.Read.Paths.{place_path};
+ghost use Rattle.amr_config.specs.Read.Paths.{path_text};
 ghost use Rattle.amr_config.specs.Read.Answers.{Gives, Changes};
 ghost use Rattle.amr_config.specs.Read.Members.{member_of, optional_member, text_at, flag_at, items_at, span_at, text_into, texts_at};
 
 use crate::read::error::ConfigError;
-use crate::read::place::Place;
+use crate::read::value_path::ValuePath;
 use amr_labels::{Listing, Text};
 use amr_time::Span;
 use serde_json::Value;
@@ -40,50 +40,50 @@ pub(crate) fn member<'v>(value: &'v Value, key: &str) -> Option<&'v Value>
 /// Returns a value that must be a text.
 pub(crate) fn text<'v>(
     alloc: Global,
-    place: &Place,
+    path: &ValuePath,
     value: &'v Value,
 ) -> Result<&'v str, ConfigError>
-    ensures { Gives (λ s. s.now) result (text_at (place_path place.now) (view value.now)) }
+    ensures { Gives (λ s. s.now) result (text_at (path_text path.now) (view value.now)) }
 {
     match value.as_str() {
         Some(text) => Ok(text),
-        None => Err(place.faulty(alloc)),
+        None => Err(path.faulty(alloc)),
     }
 }
 
 /// Returns a value that must be a boolean.
-fn flag(alloc: Global, place: &Place, value: &Value) -> Result<bool, ConfigError>
-    ensures { Gives (λ b. b) result (flag_at (place_path place.now) (view value.now)) }
+fn flag(alloc: Global, path: &ValuePath, value: &Value) -> Result<bool, ConfigError>
+    ensures { Gives (λ b. b) result (flag_at (path_text path.now) (view value.now)) }
 {
     match value.as_bool() {
         Some(flag) => Ok(flag),
-        None => Err(place.faulty(alloc)),
+        None => Err(path.faulty(alloc)),
     }
 }
 
 /// Returns the items of a value that must be a list.
 pub(crate) fn items<'v>(
     alloc: Global,
-    place: &Place,
+    path: &ValuePath,
     value: &'v Value,
 ) -> Result<&'v [Value], ConfigError>
     ensures { Gives (λ s. items_view s.now) result
-        (items_at (place_path place.now) (view value.now)) }
+        (items_at (path_text path.now) (view value.now)) }
 {
     match value.as_array() {
         Some(items) => Ok(items),
-        None => Err(place.faulty(alloc)),
+        None => Err(path.faulty(alloc)),
     }
 }
 
 /// Reads a duration, as Alertmanager writes it, such as `1h30m`.
 #[tactic(auto, unfolding(crate::specs::Read::Members::span_at, crate::specs::Read::Readings::next))]
-fn span(alloc: Global, place: &Place, value: &Value) -> Result<Span, ConfigError>
-    ensures { Gives (λ n. n) result (span_at (place_path place.now) (view value.now)) }
+fn span(alloc: Global, path: &ValuePath, value: &Value) -> Result<Span, ConfigError>
+    ensures { Gives (λ n. n) result (span_at (path_text path.now) (view value.now)) }
 {
-    match Span::read(text(alloc, place, value)?) {
+    match Span::read(text(alloc, path, value)?) {
         Ok(span) => Ok(span),
-        Err(_) => Err(place.faulty(alloc)),
+        Err(_) => Err(path.faulty(alloc)),
     }
 }
 
@@ -91,28 +91,28 @@ fn span(alloc: Global, place: &Place, value: &Value) -> Result<Span, ConfigError
 #[tactic(auto, unfolding(crate::specs::Read::Members::text_into, crate::specs::Read::Readings::next))]
 fn text_item(
     alloc: Global,
-    place: &Place,
+    path: &ValuePath,
     index: usize,
     item: &Value,
     texts: &mut Listing<Text>,
 ) -> Result<(), ConfigError>
     ensures { Changes (λ ts. ts) result texts.new
-        (text_into (place_path place.now) index (view item.now) texts.old) }
+        (text_into (path_text path.now) index (view item.now) texts.old) }
 {
-    let text = text(alloc, &Place::Item(place, index), item)?;
+    let text = text(alloc, &ValuePath::Item(path, index), item)?;
     texts.push(Text::from_str(alloc, text)?)?;
     Ok(())
 }
 
 /// Reads a list of texts.
 #[tactic(auto, unfolding(crate::specs::Read::Members::texts_at, crate::specs::Read::Readings::next))]
-fn texts(alloc: Global, place: &Place, value: &Value) -> Result<Listing<Text>, ConfigError>
-    ensures { Gives (λ ts. ts) result (texts_at (place_path place.now) (view value.now)) }
+fn texts(alloc: Global, path: &ValuePath, value: &Value) -> Result<Listing<Text>, ConfigError>
+    ensures { Gives (λ ts. ts) result (texts_at (path_text path.now) (view value.now)) }
 {
-    let items = items(alloc, place, value)?;
+    let items = items(alloc, path, value)?;
     let mut texts = Listing::new(alloc);
     for (index, item) in items.iter().enumerate() {
-        text_item(alloc, place, index, item, &mut texts)?;
+        text_item(alloc, path, index, item, &mut texts)?;
     }
     Ok(texts)
 }
@@ -120,15 +120,15 @@ fn texts(alloc: Global, place: &Place, value: &Value) -> Result<Listing<Text>, C
 /// Reads the boolean under a key; `None` if there is no such member.
 pub(crate) fn flag_member(
     alloc: Global,
-    place: &Place,
+    path: &ValuePath,
     value: &Value,
     key: &str,
 ) -> Result<Option<bool>, ConfigError>
     ensures { Gives (λ b. b) result
-        (optional_member flag_at (place_path place.now) key.now (view value.now)) }
+        (optional_member flag_at (path_text path.now) key.now (view value.now)) }
 {
     match member(value, key) {
-        Some(found) => Ok(Some(flag(alloc, &Place::Member(place, key), found)?)),
+        Some(found) => Ok(Some(flag(alloc, &ValuePath::Member(path, key), found)?)),
         None => Ok(None),
     }
 }
@@ -136,15 +136,15 @@ pub(crate) fn flag_member(
 /// Reads the duration under a key; `None` if there is no such member.
 pub(crate) fn span_member(
     alloc: Global,
-    place: &Place,
+    path: &ValuePath,
     value: &Value,
     key: &str,
 ) -> Result<Option<Span>, ConfigError>
     ensures { Gives (λ b. b) result
-        (optional_member span_at (place_path place.now) key.now (view value.now)) }
+        (optional_member span_at (path_text path.now) key.now (view value.now)) }
 {
     match member(value, key) {
-        Some(found) => Ok(Some(span(alloc, &Place::Member(place, key), found)?)),
+        Some(found) => Ok(Some(span(alloc, &ValuePath::Member(path, key), found)?)),
         None => Ok(None),
     }
 }
@@ -152,16 +152,16 @@ pub(crate) fn span_member(
 /// Reads the text under a key; `None` if there is no such member.
 pub(crate) fn text_member(
     alloc: Global,
-    place: &Place,
+    path: &ValuePath,
     value: &Value,
     key: &str,
 ) -> Result<Option<Text>, ConfigError>
     ensures { Gives (λ s. s) result
-        (optional_member text_at (place_path place.now) key.now (view value.now)) }
+        (optional_member text_at (path_text path.now) key.now (view value.now)) }
 {
     match member(value, key) {
         Some(found) => {
-            let text = text(alloc, &Place::Member(place, key), found)?;
+            let text = text(alloc, &ValuePath::Member(path, key), found)?;
             Ok(Some(Text::from_str(alloc, text)?))
         }
         None => Ok(None),
@@ -171,15 +171,15 @@ pub(crate) fn text_member(
 /// Reads the list of texts under a key; `None` if there is no such member.
 pub(crate) fn texts_member(
     alloc: Global,
-    place: &Place,
+    path: &ValuePath,
     value: &Value,
     key: &str,
 ) -> Result<Option<Listing<Text>>, ConfigError>
     ensures { Gives (λ s. s) result
-        (optional_member texts_at (place_path place.now) key.now (view value.now)) }
+        (optional_member texts_at (path_text path.now) key.now (view value.now)) }
 {
     match member(value, key) {
-        Some(found) => Ok(Some(texts(alloc, &Place::Member(place, key), found)?)),
+        Some(found) => Ok(Some(texts(alloc, &ValuePath::Member(path, key), found)?)),
         None => Ok(None),
     }
 }

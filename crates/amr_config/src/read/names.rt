@@ -13,8 +13,8 @@ pub(crate) fn are_apart(alloc: Global, names: &[Text]) -> Result<bool, AllocErro
     ensures { IfOk result (λ apart. apart ≡ are_different names.now) }
 {
     let mut built = BTreeSet::new(alloc);
-    for place in (0..names.len()).rev() {
-        if !built.insert(names[place].clone()?)? {
+    for index in (0..names.len()).rev() {
+        if !built.insert(names[index].clone()?)? {
             return Ok(false);
         }
     }

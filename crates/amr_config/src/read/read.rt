@@ -4,17 +4,17 @@ ghost use Rattle.std.specs.Prelude.{◌≡◌, [], codes};
 ghost use Rattle.serde_json.specs.View.{view};
 ghost use Rattle.amr_config.specs.Read.Answers.{Gives, Reads};
 ghost use Rattle.amr_config.specs.Read.Members.{optional_member};
-ghost use Rattle.amr_config.specs.Read.Paths.{place_path};
+ghost use Rattle.amr_config.specs.Read.Paths.{path_text};
 ghost use Rattle.amr_config.specs.Read.Timeout.{timeout_in, timeout_stated, timeout_at};
 ghost use Rattle.amr_config.specs.Read.Walking.{walked_at};
 
 use crate::read::error::ConfigError;
 use crate::read::members::{member, span_member};
-use crate::read::place::Place;
 use crate::read::read_intervals::{read_intervals, read_mute_time_intervals};
 use crate::read::read_receivers::read_receivers;
 use crate::read::read_routes::read_routes;
 use crate::read::read_rules::read_rules;
+use crate::read::value_path::ValuePath;
 use crate::stated::Stated;
 use amr_labels::matcher::Patterns;
 use amr_time::Span;
@@ -53,7 +53,7 @@ fn read_timeout(alloc: Global, value: &Value) -> Result<Span, ConfigError>
     ensures { Gives (λ span. span) result (timeout_at (view value.now)) }
 {
     if !value.is_object() {
-        return Err(Place::Top.faulty(alloc));
+        return Err(ValuePath::Top.faulty(alloc));
     }
     let timeout = timeout_member(alloc, value)?;
     Ok(stated_timeout(timeout))
@@ -78,7 +78,7 @@ fn timeout_member(alloc: Global, value: &Value) -> Result<Option<Option<Span>>, 
 {
     match member(value, "global") {
         Some(found) => {
-            let here = Place::Member(&Place::Top, "global");
+            let here = ValuePath::Member(&ValuePath::Top, "global");
             Ok(Some(timeout(alloc, &here, found)?))
         }
         None => Ok(None),
@@ -87,11 +87,11 @@ fn timeout_member(alloc: Global, value: &Value) -> Result<Option<Option<Span>>, 
 
 /// Reads `resolve_timeout` of the object under `global`.
 #[tactic(auto, unfolding(crate::specs::Read::Timeout::timeout_in, crate::specs::Read::Readings::next))]
-fn timeout(alloc: Global, place: &Place, value: &Value) -> Result<Option<Span>, ConfigError>
-    ensures { Gives (λ o. o) result (timeout_in (place_path place.now) (view value.now)) }
+fn timeout(alloc: Global, path: &ValuePath, value: &Value) -> Result<Option<Span>, ConfigError>
+    ensures { Gives (λ o. o) result (timeout_in (path_text path.now) (view value.now)) }
 {
     if !value.is_object() {
-        return Err(place.faulty(alloc));
+        return Err(path.faulty(alloc));
     }
-    span_member(alloc, place, value, "resolve_timeout")
+    span_member(alloc, path, value, "resolve_timeout")
 }

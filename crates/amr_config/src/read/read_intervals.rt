@@ -6,7 +6,7 @@
 ghost use Rattle.std.specs.Prelude.{◌≡◌, [], Some, codes};
 ghost use Rattle.serde_json.specs.View.{view};
 ghost use Rattle.amr_time.specs.IntervalTexts.{time_at, end_time_at};
-ghost use Rattle.amr_config.specs.Read.Paths.{place_path};
+ghost use Rattle.amr_config.specs.Read.Paths.{path_text};
 ghost use Rattle.amr_config.specs.declared.read.read_intervals.Field.TheVariants.{Months, Years};
 ghost use Rattle.amr_config.specs.Read.Answers.{Gives, Changes};
 ghost use Rattle.amr_config.specs.Read.Members.{optional_member};
@@ -15,7 +15,7 @@ ghost use Rattle.amr_config.specs.Read.ReadIntervals.{range_in, day_range_in, ra
 use crate::read::defined_intervals::DefinedIntervals;
 use crate::read::error::ConfigError;
 use crate::read::members::{items, member, same, text};
-use crate::read::place::Place;
+use crate::read::value_path::ValuePath;
 use crate::stated::NamedInterval;
 use amr_labels::{Listing, Text};
 use amr_time::{
@@ -47,7 +47,12 @@ pub(crate) fn read_intervals(
     ensures { Gives (λ is. is) result (intervals_at key.now (view value.now) intervals) }
 {
     match member(value, key) {
-        Some(found) => with_intervals(alloc, &Place::Member(&Place::Top, key), found, intervals),
+        Some(found) => with_intervals(
+            alloc,
+            &ValuePath::Member(&ValuePath::Top, key),
+            found,
+            intervals,
+        ),
         None => Ok(intervals),
     }
 }
@@ -55,17 +60,17 @@ pub(crate) fn read_intervals(
 /// Appends the intervals of a list.
 fn with_intervals(
     alloc: Global,
-    place: &Place,
+    path: &ValuePath,
     value: &Value,
     intervals: Listing<NamedInterval>,
 ) -> Result<Listing<NamedInterval>, ConfigError>
     ensures { Gives (λ is. is) result
-        (intervals_from (place_path place.now) (Some (view value.now)) intervals) }
+        (intervals_from (path_text path.now) (Some (view value.now)) intervals) }
 {
-    let items = items(alloc, place, value)?;
+    let items = items(alloc, path, value)?;
     let mut known = DefinedIntervals::new(alloc, intervals)?;
     for (index, item) in items.iter().enumerate() {
-        known = add_interval(alloc, place, index, item, known)?;
+        known = add_interval(alloc, path, index, item, known)?;
     }
     Ok(known.intervals)
 }
@@ -74,15 +79,15 @@ fn with_intervals(
 #[tactic(auto, unfolding(crate::specs::Read::ReadIntervals::interval_into, crate::specs::Read::Readings::next))]
 fn add_interval(
     alloc: Global,
-    place: &Place,
+    path: &ValuePath,
     index: usize,
     value: &Value,
     known: DefinedIntervals,
 ) -> Result<DefinedIntervals, ConfigError>
     ensures { Gives (λ known. known.intervals) result
-        (interval_into (place_path place.now) index (view value.now) known.intervals) }
+        (interval_into (path_text path.now) index (view value.now) known.intervals) }
 {
-    let here = Place::Item(place, index);
+    let here = ValuePath::Item(path, index);
     let interval = interval(alloc, &here, value, &known)?;
     Ok(known.with(interval)?)
 }
@@ -91,26 +96,26 @@ fn add_interval(
 #[tactic(auto, unfolding(crate::specs::Read::ReadIntervals::interval_at, crate::specs::Read::Readings::next))]
 fn interval(
     alloc: Global,
-    place: &Place,
+    path: &ValuePath,
     value: &Value,
     before: &DefinedIntervals,
 ) -> Result<NamedInterval, ConfigError>
     ensures { Gives (λ i. i) result
-        (interval_at before.now.intervals (place_path place.now) (view value.now)) }
+        (interval_at before.now.intervals (path_text path.now) (view value.now)) }
 {
     if !value.is_object() {
-        return Err(place.faulty(alloc));
+        return Err(path.faulty(alloc));
     }
-    let name_place = Place::Member(place, "name");
+    let name_path = ValuePath::Member(path, "name");
     let Some(found) = member(value, "name") else {
-        return Err(name_place.faulty(alloc));
+        return Err(name_path.faulty(alloc));
     };
-    let name = new_name(alloc, &name_place, found, before)?;
-    let list_place = Place::Member(place, "time_intervals");
+    let name = new_name(alloc, &name_path, found, before)?;
+    let list_path = ValuePath::Member(path, "time_intervals");
     let Some(found) = member(value, "time_intervals") else {
-        return Err(list_place.faulty(alloc));
+        return Err(list_path.faulty(alloc));
     };
-    let members = interval_members(alloc, &list_place, found)?;
+    let members = interval_members(alloc, &list_path, found)?;
     Ok(NamedInterval {
         name,
         interval: TimeInterval { members },
@@ -121,16 +126,16 @@ fn interval(
 #[tactic(auto, unfolding(crate::specs::Read::ReadIntervals::new_name_at, crate::specs::Read::Readings::next))]
 fn new_name(
     alloc: Global,
-    place: &Place,
+    path: &ValuePath,
     value: &Value,
     before: &DefinedIntervals,
 ) -> Result<Text, ConfigError>
     ensures { Gives (λ name. name) result
-        (new_name_at before.now.intervals (place_path place.now) (view value.now)) }
+        (new_name_at before.now.intervals (path_text path.now) (view value.now)) }
 {
-    let name = Text::from_str(alloc, text(alloc, place, value)?)?;
+    let name = Text::from_str(alloc, text(alloc, path, value)?)?;
     if before.is_taken(&name) {
-        return Err(place.faulty(alloc));
+        return Err(path.faulty(alloc));
     }
     Ok(name)
 }
@@ -139,16 +144,16 @@ fn new_name(
 #[tactic(auto, unfolding(crate::specs::Read::ReadIntervals::interval_members_at, crate::specs::Read::Readings::next))]
 fn interval_members(
     alloc: Global,
-    place: &Place,
+    path: &ValuePath,
     value: &Value,
 ) -> Result<Listing<IntervalMember>, ConfigError>
     ensures { Gives (λ ms. ms) result
-        (interval_members_at (place_path place.now) (view value.now)) }
+        (interval_members_at (path_text path.now) (view value.now)) }
 {
-    let items = items(alloc, place, value)?;
+    let items = items(alloc, path, value)?;
     let mut members = Listing::new(alloc);
     for (index, item) in items.iter().enumerate() {
-        add_interval_member(alloc, place, index, item, &mut members)?;
+        add_interval_member(alloc, path, index, item, &mut members)?;
     }
     Ok(members)
 }
@@ -157,15 +162,15 @@ fn interval_members(
 #[tactic(auto, unfolding(crate::specs::Read::ReadIntervals::interval_member_into, crate::specs::Read::Readings::next))]
 fn add_interval_member(
     alloc: Global,
-    place: &Place,
+    path: &ValuePath,
     index: usize,
     value: &Value,
     members: &mut Listing<IntervalMember>,
 ) -> Result<(), ConfigError>
     ensures { Changes (λ ms. ms) result members.new
-        (interval_member_into (place_path place.now) index (view value.now) members.old) }
+        (interval_member_into (path_text path.now) index (view value.now) members.old) }
 {
-    let member = interval_member(alloc, &Place::Item(place, index), value)?;
+    let member = interval_member(alloc, &ValuePath::Item(path, index), value)?;
     members.push(member)?;
     Ok(())
 }
@@ -174,20 +179,20 @@ fn add_interval_member(
 #[tactic(auto, unfolding(crate::specs::Read::ReadIntervals::interval_member_at, crate::specs::Read::Readings::next))]
 fn interval_member(
     alloc: Global,
-    place: &Place,
+    path: &ValuePath,
     value: &Value,
 ) -> Result<IntervalMember, ConfigError>
-    ensures { Gives (λ m. m) result (interval_member_at (place_path place.now) (view value.now)) }
+    ensures { Gives (λ m. m) result (interval_member_at (path_text path.now) (view value.now)) }
 {
     if !value.is_object() {
-        return Err(place.faulty(alloc));
+        return Err(path.faulty(alloc));
     }
-    let days_of_month = days_member(alloc, place, value, "days_of_month")?;
-    let _location = location_member(alloc, place, value, "location")?;
-    let months = ranges_member(alloc, Field::Months, place, value, "months")?;
-    let times = times_member(alloc, place, value, "times")?;
-    let weekdays = ranges_member(alloc, Field::Weekdays, place, value, "weekdays")?;
-    let years = ranges_member(alloc, Field::Years, place, value, "years")?;
+    let days_of_month = days_member(alloc, path, value, "days_of_month")?;
+    let _location = location_member(alloc, path, value, "location")?;
+    let months = ranges_member(alloc, Field::Months, path, value, "months")?;
+    let times = times_member(alloc, path, value, "times")?;
+    let weekdays = ranges_member(alloc, Field::Weekdays, path, value, "weekdays")?;
+    let years = ranges_member(alloc, Field::Years, path, value, "years")?;
     Ok(IntervalMember {
         times,
         weekdays,
@@ -200,29 +205,29 @@ fn interval_member(
 /// Checks the location under a key; `None` if there is no such member.
 fn location_member(
     alloc: Global,
-    place: &Place,
+    path: &ValuePath,
     value: &Value,
     key: &str,
 ) -> Result<Option<bool>, ConfigError>
     ensures { Gives (λ l. l) result
-        (optional_member location_at (place_path place.now) key.now (view value.now)) }
+        (optional_member location_at (path_text path.now) key.now (view value.now)) }
 {
     match member(value, key) {
-        Some(found) => Ok(Some(location(alloc, &Place::Member(place, key), found)?)),
+        Some(found) => Ok(Some(location(alloc, &ValuePath::Member(path, key), found)?)),
         None => Ok(None),
     }
 }
 
 /// Checks that a location is `UTC`, since all moments are read in UTC. Returns `true`, or fails.
 #[tactic(auto, unfolding(crate::specs::Read::ReadIntervals::location_at, crate::specs::Read::Readings::next))]
-fn location(alloc: Global, place: &Place, value: &Value) -> Result<bool, ConfigError>
-    ensures { Gives (λ b. b) result (location_at (place_path place.now) (view value.now)) }
+fn location(alloc: Global, path: &ValuePath, value: &Value) -> Result<bool, ConfigError>
+    ensures { Gives (λ b. b) result (location_at (path_text path.now) (view value.now)) }
 {
-    let text = text(alloc, place, value)?;
+    let text = text(alloc, path, value)?;
     if same(text, "UTC") {
         Ok(true)
     } else {
-        Err(place.faulty(alloc))
+        Err(path.faulty(alloc))
     }
 }
 
@@ -282,16 +287,16 @@ fn day_range(value: &Value) -> Option<DayRange>
 fn ranges_member(
     alloc: Global,
     field: Field,
-    place: &Place,
+    path: &ValuePath,
     value: &Value,
     key: &str,
 ) -> Result<Option<Listing<Range>>, ConfigError>
     ensures { Gives (λ rs. rs) result
-        (optional_member (ranges_at (range_in field)) (place_path place.now) key.now
+        (optional_member (ranges_at (range_in field)) (path_text path.now) key.now
         (view value.now)) }
 {
     match member(value, key) {
-        Some(found) => Ok(Some(ranges(alloc, field, &Place::Member(place, key), found)?)),
+        Some(found) => Ok(Some(ranges(alloc, field, &ValuePath::Member(path, key), found)?)),
         None => Ok(None),
     }
 }
@@ -301,16 +306,16 @@ fn ranges_member(
 fn ranges(
     alloc: Global,
     field: Field,
-    place: &Place,
+    path: &ValuePath,
     value: &Value,
 ) -> Result<Listing<Range>, ConfigError>
     ensures { Gives (λ rs. rs) result
-        (ranges_at (range_in field) (place_path place.now) (view value.now)) }
+        (ranges_at (range_in field) (path_text path.now) (view value.now)) }
 {
-    let items = items(alloc, place, value)?;
+    let items = items(alloc, path, value)?;
     let mut ranges = Listing::new(alloc);
     for (index, item) in items.iter().enumerate() {
-        add_range(alloc, field, place, index, item, &mut ranges)?;
+        add_range(alloc, field, path, index, item, &mut ranges)?;
     }
     Ok(ranges)
 }
@@ -320,49 +325,53 @@ fn ranges(
 fn add_range(
     alloc: Global,
     field: Field,
-    place: &Place,
+    path: &ValuePath,
     index: usize,
     value: &Value,
     ranges: &mut Listing<Range>,
 ) -> Result<(), ConfigError>
     ensures { Changes (λ rs. rs) result ranges.new
-        (range_into (range_in field) (place_path place.now) index (view value.now) ranges.old) }
+        (range_into (range_in field) (path_text path.now) index (view value.now) ranges.old) }
 {
     match field.range(value) {
         Some(range) => {
             ranges.push(range)?;
             Ok(())
         }
-        None => Err(Place::Item(place, index).faulty(alloc)),
+        None => Err(ValuePath::Item(path, index).faulty(alloc)),
     }
 }
 
 /// Reads the list of days of the month under a key; `None` if there is no such member.
 fn days_member(
     alloc: Global,
-    place: &Place,
+    path: &ValuePath,
     value: &Value,
     key: &str,
 ) -> Result<Option<Listing<DayRange>>, ConfigError>
     ensures { Gives (λ rs. rs) result
-        (optional_member (ranges_at day_range_in) (place_path place.now) key.now (view value.now)) }
+        (optional_member (ranges_at day_range_in) (path_text path.now) key.now (view value.now)) }
 {
     match member(value, key) {
-        Some(found) => Ok(Some(day_ranges(alloc, &Place::Member(place, key), found)?)),
+        Some(found) => Ok(Some(day_ranges(alloc, &ValuePath::Member(path, key), found)?)),
         None => Ok(None),
     }
 }
 
 /// Reads a list of ranges of days of the month.
 #[tactic(auto, unfolding(crate::specs::Read::ReadIntervals::ranges_at, crate::specs::Read::Readings::next))]
-fn day_ranges(alloc: Global, place: &Place, value: &Value) -> Result<Listing<DayRange>, ConfigError>
+fn day_ranges(
+    alloc: Global,
+    path: &ValuePath,
+    value: &Value,
+) -> Result<Listing<DayRange>, ConfigError>
     ensures { Gives (λ rs. rs) result
-        (ranges_at day_range_in (place_path place.now) (view value.now)) }
+        (ranges_at day_range_in (path_text path.now) (view value.now)) }
 {
-    let items = items(alloc, place, value)?;
+    let items = items(alloc, path, value)?;
     let mut ranges = Listing::new(alloc);
     for (index, item) in items.iter().enumerate() {
-        add_day_range(alloc, place, index, item, &mut ranges)?;
+        add_day_range(alloc, path, index, item, &mut ranges)?;
     }
     Ok(ranges)
 }
@@ -371,48 +380,48 @@ fn day_ranges(alloc: Global, place: &Place, value: &Value) -> Result<Listing<Day
 #[tactic(auto, unfolding(crate::specs::Read::ReadIntervals::range_into, crate::specs::Read::Readings::next))]
 fn add_day_range(
     alloc: Global,
-    place: &Place,
+    path: &ValuePath,
     index: usize,
     value: &Value,
     ranges: &mut Listing<DayRange>,
 ) -> Result<(), ConfigError>
     ensures { Changes (λ rs. rs) result ranges.new
-        (range_into day_range_in (place_path place.now) index (view value.now) ranges.old) }
+        (range_into day_range_in (path_text path.now) index (view value.now) ranges.old) }
 {
     match day_range(value) {
         Some(range) => {
             ranges.push(range)?;
             Ok(())
         }
-        None => Err(Place::Item(place, index).faulty(alloc)),
+        None => Err(ValuePath::Item(path, index).faulty(alloc)),
     }
 }
 
 /// Reads the list of time ranges under a key; `None` if there is no such member.
 fn times_member(
     alloc: Global,
-    place: &Place,
+    path: &ValuePath,
     value: &Value,
     key: &str,
 ) -> Result<Option<Listing<TimeRange>>, ConfigError>
     ensures { Gives (λ rs. rs) result
-        (optional_member times_at (place_path place.now) key.now (view value.now)) }
+        (optional_member times_at (path_text path.now) key.now (view value.now)) }
 {
     match member(value, key) {
-        Some(found) => Ok(Some(times(alloc, &Place::Member(place, key), found)?)),
+        Some(found) => Ok(Some(times(alloc, &ValuePath::Member(path, key), found)?)),
         None => Ok(None),
     }
 }
 
 /// Reads a list of time ranges.
 #[tactic(auto, unfolding(crate::specs::Read::ReadIntervals::times_at, crate::specs::Read::Readings::next))]
-fn times(alloc: Global, place: &Place, value: &Value) -> Result<Listing<TimeRange>, ConfigError>
-    ensures { Gives (λ rs. rs) result (times_at (place_path place.now) (view value.now)) }
+fn times(alloc: Global, path: &ValuePath, value: &Value) -> Result<Listing<TimeRange>, ConfigError>
+    ensures { Gives (λ rs. rs) result (times_at (path_text path.now) (view value.now)) }
 {
-    let items = items(alloc, place, value)?;
+    let items = items(alloc, path, value)?;
     let mut ranges = Listing::new(alloc);
     for (index, item) in items.iter().enumerate() {
-        add_time_range(alloc, place, index, item, &mut ranges)?;
+        add_time_range(alloc, path, index, item, &mut ranges)?;
     }
     Ok(ranges)
 }
@@ -421,62 +430,62 @@ fn times(alloc: Global, place: &Place, value: &Value) -> Result<Listing<TimeRang
 #[tactic(auto, unfolding(crate::specs::Read::ReadIntervals::time_range_into, crate::specs::Read::Readings::next))]
 fn add_time_range(
     alloc: Global,
-    place: &Place,
+    path: &ValuePath,
     index: usize,
     value: &Value,
     ranges: &mut Listing<TimeRange>,
 ) -> Result<(), ConfigError>
     ensures { Changes (λ rs. rs) result ranges.new
-        (time_range_into (place_path place.now) index (view value.now) ranges.old) }
+        (time_range_into (path_text path.now) index (view value.now) ranges.old) }
 {
-    let range = time_range(alloc, &Place::Item(place, index), value)?;
+    let range = time_range(alloc, &ValuePath::Item(path, index), value)?;
     ranges.push(range)?;
     Ok(())
 }
 
 /// Reads a time range: an object with `start_time` and `end_time`, in this order in the day.
 #[tactic(auto, unfolding(crate::specs::Read::ReadIntervals::time_range_at, crate::specs::Read::Readings::next))]
-fn time_range(alloc: Global, place: &Place, value: &Value) -> Result<TimeRange, ConfigError>
-    ensures { Gives (λ r. r) result (time_range_at (place_path place.now) (view value.now)) }
+fn time_range(alloc: Global, path: &ValuePath, value: &Value) -> Result<TimeRange, ConfigError>
+    ensures { Gives (λ r. r) result (time_range_at (path_text path.now) (view value.now)) }
 {
     if !value.is_object() {
-        return Err(place.faulty(alloc));
+        return Err(path.faulty(alloc));
     }
-    let end_place = Place::Member(place, "end_time");
+    let end_path = ValuePath::Member(path, "end_time");
     let Some(found) = member(value, "end_time") else {
-        return Err(end_place.faulty(alloc));
+        return Err(end_path.faulty(alloc));
     };
-    let end = end_time(alloc, &end_place, found)?;
-    let start_place = Place::Member(place, "start_time");
+    let end = end_time(alloc, &end_path, found)?;
+    let start_path = ValuePath::Member(path, "start_time");
     let Some(found) = member(value, "start_time") else {
-        return Err(start_place.faulty(alloc));
+        return Err(start_path.faulty(alloc));
     };
-    let start = start_time(alloc, &start_place, found)?;
+    let start = start_time(alloc, &start_path, found)?;
     if start < end {
         Ok(TimeRange { start, end })
     } else {
-        Err(place.faulty(alloc))
+        Err(path.faulty(alloc))
     }
 }
 
 /// Reads a time of the day that isn't `24:00`.
 #[tactic(auto, unfolding(crate::specs::Read::ReadIntervals::time_of, crate::specs::Read::Readings::next))]
-fn start_time(alloc: Global, place: &Place, value: &Value) -> Result<u32, ConfigError>
-    ensures { Gives (λ n. n) result (time_of time_at (place_path place.now) (view value.now)) }
+fn start_time(alloc: Global, path: &ValuePath, value: &Value) -> Result<u32, ConfigError>
+    ensures { Gives (λ n. n) result (time_of time_at (path_text path.now) (view value.now)) }
 {
-    match time_of_day(text(alloc, place, value)?) {
+    match time_of_day(text(alloc, path, value)?) {
         Some(time) => Ok(time),
-        None => Err(place.faulty(alloc)),
+        None => Err(path.faulty(alloc)),
     }
 }
 
 /// Reads a time of the day, which may be `24:00`.
 #[tactic(auto, unfolding(crate::specs::Read::ReadIntervals::time_of, crate::specs::Read::Readings::next))]
-fn end_time(alloc: Global, place: &Place, value: &Value) -> Result<u32, ConfigError>
-    ensures { Gives (λ n. n) result (time_of end_time_at (place_path place.now) (view value.now)) }
+fn end_time(alloc: Global, path: &ValuePath, value: &Value) -> Result<u32, ConfigError>
+    ensures { Gives (λ n. n) result (time_of end_time_at (path_text path.now) (view value.now)) }
 {
-    match end_time_of_day(text(alloc, place, value)?) {
+    match end_time_of_day(text(alloc, path, value)?) {
         Some(time) => Ok(time),
-        None => Err(place.faulty(alloc)),
+        None => Err(path.faulty(alloc)),
     }
 }

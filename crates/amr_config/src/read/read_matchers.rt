@@ -4,13 +4,13 @@
 ghost use Rattle.std.specs.Prelude.{◌≡◌, [], ◌∷◌, ◌++◌, OnOk};
 ghost use Rattle.serde_json.specs.View.{view};
 ghost use Rattle.amr_labels.specs.Matcher.MatcherReading.{matchers_of};
-ghost use Rattle.amr_config.specs.Read.Paths.{place_path};
+ghost use Rattle.amr_config.specs.Read.Paths.{path_text};
 ghost use Rattle.amr_config.specs.Read.Answers.{Reads, ReadsInto};
 ghost use Rattle.amr_config.specs.Read.ReadMatchers.{matcher_at, matcher_into, members_into, stated_into, object_into, spelled_at, spelled_into, texts_into, list_into, matchers_at};
 
 use crate::read::error::ConfigError;
 use crate::read::members::{items, member, text};
-use crate::read::place::Place;
+use crate::read::value_path::ValuePath;
 use amr_labels::Text;
 use amr_labels::matcher::{Matcher, MatcherError, Matchers, Operator, Patterns};
 use serde_json::Value;
@@ -22,21 +22,21 @@ use std::alloc::{AllocError, Global};
 pub(crate) fn read_matchers(
     alloc: Global,
     built: &mut Patterns,
-    place: &Place,
+    path: &ValuePath,
     equal: &str,
     patterns: &str,
     texts: &str,
     value: &Value,
 ) -> Result<Matchers, ConfigError>
     ensures { Reads (λ ms. ms) result
-        (matchers_at (place_path place.now) equal.now patterns.now texts.now (view value.now)) }
+        (matchers_at (path_text path.now) equal.now patterns.now texts.now (view value.now)) }
 {
     let mut matchers = Vec::new(alloc);
     add_object(
         alloc,
         built,
         Operator::Equal,
-        place,
+        path,
         value,
         equal,
         &mut matchers,
@@ -45,12 +45,12 @@ pub(crate) fn read_matchers(
         alloc,
         built,
         Operator::Matches,
-        place,
+        path,
         value,
         patterns,
         &mut matchers,
     )?;
-    add_list(alloc, built, place, value, texts, &mut matchers)?;
+    add_list(alloc, built, path, value, texts, &mut matchers)?;
     Ok(Matchers::from_vec(alloc, matchers)?)
 }
 
@@ -59,16 +59,16 @@ pub(crate) fn read_matchers(
 fn add_list(
     alloc: Global,
     built: &mut Patterns,
-    place: &Place,
+    path: &ValuePath,
     value: &Value,
     key: &str,
     matchers: &mut Vec<Matcher>,
 ) -> Result<(), ConfigError>
     ensures { ReadsInto (λ ms. ms.items) result matchers.new
-        (list_into (place_path place.now) key.now (view value.now) matchers.old.items) }
+        (list_into (path_text path.now) key.now (view value.now) matchers.old.items) }
 {
     match member(value, key) {
-        Some(found) => add_texts(alloc, built, &Place::Member(place, key), found, matchers),
+        Some(found) => add_texts(alloc, built, &ValuePath::Member(path, key), found, matchers),
         None => Ok(()),
     }
 }
@@ -78,16 +78,16 @@ fn add_list(
 fn add_texts(
     alloc: Global,
     built: &mut Patterns,
-    place: &Place,
+    path: &ValuePath,
     value: &Value,
     matchers: &mut Vec<Matcher>,
 ) -> Result<(), ConfigError>
     ensures { ReadsInto (λ ms. ms.items) result matchers.new
-        (texts_into (place_path place.now) (view value.now) matchers.old.items) }
+        (texts_into (path_text path.now) (view value.now) matchers.old.items) }
 {
-    let items = items(alloc, place, value)?;
+    let items = items(alloc, path, value)?;
     for (index, item) in items.iter().enumerate() {
-        add_text(alloc, built, place, index, item, matchers)?;
+        add_text(alloc, built, path, index, item, matchers)?;
     }
     Ok(())
 }
@@ -97,15 +97,15 @@ fn add_texts(
 fn add_text(
     alloc: Global,
     built: &mut Patterns,
-    place: &Place,
+    path: &ValuePath,
     index: usize,
     value: &Value,
     matchers: &mut Vec<Matcher>,
 ) -> Result<(), ConfigError>
     ensures { ReadsInto (λ ms. ms.items) result matchers.new
-        (spelled_into (place_path place.now) index (view value.now) matchers.old.items) }
+        (spelled_into (path_text path.now) index (view value.now) matchers.old.items) }
 {
-    let here = Place::Item(place, index);
+    let here = ValuePath::Item(path, index);
     let text = text(alloc, &here, value)?;
     let more = spelled(alloc, built, &here, text)?;
     add_all(matchers, more.as_slice())?;
@@ -126,16 +126,16 @@ fn add_all(matchers: &mut Vec<Matcher>, more: &[Matcher]) -> Result<(), AllocErr
 fn spelled(
     alloc: Global,
     built: &mut Patterns,
-    place: &Place,
+    path: &ValuePath,
     text: &str,
 ) -> Result<Matchers, ConfigError>
-    ensures { Reads (λ ms. ms) result (spelled_at (place_path place.now) (matchers_of text.now)) }
+    ensures { Reads (λ ms. ms) result (spelled_at (path_text path.now) (matchers_of text.now)) }
 {
     match built.matchers_of(alloc, text) {
         Ok(matchers) => Ok(matchers),
         Err(MatcherError::Memory) => Err(ConfigError::Memory),
-        Err(MatcherError::BadMatcher { at: _ }) => Err(place.faulty(alloc)),
-        Err(MatcherError::BadPattern) => Err(place.faulty(alloc)),
+        Err(MatcherError::BadMatcher { at: _ }) => Err(path.faulty(alloc)),
+        Err(MatcherError::BadPattern) => Err(path.faulty(alloc)),
     }
 }
 
@@ -145,20 +145,20 @@ fn add_object(
     alloc: Global,
     built: &mut Patterns,
     operator: Operator,
-    place: &Place,
+    path: &ValuePath,
     value: &Value,
     key: &str,
     matchers: &mut Vec<Matcher>,
 ) -> Result<(), ConfigError>
     ensures { ReadsInto (λ ms. ms.items) result matchers.new
-        (object_into operator (place_path place.now) key.now (view value.now) matchers.old.items) }
+        (object_into operator (path_text path.now) key.now (view value.now) matchers.old.items) }
 {
     match member(value, key) {
         Some(found) => add_members(
             alloc,
             built,
             operator,
-            &Place::Member(place, key),
+            &ValuePath::Member(path, key),
             found,
             matchers,
         ),
@@ -172,18 +172,18 @@ fn add_members(
     alloc: Global,
     built: &mut Patterns,
     operator: Operator,
-    place: &Place,
+    path: &ValuePath,
     value: &Value,
     matchers: &mut Vec<Matcher>,
 ) -> Result<(), ConfigError>
     ensures { ReadsInto (λ ms. ms.items) result matchers.new
-        (members_into operator (place_path place.now) (view value.now) matchers.old.items) }
+        (members_into operator (path_text path.now) (view value.now) matchers.old.items) }
 {
     let Some(members) = value.as_object() else {
-        return Err(place.faulty(alloc));
+        return Err(path.faulty(alloc));
     };
     for (key, value) in members {
-        add_member(alloc, built, operator, place, key.as_str(), value, matchers)?;
+        add_member(alloc, built, operator, path, key.as_str(), value, matchers)?;
     }
     Ok(())
 }
@@ -194,13 +194,13 @@ fn add_member(
     alloc: Global,
     built: &mut Patterns,
     operator: Operator,
-    place: &Place,
+    path: &ValuePath,
     name: &str,
     value: &Value,
     matchers: &mut Vec<Matcher>,
 ) -> Result<(), ConfigError>
     ensures { ReadsInto (λ ms. ms.items) result matchers.new
-        (matcher_into operator (place_path place.now) name.now (view value.now)
+        (matcher_into operator (path_text path.now) name.now (view value.now)
         matchers.old.items) }
 {
     if value.is_null() {
@@ -210,7 +210,7 @@ fn add_member(
         alloc,
         built,
         operator,
-        &Place::Member(place, name),
+        &ValuePath::Member(path, name),
         name,
         value,
         matchers,
@@ -223,16 +223,16 @@ fn add_stated(
     alloc: Global,
     built: &mut Patterns,
     operator: Operator,
-    place: &Place,
+    path: &ValuePath,
     name: &str,
     value: &Value,
     matchers: &mut Vec<Matcher>,
 ) -> Result<(), ConfigError>
     ensures { ReadsInto (λ ms. ms.items) result matchers.new
-        (stated_into operator (place_path place.now) name.now (view value.now) matchers.old.items) }
+        (stated_into operator (path_text path.now) name.now (view value.now) matchers.old.items) }
 {
-    let value = text(alloc, place, value)?;
-    let made = matcher(alloc, built, operator, place, name, value)?;
+    let value = text(alloc, path, value)?;
+    let made = matcher(alloc, built, operator, path, name, value)?;
     matchers.push(made)?;
     Ok(())
 }
@@ -244,21 +244,21 @@ fn matcher(
     alloc: Global,
     built: &mut Patterns,
     operator: Operator,
-    place: &Place,
+    path: &ValuePath,
     name: &str,
     value: &str,
 ) -> Result<Matcher, ConfigError>
     ensures { Reads (λ m. m
-        ∷ []) result (matcher_at operator (place_path place.now) name.now value.now) }
+        ∷ []) result (matcher_at operator (path_text path.now) name.now value.now) }
 {
     if name.is_empty() {
-        return Err(place.faulty(alloc));
+        return Err(path.faulty(alloc));
     }
     let name = Text::from_str(alloc, name)?;
     let value = Text::from_str(alloc, value)?;
     match Matcher::new(built, name, operator, value) {
         Ok(matcher) => Ok(matcher),
         Err(MatcherError::Memory) => Err(ConfigError::Memory),
-        Err(_) => Err(place.faulty(alloc)),
+        Err(_) => Err(path.faulty(alloc)),
     }
 }

@@ -3,13 +3,13 @@
 //! read, only whether it sends resolved alerts.
 ghost use Rattle.std.specs.Prelude.{◌≡◌, ◌≤◌, length, option_map, OnOk};
 ghost use Rattle.serde_json.specs.View.{view};
-ghost use Rattle.amr_config.specs.Read.Paths.{place_path};
+ghost use Rattle.amr_config.specs.Read.Paths.{path_text};
 ghost use Rattle.amr_config.specs.Read.Answers.{Gives, Changes};
-ghost use Rattle.amr_config.specs.Read.ReadReceivers.{is_sender as sender_of, is_keeper as keeper_of, default_of, entry_into, entries_at, is_on_side as is_on_side_of, kind_key as key_of, stated_entries as stated_of, with_entries, place_after, kind_into, kinds_at, name_at, receiver_at, receiver_into, receivers_list, receivers_at};
+ghost use Rattle.amr_config.specs.Read.ReadReceivers.{is_sender as sender_of, is_keeper as keeper_of, default_of, entry_into, entries_at, is_on_side as is_on_side_of, kind_key as key_of, stated_entries as stated_of, with_entries, index_after, kind_into, kinds_at, name_at, receiver_at, receiver_into, receivers_list, receivers_at};
 
 use crate::read::error::ConfigError;
 use crate::read::members::{flag_member, items, member, same, text};
-use crate::read::place::Place;
+use crate::read::value_path::ValuePath;
 use crate::stated::{Integration, Receiver};
 use amr_labels::{Listing, Text};
 use serde_json::Value;
@@ -22,20 +22,28 @@ pub(crate) fn read_receivers(alloc: Global, value: &Value) -> Result<Listing<Rec
     ensures { Gives (λ rs. rs) result (receivers_at (view value.now)) }
 {
     match member(value, "receivers") {
-        Some(found) => receivers(alloc, &Place::Member(&Place::Top, "receivers"), found),
+        Some(found) => receivers(
+            alloc,
+            &ValuePath::Member(&ValuePath::Top, "receivers"),
+            found,
+        ),
         None => Ok(Listing::new(alloc)),
     }
 }
 
 /// Reads a list of receivers.
 #[tactic(auto, unfolding(crate::specs::Read::ReadReceivers::receivers_list, crate::specs::Read::Readings::next))]
-fn receivers(alloc: Global, place: &Place, value: &Value) -> Result<Listing<Receiver>, ConfigError>
-    ensures { Gives (λ rs. rs) result (receivers_list (place_path place.now) (view value.now)) }
+fn receivers(
+    alloc: Global,
+    path: &ValuePath,
+    value: &Value,
+) -> Result<Listing<Receiver>, ConfigError>
+    ensures { Gives (λ rs. rs) result (receivers_list (path_text path.now) (view value.now)) }
 {
-    let items = items(alloc, place, value)?;
+    let items = items(alloc, path, value)?;
     let mut receivers = Listing::new(alloc);
     for (index, item) in items.iter().enumerate() {
-        add_receiver(alloc, place, index, item, &mut receivers)?;
+        add_receiver(alloc, path, index, item, &mut receivers)?;
     }
     Ok(receivers)
 }
@@ -44,32 +52,32 @@ fn receivers(alloc: Global, place: &Place, value: &Value) -> Result<Listing<Rece
 #[tactic(auto, unfolding(crate::specs::Read::ReadReceivers::receiver_into, crate::specs::Read::Readings::next))]
 fn add_receiver(
     alloc: Global,
-    place: &Place,
+    path: &ValuePath,
     index: usize,
     value: &Value,
     receivers: &mut Listing<Receiver>,
 ) -> Result<(), ConfigError>
     ensures { Changes (λ rs. rs) result receivers.new
-        (receiver_into (place_path place.now) index (view value.now) receivers.old) }
+        (receiver_into (path_text path.now) index (view value.now) receivers.old) }
 {
-    let receiver = read_receiver(alloc, &Place::Item(place, index), value)?;
+    let receiver = read_receiver(alloc, &ValuePath::Item(path, index), value)?;
     receivers.push(receiver)?;
     Ok(())
 }
 
 /// Reads a receiver, by its keys in byte order.
 #[tactic(auto, unfolding(crate::specs::Read::ReadReceivers::receiver_at, crate::specs::Read::Readings::next))]
-fn read_receiver(alloc: Global, place: &Place, value: &Value) -> Result<Receiver, ConfigError>
-    ensures { Gives (λ r. r) result (receiver_at (place_path place.now) (view value.now)) }
+fn read_receiver(alloc: Global, path: &ValuePath, value: &Value) -> Result<Receiver, ConfigError>
+    ensures { Gives (λ r. r) result (receiver_at (path_text path.now) (view value.now)) }
 {
     let mut integrations = Vec::new(alloc);
-    add_kinds(alloc, true, place, value, &mut integrations)?;
-    let here = Place::Member(place, "name");
+    add_kinds(alloc, true, path, value, &mut integrations)?;
+    let here = ValuePath::Member(path, "name");
     let Some(found) = member(value, "name") else {
         return Err(here.faulty(alloc));
     };
     let name = Text::from_str(alloc, name(alloc, &here, found)?)?;
-    add_kinds(alloc, false, place, value, &mut integrations)?;
+    add_kinds(alloc, false, path, value, &mut integrations)?;
     Ok(Receiver {
         name,
         integrations: Listing::from_vec(integrations),
@@ -78,12 +86,12 @@ fn read_receiver(alloc: Global, place: &Place, value: &Value) -> Result<Receiver
 
 /// Returns the name of a receiver. Fails if it is empty.
 #[tactic(auto, unfolding(crate::specs::Read::ReadReceivers::name_at, crate::specs::Read::Readings::next))]
-fn name<'v>(alloc: Global, place: &Place, value: &'v Value) -> Result<&'v str, ConfigError>
-    ensures { Gives (λ s. s.now) result (name_at (place_path place.now) (view value.now)) }
+fn name<'v>(alloc: Global, path: &ValuePath, value: &'v Value) -> Result<&'v str, ConfigError>
+    ensures { Gives (λ s. s.now) result (name_at (path_text path.now) (view value.now)) }
 {
-    let text = text(alloc, place, value)?;
+    let text = text(alloc, path, value)?;
     if text.is_empty() {
-        return Err(place.faulty(alloc));
+        return Err(path.faulty(alloc));
     }
     Ok(text)
 }
@@ -94,18 +102,18 @@ fn name<'v>(alloc: Global, place: &Place, value: &'v Value) -> Result<&'v str, C
 fn add_kinds(
     alloc: Global,
     before: bool,
-    place: &Place,
+    path: &ValuePath,
     value: &Value,
     integrations: &mut Vec<Integration>,
 ) -> Result<(), ConfigError>
     ensures { Changes (λ is. is.items) result integrations.new
-        (kinds_at before (place_path place.now) (view value.now) integrations.old.items) }
+        (kinds_at before (path_text path.now) (view value.now) integrations.old.items) }
 {
     let Some(members) = value.as_object() else {
-        return Err(place.faulty(alloc));
+        return Err(path.faulty(alloc));
     };
     for (key, value) in members {
-        add_kind(alloc, before, place, key.as_str(), value, integrations)?;
+        add_kind(alloc, before, path, key.as_str(), value, integrations)?;
     }
     Ok(())
 }
@@ -115,13 +123,13 @@ fn add_kinds(
 fn add_kind(
     alloc: Global,
     before: bool,
-    place: &Place,
+    path: &ValuePath,
     key: &str,
     value: &Value,
     integrations: &mut Vec<Integration>,
 ) -> Result<(), ConfigError>
     ensures { Changes (λ is. is.items) result integrations.new
-        (kind_into before (place_path place.now) key.now (view value.now)
+        (kind_into before (path_text path.now) key.now (view value.now)
         integrations.old.items) }
 {
     if !is_on_side(before, key) {
@@ -130,7 +138,7 @@ fn add_kind(
     match kind_key(key) {
         Some(kind) => {
             let kind = Text::from_str(alloc, kind)?;
-            let entries = stated_entries(alloc, &kind, &Place::Member(place, key), value)?;
+            let entries = stated_entries(alloc, &kind, &ValuePath::Member(path, key), value)?;
             insert_entries(integrations, &kind, entries)?;
             Ok(())
         }
@@ -148,21 +156,21 @@ fn insert_entries(
         (integrations.new.items ≡ with_entries integrations.old.items kind.now entries.items) }
 {
     let mut entries = entries;
-    let place = place_of(integrations.as_slice(), kind);
-    let mut later = integrations.split_off(place)?;
+    let index = index_of(integrations.as_slice(), kind);
+    let mut later = integrations.split_off(index)?;
     integrations.append(&mut entries)?;
     integrations.append(&mut later)?;
     Ok(())
 }
 
 /// Returns the index of the first integration with a greater name.
-fn place_of(integrations: &[Integration], kind: &Text) -> usize
-    ensures value { result ≡ place_after integrations.now kind.now }
+fn index_of(integrations: &[Integration], kind: &Text) -> usize
+    ensures value { result ≡ index_after integrations.now kind.now }
     ensures bound { result ≤ length integrations.now }
 {
-    for (place, integration) in integrations.iter().enumerate() {
+    for (index, integration) in integrations.iter().enumerate() {
         if integration.kind.cmp(kind) == Ordering::Greater {
-            return place;
+            return index;
         }
     }
     integrations.len()
@@ -173,15 +181,15 @@ fn place_of(integrations: &[Integration], kind: &Text) -> usize
 fn stated_entries(
     alloc: Global,
     kind: &Text,
-    place: &Place,
+    path: &ValuePath,
     value: &Value,
 ) -> Result<Vec<Integration>, ConfigError>
     ensures { Gives (λ es. es.items) result
-        (stated_of kind.now (place_path place.now) (view value.now)) }
+        (stated_of kind.now (path_text path.now) (view value.now)) }
 {
     match value {
         Value::Null => Ok(Vec::new(alloc)),
-        _ => entries(alloc, kind, place, value),
+        _ => entries(alloc, kind, path, value),
     }
 }
 
@@ -211,16 +219,16 @@ fn is_on_side(before: bool, key: &str) -> bool
 fn entries(
     alloc: Global,
     kind: &Text,
-    place: &Place,
+    path: &ValuePath,
     value: &Value,
 ) -> Result<Vec<Integration>, ConfigError>
     ensures { Gives (λ es. es.items) result
-        (entries_at kind.now (place_path place.now) (view value.now)) }
+        (entries_at kind.now (path_text path.now) (view value.now)) }
 {
-    let items = items(alloc, place, value)?;
+    let items = items(alloc, path, value)?;
     let mut entries = Vec::new(alloc);
     for (index, item) in items.iter().enumerate() {
-        add_entry(alloc, kind, place, index, item, &mut entries)?;
+        add_entry(alloc, kind, path, index, item, &mut entries)?;
     }
     Ok(entries)
 }
@@ -230,15 +238,15 @@ fn entries(
 fn add_entry(
     alloc: Global,
     kind: &Text,
-    place: &Place,
+    path: &ValuePath,
     index: usize,
     value: &Value,
     entries: &mut Vec<Integration>,
 ) -> Result<(), ConfigError>
     ensures { Changes (λ es. es.items) result entries.new
-        (entry_into kind.now (place_path place.now) index (view value.now) entries.old.items) }
+        (entry_into kind.now (path_text path.now) index (view value.now) entries.old.items) }
 {
-    let here = Place::Item(place, index);
+    let here = ValuePath::Item(path, index);
     if !value.is_object() {
         return Err(here.faulty(alloc));
     }

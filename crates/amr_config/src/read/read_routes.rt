@@ -3,7 +3,7 @@
 //! `Config` resolves what it inherits.
 ghost use Rattle.std.specs.Prelude.{◌≡◌, IfOk};
 ghost use Rattle.serde_json.specs.View.{view, items_view};
-ghost use Rattle.amr_config.specs.Read.Paths.{place_path, under};
+ghost use Rattle.amr_config.specs.Read.Paths.{path_text, under};
 ghost use Rattle.amr_config.specs.Read.Answers.{Gives, Reads, ReadsInto};
 ghost use Rattle.amr_config.specs.Read.RouteParts.{is_all as all_of, grouping_of, grouping_stated, children_at, is_deeper as deeper_of, is_too_deep as too_deep_of};
 ghost use Rattle.amr_config.specs.Read.ReadRoutes.{route_at, own_into, add_route, routes_at};
@@ -13,8 +13,8 @@ use crate::read::interval_names::names_member;
 use crate::read::members::{
     flag_member, items, member, same, span_member, text_member, texts_member,
 };
-use crate::read::place::Place;
 use crate::read::read_matchers::read_matchers;
+use crate::read::value_path::ValuePath;
 use crate::read::whole::Whole;
 use crate::stated::{Grouping, Route};
 use amr_labels::matcher::Patterns;
@@ -32,8 +32,8 @@ pub(crate) fn read_routes(
 ) -> Result<Listing<Route>, ConfigError>
     ensures { Reads (λ rs. rs) result (routes_at (view value.now)) }
 {
-    let top = Place::Top;
-    let here = Place::Member(&top, "route");
+    let top = ValuePath::Top;
+    let here = ValuePath::Member(&top, "route");
     let Some(route) = member(value, "route") else {
         return Err(here.faulty(alloc));
     };
@@ -80,29 +80,29 @@ fn add_route(
     built: &mut Patterns,
     whole: &Whole,
     left: u32,
-    place: &Place,
+    path: &ValuePath,
     parent: Option<usize>,
     value: &Value,
     routes: &mut Listing<Route>,
 ) -> Result<(), ConfigError>
     ensures { ReadsInto (λ rs. rs) result routes.new
-        (add_route (view whole.now.value.now) left (place_path place.now) parent (view value.now)
+        (add_route (view whole.now.value.now) left (path_text path.now) parent (view value.now)
         routes.old) }
 {
     if left == 0 {
         return Err(ConfigError::Refused(Refusal::Other(Cause::TooDeep)));
     }
     let index = routes.len();
-    add_own(alloc, built, whole, place, parent, value, routes)?;
-    let children = children(alloc, place, value)?;
-    let below = Place::Member(&*place, "routes");
+    add_own(alloc, built, whole, path, parent, value, routes)?;
+    let children = children(alloc, path, value)?;
+    let below = ValuePath::Member(&*path, "routes");
     for (i, child) in children.iter().enumerate() {
         add_route(
             alloc,
             built,
             whole,
             left - 1,
-            &Place::Item(&below, i),
+            &ValuePath::Item(&below, i),
             Some(index),
             child,
             routes,
@@ -113,12 +113,16 @@ fn add_route(
 
 /// Returns the items of a route's `routes`; none if the member is absent.
 #[tactic(auto, unfolding(crate::specs::Read::RouteParts::children_at, crate::specs::Read::Readings::next))]
-fn children<'v>(alloc: Global, place: &Place, value: &'v Value) -> Result<&'v [Value], ConfigError>
+fn children<'v>(
+    alloc: Global,
+    path: &ValuePath,
+    value: &'v Value,
+) -> Result<&'v [Value], ConfigError>
     ensures { Gives (λ s. items_view s.now) result
-        (children_at (place_path place.now) (view value.now)) }
+        (children_at (path_text path.now) (view value.now)) }
 {
     match member(value, "routes") {
-        Some(found) => items(alloc, &Place::Member(place, "routes"), found),
+        Some(found) => items(alloc, &ValuePath::Member(path, "routes"), found),
         None => Ok(&[]),
     }
 }
@@ -129,16 +133,16 @@ fn add_own(
     alloc: Global,
     built: &mut Patterns,
     whole: &Whole,
-    place: &Place,
+    path: &ValuePath,
     parent: Option<usize>,
     value: &Value,
     routes: &mut Listing<Route>,
 ) -> Result<(), ConfigError>
     ensures { ReadsInto (λ rs. rs) result routes.new
-        (own_into (view whole.now.value.now) (place_path place.now) parent (view value.now)
+        (own_into (view whole.now.value.now) (path_text path.now) parent (view value.now)
         routes.old) }
 {
-    let route = read_route(alloc, built, whole, place, parent, value)?;
+    let route = read_route(alloc, built, whole, path, parent, value)?;
     routes.push(route)?;
     Ok(())
 }
@@ -149,25 +153,25 @@ fn read_route(
     alloc: Global,
     built: &mut Patterns,
     whole: &Whole,
-    place: &Place,
+    path: &ValuePath,
     parent: Option<usize>,
     value: &Value,
 ) -> Result<Route, ConfigError>
     ensures { Reads (λ route. route) result
-        (route_at (view whole.now.value.now) (place_path place.now) parent (view value.now)) }
+        (route_at (view whole.now.value.now) (path_text path.now) parent (view value.now)) }
 {
     if !value.is_object() {
-        return Err(place.faulty(alloc));
+        return Err(path.faulty(alloc));
     }
-    let active = names_member(alloc, whole, place, value, "active_time_intervals")?;
-    let continues = flag_member(alloc, place, value, "continue")?;
-    let group_by = texts_member(alloc, place, value, "group_by")?;
-    let group_interval = span_member(alloc, place, value, "group_interval")?;
-    let group_wait = span_member(alloc, place, value, "group_wait")?;
-    let matchers = read_matchers(alloc, built, place, "match", "match_re", "matchers", value)?;
-    let mute = names_member(alloc, whole, place, value, "mute_time_intervals")?;
-    let receiver = text_member(alloc, place, value, "receiver")?;
-    let repeat_interval = span_member(alloc, place, value, "repeat_interval")?;
+    let active = names_member(alloc, whole, path, value, "active_time_intervals")?;
+    let continues = flag_member(alloc, path, value, "continue")?;
+    let group_by = texts_member(alloc, path, value, "group_by")?;
+    let group_interval = span_member(alloc, path, value, "group_interval")?;
+    let group_wait = span_member(alloc, path, value, "group_wait")?;
+    let matchers = read_matchers(alloc, built, path, "match", "match_re", "matchers", value)?;
+    let mute = names_member(alloc, whole, path, value, "mute_time_intervals")?;
+    let receiver = text_member(alloc, path, value, "receiver")?;
+    let repeat_interval = span_member(alloc, path, value, "repeat_interval")?;
     let grouping = stated_grouping(alloc, group_by)?;
     Ok(Route {
         parent,

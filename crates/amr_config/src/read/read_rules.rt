@@ -2,14 +2,14 @@
 //! reference). `read.rt` calls `read_rules`.
 ghost use Rattle.std.specs.Prelude.{◌≡◌};
 ghost use Rattle.serde_json.specs.View.{view};
-ghost use Rattle.amr_config.specs.Read.Paths.{place_path};
+ghost use Rattle.amr_config.specs.Read.Paths.{path_text};
 ghost use Rattle.amr_config.specs.Read.Answers.{Reads, ReadsInto};
 ghost use Rattle.amr_config.specs.Read.ReadRules.{rule_at, rule_into, rules_list, rules_at};
 
 use crate::read::error::ConfigError;
 use crate::read::members::{items, member, texts_member};
-use crate::read::place::Place;
 use crate::read::read_matchers::read_matchers;
+use crate::read::value_path::ValuePath;
 use crate::stated::InhibitRule;
 use amr_labels::Listing;
 use amr_labels::matcher::Patterns;
@@ -29,7 +29,7 @@ pub(crate) fn read_rules(
         Some(found) => rules(
             alloc,
             built,
-            &Place::Member(&Place::Top, "inhibit_rules"),
+            &ValuePath::Member(&ValuePath::Top, "inhibit_rules"),
             found,
         ),
         None => Ok(Listing::new(alloc)),
@@ -41,15 +41,15 @@ pub(crate) fn read_rules(
 fn rules(
     alloc: Global,
     built: &mut Patterns,
-    place: &Place,
+    path: &ValuePath,
     value: &Value,
 ) -> Result<Listing<InhibitRule>, ConfigError>
-    ensures { Reads (λ rules. rules) result (rules_list (place_path place.now) (view value.now)) }
+    ensures { Reads (λ rules. rules) result (rules_list (path_text path.now) (view value.now)) }
 {
-    let items = items(alloc, place, value)?;
+    let items = items(alloc, path, value)?;
     let mut rules = Listing::new(alloc);
     for (index, item) in items.iter().enumerate() {
-        add_rule(alloc, built, place, index, item, &mut rules)?;
+        add_rule(alloc, built, path, index, item, &mut rules)?;
     }
     Ok(rules)
 }
@@ -59,15 +59,15 @@ fn rules(
 fn add_rule(
     alloc: Global,
     built: &mut Patterns,
-    place: &Place,
+    path: &ValuePath,
     index: usize,
     value: &Value,
     rules: &mut Listing<InhibitRule>,
 ) -> Result<(), ConfigError>
     ensures { ReadsInto (λ rules. rules) result rules.new
-        (rule_into (place_path place.now) index (view value.now) rules.old) }
+        (rule_into (path_text path.now) index (view value.now) rules.old) }
 {
-    let rule = read_rule(alloc, built, &Place::Item(place, index), value)?;
+    let rule = read_rule(alloc, built, &ValuePath::Item(path, index), value)?;
     rules.push(rule)?;
     Ok(())
 }
@@ -77,19 +77,19 @@ fn add_rule(
 fn read_rule(
     alloc: Global,
     built: &mut Patterns,
-    place: &Place,
+    path: &ValuePath,
     value: &Value,
 ) -> Result<InhibitRule, ConfigError>
-    ensures { Reads (λ rule. rule) result (rule_at (place_path place.now) (view value.now)) }
+    ensures { Reads (λ rule. rule) result (rule_at (path_text path.now) (view value.now)) }
 {
     if !value.is_object() {
-        return Err(place.faulty(alloc));
+        return Err(path.faulty(alloc));
     }
-    let equal = texts_member(alloc, place, value, "equal")?;
+    let equal = texts_member(alloc, path, value, "equal")?;
     let source = read_matchers(
         alloc,
         built,
-        place,
+        path,
         "source_match",
         "source_match_re",
         "source_matchers",
@@ -98,7 +98,7 @@ fn read_rule(
     let target = read_matchers(
         alloc,
         built,
-        place,
+        path,
         "target_match",
         "target_match_re",
         "target_matchers",

@@ -14,7 +14,7 @@ use Rattle.std.proofs.lemmas.Map.Views.{tells_apart}
 use Rattle.amr_tables.specs.Members.{has}
 use Rattle.amr_engine.specs.declared.state.due.Kind.{Kind}
 use Rattle.amr_engine.specs.declared.state.due.Kind.TheVariants.{AlertRemoval, GroupRemoval, GroupFlush}
-use Rattle.amr_engine.specs.State.Dues.{Due, kind_place, place_cmp, due_cmp, due_cmp_total, due_cmp-IsAntisymmetric, lesser_due, least_due}
+use Rattle.amr_engine.specs.State.Dues.{Due, kind_rank, rank_cmp, due_cmp, due_cmp_total, due_cmp-IsAntisymmetric, lesser_due, least_due}
 use Rattle.amr_engine.specs.State.Timed.{earlier, IsFirstAmong, IsFirstOfKind}
 
 pub not_after : (a b : Due) → is_gt (due_cmp a b) ≡ true → is_gt (due_cmp b a) ≡ false
@@ -91,19 +91,19 @@ not_later a b h = le_from_not_gt a.moment b.moment (first_part (nat_cmp a.moment
 pub sooner : (a b : Due) → a.moment < b.moment → is_gt (due_cmp a b) ≡ false
 sooner a b lt =
     let less : Less ≡ nat_cmp a.moment b.moment = nat_cmp_is a.moment b.moment Less lt in
-    ap (λ o. is_gt (ordering_then o (place_cmp a b))) (sym less)
+    ap (λ o. is_gt (ordering_then o (rank_cmp a b))) (sym less)
 
 -- of one moment and kind, a lesser name is first
 pub alike : (a b : Due) → a.moment ≡ b.moment → a.kind ≡ b.kind → is_gt (ordering_then (nat_cmp a.route b.route) (label_set_cmp a.labels b.labels)) ≡ false → is_gt (due_cmp a b) ≡ false
 alike a b moment kind name =
     let moments : nat_cmp a.moment b.moment ≡ Equal = ap (nat_cmp a.moment) (sym moment) ∙ tied_itself nat_cmp_total a.moment in
-    let kinds : nat_cmp (kind_place a.kind) (kind_place b.kind) ≡ Equal = ap (λ k. nat_cmp (kind_place a.kind) (kind_place k)) (sym kind) ∙ tied_itself nat_cmp_total (kind_place a.kind) in
+    let kinds : nat_cmp (kind_rank a.kind) (kind_rank b.kind) ≡ Equal = ap (λ k. nat_cmp (kind_rank a.kind) (kind_rank k)) (sym kind) ∙ tied_itself nat_cmp_total (kind_rank a.kind) in
     (λ i. is_gt (ordering_then (moments i) (ordering_then (kinds i) (ordering_then (nat_cmp a.route b.route) (label_set_cmp a.labels b.labels))))) ∙ name
 
 -- of one moment, an earlier kind is first
-by_kind : (a b : Due) → a.moment ≤ b.moment → kind_place a.kind < kind_place b.kind → is_gt (due_cmp a b) ≡ false
+by_kind : (a b : Due) → a.moment ≤ b.moment → kind_rank a.kind < kind_rank b.kind → is_gt (due_cmp a b) ≡ false
 by_kind a b le lt =
-    let less : Less ≡ nat_cmp (kind_place a.kind) (kind_place b.kind) = nat_cmp_is (kind_place a.kind) (kind_place b.kind) Less lt in
+    let less : Less ≡ nat_cmp (kind_rank a.kind) (kind_rank b.kind) = nat_cmp_is (kind_rank a.kind) (kind_rank b.kind) Less lt in
     elim (nat_lt a.moment b.moment) as (λ t. nat_lt a.moment b.moment ≡ t → is_gt (due_cmp a b) ≡ false) [
       | true ↦ λ t. sooner a b (grind (arith, nat_tests))
       | false ↦ λ t.
@@ -112,7 +112,7 @@ by_kind a b le lt =
           (λ i. is_gt (ordering_then (sym equal i) (ordering_then (sym less i) (ordering_then (nat_cmp a.route b.route) (label_set_cmp a.labels b.labels)))))
     ] refl
 
-module _ (p q : Kind → Type 0) (before : (j k : Kind) → p j → q k → kind_place j < kind_place k) (dues : List Due) where
+module _ (p q : Kind → Type 0) (before : (j k : Kind) → p j → q k → kind_rank j < kind_rank k) (dues : List Due) where
   joined : (x y : Option Due) → IsFirstAmong p dues x → IsFirstAmong q dues y → IsFirstAmong (λ kind. p kind ⊎ q kind) dues (earlier x y)
   joined None None n m = λ other. elim [ inl e ↦ n other e | inr e ↦ m other e ]
   joined None (Some b) n m = (inr m.0, (m.1.0, λ other. elim [ inl e ↦ λ h. not_both _ _ (n other e) h | inr e ↦ m.1.1 other e ]))
@@ -139,11 +139,11 @@ kinds AlertRemoval = inl refl
 kinds GroupRemoval = inr (inl refl)
 kinds GroupFlush = inr (inr refl)
 
-removals_first : (j k : Kind) → IsOf GroupRemoval j → IsOf GroupFlush k → kind_place j < kind_place k
-removals_first j k e f = omega (arith, ap kind_place e, ap kind_place f)
+removals_first : (j k : Kind) → IsOf GroupRemoval j → IsOf GroupFlush k → kind_rank j < kind_rank k
+removals_first j k e f = omega (arith, ap kind_rank e, ap kind_rank f)
 
-alerts_first : (j k : Kind) → IsOf AlertRemoval j → IsOf GroupRemoval k ⊎ IsOf GroupFlush k → kind_place j < kind_place k
-alerts_first j k e = elim [ inl f ↦ omega (arith, ap kind_place e, ap kind_place f) | inr f ↦ omega (arith, ap kind_place e, ap kind_place f) ]
+alerts_first : (j k : Kind) → IsOf AlertRemoval j → IsOf GroupRemoval k ⊎ IsOf GroupFlush k → kind_rank j < kind_rank k
+alerts_first j k e = elim [ inl f ↦ omega (arith, ap kind_rank e, ap kind_rank f) | inr f ↦ omega (arith, ap kind_rank e, ap kind_rank f) ]
 
 -- the least is the earlier of the first timers of each kind
 pub first_of_kinds : (dues : List Due) (x y z : Option Due) → IsFirstOfKind AlertRemoval dues x → IsFirstOfKind GroupRemoval dues y → IsFirstOfKind GroupFlush dues z → least_due dues ≡ earlier x (earlier y z)

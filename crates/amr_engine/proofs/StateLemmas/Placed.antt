@@ -17,7 +17,7 @@ use Rattle.amr_config.specs.declared.router.RouteGroup.{RouteGroup}
 use Rattle.amr_rules.specs.declared.alert.Alert.{Alert}
 use Rattle.amr_engine.specs.declared.state.notification.GroupTimer.{GroupTimer}
 use Rattle.amr_engine.specs.declared.state.route_labels.RouteLabels.{RouteLabels}
-use Rattle.amr_engine.specs.State.State.{State, on_route, group_key, timer_with, place_on}
+use Rattle.amr_engine.specs.State.State.{State, on_route, group_key, timer_with, insert_into_group}
 
 -- what follows from the fact at a value
 pub on_ok : {T E : Type 0} (r : Result T E) (P Q : Type 0) → (P → Q) → OnOk r P → OnOk r Q
@@ -28,7 +28,7 @@ pub placed : (s copied : State) (labels : LabelSet) (alert copy : Alert) (route 
     → group ≡ group_key s.config (on_route route labels) → route_labels ≡ on_route route labels → copy ≡ alert
     → timer ≡ timer_with s.moment (group_wait_of s.config route) alert (get s.timers group)
     → copied ≡ record s { placements = insert s.placements route_labels copy }
-    → record copied { timers = insert copied.timers group timer } ≡ place_on labels alert s route
+    → record copied { timers = insert copied.timers group timer } ≡ insert_into_group labels alert s route
 placed s copied labels alert copy route group route_labels timer grouped at same reset is =
     let by : timer ≡ timer_with s.moment (group_wait_of s.config route) alert (get s.timers (group_key s.config (on_route route labels))) =
     reset ∙ ap (λ (g : RouteLabels). timer_with s.moment (group_wait_of s.config route) alert (get s.timers g)) grouped in

@@ -22,7 +22,7 @@ use Rattle.amr_engine.specs.declared.state.route_labels.RouteLabels.{RouteLabels
 use Rattle.amr_engine.specs.declared.state.due.Kind.{Kind}
 use Rattle.amr_engine.specs.declared.state.due.Kind.TheVariants.{AlertRemoval, GroupRemoval, GroupFlush}
 use Rattle.amr_engine.specs.State.State.{on_route, route_labels_cmp, route_labels_cmp_total, route_labels_cmp-IsAntisymmetric}
-use Rattle.amr_engine.specs.State.Dues.{Due, kind_place, due_cmp, dues_of, alert_removal_at, alert_removal_of, group_removal_of, flush_of}
+use Rattle.amr_engine.specs.State.Dues.{Due, kind_rank, due_cmp, dues_of, alert_removal_at, alert_removal_of, group_removal_of, flush_of}
 use Rattle.amr_engine.specs.State.Timed.{alert_moment, flush_moment, removal_moment}
 
 -- ---- truth values
@@ -150,7 +150,7 @@ of_one_kind a c n GroupRemoval route labels = or_false _
 of_one_kind a c n GroupFlush route labels = refl
 
 alert_tied : (n : ℕ) (kind : Kind) (z : Ordering) (labels : LabelSet) (alert : Option Alert)
-    → option_map_or (λ x. is_eq (ordering_then (nat_cmp n (alert_removal_at x)) (ordering_then (nat_cmp (kind_place kind) 0) (ordering_then z (label_set_cmp labels labels))))) alert false
+    → option_map_or (λ x. is_eq (ordering_then (nat_cmp n (alert_removal_at x)) (ordering_then (nat_cmp (kind_rank kind) 0) (ordering_then z (label_set_cmp labels labels))))) alert false
     ≡ is_at n (alert_pick kind z alert)
 alert_tied n AlertRemoval Less labels None = refl
 alert_tied n AlertRemoval Equal labels None = refl

@@ -69,7 +69,7 @@ may_concern from bits change = bit_or bits change.required == bits && nat_lt fro
 abbrev pub is_idle : Moment → ℕ → SilenceChange → Bool
 is_idle from bits change = not (may_concern from bits change)
 
--- the place of the next change, from a place on, that may concern label sets with these bits
+-- the index of the next change, from an index on, that may concern label sets with these bits
 abbrev pub next_concern : Moment → ℕ → List SilenceChange → ℕ → ℕ
 next_concern from bits changes version = version + prefix_len (is_idle from bits) (drop version changes)
 

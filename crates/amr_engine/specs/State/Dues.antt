@@ -44,29 +44,29 @@ abbrev pub due_at : Moment → Timer → Due
 due_at moment timer = record { moment = moment; kind = kind_of timer; route = (group_of timer).route; labels = (group_of timer).labels }
 
 -- the rank of a kind among the timers of one moment
-abbrev pub kind_place : Kind → ℕ
-kind_place AlertRemoval = 0
-kind_place GroupRemoval = 1
-kind_place GroupFlush = 2
+abbrev pub kind_rank : Kind → ℕ
+kind_rank AlertRemoval = 0
+kind_rank GroupRemoval = 1
+kind_rank GroupFlush = 2
 
 -- timers are ordered by moment, kind, route and labels
 abbrev pub due_cmp : Due → Due → Ordering
 due_cmp a b =
-    ordering_then (nat_cmp a.moment b.moment) (ordering_then (nat_cmp (kind_place a.kind) (kind_place b.kind))
+    ordering_then (nat_cmp a.moment b.moment) (ordering_then (nat_cmp (kind_rank a.kind) (kind_rank b.kind))
     (ordering_then (nat_cmp a.route b.route) (label_set_cmp a.labels b.labels)))
 
 -- timers without their moments, by kind, route and labels
-abbrev pub place_cmp : Due → Due → Ordering
-place_cmp a b = ordering_then (nat_cmp (kind_place a.kind) (kind_place b.kind)) (ordering_then (nat_cmp a.route b.route) (label_set_cmp a.labels b.labels))
+abbrev pub rank_cmp : Due → Due → Ordering
+rank_cmp a b = ordering_then (nat_cmp (kind_rank a.kind) (kind_rank b.kind)) (ordering_then (nat_cmp a.route b.route) (label_set_cmp a.labels b.labels))
 
-pub place_cmp_total : IsTotalOrder place_cmp
-place_cmp_total =
-    then_total (on_total (λ (due : Due). kind_place due.kind) nat_cmp_total)
+pub rank_cmp_total : IsTotalOrder rank_cmp
+rank_cmp_total =
+    then_total (on_total (λ (due : Due). kind_rank due.kind) nat_cmp_total)
     (then_total (on_total (λ (due : Due). due.route) nat_cmp_total) (on_total (λ (due : Due). due.labels) label_set_cmp_total))
 
 pub due_cmp_total : IsTotalOrder due_cmp
 due_cmp_total =
-    then_total (on_total (λ (due : Due). due.moment) nat_cmp_total) (then_total (on_total (λ (due : Due). kind_place due.kind) nat_cmp_total)
+    then_total (on_total (λ (due : Due). due.moment) nat_cmp_total) (then_total (on_total (λ (due : Due). kind_rank due.kind) nat_cmp_total)
     (then_total (on_total (λ (due : Due). due.route) nat_cmp_total) (on_total (λ (due : Due). due.labels) label_set_cmp_total)))
 
 kind_at : ℕ → Kind
@@ -74,14 +74,14 @@ kind_at zero = AlertRemoval
 kind_at (suc zero) = GroupRemoval
 kind_at (suc (suc n)) = GroupFlush
 
-kind_at_its_place : (kind : Kind) → kind_at (kind_place kind) ≡ kind
+kind_at_its_rank : (kind : Kind) → kind_at (kind_rank kind) ≡ kind
 unfolding kind_at
-kind_at_its_place AlertRemoval = refl
-kind_at_its_place GroupRemoval = refl
-kind_at_its_place GroupFlush = refl
+kind_at_its_rank AlertRemoval = refl
+kind_at_its_rank GroupRemoval = refl
+kind_at_its_rank GroupFlush = refl
 
 abbrev due_parts : Due → Moment × (ℕ × RouteLabels)
-due_parts due = (due.moment, (kind_place due.kind, on_route due.route due.labels))
+due_parts due = (due.moment, (kind_rank due.kind, on_route due.route due.labels))
 
 -- timers that compare equal are the same
 pub due_cmp-IsAntisymmetric : IsAntisymmetric due_cmp
@@ -90,7 +90,7 @@ due_cmp-IsAntisymmetric a b tie =
     exact_pairs nat_cmp (λ (x y : ℕ × RouteLabels). ordering_then (nat_cmp x.0 y.0) (route_labels_cmp x.1 y.1)) exact_unsigned (exact_pairs nat_cmp route_labels_cmp exact_unsigned route_labels_cmp-IsAntisymmetric)
     (due_parts a) (due_parts b) tie in
     let kinds : a.kind ≡ b.kind =
-    sym (kind_at_its_place a.kind) ∙ ap (λ (x : Moment × (ℕ × RouteLabels)). kind_at x.1.0) parts ∙ kind_at_its_place b.kind in
+    sym (kind_at_its_rank a.kind) ∙ ap (λ (x : Moment × (ℕ × RouteLabels)). kind_at x.1.0) parts ∙ kind_at_its_rank b.kind in
     λ i. record { moment = (parts i).0; kind = kinds i; route = (parts i).1.1.route; labels = (parts i).1.1.labels }
 
 -- a stored alert is removed at the first multiple of half an hour that is after its last post and

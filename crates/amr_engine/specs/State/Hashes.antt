@@ -5,9 +5,9 @@ use Rattle.amr_labels.specs.Hashes.{label_set_hash}
 use Rattle.amr_config.specs.Paths.{path_hash}
 use Rattle.amr_engine.specs.declared.state.notification.LogKey.{LogKey}
 
--- the byte at a place, or 0 where there is none
+-- the byte at an index, or 0 where there is none
 unfoldable pub byte_at : Text → ℕ → ℕ
-byte_at text place = unwrap_or (slice_get text place) 0
+byte_at text index = unwrap_or (slice_get text index) 0
 
 -- by the length of a text, the two bytes in its middle, and its last byte
 unfoldable pub text_sample : Text → ℕ

@@ -129,8 +129,8 @@ timers_after_flush next group timers =
     option_map_or (λ timer. insert timers group (record timer { next_flush = next; flushed = true })) (get timers group) timers
 
 -- the alert is inserted into its group on the route
-abbrev pub place_on : LabelSet → Alert → State → ℕ → State
-place_on labels alert s route =
+abbrev pub insert_into_group : LabelSet → Alert → State → ℕ → State
+insert_into_group labels alert s route =
     let group : RouteLabels = group_key s.config (on_route route labels) in
     record s {
       placements = insert s.placements (on_route route labels) alert;
@@ -138,5 +138,5 @@ place_on labels alert s route =
     }
 
 -- the alert is inserted into its group on each route that takes it
-unfoldable pub place : State → LabelSet × Alert → State
-place s alert = fold (place_on alert.0 alert.1) s (chosen_routes s.config alert.0)
+unfoldable pub insert_into_groups : State → LabelSet × Alert → State
+insert_into_groups s alert = fold (insert_into_group alert.0 alert.1) s (chosen_routes s.config alert.0)

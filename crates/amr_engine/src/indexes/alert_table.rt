@@ -95,13 +95,13 @@ impl AlertTable {
         self.sources.arrived()
     }
 
-    /// Works out which label sets can be sources of the rule at a place of the configuration, so
+    /// Works out which label sets can be sources of the rule at an index of the configuration, so
     /// that `sources` needn't ask the rule's matchers. It asks them once for each label set. It
     /// works nothing out if there is no room for it.
-    pub fn cache_side(&mut self, place: usize, rule: &InhibitRule)
+    pub fn cache_side(&mut self, index: usize, rule: &InhibitRule)
         ensures { self.new ≡ self.old }
     {
-        self.sources.cache(place, rule);
+        self.sources.cache(index, rule);
     }
 
     /// Clears the marks of all places, so that the open record takes their next change again. Each
@@ -114,7 +114,7 @@ impl AlertTable {
         ensures keys { self.new.numbers ≡ self.old.numbers }
     {
         self.alerts.clear_entered();
-        self.sources.forget_places();
+        self.sources.forget_indexes();
     }
 
     /// Swaps the alert of the label set with a number, or `None` if it has none, with another, and
@@ -153,11 +153,11 @@ impl AlertStore for AlertTable {
     fn sources(
         &self,
         alloc: Global,
-        place: usize,
+        index: usize,
         rule: &InhibitRule,
         target: &Labels,
     ) -> Result<Vec<(&Labels, &Alert)>, AllocError> {
-        let known = self.sources.agreeing(place, rule, target)?;
+        let known = self.sources.agreeing(index, rule, target)?;
         let Some(listed) = known else {
             return sources_among(alloc, &self.alerts, rule, target);
         };

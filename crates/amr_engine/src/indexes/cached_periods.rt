@@ -63,9 +63,9 @@ impl CachedPeriods {
             if self.version >= changes.len() {
                 return Ok(());
             }
-            let place = self.version;
-            self.take_in(alloc, answers, silences, &changes[place])?;
-            self.version = place + 1;
+            let index = self.version;
+            self.take_in(alloc, answers, silences, &changes[index])?;
+            self.version = index + 1;
         }
         Ok(())
     }
@@ -81,16 +81,16 @@ impl CachedPeriods {
         }
     }
 
-    /// Returns the place of the next change that may concern the labels, or the number of changes
+    /// Returns the index of the next change that may concern the labels, or the number of changes
     /// if none does.
     fn next_concern(&self, changes: &[SilenceChange]) -> usize
         requires { self.now.version ≤ length changes.now }
         ensures { result ≡ next_concern self.now.from self.now.bits changes.now self.now.version }
     {
         let (from, bits) = (self.from, self.bits);
-        for place in self.version..changes.len() {
-            if changes[place].may_concern(from, bits) {
-                return place;
+        for index in self.version..changes.len() {
+            if changes[index].may_concern(from, bits) {
+                return index;
             }
         }
         changes.len()

@@ -57,7 +57,7 @@ pub(crate) struct RuleSources {
     arrived: Vec<Labels>,
     numbers: BTreeMap<SourceSide, usize>,
     sides: Vec<CachedSide>,
-    /// The side of each rule that was learned in this event, by the rule's place in the
+    /// The side of each rule that was learned in this event, by the rule's index in the
     /// configuration. It saves look-ups, and no answer depends on it.
     filled: Vec<Option<FilledSide>>,
     /// How many label sets the sides list, with what lists and sides count as.
@@ -118,14 +118,14 @@ impl RuleSources {
     /// rule's side isn't known, or not of all label sets.
     pub(crate) fn agreeing(
         &self,
-        place: usize,
+        index: usize,
         rule: &InhibitRule,
         target: &Labels,
     ) -> Result<Option<Option<&LabelMap<()>>>, AllocError>
         ensures { IfOk result (λ cached. IfSome cached (λ found.
             ListsAgreeing rule.now target.now self.now (option_copied found))) }
     {
-        let side = self.cached(place, rule)?;
+        let side = self.cached(index, rule)?;
         let Some(cached) = side else {
             return Ok(None);
         };
@@ -139,23 +139,23 @@ impl RuleSources {
         Ok(Some(cached.sources.get(&values)))
     }
 
-    /// Takes in all label sets at the source side of the rule at a place of the configuration, so
+    /// Takes in all label sets at the source side of the rule at an index of the configuration, so
     /// that `agreeing` answers for it. It learns nothing if the sides list many label sets by now,
     /// and forgets them all if there is no room.
-    pub(crate) fn cache(&mut self, place: usize, rule: &InhibitRule)
+    pub(crate) fn cache(&mut self, index: usize, rule: &InhibitRule)
         ensures { self.new ≡ self.old }
     {
-        if self.is_filled(place) || self.listed >= MOST_LISTED {
+        if self.is_filled(index) || self.listed >= MOST_LISTED {
             return;
         }
-        if self.cache_side(place, rule).is_err() {
+        if self.cache_side(index, rule).is_err() {
             self.forget_sides();
         }
     }
 
-    /// Forgets which rules were learned, since other rules may be at their places from now on. If
+    /// Forgets which rules were learned, since other rules may be at their indexes from now on. If
     /// the sides list too many label sets, it forgets them too.
-    pub(crate) fn forget_places(&mut self)
+    pub(crate) fn forget_indexes(&mut self)
         ensures { self.new ≡ self.old }
     {
         self.filled.clear();
@@ -174,32 +174,32 @@ impl RuleSources {
         self.listed = 0;
     }
 
-    /// Takes in all label sets at the source side of the rule at a place, and notes that it did.
-    fn cache_side(&mut self, place: usize, rule: &InhibitRule) -> Result<(), AllocError>
+    /// Takes in all label sets at the source side of the rule at an index, and notes that it did.
+    fn cache_side(&mut self, index: usize, rule: &InhibitRule) -> Result<(), AllocError>
         ensures { self.new ≡ self.old }
     {
         let number = self.number_of(rule)?;
         self.list_all(number)?;
-        self.note_filled(place, number)
+        self.note_filled(index, number)
     }
 
-    /// Returns whether the rule at a place was learned, and no label set came since.
-    fn is_filled(&self, place: usize) -> bool {
-        match self.filled.get(place) {
+    /// Returns whether the rule at an index was learned, and no label set came since.
+    fn is_filled(&self, index: usize) -> bool {
+        match self.filled.get(index) {
             Some(Some(filled)) => filled.covered == self.arrived.len(),
             _ => false,
         }
     }
 
-    /// Notes that the side with this number is that of the rule at a place, and is learned.
-    fn note_filled(&mut self, place: usize, number: usize) -> Result<(), AllocError>
+    /// Notes that the side with this number is that of the rule at an index, and is learned.
+    fn note_filled(&mut self, index: usize, number: usize) -> Result<(), AllocError>
         ensures { self.new ≡ self.old }
     {
-        if self.filled.len() <= place {
-            self.filled.resize(place.saturating_add(1), None)?;
+        if self.filled.len() <= index {
+            self.filled.resize(index.saturating_add(1), None)?;
         }
         let covered = self.arrived.len();
-        if let Some(filled) = self.filled.get_mut(place) {
+        if let Some(filled) = self.filled.get_mut(index) {
             *filled = Some(FilledSide { number, covered });
         }
         Ok(())
@@ -221,15 +221,15 @@ impl RuleSources {
         Ok(())
     }
 
-    /// Returns what is known of the side of the rule at a place. If the rule was learned in this
+    /// Returns what is known of the side of the rule at an index. If the rule was learned in this
     /// event, its side isn't looked for.
-    fn cached(&self, place: usize, rule: &InhibitRule) -> Result<Option<&CachedSide>, AllocError>
+    fn cached(&self, index: usize, rule: &InhibitRule) -> Result<Option<&CachedSide>, AllocError>
         ensures side { IfOk result (λ found. IfSome found (λ cached.
             IsSideOf cached.now.side rule.now)) }
         ensures lists { IfOk result (λ found. IfSome found (λ cached.
             ListsSide self.now cached.now)) }
     {
-        if let Some(Some(filled)) = self.filled.get(place) {
+        if let Some(Some(filled)) = self.filled.get(index) {
             return Ok(self.cached_at(filled.number, rule));
         }
         let side = side_of(self.alloc, rule)?;

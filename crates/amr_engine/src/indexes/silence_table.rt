@@ -49,8 +49,8 @@ pub struct SilenceTable {
     answers: MatchCache,
     /// What is known of label sets, in the order in which they were asked about first.
     cached: Vec<CachedPeriods>,
-    /// Their places in that list.
-    places: Keyed<Labels, usize>,
+    /// Their indexes in that list.
+    index_by_labels: Keyed<Labels, usize>,
     /// The changes of silences since the table began to remember, the latest last.
     changes: Vec<SilenceChange>,
     /// The number of label sets, in the order of arrival, that the silences were asked ahead for.
@@ -101,7 +101,7 @@ impl SilenceTable {
             silences: Keyed::new(alloc),
             answers: MatchCache::new(alloc),
             cached: Vec::new(alloc),
-            places: Keyed::new(alloc),
+            index_by_labels: Keyed::new(alloc),
             changes: Vec::new(alloc),
             asked_ahead: 0,
             unexpired: None,
@@ -149,7 +149,7 @@ impl SilenceTable {
         forget(
             self.alloc,
             &mut self.cached,
-            &mut self.places,
+            &mut self.index_by_labels,
             &mut self.changes,
             &mut self.asked_ahead,
         );
@@ -220,11 +220,11 @@ impl SilenceTable {
     fn is_cached(&mut self, at: Moment, labels: &Labels) -> Result<bool, AllocError>
         ensures { self.new ≡ self.old }
     {
-        let place = match self.places.get(labels) {
-            Some(place) if *place < self.cached.len() => *place,
+        let index = match self.index_by_labels.get(labels) {
+            Some(index) if *index < self.cached.len() => *index,
             _ => return Ok(false),
         };
-        let cached = &mut self.cached[place];
+        let cached = &mut self.cached[index];
         if at < cached.from {
             return Ok(false);
         }
@@ -296,8 +296,8 @@ impl SilenceTable {
         requires { rows.now ≡ silence_rows at label_sets.now (map_of nat_cmp self.old) }
         ensures { self.new ≡ self.old }
     {
-        for (place, labels) in label_sets.iter().enumerate() {
-            let periods = periods_at(self.alloc, rows, place)?;
+        for (index, labels) in label_sets.iter().enumerate() {
+            let periods = periods_at(self.alloc, rows, index)?;
             self.insert(at, labels, periods)?;
         }
         Ok(())
@@ -340,7 +340,7 @@ impl SilenceTable {
             version: self.changes.as_slice().len(),
             periods,
         };
-        keep(&mut self.cached, &mut self.places, cached)
+        keep(&mut self.cached, &mut self.index_by_labels, cached)
     }
 
     /// Returns what is known of labels, if it reaches back to a moment and no silence changed
@@ -349,11 +349,11 @@ impl SilenceTable {
         ensures { IfSome result (λ periods. silenced_in at periods.now
             ≡ silencer_of at labels.now (map_of nat_cmp self.now)) }
     {
-        let place = *self.places.get(labels)?;
-        if place >= self.cached.len() {
+        let index = *self.index_by_labels.get(labels)?;
+        if index >= self.cached.len() {
             return None;
         }
-        let cached = &self.cached[place];
+        let cached = &self.cached[index];
         if at < cached.from || cached.version != self.changes.len() || cached.labels != *labels {
             return None;
         }
@@ -406,7 +406,7 @@ impl SilenceTable {
         note_change(
             self.alloc,
             &mut self.cached,
-            &mut self.places,
+            &mut self.index_by_labels,
             &mut self.changes,
             asked,
             noted,
@@ -420,7 +420,7 @@ impl SilenceTable {
 fn note_change(
     alloc: Global,
     cached: &mut Vec<CachedPeriods>,
-    places: &mut Keyed<Labels, usize>,
+    index_by_labels: &mut Keyed<Labels, usize>,
     changes: &mut Vec<SilenceChange>,
     asked_ahead: &mut usize,
     noted: SilenceChange,
@@ -436,7 +436,7 @@ fn note_change(
     if count < MOST_CHANGES && count < changes.capacity() {
         changes.push_reserved(noted);
     } else {
-        forget(alloc, cached, places, changes, asked_ahead);
+        forget(alloc, cached, index_by_labels, changes, asked_ahead);
     }
 }
 
@@ -444,7 +444,7 @@ fn note_change(
 fn forget(
     alloc: Global,
     cached: &mut Vec<CachedPeriods>,
-    places: &mut Keyed<Labels, usize>,
+    index_by_labels: &mut Keyed<Labels, usize>,
     changes: &mut Vec<SilenceChange>,
     asked_ahead: &mut usize,
 )
@@ -452,7 +452,7 @@ fn forget(
     ensures changes { changes.new.items ≡ [] }
 {
     cached.clear();
-    *places = Keyed::new(alloc);
+    *index_by_labels = Keyed::new(alloc);
     changes.clear();
     *asked_ahead = 0;
 }
@@ -460,36 +460,36 @@ fn forget(
 /// Keeps what is known of a label set in place of what was known of it before.
 fn keep(
     cached: &mut Vec<CachedPeriods>,
-    places: &mut Keyed<Labels, usize>,
+    index_by_labels: &mut Keyed<Labels, usize>,
     one: CachedPeriods,
 ) -> Result<(), AllocError>
     ensures { (silences : Silences) (changes : List ℕ) → IsCached silences changes one
         → AreCached silences changes cached.old.items
         → AreCached silences changes cached.new.items }
 {
-    match places.get(&one.labels).copied() {
-        Some(place) if place < cached.len() => {
-            cached[place] = one;
+    match index_by_labels.get(&one.labels).copied() {
+        Some(index) if index < cached.len() => {
+            cached[index] = one;
             Ok(())
         }
-        _ => add(cached, places, one),
+        _ => add(cached, index_by_labels, one),
     }
 }
 
 /// Adds what is known of a label set.
 fn add(
     cached: &mut Vec<CachedPeriods>,
-    places: &mut Keyed<Labels, usize>,
+    index_by_labels: &mut Keyed<Labels, usize>,
     one: CachedPeriods,
 ) -> Result<(), AllocError>
     ensures { (silences : Silences) (changes : List ℕ) → IsCached silences changes one
         → AreCached silences changes cached.old.items
         → AreCached silences changes cached.new.items }
 {
-    let place = cached.len();
+    let index = cached.len();
     let labels = one.labels.clone()?;
     cached.push(one)?;
-    places.make_place(labels.clone()?)?;
-    places.displace(&labels, Some(place));
+    index_by_labels.make_place(labels.clone()?)?;
+    index_by_labels.displace(&labels, Some(index));
     Ok(())
 }

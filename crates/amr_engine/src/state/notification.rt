@@ -199,12 +199,12 @@ fn sample_of(text: &str) -> usize
         .wrapping_add(byte_at(bytes, bytes.len().saturating_sub(1)))
 }
 
-/// Returns the byte at a place, or 0 where there is none.
+/// Returns the byte at an index, or 0 where there is none.
 #[tactic(auto, unfolding(crate::specs::State::Hashes::byte_at))]
-fn byte_at(bytes: &[u8], place: usize) -> usize
-    ensures { result ≡ byte_at bytes.now place }
+fn byte_at(bytes: &[u8], index: usize) -> usize
+    ensures { result ≡ byte_at bytes.now index }
 {
-    match bytes.get(place) {
+    match bytes.get(index) {
         Some(byte) => usize::from(*byte),
         None => 0,
     }

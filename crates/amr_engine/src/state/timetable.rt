@@ -369,9 +369,9 @@ fn cache_sides(
 ) -> Result<(), AllocError>
     ensures { alerts.new ≡ alerts.old }
 {
-    for (place, rule) in rules.iter().enumerate() {
-        match matched.get(place) {
-            Some(side) if side.is_target => alerts.cache_side(place, rule),
+    for (index, rule) in rules.iter().enumerate() {
+        match matched.get(index) {
+            Some(side) if side.is_target => alerts.cache_side(index, rule),
             _ => {}
         }
     }

@@ -50,21 +50,21 @@ asked_in_vain (matcher ∷ matchers) label_sets candidates none =
     ap (λ kept. fold (λ candidates matcher. kept_by matcher label_sets candidates) kept matchers) (none_left matcher label_sets candidates none)
     ∙ asked_in_vain matchers label_sets candidates none
 
--- the mark at a place is changed after those before it
-mark_next : (test : LabelSet → Bool) (label_sets : List LabelSet) (candidates : List Bool) (place : ℕ) (labels : LabelSet)
-    → place < length label_sets → length candidates ≡ length label_sets
-    → set (candidates_after test (take place label_sets) candidates) place (get_or (candidates_after test (take place label_sets) candidates) place false && test (get_or label_sets place labels))
-    ≡ candidates_after test (take (suc place) label_sets) candidates
-mark_next test [] candidates place labels lt same = absurd (omega (arith, lt))
-mark_next test (first ∷ label_sets) [] place labels lt same = absurd (omega (arith, same))
+-- the mark at an index is changed after those before it
+mark_next : (test : LabelSet → Bool) (label_sets : List LabelSet) (candidates : List Bool) (index : ℕ) (labels : LabelSet)
+    → index < length label_sets → length candidates ≡ length label_sets
+    → set (candidates_after test (take index label_sets) candidates) index (get_or (candidates_after test (take index label_sets) candidates) index false && test (get_or label_sets index labels))
+    ≡ candidates_after test (take (suc index) label_sets) candidates
+mark_next test [] candidates index labels lt same = absurd (omega (arith, lt))
+mark_next test (first ∷ label_sets) [] index labels lt same = absurd (omega (arith, same))
 mark_next test (first ∷ label_sets) (mark ∷ candidates) zero labels lt same = refl
-mark_next test (first ∷ label_sets) (mark ∷ candidates) (suc place) labels lt same =
-    ap (λ kept. (mark && test first) ∷ kept) (mark_next test label_sets candidates place labels (omega (arith, lt)) (omega (arith, same)))
+mark_next test (first ∷ label_sets) (mark ∷ candidates) (suc index) labels lt same =
+    ap (λ kept. (mark && test first) ∷ kept) (mark_next test label_sets candidates index labels (omega (arith, lt)) (omega (arith, same)))
 
-pub marked_more : (test : LabelSet → Bool) (label_sets : List LabelSet) (candidates so_far : List Bool) (place : ℕ) (mark : Bool) (labels : LabelSet)
-    → place < length label_sets → length candidates ≡ length label_sets → so_far ≡ candidates_after test (take place label_sets) candidates
-    → labels ≡ get_or label_sets place labels → mark ≡ (get_or so_far place false && test labels)
-    → set so_far place mark ≡ candidates_after test (take (place + 1) label_sets) candidates
-marked_more test label_sets candidates so_far place mark labels lt same is there changed =
-    (λ i. set (is i) place ((changed ∙ (λ j. get_or (is j) place false && test (there j))) i)) ∙ mark_next test label_sets candidates place labels lt same
-    ∙ ap (λ count. candidates_after test (take count label_sets) candidates) (sym (add-one place))
+pub marked_more : (test : LabelSet → Bool) (label_sets : List LabelSet) (candidates so_far : List Bool) (index : ℕ) (mark : Bool) (labels : LabelSet)
+    → index < length label_sets → length candidates ≡ length label_sets → so_far ≡ candidates_after test (take index label_sets) candidates
+    → labels ≡ get_or label_sets index labels → mark ≡ (get_or so_far index false && test labels)
+    → set so_far index mark ≡ candidates_after test (take (index + 1) label_sets) candidates
+marked_more test label_sets candidates so_far index mark labels lt same is there changed =
+    (λ i. set (is i) index ((changed ∙ (λ j. get_or (is j) index false && test (there j))) i)) ∙ mark_next test label_sets candidates index labels lt same
+    ∙ ap (λ count. candidates_after test (take count label_sets) candidates) (sym (add-one index))

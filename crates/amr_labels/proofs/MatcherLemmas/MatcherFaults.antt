@@ -5,8 +5,8 @@ use Rattle.std.specs.Prelude.{IsSome, encode_utf8_all, option_and_then}
 use Rattle.std.proofs.lemmas.Bool.{false≢true}
 use Rattle.std.proofs.lemmas.List.{at_drop_more, append-nil, take-append-drop}
 use Rattle.amr_labels.specs.declared.matcher.Operator.{Operator}
-use Rattle.amr_labels.specs.declared.matcher.matcher_steps.Place.{Place}
-use Rattle.amr_labels.specs.declared.matcher.matcher_steps.Place.TheVariants.{Start, Opened, NameLiteral, NameOpened, NameQuoted, NameEscape, AfterName, AfterBang, AfterEquals, ValueStart, ValueLiteral, ValueQuoted, ValueEscape, AfterValue, AfterComma, Closed}
+use Rattle.amr_labels.specs.declared.matcher.matcher_steps.Mode.{Mode}
+use Rattle.amr_labels.specs.declared.matcher.matcher_steps.Mode.TheVariants.{Start, Opened, NameLiteral, NameOpened, NameQuoted, NameEscape, AfterName, AfterBang, AfterEquals, ValueStart, ValueLiteral, ValueQuoted, ValueEscape, AfterValue, AfterComma, Closed}
 use Rattle.amr_labels.specs.Labels.{Text}
 use Rattle.amr_labels.specs.Matcher.Matchers.{Matcher}
 use Rattle.amr_labels.specs.Matcher.MatcherText.{Begins, IsLongest}
@@ -20,7 +20,7 @@ closing true = 125 ∷ []
 closing false = []
 
 -- what takes a reading to an end
-abbrev completion : Bool → Place → List ℕ
+abbrev completion : Bool → Mode → List ℕ
 completion b Start = []
 completion b Opened = 125 ∷ []
 completion b NameLiteral = 61 ∷ closing b
@@ -38,8 +38,8 @@ completion b AfterValue = closing b
 completion b AfterComma = closing b
 completion b Closed = []
 
-ends : (b : Bool) (place : Place) (name : Text) (operator : Operator) (value : Text) (matchers : List Matcher) →
-    IsSome (option_and_then matchers_at_end (run (Some (record { braced = b; place = place; name = name; operator = operator; value = value; matchers = matchers })) (completion b place)))
+ends : (b : Bool) (mode : Mode) (name : Text) (operator : Operator) (value : Text) (matchers : List Matcher) →
+    IsSome (option_and_then matchers_at_end (run (Some (record { braced = b; mode = mode; name = name; operator = operator; value = value; matchers = matchers })) (completion b mode)))
 unfolding kind_of begins_matcher after_name ends_value begins_value in_name in_value after_bang after_equals at_start after_braces step_from with_part ending
 ends true Start n o v m = refl
 ends true Opened n o v m = refl
@@ -80,9 +80,9 @@ some_of (Some x) h = (x, refl)
 
 begun : (front : List ℕ) (r : Reading) → run (Some start) front ≡ Some r → Begins front
 begun front r h =
-    let rest = completion r.braced r.place in
+    let rest = completion r.braced r.mode in
     let some : IsSome (matchers_of_chars (front ++ rest)) =
-    subst (λ o. IsSome (option_and_then matchers_at_end o)) (sym (run-append (Some start) front rest ∙ ap (λ o. run o rest) h)) (ends r.braced r.place r.name r.operator r.value r.matchers) in
+    subst (λ o. IsSome (option_and_then matchers_at_end o)) (sym (run-append (Some start) front rest ∙ ap (λ o. run o rest) h)) (ends r.braced r.mode r.name r.operator r.value r.matchers) in
     let found = some_of (matchers_of_chars (front ++ rest)) some in
     (rest, found.0, chars_are_spelled (front ++ rest) found.0 found.1)
 

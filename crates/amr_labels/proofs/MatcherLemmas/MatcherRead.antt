@@ -10,8 +10,8 @@ use Rattle.amr_labels.specs.declared.matcher.Operator.{Operator}
 use Rattle.amr_labels.specs.declared.matcher.Operator.TheVariants.{Equal, NotEqual, Matches, NotMatches}
 use Rattle.amr_labels.specs.declared.matcher.matcher_steps.Kind.{Kind}
 use Rattle.amr_labels.specs.declared.matcher.matcher_steps.Kind.TheVariants.{Blank, Opening, Closing, Bang, Equals, Tilde, Comma, Quote, Plain}
-use Rattle.amr_labels.specs.declared.matcher.matcher_steps.Place.{Place}
-use Rattle.amr_labels.specs.declared.matcher.matcher_steps.Place.TheVariants.{Start, Opened, NameLiteral, NameOpened, NameQuoted, NameEscape, AfterName, AfterBang, AfterEquals, ValueStart, ValueLiteral, ValueQuoted, ValueEscape, AfterValue, AfterComma, Closed}
+use Rattle.amr_labels.specs.declared.matcher.matcher_steps.Mode.{Mode}
+use Rattle.amr_labels.specs.declared.matcher.matcher_steps.Mode.TheVariants.{Start, Opened, NameLiteral, NameOpened, NameQuoted, NameEscape, AfterName, AfterBang, AfterEquals, ValueStart, ValueLiteral, ValueQuoted, ValueEscape, AfterValue, AfterComma, Closed}
 use Rattle.amr_labels.specs.declared.matcher.matcher_steps.Part.TheVariants.{Nothing, Name, NameEscaped, Value, ValueEscaped}
 use Rattle.amr_labels.specs.declared.matcher.matcher_steps.Step.{Step}
 use Rattle.amr_labels.specs.Labels.{Text}
@@ -105,7 +105,7 @@ FollowsBraces ms cs out =
     (before : List ℕ) × (l : Listed) × (after : List ℕ) × (is_blank before ≡ true) × IsListed l × (is_blank after ≡ true) × (cs ≡ before ++ (123 ∷ (listed_text l ++ (125 ∷ after)))) × (out ≡ ms ++ listed_matchers l)
 
 -- what follows in a state
-abbrev Follows : Bool → Place → Text → Operator → Text → List Matcher → List ℕ → List Matcher → Type 0
+abbrev Follows : Bool → Mode → Text → Operator → Text → List Matcher → List ℕ → List Matcher → Type 0
 Follows b Start n o v ms cs out = b ≡ false → n ≡ [] → v ≡ [] → FollowsListed false ms cs out ⊎ FollowsBraces ms cs out
 Follows b Opened n o v ms cs out = b ≡ true → n ≡ [] → v ≡ [] → FollowsListed true ms cs out
 Follows b NameLiteral n o v ms cs out = InName b n v ms cs out
@@ -125,7 +125,7 @@ Follows b Closed n o v ms cs out = (is_blank cs ≡ true) × (out ≡ ms)
 
 -- this is true of these characters in each state
 abbrev Known : List ℕ → Type 0
-Known cs = (b : Bool) (p : Place) (n : Text) (o : Operator) (v : Text) (ms out : List Matcher) → Accepts (reading b p n o v ms) cs out → Follows b p n o v ms cs out
+Known cs = (b : Bool) (p : Mode) (n : Text) (o : Operator) (v : Text) (ms out : List Matcher) → Accepts (reading b p n o v ms) cs out → Follows b p n o v ms cs out
 
 -- more white space
 spaced : (c : ℕ) (space : List ℕ) → is_whitespace c ≡ true → is_blank space ≡ true → is_blank (c ∷ space) ≡ true
@@ -167,7 +167,7 @@ assembled b ms name cs rest out is e (s1, operator, r2, b1, e2, (s2, value, r3, 
     )
 
 -- where a matcher may begin
-begun : (b : Bool) (here : Place) (o : Operator) (ms : List Matcher) (c : ℕ) (cs : List ℕ) (out : List Matcher) (k : Kind) → Known cs → kind_of c ≡ k →
+begun : (b : Bool) (here : Mode) (o : Operator) (ms : List Matcher) (c : ℕ) (cs : List ℕ) (out : List Matcher) (k : Kind) → Known cs → kind_of c ≡ k →
     Taken (reading b here [] o [] ms) (begins_matcher b here c k) cs out →
     ((is_whitespace c ≡ true) × Accepts (reading b here [] o [] ms) cs out) ⊎ FollowsListed b ms (c ∷ cs) out
 unfolding begins_matcher with_part
@@ -219,7 +219,7 @@ from_comma b o ms c cs out k known e h =
     ]
 
 -- where a value ends
-value_ended : (b : Bool) (here space : Place) (n : Text) (o : Operator) (v : Text) (ms : List Matcher) (c : ℕ) (cs : List ℕ) (out : List Matcher) (k : Kind) → Known cs → kind_of c ≡ k →
+value_ended : (b : Bool) (here space : Mode) (n : Text) (o : Operator) (v : Text) (ms : List Matcher) (c : ℕ) (cs : List ℕ) (out : List Matcher) (k : Kind) → Known cs → kind_of c ≡ k →
     Taken (reading b here n o v ms) (ends_value b space k) cs out →
     ((is_whitespace c ≡ true) × Accepts (reading b space n o v ms) cs out) ⊎ FollowsValue b (with_matcher ms n o v) (c ∷ cs) out
 unfolding ends_value with_part
@@ -233,7 +233,7 @@ value_ended true here space n o v ms c cs out Closing known e h =
 value_ended false here space n o v ms c cs out Closing known e h = absurd (refused (reading false here n o v ms) cs out h)
 value_ended b here space n o v ms c cs out _ known e h = absurd (refused (reading b here n o v ms) cs out h)
 
-after_value : (b : Bool) (here : Place) (n : Text) (o : Operator) (v : Text) (ms : List Matcher) (c : ℕ) (cs : List ℕ) (out : List Matcher) (k : Kind) → Known cs → kind_of c ≡ k →
+after_value : (b : Bool) (here : Mode) (n : Text) (o : Operator) (v : Text) (ms : List Matcher) (c : ℕ) (cs : List ℕ) (out : List Matcher) (k : Kind) → Known cs → kind_of c ≡ k →
     Taken (reading b here n o v ms) (ends_value b AfterValue k) cs out → FollowsValue b (with_matcher ms n o v) (c ∷ cs) out
 after_value b here n o v ms c cs out k known e h =
     elim (value_ended b here AfterValue n o v ms c cs out k known e h) [
@@ -259,7 +259,7 @@ in_literal_value b n o v ms c cs out k known e h =
     ([], c ∷ cs, refl, refl, same_value b n o _ _ ms (c ∷ cs) out (sym (append-nil v)) (after_value b ValueLiteral n o v ms c cs out k known e h))
 
 -- where a value may begin
-value_begun : (b : Bool) (here : Place) (n : Text) (o : Operator) (v : Text) (ms : List Matcher) (c : ℕ) (cs : List ℕ) (out : List Matcher) (k : Kind) → Known cs → kind_of c ≡ k →
+value_begun : (b : Bool) (here : Mode) (n : Text) (o : Operator) (v : Text) (ms : List Matcher) (c : ℕ) (cs : List ℕ) (out : List Matcher) (k : Kind) → Known cs → kind_of c ≡ k →
     Taken (reading b here n o v ms) (begins_value b c k) cs out → FollowsOperator b n o v ms (c ∷ cs) out
 unfolding begins_value with_part
 value_begun b here n o v ms c cs out Quote known e h =
@@ -297,7 +297,7 @@ bang_read b n o v ms c cs out Tilde known e h = inr (cs, cons_same c 126 cs cs (
 bang_read b n o v ms c cs out _ known e h = absurd (refused (reading b AfterBang n o v ms) cs out h)
 
 -- after a name
-name_ended : (b : Bool) (here : Place) (n : Text) (o : Operator) (v : Text) (ms : List Matcher) (c : ℕ) (cs : List ℕ) (out : List Matcher) (k : Kind) → Known cs → kind_of c ≡ k →
+name_ended : (b : Bool) (here : Mode) (n : Text) (o : Operator) (v : Text) (ms : List Matcher) (c : ℕ) (cs : List ℕ) (out : List Matcher) (k : Kind) → Known cs → kind_of c ≡ k →
     Taken (reading b here n o v ms) (after_name k) cs out → FollowsName b n v ms (c ∷ cs) out
 unfolding after_name with_part
 name_ended b here n o v ms c cs out Blank known e h =
@@ -338,7 +338,7 @@ data Inside (ended escape plain : Type 0) (c : ℕ) : Type 0 where
   AtBackslash : c ≡ 92 → escape → Inside ended escape plain c
   AtCharacter : is_piece (Character c) ≡ true → plain → Inside ended escape plain c
 
-inside : (r : Reading) (ended_step plain_step : Option Step) (escape : Place) (c : ℕ) (cs : List ℕ) (out : List Matcher) (q s : Bool) → (c == 34) ≡ q → (c == 92) ≡ s →
+inside : (r : Reading) (ended_step plain_step : Option Step) (escape : Mode) (c : ℕ) (cs : List ℕ) (out : List Matcher) (q s : Bool) → (c == 34) ≡ q → (c == 92) ≡ s →
     Taken r (if q then ended_step else (if s then go escape Nothing else plain_step)) cs out →
     Inside (Taken r ended_step cs out) (Taken r (go escape Nothing) cs out) (Taken r plain_step cs out) c
 inside r ended_step plain_step escape c cs out true s e f h = AtQuote (eqb-true c 34 e) h

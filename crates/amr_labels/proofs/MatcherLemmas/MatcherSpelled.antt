@@ -10,8 +10,8 @@ use Rattle.amr_labels.specs.declared.matcher.Operator.{Operator}
 use Rattle.amr_labels.specs.declared.matcher.Operator.TheVariants.{Equal, NotEqual, Matches, NotMatches}
 use Rattle.amr_labels.specs.declared.matcher.matcher_steps.Kind.{Kind}
 use Rattle.amr_labels.specs.declared.matcher.matcher_steps.Kind.TheVariants.{Blank, Quote, Plain}
-use Rattle.amr_labels.specs.declared.matcher.matcher_steps.Place.{Place}
-use Rattle.amr_labels.specs.declared.matcher.matcher_steps.Place.TheVariants.{Start, Opened, NameLiteral, NameOpened, NameQuoted, NameEscape, AfterName, AfterEquals, ValueStart, ValueLiteral, ValueQuoted, ValueEscape, AfterValue, AfterComma, Closed}
+use Rattle.amr_labels.specs.declared.matcher.matcher_steps.Mode.{Mode}
+use Rattle.amr_labels.specs.declared.matcher.matcher_steps.Mode.TheVariants.{Start, Opened, NameLiteral, NameOpened, NameQuoted, NameEscape, AfterName, AfterEquals, ValueStart, ValueLiteral, ValueQuoted, ValueEscape, AfterValue, AfterComma, Closed}
 use Rattle.amr_labels.specs.declared.matcher.matcher_steps.Part.TheVariants.{Nothing, NameEscaped, ValueEscaped}
 use Rattle.amr_labels.specs.declared.matcher.matcher_steps.Step.{Step}
 use Rattle.amr_labels.specs.Labels.{Text}
@@ -22,16 +22,16 @@ use Rattle.amr_labels.specs.Matcher.MatcherLaws.{SpelledIsRead}
 use Rattle.amr_labels.proofs.MatcherLemmas.MatcherRuns.{encodes-append}
 use Rattle.amr_labels.proofs.MatcherLemmas.MatcherKinds.{kind_of_blank, kind_of_literal}
 
-abbrev pub reading : Bool → Place → Text → Operator → Text → List Matcher → Reading
-reading b p n o v ms = record { braced = b; place = p; name = n; operator = o; value = v; matchers = ms }
+abbrev pub reading : Bool → Mode → Text → Operator → Text → List Matcher → Reading
+reading b p n o v ms = record { braced = b; mode = p; name = n; operator = o; value = v; matchers = ms }
 
 abbrev pub moved : Reading → Option Step → Option Reading
-moved r step = option_map (λ (s : Step). record (with_part s.part r) { place = s.place }) step
+moved r step = option_map (λ (s : Step). record (with_part s.part r) { mode = s.mode }) step
 
 -- the step by a character of a known kind
-advance : (r : Reading) (c : ℕ) (k : Kind) → kind_of c ≡ k → next r c ≡ moved r (step_at r.braced r.place c k)
+advance : (r : Reading) (c : ℕ) (k : Kind) → kind_of c ≡ k → next r c ≡ moved r (step_at r.braced r.mode c k)
 unfolding step_from
-advance r c k h = ap (λ (kind : Kind). moved r (step_at r.braced r.place c kind)) h
+advance r c k h = ap (λ (kind : Kind). moved r (step_at r.braced r.mode c kind)) h
 
 run_step : (r s : Reading) (c : ℕ) (rest : List ℕ) → next r c ≡ Some s → run (Some r) (c ∷ rest) ≡ run (Some s) rest
 run_step r s c rest h = ap (λ o. run o rest) h
@@ -41,7 +41,7 @@ unfolding kind_of
 quote_kind = refl
 
 -- the states in which white space changes nothing
-abbrev rests : Place → Bool
+abbrev rests : Mode → Bool
 rests Start = true
 rests Opened = true
 rests AfterName = true
@@ -51,7 +51,7 @@ rests AfterComma = true
 rests Closed = true
 rests _ = false
 
-blank_rests : (b : Bool) (p : Place) (n : Text) (o : Operator) (v : Text) (ms : List Matcher) (c : ℕ) → rests p ≡ true → is_whitespace c ≡ true →
+blank_rests : (b : Bool) (p : Mode) (n : Text) (o : Operator) (v : Text) (ms : List Matcher) (c : ℕ) → rests p ≡ true → is_whitespace c ≡ true →
     next (reading b p n o v ms) c ≡ Some (reading b p n o v ms)
 unfolding begins_matcher after_name ends_value begins_value at_start after_braces with_part
 blank_rests b Start n o v ms c h w = advance (reading b Start n o v ms) c Blank (kind_of_blank c w)
@@ -63,7 +63,7 @@ blank_rests b AfterComma n o v ms c h w = advance (reading b AfterComma n o v ms
 blank_rests b Closed n o v ms c h w = advance (reading b Closed n o v ms) c Blank (kind_of_blank c w)
 blank_rests b _ n o v ms c h w = absurd (false≢true h)
 
-run_blanks : (b : Bool) (p : Place) (n : Text) (o : Operator) (v : Text) (ms : List Matcher) → rests p ≡ true → (space rest : List ℕ) → is_blank space ≡ true →
+run_blanks : (b : Bool) (p : Mode) (n : Text) (o : Operator) (v : Text) (ms : List Matcher) → rests p ≡ true → (space rest : List ℕ) → is_blank space ≡ true →
     run (Some (reading b p n o v ms)) (space ++ rest) ≡ run (Some (reading b p n o v ms)) rest
 run_blanks b p n o v ms h [] rest w = refl
 run_blanks b p n o v ms h (c ∷ space) rest w =
@@ -101,14 +101,14 @@ run_value (c ∷ cs) b n o v ms rest h =
     ∙ ap (λ t. run (Some (reading b ValueLiteral n o t ms)) rest) (append_assoc v (encode_utf8 c) (encode_utf8_all cs))
 
 -- texts in quotes
-quoted_plain : (c : ℕ) (ended : Option Step) (escape : Place) (plain : Option Step) → is_piece (Character c) ≡ true → in_quotes ended escape plain c ≡ plain
+quoted_plain : (c : ℕ) (ended : Option Step) (escape : Mode) (plain : Option Step) → is_piece (Character c) ≡ true → in_quotes ended escape plain c ≡ plain
 quoted_plain c ended escape plain h =
     let parts = and_parts (not (c == 34)) (not (c == 92)) h in
     ap (λ b. if b then ended else (if c == 92 then go escape Nothing else plain)) (not-true (c == 34) parts.0)
     ∙ ap (λ b. if b then go escape Nothing else plain) (not-true (c == 92) parts.1)
 
 -- the states in which a quoted name goes on, and those in which a quoted value does
-abbrev in_name_quotes : Place → Bool
+abbrev in_name_quotes : Mode → Bool
 in_name_quotes NameOpened = true
 in_name_quotes NameQuoted = true
 in_name_quotes _ = false
@@ -116,7 +116,7 @@ in_name_quotes _ = false
 one : (t : Text) (c : ℕ) → t ++ encode_utf8 c ≡ t ++ encode_utf8_all (c ∷ [])
 one t c = ap (λ e. t ++ e) (sym (append-nil (encode_utf8 c)))
 
-run_name_piece : (piece : Piece) (b : Bool) (p : Place) (n : Text) (o : Operator) (v : Text) (ms : List Matcher) (rest : List ℕ) → in_name_quotes p ≡ true → is_piece piece ≡ true →
+run_name_piece : (piece : Piece) (b : Bool) (p : Mode) (n : Text) (o : Operator) (v : Text) (ms : List Matcher) (rest : List ℕ) → in_name_quotes p ≡ true → is_piece piece ≡ true →
     run (Some (reading b p n o v ms)) (piece_text piece ++ rest) ≡ run (Some (reading b NameQuoted (n ++ encode_utf8_all (piece_value piece)) o v ms)) rest
 unfolding step_from with_part
 run_name_piece (Character c) b NameOpened n o v ms rest q h =
@@ -162,25 +162,25 @@ run_value_pieces (piece ∷ ps) b n o v ms rest h =
     ∙ ap (λ t. run (Some (reading b ValueQuoted n o t ms)) rest) (pieces_encoded v piece ps)
 
 -- the states in which a matcher may begin: outside braces, in them, and after a comma
-abbrev begins : Bool → Place → Bool
+abbrev begins : Bool → Mode → Bool
 begins b AfterComma = true
 begins false Start = true
 begins true Opened = true
 begins b _ = false
 
 -- the states in which a name ends
-abbrev is_named : Place → Bool
+abbrev is_named : Mode → Bool
 is_named NameLiteral = true
 is_named AfterName = true
 is_named _ = false
 
 -- the states in which a value may begin, and those in which it may end
-abbrev starts_value : Place → Bool
+abbrev starts_value : Mode → Bool
 starts_value AfterEquals = true
 starts_value ValueStart = true
 starts_value _ = false
 
-abbrev ends_a_value : Place → Bool
+abbrev ends_a_value : Mode → Bool
 ends_a_value AfterEquals = true
 ends_a_value ValueStart = true
 ends_a_value ValueLiteral = true
@@ -188,10 +188,10 @@ ends_a_value AfterValue = true
 ends_a_value _ = false
 
 -- from one state over some characters to another, and what is read there
-abbrev Leads : Reading → List ℕ → (Place → Bool) → (Place → Reading) → Type 0
-Leads r cs at target = (q : Place) × (at q ≡ true) × ((rest : List ℕ) → run (Some r) (cs ++ rest) ≡ run (Some (target q)) rest)
+abbrev Leads : Reading → List ℕ → (Mode → Bool) → (Mode → Reading) → Type 0
+Leads r cs at target = (q : Mode) × (at q ≡ true) × ((rest : List ℕ) → run (Some r) (cs ++ rest) ≡ run (Some (target q)) rest)
 
-begun_literal : (b : Bool) (p : Place) (o : Operator) (ms : List Matcher) (c : ℕ) → begins b p ≡ true → is_literal c ≡ true →
+begun_literal : (b : Bool) (p : Mode) (o : Operator) (ms : List Matcher) (c : ℕ) → begins b p ≡ true → is_literal c ≡ true →
     next (reading b p [] o [] ms) c ≡ Some (reading b NameLiteral (encode_utf8 c) o [] ms)
 unfolding begins_matcher at_start with_part
 begun_literal b AfterComma o ms c h l = advance (reading b AfterComma [] o [] ms) c Plain (kind_of_literal c l)
@@ -199,7 +199,7 @@ begun_literal false Start o ms c h l = advance (reading false Start [] o [] ms) 
 begun_literal true Opened o ms c h l = advance (reading true Opened [] o [] ms) c Plain (kind_of_literal c l)
 begun_literal b _ o ms c h l = absurd (false≢true h)
 
-begun_quotes : (b : Bool) (p : Place) (o : Operator) (ms : List Matcher) → begins b p ≡ true →
+begun_quotes : (b : Bool) (p : Mode) (o : Operator) (ms : List Matcher) → begins b p ≡ true →
     next (reading b p [] o [] ms) 34 ≡ Some (reading b NameOpened [] o [] ms)
 unfolding begins_matcher at_start with_part
 begun_quotes b AfterComma o ms h = advance (reading b AfterComma [] o [] ms) 34 Quote quote_kind
@@ -207,13 +207,13 @@ begun_quotes false Start o ms h = advance (reading false Start [] o [] ms) 34 Qu
 begun_quotes true Opened o ms h = advance (reading true Opened [] o [] ms) 34 Quote quote_kind
 begun_quotes b _ o ms h = absurd (false≢true h)
 
-begins_rests : (b : Bool) (p : Place) → begins b p ≡ true → rests p ≡ true
+begins_rests : (b : Bool) (p : Mode) → begins b p ≡ true → rests p ≡ true
 begins_rests b AfterComma h = refl
 begins_rests false Start h = refl
 begins_rests true Opened h = refl
 begins_rests b _ h = absurd (false≢true h)
 
-run_named : (b : Bool) (p : Place) (o : Operator) (ms : List Matcher) (name : Term) → begins b p ≡ true → is_name name ≡ true →
+run_named : (b : Bool) (p : Mode) (o : Operator) (ms : List Matcher) (name : Term) → begins b p ≡ true → is_name name ≡ true →
     Leads (reading b p [] o [] ms) (term_text name) is_named (λ q. reading b q (encode_utf8_all (term_value name)) o [] ms)
 unfolding step_from with_part
 run_named b p o ms (Literal []) h w = absurd (false≢true w)
@@ -240,7 +240,7 @@ run_named b p o ms (Quoted (piece ∷ ps)) h w =
           ∙ ap (λ t. run (Some (reading b NameQuoted t o [] ms)) (34 ∷ rest)) (pieces_encoded [] piece ps),
     )
 
-abbrev after_operator : Operator → Place
+abbrev after_operator : Operator → Mode
 after_operator Equal = AfterEquals
 after_operator NotEqual = ValueStart
 after_operator Matches = ValueStart
@@ -252,7 +252,7 @@ after_operator-starts NotEqual = refl
 after_operator-starts Matches = refl
 after_operator-starts NotMatches = refl
 
-operator_there : (operator : Operator) (b : Bool) (p : Place) (n : Text) (o : Operator) (v : Text) (ms : List Matcher) (rest : List ℕ) → is_named p ≡ true →
+operator_there : (operator : Operator) (b : Bool) (p : Mode) (n : Text) (o : Operator) (v : Text) (ms : List Matcher) (rest : List ℕ) → is_named p ≡ true →
     run (Some (reading b p n o v ms)) (operator_text operator ++ rest) ≡ run (Some (reading b (after_operator operator) n operator v ms)) rest
 unfolding kind_of in_name after_name after_bang after_equals step_from with_part
 operator_there Equal b NameLiteral n o v ms rest h = refl
@@ -265,14 +265,14 @@ operator_there Matches b AfterName n o v ms rest h = refl
 operator_there NotMatches b AfterName n o v ms rest h = refl
 operator_there operator b _ n o v ms rest h = absurd (false≢true h)
 
-named_blank : (b : Bool) (p : Place) (n : Text) (o : Operator) (v : Text) (ms : List Matcher) (c : ℕ) → is_named p ≡ true → is_whitespace c ≡ true →
+named_blank : (b : Bool) (p : Mode) (n : Text) (o : Operator) (v : Text) (ms : List Matcher) (c : ℕ) → is_named p ≡ true → is_whitespace c ≡ true →
     next (reading b p n o v ms) c ≡ Some (reading b AfterName n o v ms)
 unfolding in_name after_name with_part
 named_blank b NameLiteral n o v ms c h w = advance (reading b NameLiteral n o v ms) c Blank (kind_of_blank c w)
 named_blank b AfterName n o v ms c h w = advance (reading b AfterName n o v ms) c Blank (kind_of_blank c w)
 named_blank b _ n o v ms c h w = absurd (false≢true h)
 
-run_operator : (space : List ℕ) (operator : Operator) (b : Bool) (p : Place) (n : Text) (o : Operator) (v : Text) (ms : List Matcher) (rest : List ℕ) → is_named p ≡ true → is_blank space ≡ true →
+run_operator : (space : List ℕ) (operator : Operator) (b : Bool) (p : Mode) (n : Text) (o : Operator) (v : Text) (ms : List Matcher) (rest : List ℕ) → is_named p ≡ true → is_blank space ≡ true →
     run (Some (reading b p n o v ms)) (space ++ (operator_text operator ++ rest)) ≡ run (Some (reading b (after_operator operator) n operator v ms)) rest
 run_operator [] operator b p n o v ms rest h w = operator_there operator b p n o v ms rest h
 run_operator (c ∷ space) operator b p n o v ms rest h w =
@@ -281,14 +281,14 @@ run_operator (c ∷ space) operator b p n o v ms rest h w =
     ∙ run_blanks b AfterName n o v ms refl space (operator_text operator ++ rest) parts.1
     ∙ operator_there operator b AfterName n o v ms rest refl
 
-value_blank : (b : Bool) (p : Place) (n : Text) (o : Operator) (v : Text) (ms : List Matcher) (c : ℕ) → starts_value p ≡ true → is_whitespace c ≡ true →
+value_blank : (b : Bool) (p : Mode) (n : Text) (o : Operator) (v : Text) (ms : List Matcher) (c : ℕ) → starts_value p ≡ true → is_whitespace c ≡ true →
     next (reading b p n o v ms) c ≡ Some (reading b ValueStart n o v ms)
 unfolding after_equals begins_value ends_value with_part
 value_blank b AfterEquals n o v ms c h w = advance (reading b AfterEquals n o v ms) c Blank (kind_of_blank c w)
 value_blank b ValueStart n o v ms c h w = advance (reading b ValueStart n o v ms) c Blank (kind_of_blank c w)
 value_blank b _ n o v ms c h w = absurd (false≢true h)
 
-lead_blanks : (space : List ℕ) (b : Bool) (p : Place) (n : Text) (o : Operator) (v : Text) (ms : List Matcher) → starts_value p ≡ true → is_blank space ≡ true →
+lead_blanks : (space : List ℕ) (b : Bool) (p : Mode) (n : Text) (o : Operator) (v : Text) (ms : List Matcher) → starts_value p ≡ true → is_blank space ≡ true →
     Leads (reading b p n o v ms) space starts_value (λ q. reading b q n o v ms)
 lead_blanks [] b p n o v ms h w = (p, h, λ rest. refl)
 lead_blanks (c ∷ space) b p n o v ms h w =
@@ -300,26 +300,26 @@ lead_blanks (c ∷ space) b p n o v ms h w =
           ∙ run_blanks b ValueStart n o v ms refl space rest parts.1,
     )
 
-starts-ends : (p : Place) → starts_value p ≡ true → ends_a_value p ≡ true
+starts-ends : (p : Mode) → starts_value p ≡ true → ends_a_value p ≡ true
 starts-ends AfterEquals h = refl
 starts-ends ValueStart h = refl
 starts-ends _ h = absurd (false≢true h)
 
-value_literal : (b : Bool) (p : Place) (n : Text) (o : Operator) (v : Text) (ms : List Matcher) (c : ℕ) → starts_value p ≡ true → is_literal c ≡ true →
+value_literal : (b : Bool) (p : Mode) (n : Text) (o : Operator) (v : Text) (ms : List Matcher) (c : ℕ) → starts_value p ≡ true → is_literal c ≡ true →
     next (reading b p n o v ms) c ≡ Some (reading b ValueLiteral n o (v ++ encode_utf8 c) ms)
 unfolding after_equals begins_value with_part
 value_literal b AfterEquals n o v ms c h l = advance (reading b AfterEquals n o v ms) c Plain (kind_of_literal c l)
 value_literal b ValueStart n o v ms c h l = advance (reading b ValueStart n o v ms) c Plain (kind_of_literal c l)
 value_literal b _ n o v ms c h l = absurd (false≢true h)
 
-value_quotes : (b : Bool) (p : Place) (n : Text) (o : Operator) (v : Text) (ms : List Matcher) → starts_value p ≡ true →
+value_quotes : (b : Bool) (p : Mode) (n : Text) (o : Operator) (v : Text) (ms : List Matcher) → starts_value p ≡ true →
     next (reading b p n o v ms) 34 ≡ Some (reading b ValueQuoted n o v ms)
 unfolding after_equals begins_value with_part
 value_quotes b AfterEquals n o v ms h = advance (reading b AfterEquals n o v ms) 34 Quote quote_kind
 value_quotes b ValueStart n o v ms h = advance (reading b ValueStart n o v ms) 34 Quote quote_kind
 value_quotes b _ n o v ms h = absurd (false≢true h)
 
-run_term : (value : Term) (b : Bool) (p : Place) (n : Text) (o : Operator) (v : Text) (ms : List Matcher) → starts_value p ≡ true → is_term value ≡ true →
+run_term : (value : Term) (b : Bool) (p : Mode) (n : Text) (o : Operator) (v : Text) (ms : List Matcher) → starts_value p ≡ true → is_term value ≡ true →
     Leads (reading b p n o v ms) (term_text value) ends_a_value (λ q. reading b q n o (v ++ encode_utf8_all (term_value value)) ms)
 unfolding step_from with_part
 run_term (Literal []) b p n o v ms h w = (p, starts-ends p h, λ rest. ap (λ t. run (Some (reading b p n o t ms)) rest) (sym (append-nil v)))
@@ -341,12 +341,12 @@ run_term (Quoted ps) b p n o v ms h w = (
       ∙ run_value_pieces ps b n o v ms (34 ∷ rest) w,
 )
 
-abbrev after_space : Place → Place
+abbrev after_space : Mode → Mode
 after_space AfterEquals = ValueStart
 after_space ValueStart = ValueStart
 after_space p = AfterValue
 
-ended_blank : (b : Bool) (p : Place) (n : Text) (o : Operator) (v : Text) (ms : List Matcher) (c : ℕ) → ends_a_value p ≡ true → is_whitespace c ≡ true →
+ended_blank : (b : Bool) (p : Mode) (n : Text) (o : Operator) (v : Text) (ms : List Matcher) (c : ℕ) → ends_a_value p ≡ true → is_whitespace c ≡ true →
     next (reading b p n o v ms) c ≡ Some (reading b (after_space p) n o v ms)
 unfolding after_equals begins_value ends_value in_value with_part
 ended_blank b AfterEquals n o v ms c h w = advance (reading b AfterEquals n o v ms) c Blank (kind_of_blank c w)
@@ -355,21 +355,21 @@ ended_blank b ValueLiteral n o v ms c h w = advance (reading b ValueLiteral n o 
 ended_blank b AfterValue n o v ms c h w = advance (reading b AfterValue n o v ms) c Blank (kind_of_blank c w)
 ended_blank b _ n o v ms c h w = absurd (false≢true h)
 
-after_space-rests : (p : Place) → ends_a_value p ≡ true → rests (after_space p) ≡ true
+after_space-rests : (p : Mode) → ends_a_value p ≡ true → rests (after_space p) ≡ true
 after_space-rests AfterEquals h = refl
 after_space-rests ValueStart h = refl
 after_space-rests ValueLiteral h = refl
 after_space-rests AfterValue h = refl
 after_space-rests _ h = absurd (false≢true h)
 
-after_space-ends : (p : Place) → ends_a_value p ≡ true → ends_a_value (after_space p) ≡ true
+after_space-ends : (p : Mode) → ends_a_value p ≡ true → ends_a_value (after_space p) ≡ true
 after_space-ends AfterEquals h = refl
 after_space-ends ValueStart h = refl
 after_space-ends ValueLiteral h = refl
 after_space-ends AfterValue h = refl
 after_space-ends _ h = absurd (false≢true h)
 
-trail_blanks : (space : List ℕ) (b : Bool) (p : Place) (n : Text) (o : Operator) (v : Text) (ms : List Matcher) → ends_a_value p ≡ true → is_blank space ≡ true →
+trail_blanks : (space : List ℕ) (b : Bool) (p : Mode) (n : Text) (o : Operator) (v : Text) (ms : List Matcher) → ends_a_value p ≡ true → is_blank space ≡ true →
     Leads (reading b p n o v ms) space ends_a_value (λ q. reading b q n o v ms)
 trail_blanks [] b p n o v ms h w = (p, h, λ rest. refl)
 trail_blanks (c ∷ space) b p n o v ms h w =
@@ -385,7 +385,7 @@ pub grouped : (a b c d e f g rest : List ℕ) → (a ++ (b ++ (c ++ (d ++ (e ++ 
 grouped a b c d e f g rest = simp append_assoc
 
 -- a matcher
-run_written : (w : Written) (b : Bool) (p : Place) (o : Operator) (ms : List Matcher) → begins b p ≡ true → IsWritten w →
+run_written : (w : Written) (b : Bool) (p : Mode) (o : Operator) (ms : List Matcher) → begins b p ≡ true → IsWritten w →
     Leads (reading b p [] o [] ms) (written_text w) ends_a_value (λ q. reading b q (encode_utf8_all (term_value w.name)) w.operator (encode_utf8_all (term_value w.value)) ms)
 run_written w b p o ms h is =
     let n = encode_utf8_all (term_value w.name) in
@@ -411,7 +411,7 @@ abbrev Ends : Bool → Reading → List Matcher → Type 0
 Ends false r out = matchers_at_end r ≡ Some out
 Ends true r out = (n : Text) × (o : Operator) × (v : Text) × (next r 125 ≡ Some (reading true Closed n o v out))
 
-begun_ends : (b : Bool) (p : Place) (o : Operator) (ms : List Matcher) → begins b p ≡ true → Ends b (reading b p [] o [] ms) ms
+begun_ends : (b : Bool) (p : Mode) (o : Operator) (ms : List Matcher) → begins b p ≡ true → Ends b (reading b p [] o [] ms) ms
 unfolding kind_of begins_matcher step_from with_part ending
 begun_ends false AfterComma o ms h = refl
 begun_ends true AfterComma o ms h = ([], o, [], refl)
@@ -419,7 +419,7 @@ begun_ends false Start o ms h = refl
 begun_ends true Opened o ms h = ([], o, [], refl)
 begun_ends b _ o ms h = absurd (false≢true h)
 
-value_ends : (b : Bool) (p : Place) (n : Text) (o : Operator) (v : Text) (ms : List Matcher) → ends_a_value p ≡ true →
+value_ends : (b : Bool) (p : Mode) (n : Text) (o : Operator) (v : Text) (ms : List Matcher) → ends_a_value p ≡ true →
     Ends b (reading b p n o v ms) (ms ++ record { name = n; operator = o; value = v } ∷ [])
 unfolding kind_of after_equals begins_value ends_value in_value step_from with_part ending
 value_ends false AfterEquals n o v ms h = refl
@@ -432,7 +432,7 @@ value_ends true ValueLiteral n o v ms h = ([], o, [], refl)
 value_ends true AfterValue n o v ms h = ([], o, [], refl)
 value_ends b _ n o v ms h = absurd (false≢true h)
 
-value_comma : (b : Bool) (p : Place) (n : Text) (o : Operator) (v : Text) (ms : List Matcher) → ends_a_value p ≡ true →
+value_comma : (b : Bool) (p : Mode) (n : Text) (o : Operator) (v : Text) (ms : List Matcher) → ends_a_value p ≡ true →
     next (reading b p n o v ms) 44 ≡ Some (reading b AfterComma [] o [] (ms ++ record { name = n; operator = o; value = v } ∷ []))
 unfolding kind_of after_equals begins_value ends_value in_value step_from with_part
 value_comma b AfterEquals n o v ms h = refl
@@ -444,7 +444,7 @@ value_comma b _ n o v ms h = absurd (false≢true h)
 abbrev RunsOver : Bool → Reading → List ℕ → List Matcher → Type 0
 RunsOver b r cs out = (s : Reading) × Ends b s out × ((rest : List ℕ) → run (Some r) (cs ++ rest) ≡ run (Some s) rest)
 
-run_listed : (l : Listed) (b : Bool) (p : Place) (o : Operator) (ms : List Matcher) → begins b p ≡ true → IsListed l →
+run_listed : (l : Listed) (b : Bool) (p : Mode) (o : Operator) (ms : List Matcher) → begins b p ≡ true → IsListed l →
     RunsOver b (reading b p [] o [] ms) (listed_text l) (ms ++ listed_matchers l)
 run_listed (Alone space) b p o ms h is = (
   reading b p [] o [] ms,

@@ -7,8 +7,8 @@ use Rattle.amr_labels.specs.declared.matcher.Operator.{Operator}
 use Rattle.amr_labels.specs.declared.matcher.Operator.TheVariants.{Equal, NotEqual, Matches, NotMatches}
 use Rattle.amr_labels.specs.declared.matcher.matcher_steps.Kind.{Kind}
 use Rattle.amr_labels.specs.declared.matcher.matcher_steps.Kind.TheVariants.{Blank, Opening, Closing, Bang, Equals, Tilde, Comma, Quote, Reserved, Plain}
-use Rattle.amr_labels.specs.declared.matcher.matcher_steps.Place.{Place}
-use Rattle.amr_labels.specs.declared.matcher.matcher_steps.Place.TheVariants.{Start, Opened, NameLiteral, NameOpened, NameQuoted, NameEscape, AfterName, AfterBang, AfterEquals, ValueStart, ValueLiteral, ValueQuoted, ValueEscape, AfterValue, AfterComma, Closed}
+use Rattle.amr_labels.specs.declared.matcher.matcher_steps.Mode.{Mode}
+use Rattle.amr_labels.specs.declared.matcher.matcher_steps.Mode.TheVariants.{Start, Opened, NameLiteral, NameOpened, NameQuoted, NameEscape, AfterName, AfterBang, AfterEquals, ValueStart, ValueLiteral, ValueQuoted, ValueEscape, AfterValue, AfterComma, Closed}
 use Rattle.amr_labels.specs.declared.matcher.matcher_steps.Part.{Part}
 use Rattle.amr_labels.specs.declared.matcher.matcher_steps.Part.TheVariants.{Nothing, Brace, Name, NameEscaped, Compare, Value, ValueEscaped, End}
 use Rattle.amr_labels.specs.declared.matcher.matcher_steps.Step.{Step}
@@ -25,11 +25,11 @@ mark_kind c =
 unfoldable pub kind_of : ℕ → Kind
 kind_of c = if is_whitespace c then Blank else mark_kind c
 
-abbrev pub go : Place → Part → Option Step
-go place part = Some (record { place = place; part = part })
+abbrev pub go : Mode → Part → Option Step
+go mode part = Some (record { mode = mode; part = part })
 
 -- a matcher may begin here, or the braces end, after white space or not
-unfoldable pub begins_matcher : Bool → Place → ℕ → Kind → Option Step
+unfoldable pub begins_matcher : Bool → Mode → ℕ → Kind → Option Step
 begins_matcher braced here c Blank = go here Nothing
 begins_matcher braced here c Quote = go NameOpened Nothing
 begins_matcher braced here c Closing = if braced then go Closed Nothing else None
@@ -44,7 +44,7 @@ after_name Bang = go AfterBang Nothing
 after_name _ = None
 
 -- a value ends here
-unfoldable pub ends_value : Bool → Place → Kind → Option Step
+unfoldable pub ends_value : Bool → Mode → Kind → Option Step
 ends_value braced spaced Blank = go spaced Nothing
 ends_value braced spaced Comma = go AfterComma End
 ends_value braced spaced Closing = if braced then go Closed End else None
@@ -91,15 +91,15 @@ after_braces Blank = go Closed Nothing
 after_braces _ = None
 
 -- in quotes: where a quote leads, where a backslash does, and what any other character does
-abbrev pub in_quotes : Option Step → Place → Option Step → ℕ → Option Step
+abbrev pub in_quotes : Option Step → Mode → Option Step → ℕ → Option Step
 in_quotes ended escape plain c = if c == 34 then ended else (if c == 92 then go escape Nothing else plain)
 
 -- in quotes, after a backslash
-abbrev pub after_backslash : Place → Part → ℕ → Option Step
+abbrev pub after_backslash : Mode → Part → ℕ → Option Step
 after_backslash quoted part c = if is_refused c then None else go quoted part
 
 -- from a state, by the character and its kind
-abbrev pub step_at : Bool → Place → ℕ → Kind → Option Step
+abbrev pub step_at : Bool → Mode → ℕ → Kind → Option Step
 step_at braced Start c kind = at_start c kind
 step_at braced Opened c kind = begins_matcher true Opened c kind
 step_at braced NameLiteral c kind = in_name c kind
@@ -117,20 +117,20 @@ step_at braced AfterValue c kind = ends_value braced AfterValue kind
 step_at braced AfterComma c kind = begins_matcher braced AfterComma c kind
 step_at braced Closed c kind = after_braces kind
 
-unfoldable pub step_from : Bool → Place → ℕ → Option Step
-step_from braced place c = step_at braced place c (kind_of c)
+unfoldable pub step_from : Bool → Mode → ℕ → Option Step
+step_from braced mode c = step_at braced mode c (kind_of c)
 
 -- what was read
 pub record Reading : Type 0 where
   pub braced : Bool
-  pub place : Place
+  pub mode : Mode
   pub name : Text
   pub operator : Operator
   pub value : Text
   pub matchers : List Matcher
 
 abbrev pub start : Reading
-start = record { braced = false; place = Start; name = []; operator = Equal; value = []; matchers = [] }
+start = record { braced = false; mode = Start; name = []; operator = Equal; value = []; matchers = [] }
 
 -- the matchers, with the one that ends here
 abbrev pub with_last : Reading → List Matcher
@@ -149,7 +149,7 @@ with_part End r = record r { name = []; value = []; matchers = with_last r }
 
 -- what was read, and the next character
 abbrev pub next : Reading → ℕ → Option Reading
-next r c = option_map (λ (s : Step). record (with_part s.part r) { place = s.place }) (step_from r.braced r.place c)
+next r c = option_map (λ (s : Step). record (with_part s.part r) { mode = s.mode }) (step_from r.braced r.mode c)
 
 -- the characters, one after another
 abbrev pub run : Option Reading → List ℕ → Option Reading
@@ -157,7 +157,7 @@ run r [] = r
 run r (c ∷ cs) = run (option_and_then (λ now. next now c) r) cs
 
 -- the states in which a text may end, and what its end adds
-unfoldable pub ending : Bool → Place → Option Part
+unfoldable pub ending : Bool → Mode → Option Part
 ending braced Closed = Some Nothing
 ending braced Start = Some Nothing
 ending braced AfterComma = if braced then None else Some Nothing
@@ -169,7 +169,7 @@ ending braced _ = None
 
 -- the matchers, if a text may end here
 abbrev pub matchers_at_end : Reading → Option (List Matcher)
-matchers_at_end r = option_map (λ part. (with_part part r).matchers) (ending r.braced r.place)
+matchers_at_end r = option_map (λ part. (with_part part r).matchers) (ending r.braced r.mode)
 
 -- the matchers of the characters of a text
 abbrev pub matchers_of_chars : List ℕ → Option (List Matcher)

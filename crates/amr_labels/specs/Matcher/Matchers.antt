@@ -43,21 +43,21 @@ abbrev pub all_hold : List Matcher → LabelSet → Bool
 all_hold matchers labels = list_all (λ matcher. holds matcher labels) matchers
 
 -- the rank of an operator in the order of matchers
-abbrev pub operator_place : Operator → ℕ
-operator_place Equal = 0
-operator_place NotEqual = 1
-operator_place Matches = 2
-operator_place NotMatches = 3
+abbrev pub operator_rank : Operator → ℕ
+operator_rank Equal = 0
+operator_rank NotEqual = 1
+operator_rank Matches = 2
+operator_rank NotMatches = 3
 
 -- matchers by name, value and operator
 abbrev pub matcher_cmp : Matcher → Matcher → Ordering
 matcher_cmp a b =
-    ordering_then (text_cmp a.name b.name) (ordering_then (text_cmp a.value b.value) (nat_cmp (operator_place a.operator) (operator_place b.operator)))
+    ordering_then (text_cmp a.name b.name) (ordering_then (text_cmp a.value b.value) (nat_cmp (operator_rank a.operator) (operator_rank b.operator)))
 
 pub matcher_cmp_total : IsTotalOrder matcher_cmp
 matcher_cmp_total =
     then_total (on_total (λ (m : Matcher). m.name) nat_list_cmp_total)
-    (then_total (on_total (λ (m : Matcher). m.value) nat_list_cmp_total) (on_total (λ (m : Matcher). operator_place m.operator) nat_cmp_total))
+    (then_total (on_total (λ (m : Matcher). m.value) nat_list_cmp_total) (on_total (λ (m : Matcher). operator_rank m.operator) nat_cmp_total))
 
 operator_at : ℕ → Operator
 operator_at zero = Equal
@@ -65,19 +65,19 @@ operator_at (suc zero) = NotEqual
 operator_at (suc (suc zero)) = Matches
 operator_at (suc (suc (suc n))) = NotMatches
 
-operator_at_its_place : (o : Operator) → operator_at (operator_place o) ≡ o
+operator_at_its_rank : (o : Operator) → operator_at (operator_rank o) ≡ o
 unfolding operator_at
-operator_at_its_place Equal = refl
-operator_at_its_place NotEqual = refl
-operator_at_its_place Matches = refl
-operator_at_its_place NotMatches = refl
+operator_at_its_rank Equal = refl
+operator_at_its_rank NotEqual = refl
+operator_at_its_rank Matches = refl
+operator_at_its_rank NotMatches = refl
 
 -- matchers that compare as equal are the same
 pub matcher_cmp-IsAntisymmetric : IsAntisymmetric matcher_cmp
 matcher_cmp-IsAntisymmetric a b tie =
-    let parts : ◌≡◌ {A = Text × (Text × ℕ)} (a.name, (a.value, operator_place a.operator)) (b.name, (b.value, operator_place b.operator)) =
+    let parts : ◌≡◌ {A = Text × (Text × ℕ)} (a.name, (a.value, operator_rank a.operator)) (b.name, (b.value, operator_rank b.operator)) =
     exact_pairs text_cmp (λ (x y : Text × ℕ). ordering_then (text_cmp x.0 y.0) (nat_cmp x.1 y.1)) exact_bytes (exact_pairs text_cmp nat_cmp exact_bytes exact_unsigned)
-    (a.name, (a.value, operator_place a.operator)) (b.name, (b.value, operator_place b.operator)) tie in
+    (a.name, (a.value, operator_rank a.operator)) (b.name, (b.value, operator_rank b.operator)) tie in
     let operators : a.operator ≡ b.operator =
-    sym (operator_at_its_place a.operator) ∙ ap (λ (x : Text × (Text × ℕ)). operator_at x.1.1) parts ∙ operator_at_its_place b.operator in
+    sym (operator_at_its_rank a.operator) ∙ ap (λ (x : Text × (Text × ℕ)). operator_at x.1.1) parts ∙ operator_at_its_rank b.operator in
     λ i. record { name = (parts i).0; operator = operators i; value = (parts i).1.0 }

@@ -122,8 +122,8 @@ fn keep_equal(own: &Text, negated: bool, name: &str, label_sets: &[Labels], cand
     ensures { candidates.new
         ≡ kept_where (equal_or_not negated own.now) name.now label_sets.now candidates.old }
 {
-    for (place, labels) in label_sets.iter().enumerate() {
-        candidates[place] = candidates[place] && is_equal(own, negated, labels.value_of(name));
+    for (index, labels) in label_sets.iter().enumerate() {
+        candidates[index] = candidates[index] && is_equal(own, negated, labels.value_of(name));
     }
 }
 

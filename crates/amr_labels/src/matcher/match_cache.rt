@@ -23,7 +23,7 @@ pub struct MatchCache {
     alloc: Global,
     most: usize,
     kept: BTreeMap<(Text, Text), bool>,
-    /// The latest answers, each at the place of its question. It is empty until one is noted.
+    /// The latest answers, each in the bucket of its question. It is empty until one is noted.
     latest: Vec<Option<CachedMatch>>,
 }
 
@@ -90,27 +90,27 @@ impl MatchCache {
     fn answer(&mut self, pattern: &Pattern, value: &str) -> Result<bool, AllocError>
         ensures { IfOk result (λ found. found ≡ pattern_matches pattern.now value.now) }
     {
-        let place = place_of(pattern, value);
-        if let Some(found) = self.latest_answer(place, pattern, value) {
+        let bucket = bucket_of(pattern, value);
+        if let Some(found) = self.latest_answer(bucket, pattern, value) {
             return Ok(found);
         }
-        match self.cached(place, pattern, value) {
+        match self.cached(bucket, pattern, value) {
             Ok(found) => Ok(found),
             Err(_) => pattern.matches(self.alloc, value),
         }
     }
 
     /// Returns the answer that the tree has, or else the pattern's, which it caches. It also notes the
-    /// answer as the latest one at a place.
-    fn cached(&mut self, place: usize, pattern: &Pattern, value: &str) -> Result<bool, AllocError>
+    /// answer as the latest one in a bucket.
+    fn cached(&mut self, bucket: usize, pattern: &Pattern, value: &str) -> Result<bool, AllocError>
         ensures { IfOk result (λ found. found ≡ pattern_matches pattern.now value.now) }
     {
         let question = (Text::from_str(self.alloc, value)?, pattern.text().clone()?);
         let found = self.answer_in_tree(pattern, &question)?;
         let (value, pattern) = question;
-        self.make_places()?;
+        self.make_buckets()?;
         self.note(
-            place,
+            bucket,
             CachedMatch {
                 value,
                 pattern,
@@ -120,11 +120,11 @@ impl MatchCache {
         Ok(found)
     }
 
-    /// Returns the latest answer at a place, if it is to this question.
-    fn latest_answer(&self, place: usize, pattern: &Pattern, value: &str) -> Option<bool>
+    /// Returns the latest answer in a bucket, if it is to this question.
+    fn latest_answer(&self, bucket: usize, pattern: &Pattern, value: &str) -> Option<bool>
         ensures { IfSome result (λ found. found ≡ pattern_matches pattern.now value.now) }
     {
-        match self.latest.get(place) {
+        match self.latest.get(bucket) {
             Some(Some(answer)) if answer.is_to(pattern, value) => Some(answer.found),
             _ => None,
         }
@@ -148,8 +148,8 @@ impl MatchCache {
         }
     }
 
-    /// Makes places for the latest answers, if there are none.
-    fn make_places(&mut self) -> Result<(), AllocError>
+    /// Makes buckets for the latest answers, if there are none.
+    fn make_buckets(&mut self) -> Result<(), AllocError>
         ensures { self.new ≡ self.old }
     {
         if self.latest.is_empty() {
@@ -158,13 +158,13 @@ impl MatchCache {
         Ok(())
     }
 
-    /// Notes an answer as the latest one at a place.
-    fn note(&mut self, place: usize, answer: CachedMatch)
+    /// Notes an answer as the latest one in a bucket.
+    fn note(&mut self, bucket: usize, answer: CachedMatch)
         requires { IsAnswer answer }
         ensures { self.new ≡ self.old }
     {
-        if place < self.latest.len() {
-            self.latest[place] = Some(answer);
+        if bucket < self.latest.len() {
+            self.latest[bucket] = Some(answer);
         }
     }
 
@@ -198,17 +198,17 @@ impl CachedMatch {
     }
 }
 
-/// Returns the place of the latest answer to a question.
-fn place_of(pattern: &Pattern, value: &str) -> usize {
+/// Returns the bucket of the latest answer to a question.
+fn bucket_of(pattern: &Pattern, value: &str) -> usize {
     pattern.hash_value().wrapping_add(fnv_hash(value)) % LATEST
 }
 
-/// Returns places without answers.
+/// Returns buckets without answers.
 fn no_answers(alloc: Global) -> Result<Vec<Option<CachedMatch>>, AllocError>
     ensures { IfOk result (λ none. All (λ latest. IfSome latest IsAnswer) none.items) }
 {
     let mut none = Vec::new(alloc);
-    for _place in 0..LATEST {
+    for _bucket in 0..LATEST {
         none.push(None)?;
     }
     Ok(none)

@@ -6,7 +6,7 @@ ghost use Rattle.std.specs.Cmp.{partial_order_from_own_ties};
 ghost use Rattle.std.specs.Cmp.Rules.{comparing};
 ghost use Rattle.std.specs.Ordering.{as_partial_cmp, eq_by_cmp};
 ghost use Rattle.amr_labels.specs.Matcher.Candidates.{kept_by};
-ghost use Rattle.amr_labels.specs.Matcher.Matchers.{holds, takes_pattern, operator_place, matcher_cmp, matcher_cmp_total};
+ghost use Rattle.amr_labels.specs.Matcher.Matchers.{holds, takes_pattern, operator_rank, matcher_cmp, matcher_cmp_total};
 ghost use Rattle.amr_labels.specs.Matcher.Patterns.{MayRefuse};
 ghost use Rattle.amr_labels.specs.Matcher.MatcherRefusals.{RefusedOnlyIf};
 
@@ -116,8 +116,8 @@ impl Matcher {
 }
 
 /// Returns the rank of an operator in the order of matchers.
-fn place(operator: Operator) -> u8
-    ensures { result ≡ operator_place operator }
+fn rank(operator: Operator) -> u8
+    ensures { result ≡ operator_rank operator }
 {
     match operator {
         Operator::Equal => 0,
@@ -166,7 +166,7 @@ impl Ord for Matcher {
     ghost matches_eq = { Prim.search (comparing, rules) };
 
     fn cmp(&self, other: &Matcher) -> Ordering {
-        let by_operator = place(self.operator()).cmp(&place(other.operator()));
+        let by_operator = rank(self.operator()).cmp(&rank(other.operator()));
         self.name
             .cmp(&other.name)
             .then(self.value().cmp(other.value()).then(by_operator))

@@ -6,7 +6,7 @@ ghost use Rattle.amr_labels.specs.Matcher.MatcherReading as reading;
 
 use crate::Text;
 use crate::matcher::Operator;
-use crate::matcher::matcher_steps::{Part, Place, ending, step_from};
+use crate::matcher::matcher_steps::{Mode, Part, ending, step_from};
 use std::alloc::{AllocError, Global};
 use std::marker::Model;
 
@@ -31,7 +31,7 @@ impl Model for Draft {
 #[derive(Drop)]
 pub(crate) struct Reader {
     braced: bool,
-    place: Place,
+    mode: Mode,
     name: String,
     operator: Operator,
     value: String,
@@ -44,7 +44,7 @@ impl Model for Reader {
 
     ghost Value = { reading.Reading };
 
-    ghost view = { λ reader. record { braced = reader.braced; place = reader.place; name = string_bytes reader.name; operator = reader.operator; value = string_bytes reader.value; matchers = reader.drafts.items } };
+    ghost view = { λ reader. record { braced = reader.braced; mode = reader.mode; name = string_bytes reader.name; operator = reader.operator; value = string_bytes reader.value; matchers = reader.drafts.items } };
 }
 
 /// Appends the characters that a backslash and a character mean.
@@ -73,7 +73,7 @@ impl Reader {
     {
         Reader {
             braced: false,
-            place: Place::Start,
+            mode: Mode::Start,
             name: String::new(alloc),
             operator: Operator::Equal,
             value: String::new(alloc),
@@ -126,10 +126,10 @@ impl Reader {
         ensures { IfOk result (λ goes_on. reading.next self.old c
             ≡ (if goes_on then Some self.new else None)) }
     {
-        match step_from(self.braced, self.place, c) {
+        match step_from(self.braced, self.mode, c) {
             Some(step) => {
                 self.add(alloc, step.part)?;
-                self.place = step.place;
+                self.mode = step.mode;
                 Ok(true)
             }
             None => Ok(false),
@@ -142,7 +142,7 @@ impl Reader {
             ≡ reading.matchers_at_end self) }
     {
         let mut reader = self;
-        match ending(reader.braced, reader.place) {
+        match ending(reader.braced, reader.mode) {
             Some(part) => {
                 reader.add(alloc, part)?;
                 Ok(Some(reader.into_drafts()))

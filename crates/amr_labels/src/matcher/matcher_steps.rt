@@ -6,9 +6,9 @@ ghost use Rattle.amr_labels.specs.Matcher.MatcherReading as reading;
 
 use crate::matcher::Operator;
 
-/// A state of the reading: what was read last, which decides what may come next.
+/// A mode of the reading: what was read last, which decides what may come next.
 #[derive(Clone, Copy)]
-pub(crate) enum Place {
+pub(crate) enum Mode {
     Start,
     Opened,
     NameLiteral,
@@ -58,15 +58,15 @@ pub(crate) enum Part {
 /// Where a character leads, and what it adds.
 #[derive(Clone, Copy)]
 pub(crate) struct Step {
-    pub place: Place,
+    pub mode: Mode,
     pub part: Part,
 }
 
 /// Returns a step that leads to a state and adds a part.
-fn go(place: Place, part: Part) -> Option<Step>
-    ensures { result ≡ reading.go place part }
+fn go(mode: Mode, part: Part) -> Option<Step>
+    ensures { result ≡ reading.go mode part }
 {
-    Some(Step { place, part })
+    Some(Step { mode, part })
 }
 
 /// Returns what a character means outside quotes.
@@ -115,20 +115,20 @@ fn is_refused(c: char) -> bool
 
 /// Steps where a matcher may begin, or the braces end, after white space or not.
 #[tactic(auto, unfolding(crate::specs::Matcher::MatcherReading::begins_matcher))]
-fn begins_matcher(braced: bool, here: Place, c: char) -> Option<Step>
+fn begins_matcher(braced: bool, here: Mode, c: char) -> Option<Step>
     ensures { result ≡ reading.begins_matcher braced here c (reading.kind_of c) }
 {
     match kind_of(c) {
         Kind::Blank => go(here, Part::Nothing),
-        Kind::Quote => go(Place::NameOpened, Part::Nothing),
+        Kind::Quote => go(Mode::NameOpened, Part::Nothing),
         Kind::Closing => {
             if braced {
-                go(Place::Closed, Part::Nothing)
+                go(Mode::Closed, Part::Nothing)
             } else {
                 None
             }
         }
-        Kind::Plain => go(Place::NameLiteral, Part::Name(c)),
+        Kind::Plain => go(Mode::NameLiteral, Part::Name(c)),
         _ => None,
     }
 }
@@ -139,24 +139,24 @@ fn after_name(kind: Kind) -> Option<Step>
     ensures { result ≡ reading.after_name kind }
 {
     match kind {
-        Kind::Blank => go(Place::AfterName, Part::Nothing),
-        Kind::Equals => go(Place::AfterEquals, Part::Compare(Operator::Equal)),
-        Kind::Bang => go(Place::AfterBang, Part::Nothing),
+        Kind::Blank => go(Mode::AfterName, Part::Nothing),
+        Kind::Equals => go(Mode::AfterEquals, Part::Compare(Operator::Equal)),
+        Kind::Bang => go(Mode::AfterBang, Part::Nothing),
         _ => None,
     }
 }
 
 /// Steps where a value ends.
 #[tactic(auto, unfolding(crate::specs::Matcher::MatcherReading::ends_value))]
-fn ends_value(braced: bool, spaced: Place, kind: Kind) -> Option<Step>
+fn ends_value(braced: bool, spaced: Mode, kind: Kind) -> Option<Step>
     ensures { result ≡ reading.ends_value braced spaced kind }
 {
     match kind {
         Kind::Blank => go(spaced, Part::Nothing),
-        Kind::Comma => go(Place::AfterComma, Part::End),
+        Kind::Comma => go(Mode::AfterComma, Part::End),
         Kind::Closing => {
             if braced {
-                go(Place::Closed, Part::End)
+                go(Mode::Closed, Part::End)
             } else {
                 None
             }
@@ -171,9 +171,9 @@ fn begins_value(braced: bool, c: char) -> Option<Step>
     ensures { result ≡ reading.begins_value braced c (reading.kind_of c) }
 {
     match kind_of(c) {
-        Kind::Quote => go(Place::ValueQuoted, Part::Nothing),
-        Kind::Plain => go(Place::ValueLiteral, Part::Value(c)),
-        kind => ends_value(braced, Place::ValueStart, kind),
+        Kind::Quote => go(Mode::ValueQuoted, Part::Nothing),
+        Kind::Plain => go(Mode::ValueLiteral, Part::Value(c)),
+        kind => ends_value(braced, Mode::ValueStart, kind),
     }
 }
 
@@ -183,7 +183,7 @@ fn in_name(c: char) -> Option<Step>
     ensures { result ≡ reading.in_name c (reading.kind_of c) }
 {
     match kind_of(c) {
-        Kind::Plain => go(Place::NameLiteral, Part::Name(c)),
+        Kind::Plain => go(Mode::NameLiteral, Part::Name(c)),
         kind => after_name(kind),
     }
 }
@@ -194,8 +194,8 @@ fn in_value(braced: bool, c: char) -> Option<Step>
     ensures { result ≡ reading.in_value braced c (reading.kind_of c) }
 {
     match kind_of(c) {
-        Kind::Plain => go(Place::ValueLiteral, Part::Value(c)),
-        kind => ends_value(braced, Place::AfterValue, kind),
+        Kind::Plain => go(Mode::ValueLiteral, Part::Value(c)),
+        kind => ends_value(braced, Mode::AfterValue, kind),
     }
 }
 
@@ -205,8 +205,8 @@ fn after_bang(kind: Kind) -> Option<Step>
     ensures { result ≡ reading.after_bang kind }
 {
     match kind {
-        Kind::Equals => go(Place::ValueStart, Part::Compare(Operator::NotEqual)),
-        Kind::Tilde => go(Place::ValueStart, Part::Compare(Operator::NotMatches)),
+        Kind::Equals => go(Mode::ValueStart, Part::Compare(Operator::NotEqual)),
+        Kind::Tilde => go(Mode::ValueStart, Part::Compare(Operator::NotMatches)),
         _ => None,
     }
 }
@@ -217,14 +217,14 @@ fn after_equals(braced: bool, c: char) -> Option<Step>
     ensures { result ≡ reading.after_equals braced c (reading.kind_of c) }
 {
     match kind_of(c) {
-        Kind::Tilde => go(Place::ValueStart, Part::Compare(Operator::Matches)),
+        Kind::Tilde => go(Mode::ValueStart, Part::Compare(Operator::Matches)),
         _ => begins_value(braced, c),
     }
 }
 
 /// Steps in quotes. A quote leads to `ended`, a backslash to `escape`, and any other character to
 /// `plain`.
-fn in_quotes(ended: Option<Step>, escape: Place, plain: Option<Step>, c: char) -> Option<Step>
+fn in_quotes(ended: Option<Step>, escape: Mode, plain: Option<Step>, c: char) -> Option<Step>
     ensures { result ≡ reading.in_quotes ended escape plain c }
 {
     if c == '"' {
@@ -237,7 +237,7 @@ fn in_quotes(ended: Option<Step>, escape: Place, plain: Option<Step>, c: char) -
 }
 
 /// Steps after a backslash in quotes.
-fn after_backslash(quoted: Place, part: Part, c: char) -> Option<Step>
+fn after_backslash(quoted: Mode, part: Part, c: char) -> Option<Step>
     ensures { result ≡ reading.after_backslash quoted part c }
 {
     if is_refused(c) {
@@ -253,8 +253,8 @@ fn at_start(c: char) -> Option<Step>
     ensures { result ≡ reading.at_start c (reading.kind_of c) }
 {
     match kind_of(c) {
-        Kind::Opening => go(Place::Opened, Part::Brace),
-        _ => begins_matcher(false, Place::Start, c),
+        Kind::Opening => go(Mode::Opened, Part::Brace),
+        _ => begins_matcher(false, Mode::Start, c),
     }
 }
 
@@ -264,7 +264,7 @@ fn after_braces(kind: Kind) -> Option<Step>
     ensures { result ≡ reading.after_braces kind }
 {
     match kind {
-        Kind::Blank => go(Place::Closed, Part::Nothing),
+        Kind::Blank => go(Mode::Closed, Part::Nothing),
         _ => None,
     }
 }
@@ -272,53 +272,53 @@ fn after_braces(kind: Kind) -> Option<Step>
 /// Returns where a character leads from a state, and what it adds. Returns `None` if no matcher
 /// text continues with it.
 #[tactic(auto, unfolding(crate::specs::Matcher::MatcherReading::step_from))]
-pub(crate) fn step_from(braced: bool, place: Place, c: char) -> Option<Step>
-    ensures { result ≡ reading.step_from braced place c }
+pub(crate) fn step_from(braced: bool, mode: Mode, c: char) -> Option<Step>
+    ensures { result ≡ reading.step_from braced mode c }
 {
-    match place {
-        Place::Start => at_start(c),
-        Place::Opened => begins_matcher(true, Place::Opened, c),
-        Place::NameLiteral => in_name(c),
-        Place::NameOpened => in_quotes(
+    match mode {
+        Mode::Start => at_start(c),
+        Mode::Opened => begins_matcher(true, Mode::Opened, c),
+        Mode::NameLiteral => in_name(c),
+        Mode::NameOpened => in_quotes(
             None,
-            Place::NameEscape,
-            go(Place::NameQuoted, Part::Name(c)),
+            Mode::NameEscape,
+            go(Mode::NameQuoted, Part::Name(c)),
             c,
         ),
-        Place::NameQuoted => in_quotes(
-            go(Place::AfterName, Part::Nothing),
-            Place::NameEscape,
-            go(Place::NameQuoted, Part::Name(c)),
+        Mode::NameQuoted => in_quotes(
+            go(Mode::AfterName, Part::Nothing),
+            Mode::NameEscape,
+            go(Mode::NameQuoted, Part::Name(c)),
             c,
         ),
-        Place::NameEscape => after_backslash(Place::NameQuoted, Part::NameEscaped(c), c),
-        Place::AfterName => after_name(kind_of(c)),
-        Place::AfterBang => after_bang(kind_of(c)),
-        Place::AfterEquals => after_equals(braced, c),
-        Place::ValueStart => begins_value(braced, c),
-        Place::ValueLiteral => in_value(braced, c),
-        Place::ValueQuoted => in_quotes(
-            go(Place::AfterValue, Part::Nothing),
-            Place::ValueEscape,
-            go(Place::ValueQuoted, Part::Value(c)),
+        Mode::NameEscape => after_backslash(Mode::NameQuoted, Part::NameEscaped(c), c),
+        Mode::AfterName => after_name(kind_of(c)),
+        Mode::AfterBang => after_bang(kind_of(c)),
+        Mode::AfterEquals => after_equals(braced, c),
+        Mode::ValueStart => begins_value(braced, c),
+        Mode::ValueLiteral => in_value(braced, c),
+        Mode::ValueQuoted => in_quotes(
+            go(Mode::AfterValue, Part::Nothing),
+            Mode::ValueEscape,
+            go(Mode::ValueQuoted, Part::Value(c)),
             c,
         ),
-        Place::ValueEscape => after_backslash(Place::ValueQuoted, Part::ValueEscaped(c), c),
-        Place::AfterValue => ends_value(braced, Place::AfterValue, kind_of(c)),
-        Place::AfterComma => begins_matcher(braced, Place::AfterComma, c),
-        Place::Closed => after_braces(kind_of(c)),
+        Mode::ValueEscape => after_backslash(Mode::ValueQuoted, Part::ValueEscaped(c), c),
+        Mode::AfterValue => ends_value(braced, Mode::AfterValue, kind_of(c)),
+        Mode::AfterComma => begins_matcher(braced, Mode::AfterComma, c),
+        Mode::Closed => after_braces(kind_of(c)),
     }
 }
 
 /// Returns what the end of the text adds in a state. Returns `None` if a text can't end there.
 #[tactic(auto, unfolding(crate::specs::Matcher::MatcherReading::ending))]
-pub(crate) fn ending(braced: bool, place: Place) -> Option<Part>
-    ensures { result ≡ reading.ending braced place }
+pub(crate) fn ending(braced: bool, mode: Mode) -> Option<Part>
+    ensures { result ≡ reading.ending braced mode }
 {
-    match place {
-        Place::Closed | Place::Start => Some(Part::Nothing),
-        Place::AfterComma => { if braced { None } else { Some(Part::Nothing) } }
-        Place::AfterEquals | Place::ValueStart | Place::ValueLiteral | Place::AfterValue => {
+    match mode {
+        Mode::Closed | Mode::Start => Some(Part::Nothing),
+        Mode::AfterComma => { if braced { None } else { Some(Part::Nothing) } }
+        Mode::AfterEquals | Mode::ValueStart | Mode::ValueLiteral | Mode::AfterValue => {
             if braced { None } else { Some(Part::End) }
         }
         _ => None,

@@ -107,8 +107,8 @@ impl Pattern {
         ensures { candidates.new
             ≡ kept_where (found_or_not negated self.now) name.now label_sets.now candidates.old }
     {
-        for (place, labels) in label_sets.iter().enumerate() {
-            candidates[place] = candidates[place]
+        for (index, labels) in label_sets.iter().enumerate() {
+            candidates[index] = candidates[index]
                 && self.passes(search, negated, labels.value_of(name));
         }
     }

@@ -8,7 +8,7 @@ use Rattle.amr_engine.specs.State.State.{State}
 use Rattle.amr_engine.specs.Events.{outcome_of}
 use Rattle.amr_replay.specs.Session.{View, at_cursor, events_until}
 use Rattle.amreplay.specs.declared.lines.word.Word.TheVariants as word
-use Rattle.amreplay.specs.Lines.LastLines.{place_line}
+use Rattle.amreplay.specs.Lines.LastLines.{position_line}
 use Rattle.amreplay.specs.CommandLines.Command.{word_of_move}
 use Rattle.amreplay.specs.declared.command_lines.command.Move.{Move}
 use Rattle.amreplay.specs.declared.command_lines.command.Move.TheVariants.{Step, Back, Seek, SeekTime}
@@ -19,7 +19,7 @@ use Rattle.amreplay.specs.Commands.Replies.{Incident, Reply, incident_of, state_
 use Rattle.amreplay.specs.Commands.Answer.{left, Answered, Moves}
 use Rattle.amreplay.specs.declared.commands.answer.Refusal.TheVariants.{AtEnd, AtStart, OutOfRange}
 use Rattle.amreplay.specs.declared.commands.answer.Answer.{Answer}
-use Rattle.amreplay.specs.declared.commands.answer.Answer.TheVariants.{Built, Listed, WentBack, Place, Refused}
+use Rattle.amreplay.specs.declared.commands.answer.Answer.TheVariants.{Built, Listed, WentBack, Position, Refused}
 
 -- a command that moves the cursor
 moves_answered : (i : Incident) (n n' to : ℕ) (move : Move) (answer : Answer) → reply_to i n (command.Move move) ≡ reply_to_move i n (word_of_move move) to → (n < to → TakesMemory i n (command.Move move))
@@ -77,7 +77,7 @@ query_reply s view query lines e =
     ap (λ (st : State). let r : Reply = record { cursor = s.cursor; text = listing_text s.cursor query st } in r) (state_of s view)
     ∙ ap (λ t. let r : Reply = record { cursor = s.cursor; text = t } in r) (sym e)
 
-pub place_reply : (s : View) → s ≡ at_cursor s.config s.version s.events s.cursor → reply_to (incident_of s) s.cursor command.Cursor ≡ left s.cursor (Place s.cursor (length s.events) s.state.moment)
+pub position_reply : (s : View) → s ≡ at_cursor s.config s.version s.events s.cursor → reply_to (incident_of s) s.cursor command.Cursor ≡ left s.cursor (Position s.cursor (length s.events) s.state.moment)
 unfolding reply_to
-place_reply s view =
-    ap (λ (st : State). let r : Reply = record { cursor = s.cursor; text = place_line s.cursor (length s.events) st.moment } in r) (state_of s view)
+position_reply s view =
+    ap (λ (st : State). let r : Reply = record { cursor = s.cursor; text = position_line s.cursor (length s.events) st.moment } in r) (state_of s view)

@@ -66,7 +66,7 @@ length-outcomes_of : (s : State) (es : List Event) → length (outcomes_of s es)
 length-outcomes_of s [] = refl
 length-outcomes_of s (e ∷ es) = omega (arith, length-outcomes_of (after_event s e) es)
 
--- no more events are passed than there are up to the place
+-- no more events are passed than there are up to the position
 pub passed_fit : (c : Config) (es : List Event) (n m : ℕ) (os : List code.Outcome) → map outcome_view os ≡ outcomes_passed c es n m → n < m → n + length os ≤ m
 passed_fit c es n m os is before =
     omega (arith, length-map os outcome_view, ap length is, length-outcomes_of (state_at c es n) (drop n (take m es)), length-drop n (take m es), length-take m es)
@@ -102,19 +102,19 @@ one_passed c es n e o at is =
 pub step_passes : (s t : View) (from : ℕ) (o : code.Outcome) → from ≡ s.cursor → s ≡ at_cursor s.config s.version s.events s.cursor → s.cursor < length s.events
     → ((e : Event) → slice_get s.events s.cursor ≡ Some e → outcome_view o ≡ outcome_of s.state e) → t ≡ at_cursor s.config s.version s.events (s.cursor + 1)
     → map outcome_view (o ∷ []) ≡ outcomes_passed t.config t.events from t.cursor
-step_passes s t from o place view inside outcome new =
+step_passes s t from o position view inside outcome new =
     let e = item s.events s.cursor inside in
     let state : s.state ≡ state_at s.config s.events s.cursor = ap (λ (v : View). v.state) view in
     let one = one_passed s.config s.events s.cursor e.0 o e.1 (outcome e.0 e.1 ∙ ap (λ st. outcome_of st e.0) state) in
-    one ∙ ap (λ n. outcomes_passed s.config s.events n (s.cursor + 1)) (sym place) ∙ ap (λ (v : View). outcomes_passed v.config v.events from v.cursor) (sym new)
+    one ∙ ap (λ n. outcomes_passed s.config s.events n (s.cursor + 1)) (sym position) ∙ ap (λ (v : View). outcomes_passed v.config v.events from v.cursor) (sym new)
 
--- the place that was reached is that of the command
+-- the position that was reached is that of the command
 pub moves_from : (s t : View) (word : Word) (from to n : ℕ) (answer : Answer) → from ≡ s.cursor → t ≡ at_cursor s.config s.version s.events to
     → Moves (incident_of t) from word t.cursor n answer → Moves (incident_of s) s.cursor word to n answer
-moves_from s t word from to n answer place new moves =
-    subst (λ k. Moves (incident_of s) k word to n answer) place (subst (λ (v : View). Moves (incident_of v) from word v.cursor n answer) new moves)
+moves_from s t word from to n answer position new moves =
+    subst (λ k. Moves (incident_of s) k word to n answer) position (subst (λ (v : View). Moves (incident_of v) from word v.cursor n answer) new moves)
 
--- the event at a place, among those from n on
+-- the event at a position, among those from n on
 pub rest_item : (es : List Event) (n i : ℕ) (e : Event) → slice_get es (n + i) ≡ Some e → slice_get (drop n es) i ≡ Some e
 rest_item es n i e at =
     let within : n + i < length es = slice_get_within es (n + i) e at in

@@ -29,13 +29,13 @@ Printed-last incident start mid now bytes cursor cursor' line r answered (rest, 
     let a = answered rest holds in
     let h : AnsweredLine = record { line = rest; line_outcome = a.line_outcome } in
     let all : out incident 0 (t.heard ++ h ∷ []) ≡ out incident 0 t.heard ++ (reply incident cursor h.line_outcome).text =
-    out-append incident 0 t.heard h ∙ ap (λ c. out incident 0 t.heard ++ (reply incident c h.line_outcome).text) (sym t.place) in
+    out-append incident 0 t.heard h ∙ ap (λ c. out incident 0 t.heard ++ (reply incident c h.line_outcome).text) (sym t.position) in
     either (λ _. Printed incident start now bytes) _ _ _ r
     (on_ok _ (λ _. Printed incident start now bytes) _ r (λ _ d. record {
       heard = t.heard;
       last = h;
       cut = t.cut;
-      may_be = AllMayBe-append incident 0 t.heard h t.may_be (subst (λ c. MayBe incident c rest a.line_outcome) t.place a.may_be);
+      may_be = AllMayBe-append incident 0 t.heard h t.may_be (subst (λ c. MayBe incident c rest a.line_outcome) t.position a.may_be);
       written = subst (Appends start now) (sym all) (Appends-trans start mid now _ _ t.written d.1);
     }) a.did)
     (Progress-ended incident start mid now bytes cursor cursor' rest r t a)

@@ -40,7 +40,7 @@ joined bytes rest lines e =
 
 pub Progress-nil : (incident : Incident) (w : Option (List ℕ)) → Progress incident w w [] 0 []
 Progress-nil incident w =
-    record { heard = []; cut = record { whole = refl; each = All-nil _; last = All-nil _ }; may_be = tt; place = refl; written = Appends-nil w }
+    record { heard = []; cut = record { whole = refl; each = All-nil _; last = All-nil _ }; may_be = tt; position = refl; written = Appends-nil w }
 
 -- a byte of a line
 pub Progress-more : (incident : Incident) (start now : Option (List ℕ)) (bytes : List ℕ) (cursor : ℕ) (rest : List ℕ) (b : ℕ)
@@ -54,7 +54,7 @@ Progress-more incident start now bytes cursor rest b ne t =
         last = All-push (λ x. x ≢ 10) rest b t.cut.last ne;
       };
       may_be = t.may_be;
-      place = t.place;
+      position = t.position;
       written = t.written;
     }
 
@@ -64,9 +64,9 @@ pub Progress-ended : {E : Type 0} (incident : Incident) (start mid now : Option 
     → MatchResult r (λ _. Progress incident start now (bytes ++ 10 ∷ []) cursor' []) (λ _. StopsShort incident start now bytes [])
 Progress-ended incident start mid now bytes cursor cursor' rest r t a =
     let h : AnsweredLine = record { line = rest; line_outcome = a.line_outcome } in
-    let place = t.place in
-    let may : AllMayBe incident 0 (t.heard ++ h ∷ []) = AllMayBe-append incident 0 t.heard h t.may_be (subst (λ c. MayBe incident c rest a.line_outcome) place a.may_be) in
-    let text : (reply incident cursor h.line_outcome).text ≡ (reply incident (after incident 0 t.heard) h.line_outcome).text = ap (λ c. (reply incident c h.line_outcome).text) place in
+    let position = t.position in
+    let may : AllMayBe incident 0 (t.heard ++ h ∷ []) = AllMayBe-append incident 0 t.heard h t.may_be (subst (λ c. MayBe incident c rest a.line_outcome) position a.may_be) in
+    let text : (reply incident cursor h.line_outcome).text ≡ (reply incident (after incident 0 t.heard) h.line_outcome).text = ap (λ c. (reply incident c h.line_outcome).text) position in
     let all : out incident 0 (t.heard ++ h ∷ []) ≡ out incident 0 t.heard ++ (reply incident cursor h.line_outcome).text = out-append incident 0 t.heard h ∙ ap (λ l. out incident 0 t.heard ++ l) (sym text) in
     MatchResult-weaker r a.did
     (λ _ d. record {
@@ -77,7 +77,7 @@ Progress-ended incident start mid now bytes cursor cursor' rest r t a =
         last = All-nil _;
       };
       may_be = may;
-      place = d.0 ∙ ap (λ c. (reply incident c h.line_outcome).cursor) place ∙ sym (after-append incident 0 t.heard h);
+      position = d.0 ∙ ap (λ c. (reply incident c h.line_outcome).cursor) position ∙ sym (after-append incident 0 t.heard h);
       written = subst (Appends start now) (sym all) (Appends-trans start mid now _ _ t.written d.1);
     })
     (λ _ d. record {

@@ -7,7 +7,7 @@ use Rattle.serde_json.proofs.OnLiterals.{serde_json_on_literals}
 use Rattle.amreplay.specs.Lines.Printed.{moment_data, refused_event_line}
 use Rattle.amr_time.specs.Time.{Moment}
 use Rattle.amr_time.specs.MomentText.{moment_text}
-use Rattle.amreplay.specs.Lines.LastLines.{word_text, moves_line, cursor_line, place_line, refused_line}
+use Rattle.amreplay.specs.Lines.LastLines.{word_text, moves_line, cursor_line, position_line, refused_line}
 use Rattle.amreplay.proofs.LinesLemmas.MomentTexts.{moment_json}
 use Rattle.amreplay.proofs.LinesLemmas.ObjectTexts.{object_texts}
 use Rattle.amreplay.specs.declared.lines.word.Word.{Word}
@@ -45,10 +45,10 @@ pub moves_line-none : (word : Word) (cursor : ℕ)
 unfolding digits
 moves_line-none word cursor = moves_line-parts word cursor 0
 
-pub place_line-parts : (cursor events : ℕ) (now : Moment)
-    → codes "{\"command\":\"cursor\",\"cursor\":" ++ (decimal cursor ++ (codes ",\"events\":" ++ (decimal events ++ (codes ",\"now\":\"" ++ (moment_text now ++ codes "\"}\n"))))) ≡ place_line cursor events now
+pub position_line-parts : (cursor events : ℕ) (now : Moment)
+    → codes "{\"command\":\"cursor\",\"cursor\":" ++ (decimal cursor ++ (codes ",\"events\":" ++ (decimal events ++ (codes ",\"now\":\"" ++ (moment_text now ++ codes "\"}\n"))))) ≡ position_line cursor events now
 unfolding object_texts
-place_line-parts cursor events now =
+position_line-parts cursor events now =
     let clock : codes ",\"now\":\"" ++ (moment_text now ++ codes "\"}\n") ≡ codes ",\"now\":" ++ (compact_text (moment_data now) ++ codes "}\n") =
     rw (moment_json now) (sym (ap (λ l. codes ",\"now\":\"" ++ l) (append_assoc (moment_text now) (codes "\"") (codes "}\n")))) in
     ap (λ l. codes "{\"command\":\"cursor\",\"cursor\":" ++ (decimal cursor ++ (codes ",\"events\":" ++ (decimal events ++ l)))) clock ∙ simp append_assoc

@@ -3,7 +3,7 @@ use Rattle.std.specs.Prelude.{◌≡◌, ℕ, ◌<◌, [], ◌⊎◌, string_byt
 use Rattle.amr_labels.specs.Labels.{Text}
 use Rattle.amreplay.specs.declared.lines.word.Word.{Word}
 use Rattle.amreplay.specs.declared.lines.word.Word.TheVariants as word
-use Rattle.amreplay.specs.Lines.LastLines.{moves_line, cursor_line, place_line, refused_line}
+use Rattle.amreplay.specs.Lines.LastLines.{moves_line, cursor_line, position_line, refused_line}
 use Rattle.amreplay.specs.declared.command_lines.command.ParsedLine.{ParsedLine}
 use Rattle.amreplay.specs.CommandLines.ParsedLine.{word_of}
 use Rattle.amr_replay.specs.Session.{View}
@@ -13,7 +13,7 @@ use Rattle.amreplay.specs.declared.commands.answer.Refusal.{Refusal}
 use Rattle.amreplay.specs.declared.commands.answer.Refusal.TheVariants.{Memory}
 use Rattle.amreplay.specs.Commands.Refusals.{refusal_number}
 use Rattle.amreplay.specs.declared.commands.answer.Answer.{Answer}
-use Rattle.amreplay.specs.declared.commands.answer.Answer.TheVariants.{Nothing, Built, Listed, WentBack, SoughtBack, Place, Refused}
+use Rattle.amreplay.specs.declared.commands.answer.Answer.TheVariants.{Nothing, Built, Listed, WentBack, SoughtBack, Position, Refused}
 
 -- what is written, with the cursor there
 abbrev pub answer_text : ℕ → Answer → Text
@@ -22,7 +22,7 @@ answer_text cursor (Built text) = string_bytes text
 answer_text cursor (Listed lines) = lines.items
 answer_text cursor WentBack = cursor_line word.Back cursor
 answer_text cursor (SoughtBack word) = moves_line word cursor 0
-answer_text cursor (Place at events now) = place_line at events now
+answer_text cursor (Position at events now) = position_line at events now
 answer_text cursor (Refused word refusal) = refused_line word cursor (refusal_number refusal)
 
 -- the command leaves this: the cursor, and what is written

@@ -15,7 +15,7 @@ use Rattle.amreplay.specs.declared.lines.word.Word.{Word}
 use Rattle.amreplay.specs.declared.lines.word.Word.TheVariants as word
 use Rattle.amreplay.specs.Lines.Printed.{event_lines, notification_line, alert_line, silence_line, group_line, log_line}
 use Rattle.amreplay.specs.Lines.Verdicts.{verdict_line}
-use Rattle.amreplay.specs.Lines.LastLines.{moves_line, cursor_line, place_line, refused_line}
+use Rattle.amreplay.specs.Lines.LastLines.{moves_line, cursor_line, position_line, refused_line}
 use Rattle.amreplay.specs.CommandLines.Command.{word_of_query}
 use Rattle.amreplay.specs.declared.command_lines.command.Move.TheVariants.{Step, Back, Seek, SeekTime}
 use Rattle.amreplay.specs.declared.command_lines.command.Query.{Query}
@@ -58,12 +58,12 @@ abbrev pub moves_in : Outcome → ℕ
 moves_in (Accepted moves notes skipped) = moves
 moves_in (Refused reason) = 0
 
--- the text of passing events from the cursor to a place, with these outcomes
+-- the text of passing events from the cursor to a position, with these outcomes
 abbrev pub passing_text : List Event → ℕ → Word → ℕ → List Outcome → Text
 passing_text events cursor word to outcomes =
     numbered_lines (cursor + 1) (drop cursor events) outcomes ++ moves_line word to (sum_by moves_in outcomes)
 
--- a move to another place: the lines of the events that are passed forward, and the sum of their
+-- a move to another position: the lines of the events that are passed forward, and the sum of their
 -- moves
 unfoldable pub reply_to_move : Incident → ℕ → Word → ℕ → Reply
 reply_to_move incident cursor word to = record {
@@ -96,7 +96,7 @@ reply_to incident n (command.Move (Seek to)) = if nat_le to (length incident.eve
 reply_to incident n (command.Move (SeekTime at)) = reply_to_move incident n word.SeekTime (events_until at incident.events)
 reply_to incident n (command.Trial event) = record { cursor = n; text = tried_lines n event (outcome_of (state_in incident n) event) }
 reply_to incident n (command.Query query) = record { cursor = n; text = listing_text n query (state_in incident n) }
-reply_to incident n command.Cursor = record { cursor = n; text = place_line n (length incident.events) (state_in incident n).moment }
+reply_to incident n command.Cursor = record { cursor = n; text = position_line n (length incident.events) (state_in incident n).moment }
 
 -- the command takes memory there, so memory may run out
 abbrev pub TakesMemory : Incident → ℕ → Command → Type 0

@@ -69,7 +69,7 @@ pub record Progress (incident : Incident) (start now : Option Text) (bytes : Tex
   pub heard : List AnsweredLine
   pub cut : Cuts bytes (map (λ h. h.line) heard) rest
   pub may_be : AllMayBe incident 0 heard
-  pub place : cursor ≡ after incident 0 heard
+  pub position : cursor ≡ after incident 0 heard
   pub written : Appends start now (out incident 0 heard)
 
 -- the writer failed at a line: it has got a prefix of the output up to that line; these bytes

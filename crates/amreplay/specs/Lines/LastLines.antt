@@ -41,15 +41,15 @@ cursor_data word cursor = object (object_of (with_word word cursor []))
 abbrev pub cursor_line : Word → ℕ → Text
 cursor_line word cursor = data_line (cursor_data word cursor)
 
-abbrev pub place_members : ℕ → ℕ → Moment → List (Text × Data)
-place_members cursor events now = with_word Cursor cursor ((codes "events", number_data events) ∷ (codes "now", moment_data now) ∷ [])
+abbrev pub position_members : ℕ → ℕ → Moment → List (Text × Data)
+position_members cursor events now = with_word Cursor cursor ((codes "events", number_data events) ∷ (codes "now", moment_data now) ∷ [])
 
-unfoldable pub place_data : ℕ → ℕ → Moment → Data
-place_data cursor events now = object (object_of (place_members cursor events now))
+unfoldable pub position_data : ℕ → ℕ → Moment → Data
+position_data cursor events now = object (object_of (position_members cursor events now))
 
 -- the line of the command `cursor`
-abbrev pub place_line : ℕ → ℕ → Moment → Text
-place_line cursor events now = data_line (place_data cursor events now)
+abbrev pub position_line : ℕ → ℕ → Moment → Text
+position_line cursor events now = data_line (position_data cursor events now)
 
 abbrev pub refused_data : Word → ℕ → ℕ → Data
 refused_data word cursor reason = object (object_of (with_word word cursor ((codes "refused", number_data reason) ∷ [])))

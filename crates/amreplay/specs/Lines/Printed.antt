@@ -92,14 +92,14 @@ abbrev pub notification_line : Notification → Text
 notification_line notification = data_line (notification_data notification)
 
 abbrev pub skipped_members : ℕ → List ℕ → List (Text × Data)
-skipped_members event places = (codes "event", number_data event) ∷ (codes "skipped", array (items_of (map number_data places))) ∷ []
+skipped_members event positions = (codes "event", number_data event) ∷ (codes "skipped", array (items_of (map number_data positions))) ∷ []
 
 abbrev pub skipped_data : ℕ → List ℕ → Data
-skipped_data event places = object (object_of (skipped_members event places))
+skipped_data event positions = object (object_of (skipped_members event positions))
 
 -- the alerts that an event skipped, by their positions in the post
 abbrev pub skipped_line : ℕ → List ℕ → Text
-skipped_line event places = data_line (skipped_data event places)
+skipped_line event positions = data_line (skipped_data event positions)
 
 abbrev pub refused_event_data : ℕ → ℕ → Data
 refused_event_data event reason = object (object_of ((codes "event", number_data event) ∷ (codes "reason", number_data reason) ∷ []))
@@ -111,7 +111,7 @@ refused_event_line event reason = data_line (refused_event_data event reason)
 -- a line if some alert was skipped
 abbrev pub skipped_lines : ℕ → List ℕ → Text
 skipped_lines event [] = []
-skipped_lines event (place ∷ places) = skipped_line event (place ∷ places)
+skipped_lines event (position ∷ positions) = skipped_line event (position ∷ positions)
 
 -- the lines of an outcome: its notifications in order, then the skipped alerts; or its refusal
 abbrev pub outcome_lines : ℕ → Outcome → Text

@@ -6,8 +6,8 @@ ghost use Rattle.amreplay.specs.Commands.Answer.{answer_text};
 ghost use Rattle.amreplay.specs.Commands.Refusals.{refusal_number};
 
 use crate::lines::{
-    CheckedWriter, Word, WriteFailed, write_back, write_backward_seek, write_place, write_refused,
-    write_whole,
+    CheckedWriter, Word, WriteFailed, write_back, write_backward_seek, write_position,
+    write_refused, write_whole,
 };
 use amr_time::Moment;
 use std::io::Write;
@@ -62,7 +62,7 @@ pub(crate) enum Answer {
     /// The line of a seek that passed no event.
     SoughtBack(Word),
     /// The line of `cursor`: the cursor, the number of events, and the clock.
-    Place(usize, usize, Moment),
+    Position(usize, usize, Moment),
     Refused(Word, Refusal),
 }
 
@@ -82,7 +82,7 @@ pub(crate) fn write_answer<W: Write>(
         Answer::Listed(lines) => write_whole(out, lines.as_slice()),
         Answer::WentBack => write_back(out, cursor),
         Answer::SoughtBack(word) => write_backward_seek(out, *word, cursor),
-        Answer::Place(at, events, now) => write_place(out, *at, *events, *now),
+        Answer::Position(at, events, now) => write_position(out, *at, *events, *now),
         Answer::Refused(word, refusal) => write_refused(out, *word, cursor, refusal.number()),
     }
 }

@@ -11,7 +11,7 @@ ghost use Rattle.amreplay.specs.Commands.Talk.{Answers};
 use crate::command_lines::{Command, Content, Line, ParsedLine};
 use crate::commands::answer::{Answer, Refusal, write_answer};
 use crate::commands::navigation::{move_cursor, trial};
-use crate::commands::queries::{list, place};
+use crate::commands::queries::{list, position};
 use crate::lines::{CheckedWriter, Word, WriteFailed, flush};
 use amr_replay::Session;
 use std::alloc::Global;
@@ -100,6 +100,6 @@ fn answer_command(alloc: Global, session: &mut Session, command: Command) -> Ans
         Command::Move(movement) => move_cursor(alloc, session, movement),
         Command::Trial(event) => trial(alloc, session, &event),
         Command::Query(query) => list(alloc, session, &query),
-        Command::Cursor => place(session),
+        Command::Cursor => position(session),
     }
 }

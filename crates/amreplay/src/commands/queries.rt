@@ -84,8 +84,8 @@ pub(crate) fn list(alloc: Global, session: &mut Session, query: &Query) -> Answe
 
 /// Executes `cursor`, which prints the cursor, the number of events, and the clock. It takes no
 /// memory.
-pub(crate) fn place(session: &Session) -> Answer
+pub(crate) fn position(session: &Session) -> Answer
     ensures { AnsweredBy session.now session.now (Asks command.Cursor) result }
 {
-    Answer::Place(session.cursor(), session.events(), session.state().moment())
+    Answer::Position(session.cursor(), session.events(), session.state().moment())
 }

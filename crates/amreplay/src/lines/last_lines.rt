@@ -1,7 +1,7 @@
 //! The status lines that end the commands of a session. Those of refusals, of steps back and of
 //! `cursor` are written part by part, because they must not take memory.
 ghost use Rattle.std.specs.Prelude.{◌≡◌, IfOk, string_bytes};
-ghost use Rattle.amreplay.specs.Lines.LastLines.{moves_line, cursor_line, place_line, refused_line};
+ghost use Rattle.amreplay.specs.Lines.LastLines.{moves_line, cursor_line, position_line, refused_line};
 ghost use Rattle.amreplay.specs.Lines.CheckedWriter.{WritesText, FailsAt};
 ghost use Rattle.amreplay.specs.declared.lines.word.Word.TheVariants.{Back};
 
@@ -35,14 +35,14 @@ pub fn cursor_text(alloc: Global, word: Word, cursor: usize) -> Result<String, A
 
 /// Writes the line of the command `cursor`: the cursor, the number of events, and the clock. It takes
 /// no memory.
-pub fn write_place<W: Write>(
+pub fn write_position<W: Write>(
     out: &mut CheckedWriter<W>,
     cursor: usize,
     events: usize,
     now: Moment,
 ) -> Result<(), WriteFailed>
     ensures written { WritesText (W.contents out.old.writer) (W.contents out.new.writer)
-        result (place_line cursor events now) }
+        result (position_line cursor events now) }
     ensures failed { FailsAt result out.old.failed out.new.failed }
 {
     let mut cursor_digits = Buffer::new();

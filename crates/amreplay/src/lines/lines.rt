@@ -99,11 +99,11 @@ fn refused_event_text(alloc: Global, event: u64, reason: u64) -> Result<String, 
 }
 
 /// Appends the line with the alerts that an event skipped, by their positions in the post, from 1.
-fn push_skipped_line(out: &mut String, event: u64, places: &[usize]) -> Result<(), AllocError>
+fn push_skipped_line(out: &mut String, event: u64, positions: &[usize]) -> Result<(), AllocError>
     ensures { OnOk result (string_bytes out.new
-        ≡ string_bytes out.old ++ skipped_line event places.now) }
+        ≡ string_bytes out.old ++ skipped_line event positions.now) }
 {
     write!(out, "{{\"event\":{event}")?;
-    push_array(out, ",\"skipped\":", places)?;
+    push_array(out, ",\"skipped\":", positions)?;
     out.push_str("}\n")
 }

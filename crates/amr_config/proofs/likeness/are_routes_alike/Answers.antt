@@ -7,8 +7,8 @@ pub returns-then-not-is_route_alike : goal.returns-then-not-is_route_alike
 returns-then-not-is_route_alike c =
     let routes = c.args.routes.now in
     let others = c.args.others.now in
-    let k = c.loop-place.place in
-    let within : k < length routes = c.loop-place-test.true in
+    let k = c.loop-index.index in
+    let within : k < length routes = c.loop-index-test.true in
     let within_others : k < length others = omega (arith, within, c.if-routes-others.false) in
-    let own = alike_at routing_part routes others k c.index-routes-place.result c.index-others-place.result within within_others c.index-routes-place.is c.index-others-place.is in
+    let own = alike_at routing_part routes others k c.index-routes-index.result c.index-others-index.result within within_others c.index-routes-index.is c.index-others-index.is in
     first_fails false c.is_route_alike.result c.is_route_alike.ensures own c.if-not-is_route_alike.true refl

@@ -1,5 +1,5 @@
 use Rattle.amr_config.specs.Paths.{AreAlone}
 use Rattle.amr_config.proofs.own_paths.alone.Given as goal
 
-abbrev pub invariant-loop-place : goal.invariant-loop-place
-invariant-loop-place l = AreAlone l.numbers l.place l.alone.items
+abbrev pub invariant-loop-index : goal.invariant-loop-index
+invariant-loop-index l = AreAlone l.numbers l.index l.alone.items

@@ -1,6 +1,6 @@
 use Rattle.std.proofs.Common.{length, ap, ◌∙◌}
 use Rattle.std.specs.List.{fold}
-use Rattle.amr_engine.specs.State.State.{State, place}
+use Rattle.amr_engine.specs.State.State.{State, insert_into_groups}
 use Rattle.amr_engine.specs.Events.{with_config}
 use Rattle.amr_engine.proofs.Partitions.{on_ok}
 use Rattle.amr_engine.proofs.Growing.{reloaded}
@@ -10,8 +10,8 @@ pub returns-clause-grown : goal.returns-clause-grown
 unfolding with_config
 returns-clause-grown c =
     let all = c.as_slice.ensures.value ∙ c.in_ok-alerts.ensures in
-    on_ok c.place_all.result _ _ (λ placed.
-    reloaded c.args.store.now.state c.args.config c.replace_config.new.self.state.config c.as_slice.result.now c.place_all.new.store.state (length c.args.store.now.current)
-    (length c.replace_config.new.self.current) (length c.place_all.new.store.current) (placed ∙ (λ i. fold place (c.in_ok-replace_config.ensures.ok i) (all i)))
-    (ap (λ (s : State). s.config) c.in_ok-replace_config.ensures.ok) all c.replace_config.ensures.grown c.place_all.ensures.grown)
-    c.place_all.ensures.ok
+    on_ok c.insert_all.result _ _ (λ placed.
+    reloaded c.args.store.now.state c.args.config c.replace_config.new.self.state.config c.as_slice.result.now c.insert_all.new.store.state (length c.args.store.now.current)
+    (length c.replace_config.new.self.current) (length c.insert_all.new.store.current) (placed ∙ (λ i. fold insert_into_groups (c.in_ok-replace_config.ensures.ok i) (all i)))
+    (ap (λ (s : State). s.config) c.in_ok-replace_config.ensures.ok) all c.replace_config.ensures.grown c.insert_all.ensures.grown)
+    c.insert_all.ensures.ok

@@ -2,5 +2,5 @@ use Rattle.std.proofs.Common.{◌≡◌, take}
 use Rattle.amr_events.specs.Tokens.{lent_texts}
 use Rattle.amr_events.proofs.text_cache.are_stated.Given as goal
 
-abbrev pub invariant-loop-place : goal.invariant-loop-place
-invariant-loop-place l = take l.place l.pairs ≡ lent_texts (take l.place l.stated)
+abbrev pub invariant-loop-index : goal.invariant-loop-index
+invariant-loop-index l = take l.index l.pairs ≡ lent_texts (take l.index l.stated)

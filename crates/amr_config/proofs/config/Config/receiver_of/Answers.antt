@@ -11,17 +11,17 @@ pub returns-in-Some : goal.returns-in-Some
 returns-in-Some c =
     let parts = c.self.inside.shared.value in
     let receivers = parts.stated.receivers in
-    let same : c.as_slice.result.now ≡ parts.receiver_places = c.as_slice.ensures ∙ ap (λ (p : Parts). p.receiver_places) c.deref.ensures in
-    let found = receiver_found (config_of_parts parts) parts.settings receivers c.as_slice.result.now c.args.route (Some c.in-Some.place) c.self.invariant.settings
+    let same : c.as_slice.result.now ≡ parts.receiver_indexes = c.as_slice.ensures ∙ ap (λ (p : Parts). p.receiver_indexes) c.deref.ensures in
+    let found = receiver_found (config_of_parts parts) parts.settings receivers c.as_slice.result.now c.args.route (Some c.in-Some.index) c.self.invariant.settings
     (subst (AreReceivers receivers parts.settings) (sym same) c.self.invariant.receivers) c.in-Some.ensures.lookup in
     let there : c.as_slice-in-Some.result.now ≡ receivers = c.as_slice-in-Some.ensures ∙ ap (λ (p : Parts). p.stated.receivers) c.deref-in-Some.ensures in
-    c.receiver_at.ensures ∙ ap (λ rs. receiver_at rs c.in-Some.place.now) there ∙ found ∙ ap (λ (k : Config). receiver_named k.receivers (receiver_name_of k c.args.route)) c.self.view_is
+    c.receiver_at.ensures ∙ ap (λ rs. receiver_at rs c.in-Some.index.now) there ∙ found ∙ ap (λ (k : Config). receiver_named k.receivers (receiver_name_of k c.args.route)) c.self.view_is
 
 pub returns-in-None : goal.returns-in-None
 returns-in-None c =
     let parts = c.self.inside.shared.value in
     let receivers = parts.stated.receivers in
-    let same : c.as_slice.result.now ≡ parts.receiver_places = c.as_slice.ensures ∙ ap (λ (p : Parts). p.receiver_places) c.deref.ensures in
+    let same : c.as_slice.result.now ≡ parts.receiver_indexes = c.as_slice.ensures ∙ ap (λ (p : Parts). p.receiver_indexes) c.deref.ensures in
     let past = receiver_found (config_of_parts parts) parts.settings receivers c.as_slice.result.now c.args.route None c.self.invariant.settings
     (subst (AreReceivers receivers parts.settings) (sym same) c.self.invariant.receivers) c.in-None.ensures.lookup in
     let here : length c.args.self.now.routes ≤ c.args.route = subst (λ (k : Config). length k.routes ≤ c.args.route) c.self.view_is past in

@@ -6,17 +6,17 @@ use Rattle.amr_config.proofs.read.names.are_apart.Goals as goal
 
 pub returns-then-not-branch : goal.returns-then-not-branch
 returns-then-not-branch c =
-    let absent = sym (ap (λ (name : Text). not (contains text_cmp c.loop-place.built name)) c.in_ok-clone.ensures.cases) ∙ sym c.in_ok-insert.ensures.added in
-    sym (repeated c.args.names.now (c.loop-place.place - 1) c.loop-place.place c.index-names-place.result c.loop-place.built (omega arith) (omega arith)
-    c.index-names-place.is c.loop-place.invariant.met (absent ∙ c.if-not-branch.true))
+    let absent = sym (ap (λ (name : Text). not (contains text_cmp c.loop-index.built name)) c.in_ok-clone.ensures.cases) ∙ sym c.in_ok-insert.ensures.added in
+    sym (repeated c.args.names.now (c.loop-index.index - 1) c.loop-index.index c.index-names-index.result c.loop-index.built (omega arith) (omega arith)
+    c.index-names-index.is c.loop-index.invariant.met (absent ∙ c.if-not-branch.true))
 
-pub loop-place-preserved : goal.loop-place-preserved
-loop-place-preserved c =
-    let absent = sym (ap (λ (name : Text). not (contains text_cmp c.loop-place.built name)) c.in_ok-clone.ensures.cases) ∙ sym c.in_ok-insert.ensures.added in
-    let more = subst (λ (name : Text). Updates text_cmp c.loop-place.built c.insert.new.self name true) c.in_ok-clone.ensures.cases c.in_ok-insert.ensures.updates in
+pub loop-index-preserved : goal.loop-index-preserved
+loop-index-preserved c =
+    let absent = sym (ap (λ (name : Text). not (contains text_cmp c.loop-index.built name)) c.in_ok-clone.ensures.cases) ∙ sym c.in_ok-insert.ensures.added in
+    let more = subst (λ (name : Text). Updates text_cmp c.loop-index.built c.insert.new.self name true) c.in_ok-clone.ensures.cases c.in_ok-insert.ensures.updates in
     record {
-      apart = still_apart c.args.names.now (c.loop-place.place - 1) c.loop-place.place c.index-names-place.result c.loop-place.built (omega arith) (omega arith)
-          c.index-names-place.is c.loop-place.invariant.met (absent ∙ c.if-not-branch.false) c.loop-place.invariant.apart;
-      met = one_before c.args.names.now (c.loop-place.place - 1) c.loop-place.place c.index-names-place.result c.loop-place.built c.insert.new.self (omega arith) (omega arith)
-          c.index-names-place.is c.loop-place.invariant.met more;
+      apart = still_apart c.args.names.now (c.loop-index.index - 1) c.loop-index.index c.index-names-index.result c.loop-index.built (omega arith) (omega arith)
+          c.index-names-index.is c.loop-index.invariant.met (absent ∙ c.if-not-branch.false) c.loop-index.invariant.apart;
+      met = one_before c.args.names.now (c.loop-index.index - 1) c.loop-index.index c.index-names-index.result c.loop-index.built c.insert.new.self (omega arith) (omega arith)
+          c.index-names-index.is c.loop-index.invariant.met more;
     }

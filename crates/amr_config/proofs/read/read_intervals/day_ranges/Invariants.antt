@@ -1,9 +1,9 @@
 use Rattle.std.proofs.Common.{◌≡◌, drop}
 use Rattle.serde_json.specs.View.{view, items_view}
-use Rattle.amr_config.specs.Read.Paths.{place_path}
+use Rattle.amr_config.specs.Read.Paths.{path_text}
 use Rattle.amr_config.specs.Read.Readings.{items_in_turn}
 use Rattle.amr_config.specs.Read.ReadIntervals.{day_range_in, range_into, ranges_at}
 use Rattle.amr_config.proofs.read.read_intervals.day_ranges.Given as goal
 
 abbrev pub invariant-loop-index : goal.invariant-loop-index
-invariant-loop-index l = items_in_turn (range_into day_range_in (place_path l.place)) l.index (items_view (drop l.index l.items)) l.ranges ≡ ranges_at day_range_in (place_path l.place) (view l.value)
+invariant-loop-index l = items_in_turn (range_into day_range_in (path_text l.path)) l.index (items_view (drop l.index l.items)) l.ranges ≡ ranges_at day_range_in (path_text l.path) (view l.value)

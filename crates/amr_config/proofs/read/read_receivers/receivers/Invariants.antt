@@ -1,9 +1,9 @@
 use Rattle.std.proofs.Common.{◌≡◌, drop}
 use Rattle.serde_json.specs.View.{view, items_view}
-use Rattle.amr_config.specs.Read.Paths.{place_path}
+use Rattle.amr_config.specs.Read.Paths.{path_text}
 use Rattle.amr_config.specs.Read.Readings.{items_in_turn}
 use Rattle.amr_config.specs.Read.ReadReceivers.{receiver_into, receivers_list}
 use Rattle.amr_config.proofs.read.read_receivers.receivers.Given as goal
 
 abbrev pub invariant-loop-index : goal.invariant-loop-index
-invariant-loop-index l = items_in_turn (receiver_into (place_path l.place)) l.index (items_view (drop l.index l.items)) l.receivers ≡ receivers_list (place_path l.place) (view l.value)
+invariant-loop-index l = items_in_turn (receiver_into (path_text l.path)) l.index (items_view (drop l.index l.items)) l.receivers ≡ receivers_list (path_text l.path) (view l.value)

@@ -1,5 +1,5 @@
 use Rattle.std.proofs.lemmas.Result.{err_from_is_err_and}
-use Rattle.amr_config.specs.Read.Paths.{place_path}
+use Rattle.amr_config.specs.Read.Paths.{path_text}
 use Rattle.amr_config.specs.Read.ReadRules.{rule_into, rules_list}
 use Rattle.amr_config.proofs.ReadLemmas.Readings.{stops_first, stops_plain}
 use Rattle.amr_config.proofs.ReadLemmas.Turns.{ends_after, ends_itself, item_ends, item_stops}
@@ -17,9 +17,9 @@ loop-index-init c = rw c.new-rules.ensures (ends_after _ _ _ _ c.in_ok-items.ens
 
 pub loop-index-preserved : goal.loop-index-preserved
 loop-index-preserved c =
-    item_ends (rule_into (place_path c.args.place.now)) c.in_ok-items.items.now c.loop-index.index c.index-items-index.result c.loop-index.rules _ _ c.loop-index-test.true c.index-items-index.is c.in_ok-add_rule.ensures c.loop-index.invariant
+    item_ends (rule_into (path_text c.args.path.now)) c.in_ok-items.items.now c.loop-index.index c.index-items-index.result c.loop-index.rules _ _ c.loop-index-test.true c.index-items-index.is c.in_ok-add_rule.ensures c.loop-index.invariant
 
 pub returns-in_err-add_rule : goal.returns-in_err-add_rule
 returns-in_err-add_rule c =
     let p = err_from_is_err_and c.from_residual-in_err-add_rule.result c.from_residual-in_err-add_rule.ensures.1 in
-    rw (p.1, p.2) (item_stops (rule_into (place_path c.args.place.now)) c.in_ok-items.items.now c.loop-index.index c.index-items-index.result c.loop-index.rules c.in_err-add_rule.field-0.0 _ c.loop-index-test.true c.index-items-index.is c.in_err-add_rule.ensures c.loop-index.invariant)
+    rw (p.1, p.2) (item_stops (rule_into (path_text c.args.path.now)) c.in_ok-items.items.now c.loop-index.index c.index-items-index.result c.loop-index.rules c.in_err-add_rule.field-0.0 _ c.loop-index-test.true c.index-items-index.is c.in_err-add_rule.ensures c.loop-index.invariant)

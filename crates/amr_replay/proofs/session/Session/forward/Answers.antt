@@ -2,7 +2,7 @@ use Rattle.std.proofs.Common.{◌≡◌, ◌<◌, ◌+◌, ◌++◌, Some, ap, �
 use Rattle.amr_engine.specs.Events.{outcome_of}
 use Rattle.amr_engine.specs.Outcomes.{outcome_view}
 use Rattle.amr_replay.specs.Session.{View, at_cursor, state_at, outcomes_passed}
-use Rattle.amr_replay.proofs.Places.{item}
+use Rattle.amr_replay.proofs.Positions.{item}
 use Rattle.amr_replay.proofs.Passed.{told_more}
 use Rattle.amr_replay.proofs.session.Session.forward.Goals as goal
 

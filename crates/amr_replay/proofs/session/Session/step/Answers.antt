@@ -1,7 +1,7 @@
 use Rattle.std.proofs.Common.{ap, ◌∙◌, subst, arith, ◌+◌}
 use Rattle.amr_engine.specs.QuietMoves.{AreQuietMoves}
 use Rattle.amr_replay.specs.Session.{View, at_cursor}
-use Rattle.amr_replay.proofs.Places.{at_next}
+use Rattle.amr_replay.proofs.Positions.{at_next}
 use Rattle.amr_replay.proofs.Recorded.{records_next}
 use Rattle.amr_replay.proofs.session.Session.step.Goals as goal
 

@@ -1,6 +1,6 @@
 use Rattle.std.proofs.Common.{ap, ◌∙◌, arith, ◌-◌}
 use Rattle.amr_replay.specs.Session.{at_cursor}
-use Rattle.amr_replay.proofs.Places.{at_before}
+use Rattle.amr_replay.proofs.Positions.{at_before}
 use Rattle.amr_replay.proofs.Recorded.{records_last}
 use Rattle.amr_replay.proofs.session.Session.unstep.Goals as goal
 

@@ -2,13 +2,13 @@ use Rattle.std.proofs.Common.{◌≡◌, ◌≤◌, ◌<◌, ℕ, length}
 use Rattle.amr_tables.specs.Earliest.{winner_at, later_winner}
 use Rattle.amr_tables.proofs.earliest.Earliest.play_all.Given as goal
 
-abbrev pub invariant-loop-place : goal.invariant-loop-place
-invariant-loop-place g l = record {
+abbrev pub invariant-loop-node : goal.invariant-loop-node
+invariant-loop-node g l = record {
   moments : l.self.moments ≡ l.initial.self.moments;
-  inner : l.place ≤ length l.self.moments;
-  places : length l.self.winners ≡ length l.self.moments;
-  played : (j : ℕ) → 1 ≤ j → l.place ≤ j → j < length l.self.moments → winner_at l.self j ≡ later_winner (g.O.Ranking.rank l.order) l.self j;
+  inner : l.node ≤ length l.self.moments;
+  nodes : length l.self.winners ≡ length l.self.moments;
+  played : (j : ℕ) → 1 ≤ j → l.node ≤ j → j < length l.self.moments → winner_at l.self j ≡ later_winner (g.O.Ranking.rank l.order) l.self j;
 }
 
-abbrev pub decreases-loop-place : goal.decreases-loop-place
-decreases-loop-place g l = l.place
+abbrev pub decreases-loop-node : goal.decreases-loop-node
+decreases-loop-node g l = l.node

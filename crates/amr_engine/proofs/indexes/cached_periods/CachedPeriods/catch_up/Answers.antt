@@ -32,8 +32,8 @@ loop-turn-preserved c =
     let turns : c.loop-turn._turn ≤ known.version = c.loop-turn.invariant.0 in
     let on : known.version ≤ passed.version = subst (λ (k : CachedPeriods). known.version ≤ k.version) (sym passed_is) (passed_on changes known) in
     let more : passed.version < length changes = first_of (search rules, grind (arith, common_steps)) in
-    let change : SilenceChange = c.index-changes-place.result in
-    let is : get_or changes passed.version change ≡ change = sym c.index-changes-place.is in
+    let change : SilenceChange = c.index-changes-index.result in
+    let is : get_or changes passed.version change ≡ change = sym c.index-changes-index.is in
     let le : c.take_in.new.self.from ≤ c.args.at = omega arith in
     let after : CachedPeriods = record { labels = c.take_in.new.self.labels; bits = c.take_in.new.self.bits; from = c.take_in.new.self.from; version = passed.version + 1; periods = c.take_in.new.self.periods } in (
       omega arith,

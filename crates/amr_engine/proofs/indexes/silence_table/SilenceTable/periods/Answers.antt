@@ -22,9 +22,9 @@ returns c =
     let labels = c.args.labels.now in
     let silences : Silences = map_of nat_cmp t.silences in
     let cached : CachedPeriods = c.index-cached.result.now in
-    let place : ℕ = c.in_ok-place.field-0.now in
-    let within : place < length t.cached.items = first_of (search rules, grind (arith, common_steps)) in
-    let right : IsCached silences (changed_ids t.changes.items) cached = subst (IsCached silences (changed_ids t.changes.items)) (sym c.index-cached.ensures) (c.self.invariant.0 place cached within) in
+    let index : ℕ = c.in_ok-index.field-0.now in
+    let within : index < length t.cached.items = first_of (search rules, grind (arith, common_steps)) in
+    let right : IsCached silences (changed_ids t.changes.items) cached = subst (IsCached silences (changed_ids t.changes.items)) (sym c.index-cached.ensures) (c.self.invariant.0 index cached within) in
     let le : cached.from ≤ at = first_of (search rules, grind (arith, common_steps)) in
     let version : cached.version ≡ length t.changes.items = first_of (omega arith, grind (arith, common_steps)) in
     ap (silenced_in at) (c.as_slice.ensures ∙ all_seen silences (changed_ids t.changes.items) cached right (version ∙ sym (length-map t.changes.items (λ (change : SilenceChange). change.id))))

@@ -3,7 +3,7 @@ use Rattle.amr_labels.specs.Matcher.Searches.{search_pattern}
 use Rattle.amr_labels.specs.Matcher.Candidates.{kept_where, found_or_not}
 use Rattle.amr_labels.proofs.matcher.pattern.Pattern.ask_each.Given as goal
 
-abbrev pub invariant-loop-place : goal.invariant-loop-place
-invariant-loop-place l =
+abbrev pub invariant-loop-index : goal.invariant-loop-index
+invariant-loop-index l =
     (search_pattern l.search ≡ search_pattern l.initial.search)
-    × l.candidates ≡ kept_where (found_or_not l.negated l.self) l.name (take l.place l.label_sets) l.initial.candidates
+    × l.candidates ≡ kept_where (found_or_not l.negated l.self) l.name (take l.index l.label_sets) l.initial.candidates

@@ -1,6 +1,0 @@
-use Rattle.std.proofs.Common.{take}
-use Rattle.amr_config.specs.Receivers.{AreReceivers}
-use Rattle.amr_config.proofs.receiver_places.receiver_places.Given as goal
-
-abbrev pub invariant-loop-number : goal.invariant-loop-number
-invariant-loop-number l = AreReceivers l.stated.receivers (take l.number l.settings) l.places.items

@@ -1,0 +1,32 @@
+use Rattle.std.proofs.Common.{◌≡◌, ◌∙◌, sym, ap, map, length, slice_get, Some, arith}
+use Rattle.std.specs.Prelude.{◌<◌}
+use Rattle.std.specs.List.{fold}
+use Rattle.std.proofs.lemmas.Option.{slice_get-get_or}
+use Rattle.amr_config.specs.Groups.{groups_of}
+use Rattle.amr_config.specs.declared.router.RouteGroup.{RouteGroup}
+use Rattle.amr_engine.specs.State.State.{insert_into_group, insert_into_groups}
+use Rattle.amr_engine.specs.State.Kept.{Kept, before_open_record}
+use Rattle.amr_engine.proofs.StateLemmas.Placed.{routes_of_groups, count_of_groups, group_among}
+use Rattle.amr_engine.proofs.state.inserting.insert_into_groups.Goals as goal
+
+pub loop-group-init : goal.loop-group-init
+unfolding insert_into_groups
+loop-group-init c =
+    let s = c.args.store.now.state in
+    let same : c.groups_of.new.self ≡ c.args.store.now = c.groups_of.ensures.same in
+    let groups : c.as_slice-group-items.result.now ≡ groups_of s.config c.args.labels.now = c.as_slice-group-items.ensures ∙ c.get.ensures ∙ c.in_ok-groups.ensures.groups in
+    record {
+      ok = (λ i. fold (insert_into_group c.args.labels.now c.args.alert.now) (same i).state (map (λ (group : RouteGroup). group.route) (groups i)))
+          ∙ ap (fold (insert_into_group c.args.labels.now c.args.alert.now) s) (routes_of_groups s.config c.args.labels.now);
+      groups = groups ∙ ap (λ (k : Kept). groups_of k.state.config c.args.labels.now) (sym same);
+      count = ap length groups ∙ count_of_groups s.config c.args.labels.now;
+      kept = ap before_open_record same;
+      grown = omega (arith, ap (λ (k : Kept). length k.current) same);
+    }
+
+pub insert_into_group-requires : goal.insert_into_group-requires
+insert_into_group-requires c =
+    let lt : c.loop-group.group-index < length c.as_slice-group-items.result.now = omega (arith, c.loop-group-test.true) in
+    group_among c.loop-group.store.state.config c.args.labels.now c.loop-group.group-index c.group-item.result
+    (ap (λ l. slice_get l c.loop-group.group-index) (sym c.loop-group.invariant.groups)
+    ∙ slice_get-get_or c.as_slice-group-items.result.now c.loop-group.group-index c.group-item.result lt ∙ ap (λ g. Some g) (sym c.group-item.is))
