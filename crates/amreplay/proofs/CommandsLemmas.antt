@@ -4,5 +4,4 @@ pub mod Printing
 pub mod EventsPassed
 pub mod Commands
 pub mod Answering
-pub mod Ending
 pub mod Silent

@@ -35,5 +35,5 @@ EndsScriptBy-run a b config events ended failed failed' calls left same = same
 
 pub EndsScriptBy-session : (incident : Incident) (source left old new : Option Text) (ended : Result (Unit {0}) Fault) (failed failed' : Bool) (calls : ℕ)
     → Converses incident source left old new ended → failed' ≡ failed → EndsScriptBy ended failed failed' calls
-EndsScriptBy-session incident source left old new (Err CannotReadScript) failed failed' calls conversed same = absurd conversed.2.1
+EndsScriptBy-session incident source left old new (Err CannotReadScript) failed failed' calls conversed same = absurd conversed.2
 EndsScriptBy-session incident source left old new ended failed failed' calls conversed same = same

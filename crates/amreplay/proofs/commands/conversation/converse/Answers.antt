@@ -4,7 +4,6 @@ use Rattle.std.proofs.lemmas.Result.{err_from_is_err_and}
 use Rattle.amreplay.specs.Commands.Replies.{incident_of}
 use Rattle.amreplay.specs.declared.commands.conversation.Turn.TheVariants.{More, Ended}
 use Rattle.amreplay.proofs.CommandsLemmas.Printing.{Stands-new, Turned-at_ok, PrintedAt-at_err}
-use Rattle.amreplay.proofs.CommandsLemmas.Ending.{ReadsBy-before, EndsBy-before}
 use Rattle.amreplay.proofs.commands.conversation.converse.Goals as goal
 
 pub loop-line-init : goal.loop-line-init
@@ -32,13 +31,3 @@ returns-in_err-take_turn-clause-conversed g c =
     let p = err_from_is_err_and c.from_residual.result c.from_residual.ensures.1 in
     let (same, bytes, consumed, stands) = c.loop-line.invariant.stands in
     rw (p.1, p.2) (PrintedAt-at_err _ _ _ _ _ _ _ _ bytes _ _ _ _ c.take_turn.result _ same c.take_turn.ensures.turned c.in_err-take_turn.was consumed stands)
-
-pub returns-in_err-take_turn-clause-read : goal.returns-in_err-take_turn-clause-read
-returns-in_err-take_turn-clause-read g c =
-    let p = err_from_is_err_and c.from_residual.result c.from_residual.ensures.1 in
-    rw (p.1, p.2) (ReadsBy-before _ _ _ _ _ c.in_err-take_turn.ensures.read c.loop-line.invariant.read)
-
-pub returns-in_err-take_turn-clause-written : goal.returns-in_err-take_turn-clause-written
-returns-in_err-take_turn-clause-written g c =
-    let p = err_from_is_err_and c.from_residual.result c.from_residual.ensures.1 in
-    rw (p.1, p.2) (EndsBy-before _ _ _ _ c.in_err-take_turn.ensures.written c.loop-line.invariant.written)

@@ -6,7 +6,7 @@ use Rattle.amreplay.proofs.commands.conversation.take_turn.Goals as goal
 
 pub returns-in_err-n-clause-turned : goal.returns-in_err-n-clause-turned
 returns-in_err-n-clause-turned g c =
-    let p = err_from_is_err_and c.from_residual-in_err-n.result c.from_residual-in_err-n.ensures.1 in
+    let p = err_from_is_err_and c.from_residual.result c.from_residual.ensures.1 in
     rw (p.1, p.2, c.in_err-n.ensures.read.0) (λ source start bytes consumed stands. (
       bytes,
       Consumes-kept _ _ _ bytes consumed c.in_err-n.ensures.read.1,
