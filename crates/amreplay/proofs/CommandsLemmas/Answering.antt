@@ -4,7 +4,6 @@ use Rattle.std.proofs.lemmas.Result.{MatchResult-weaker}
 use Rattle.std.specs.Io.KnownBytes.{Appends}
 use Rattle.amr_labels.specs.Labels.{Text}
 use Rattle.amreplay.specs.Lines.CheckedWriter.{AppendsBeginning, WritesText}
-use Rattle.amreplay.specs.declared.lines.word.Word.{Word}
 use Rattle.amreplay.specs.CommandLines.Line.{longest}
 use Rattle.amreplay.specs.CommandLines.ParsedLine.{LineSays, ReadingTakesMemory, ReadsSuch, word_of}
 use Rattle.amreplay.specs.CommandLines.Command.{said_of}
@@ -13,10 +12,8 @@ use Rattle.amreplay.specs.declared.command_lines.command.ParsedLine.TheVariants.
 use Rattle.amreplay.specs.declared.command_lines.command.Command.TheVariants as command
 use Rattle.amreplay.specs.Commands.Replies.{Incident, Reply, MayFindNoMemory}
 use Rattle.amreplay.specs.Commands.Talk.{Undone, Done, Answers}
-use Rattle.amreplay.specs.Commands.Answer.{left, Answered, HasLineOutcome, answer_text}
-use Rattle.amreplay.specs.declared.commands.answer.Refusal.TheVariants.{Memory}
+use Rattle.amreplay.specs.Commands.Answer.{Answered, HasLineOutcome, answer_text}
 use Rattle.amreplay.specs.declared.commands.answer.Answer.{Answer}
-use Rattle.amreplay.specs.declared.commands.answer.Answer.TheVariants.{Refused}
 
 -- the line was parsed, and done or undone
 outcome_done : (i : Incident) (n n' : ℕ) (line : Text) (parsed : ParsedLine) (answer : Answer) → length line ≤ longest → LineSays i.version line parsed → Answered i n n' parsed answer → HasLineOutcome i n n' line answer

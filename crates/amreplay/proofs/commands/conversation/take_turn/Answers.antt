@@ -1,4 +1,4 @@
-use Rattle.std.proofs.Common.{refl, inl, inr}
+use Rattle.std.proofs.Common.{refl, inl, inr, ◌∙◌}
 use Rattle.std.proofs.lemmas.Result.{err_from_is_err_and}
 use Rattle.std.proofs.KnownBytes.{Consumes-kept}
 use Rattle.amreplay.proofs.CommandsLemmas.Printing.{Consumes-nothing, Stands-heard, StopsInside-heard}
@@ -7,7 +7,7 @@ use Rattle.amreplay.proofs.commands.conversation.take_turn.Goals as goal
 pub returns-in_err-n-clause-turned : goal.returns-in_err-n-clause-turned
 returns-in_err-n-clause-turned g c =
     let p = err_from_is_err_and c.from_residual.result c.from_residual.ensures.1 in
-    rw (p.1, p.2, c.in_err-n.ensures.read.0) (λ source start bytes consumed stands. (
+    rw (p.1, p.2 ∙ c.in_err-n.ensures.read.0) (λ source start bytes consumed stands. (
       bytes,
       Consumes-kept _ _ _ bytes consumed c.in_err-n.ensures.read.1,
       (_, stands.0, stands.1),
