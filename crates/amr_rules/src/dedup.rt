@@ -1,5 +1,5 @@
 //! The notification log's dedup check, after `needsUpdate` in Alertmanager's notify package:
-//! whether an integration is notified of a group. A flush calls `needs_update` for each
+//! whether the notification log is due for a new entry. A flush calls `needs_update` for each
 //! integration.
 ghost use Rattle.std.specs.Prelude.{◌≡◌, ◌+◌, nat_lt, IfOk, IfSome, map, Some, Bool, true};
 ghost use Rattle.std.specs.List.{list_all};

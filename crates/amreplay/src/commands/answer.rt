@@ -12,7 +12,7 @@ use crate::lines::{
 use amr_time::Moment;
 use std::io::Write;
 
-/// Why a command is refused. The numbers are listed in `docs/FORMATS.md`.
+/// Why a command is refused. The numbers are listed in `docs/RULES.md`.
 #[derive(Clone, Copy, Debug, PartialEq, Eq)]
 pub(crate) enum Refusal {
     /// An allocation failed.
