@@ -1,4 +1,4 @@
-//! Values in buckets that follow from numbers made of them, so that a value is found again by few
+//! Values in buckets that follow from their hashes, so that a value is found again by few
 //! comparisons. `text_cache.rt` keeps the texts and the labels of a script so.
 
 use std::alloc::{AllocError, Global};
@@ -7,22 +7,23 @@ use std::mem;
 /// In how many buckets next to each other a value may be.
 const BUCKETS_OF_A_VALUE: usize = 4;
 
-/// A value with a hash, which says in which buckets it may be.
-pub(crate) trait HashValue {
-    /// Returns the hash. It is the same for equal values.
-    fn hash_value(&self) -> usize;
+/// A value with its hash, which says in which buckets it may be. Equal values have the same.
+#[derive(Drop)]
+pub(crate) struct Hashed<T> {
+    pub(crate) hash_value: usize,
+    pub(crate) value: T,
 }
 
 /// Values in buckets. The number of buckets is zero or a power of two.
 #[derive(Drop)]
 pub(crate) struct Buckets<T> {
     alloc: Global,
-    buckets: Vec<Option<T>>,
+    buckets: Vec<Option<Hashed<T>>>,
     /// How many values were added.
     added: usize,
 }
 
-impl<T: HashValue + Drop> Buckets<T> {
+impl<T: Drop> Buckets<T> {
     /// Returns no buckets.
     pub(crate) fn new(alloc: Global) -> Buckets<T> {
         Buckets {
@@ -32,9 +33,9 @@ impl<T: HashValue + Drop> Buckets<T> {
         }
     }
 
-    /// Returns the buckets in which values of a number are. Other values may be there too, so
-    /// whoever uses them compares them.
-    pub(crate) fn near(&self, hash_value: usize) -> &[Option<T>] {
+    /// Returns the buckets in which values of a hash are. Other values may be there too, so whoever
+    /// uses them compares them.
+    pub(crate) fn near(&self, hash_value: usize) -> &[Option<Hashed<T>>] {
         let start = self.start(hash_value);
         let end = start
             .saturating_add(BUCKETS_OF_A_VALUE)
@@ -46,13 +47,13 @@ impl<T: HashValue + Drop> Buckets<T> {
         }
     }
 
-    /// Adds a value. If all buckets of its number are taken, the value in the first one is
-    /// forgotten.
-    pub(crate) fn add(&mut self, value: T) -> Result<(), AllocError> {
+    /// Adds a value with its hash. If all buckets of its hash are taken, the value in the first one
+    /// is forgotten.
+    pub(crate) fn add(&mut self, hash_value: usize, value: T) -> Result<(), AllocError> {
         if self.added >= self.buckets.len() / 2 {
             self.grow()?;
         }
-        self.put(value);
+        self.put(Hashed { hash_value, value });
         Ok(())
     }
 
@@ -62,35 +63,38 @@ impl<T: HashValue + Drop> Buckets<T> {
         let buckets = mem::replace(&mut self.buckets, free_buckets(self.alloc, doubled)?);
         self.added = 0;
         for bucket in buckets {
-            if let Some(value) = bucket {
-                self.put(value);
+            if let Some(hashed) = bucket {
+                self.put(hashed);
             }
         }
         Ok(())
     }
 
-    /// Puts a value into the first free bucket of its number, or else into the first one.
-    fn put(&mut self, value: T) {
-        let start = self.start(value.hash_value());
+    /// Puts a value into the first free bucket of its hash, or else into the first one.
+    fn put(&mut self, hashed: Hashed<T>) {
+        let start = self.start(hashed.hash_value);
         let free = self
             .near(start)
             .iter()
             .position(|bucket| bucket.is_none())
             .unwrap_or(0);
         if let Some(bucket) = self.buckets.get_mut(start.saturating_add(free)) {
-            *bucket = Some(value);
+            *bucket = Some(hashed);
             self.added = self.added.saturating_add(1);
         }
     }
 
-    /// Returns the first bucket of a number.
+    /// Returns the first bucket of a hash.
     fn start(&self, hash_value: usize) -> usize {
         hash_value & self.buckets.len().wrapping_sub(1)
     }
 }
 
 /// Returns buckets in which no value is.
-fn free_buckets<T: Drop>(alloc: Global, count: usize) -> Result<Vec<Option<T>>, AllocError> {
+fn free_buckets<T: Drop>(
+    alloc: Global,
+    count: usize,
+) -> Result<Vec<Option<Hashed<T>>>, AllocError> {
     let mut buckets = Vec::with_capacity(alloc, count)?;
     for _ in 0..count {
         buckets.push(None)?;

@@ -5,7 +5,7 @@ ghost use Rattle.std.specs.Coded.{codes};
 ghost use Rattle.amr_labels.specs.Map as map;
 ghost use Rattle.amr_events.specs.ReloadCache.{Spells};
 
-use crate::buckets::{Buckets, HashValue};
+use crate::buckets::{Buckets, Hashed};
 use amr_config::Config;
 use amr_labels::fnv_hash;
 use std::alloc::{AllocError, Global};
@@ -16,12 +16,6 @@ struct CachedReload {
     text: String,
     config: Config,
     ghost spelled: { Spells (string_bytes text) config } by { Prim.hlevel (codes, map.code) },
-}
-
-impl HashValue for CachedReload {
-    fn hash_value(&self) -> usize {
-        fnv_hash(self.text.as_str())
-    }
 }
 
 /// Configurations that were read before, by the texts of their values.
@@ -53,17 +47,20 @@ impl ReloadCache {
         requires { Spells (string_bytes text) config.now }
     {
         let config = config.clone()?;
-        self.reloads.add(CachedReload { text, config })
+        let hash_value = fnv_hash(text.as_str());
+        self.reloads.add(hash_value, CachedReload { text, config })
     }
 }
 
 /// Returns the configuration in one of these buckets that was read from the value of a text.
-fn config_among<'a>(buckets: &'a [Option<CachedReload>], text: &str) -> Option<&'a Config>
+fn config_among<'a>(buckets: &'a [Option<Hashed<CachedReload>>], text: &str) -> Option<&'a Config>
     ensures { IfSome result (λ config. Spells text.now config.now) }
 {
     for bucket in buckets {
         match bucket {
-            Some(cached) if cached.text.as_str() == text => return Some(&cached.config),
+            Some(cached) if cached.value.text.as_str() == text => {
+                return Some(&cached.value.config);
+            }
             _ => {}
         }
     }

@@ -7,7 +7,7 @@ ghost use Rattle.std.specs.Prelude.{◌≡◌, true, reverse, IfOk, IfSome};
 ghost use Rattle.amr_labels.specs.Map as map;
 ghost use Rattle.amr_events.specs.Tokens.{lent_texts};
 
-use crate::buckets::{Buckets, HashValue};
+use crate::buckets::{Buckets, Hashed};
 use crate::posts::PostedLabels;
 use crate::reload_cache::ReloadCache;
 use amr_labels::matcher::Patterns;
@@ -53,12 +53,13 @@ impl TextCache {
     ) -> Result<PostedLabels, AllocError>
         ensures { IfOk result (λ labels. labels ≡ lent_texts stated.now) }
     {
-        if let Some(known) = labels_among(self.labels.near(hash_of_texts(stated)), stated) {
+        let hash_value = hash_of_texts(stated);
+        if let Some(known) = labels_among(self.labels.near(hash_value), hash_value, stated) {
             return Ok(known.clone()?);
         }
         let pairs = self.share_pairs(alloc, stated)?;
         let labels = PostedLabels::new(alloc, pairs)?;
-        self.labels.add(labels.clone()?)?;
+        self.labels.add(hash_value, labels.clone()?)?;
         Ok(labels)
     }
 
@@ -109,32 +110,17 @@ impl TextCache {
     fn share(&mut self, alloc: Global, text: &str) -> Result<Text, AllocError>
         ensures { IfOk result (λ shared. shared ≡ text.now) }
     {
-        if let Some(known) = text_among(self.texts.near(fnv_hash(text)), text) {
+        let hash_value = fnv_hash(text);
+        if let Some(known) = text_among(self.texts.near(hash_value), hash_value, text) {
             return Ok(known.clone()?);
         }
         let shared = Text::from_str(alloc, text)?;
-        self.texts.add(shared.clone()?)?;
+        self.texts.add(hash_value, shared.clone()?)?;
         Ok(shared)
     }
 }
 
-impl HashValue for Text {
-    fn hash_value(&self) -> usize {
-        fnv_hash(self.as_str())
-    }
-}
-
-impl HashValue for PostedLabels {
-    fn hash_value(&self) -> usize {
-        let mut hash_value: usize = 0;
-        for (name, text) in self.pairs() {
-            hash_value = hash_after(hash_value, name.as_str(), text.as_str());
-        }
-        hash_value
-    }
-}
-
-/// Returns a number made of names and texts, as that of the labels with them.
+/// Returns a hash of names and texts.
 fn hash_of_texts(stated: &[(&str, &str)]) -> usize {
     let mut hash_value: usize = 0;
     for (name, text) in stated {
@@ -143,35 +129,45 @@ fn hash_of_texts(stated: &[(&str, &str)]) -> usize {
     hash_value
 }
 
-/// Returns the number of some names and texts, given that of all but the last.
+/// Returns the hash of some names and texts, given that of all but the last.
 fn hash_after(hash_value: usize, name: &str, text: &str) -> usize {
     let with_name = hash_value.rotate_left(5) ^ fnv_hash(name);
     with_name.rotate_left(5) ^ fnv_hash(text)
 }
 
-/// Returns the text in one of these buckets.
-fn text_among<'a>(buckets: &'a [Option<Text>], text: &str) -> Option<&'a Text>
+/// Returns the text in one of these buckets, given its hash.
+fn text_among<'a>(
+    buckets: &'a [Option<Hashed<Text>>],
+    hash_value: usize,
+    text: &str,
+) -> Option<&'a Text>
     ensures { IfSome result (λ known. known.now ≡ text.now) }
 {
     for bucket in buckets {
         match bucket {
-            Some(known) if known.as_str() == text => return Some(known),
+            Some(known) if known.hash_value == hash_value && known.value.as_str() == text => {
+                return Some(&known.value);
+            }
             _ => {}
         }
     }
     None
 }
 
-/// Returns the labels of names and texts in one of these buckets.
+/// Returns the labels of names and texts in one of these buckets, given their hash.
 fn labels_among<'a>(
-    buckets: &'a [Option<PostedLabels>],
+    buckets: &'a [Option<Hashed<PostedLabels>>],
+    hash_value: usize,
     stated: &[(&str, &str)],
 ) -> Option<&'a PostedLabels>
     ensures { IfSome result (λ known. known.now ≡ lent_texts stated.now) }
 {
     for bucket in buckets {
         match bucket {
-            Some(known) if are_stated(known.pairs(), stated) => return Some(known),
+            Some(known)
+                if known.hash_value == hash_value && are_stated(known.value.pairs(), stated) => {
+                return Some(&known.value);
+            }
             _ => {}
         }
     }
