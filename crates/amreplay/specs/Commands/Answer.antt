@@ -9,7 +9,6 @@ use Rattle.amreplay.specs.CommandLines.ParsedLine.{word_of}
 use Rattle.amr_replay.specs.Session.{View}
 use Rattle.amreplay.specs.Commands.Replies.{Incident, incident_of, Reply, reply_of, reply_to_move, MayFindNoMemory}
 use Rattle.amreplay.specs.Commands.Talk.{LineOutcome, reply, MayBe}
-use Rattle.amreplay.specs.declared.commands.answer.Refusal.{Refusal}
 use Rattle.amreplay.specs.declared.commands.answer.Refusal.TheVariants.{Memory}
 use Rattle.amreplay.specs.Commands.Refusals.{refusal_number}
 use Rattle.amreplay.specs.declared.commands.answer.Answer.{Answer}

@@ -1,5 +1,4 @@
 use Rattle.std.proofs.Common.{◌≡◌, [], ◌∷◌, ◌++◌, rules, ap, ◌∙◌}
-use Rattle.std.specs.String.{string_bytes}
 use Rattle.json.specs.Token as token
 use Rattle.json.specs.Print.{print, quoted}
 use Rattle.amreplay.proofs.LinesLemmas.Pushed.{print_string}

@@ -1,4 +1,4 @@
-use Rattle.std.proofs.Common.{◌<◌, length, subst, sym, arith}
+use Rattle.std.proofs.Common.{subst, sym, arith}
 use Rattle.std.specs.Io.KnownBytes.{Consumes}
 use Rattle.std.proofs.KnownBytes.{Consumes-trans}
 use Rattle.amreplay.proofs.ProgramLemmas.Reading.{config_cut}

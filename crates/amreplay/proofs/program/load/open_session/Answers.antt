@@ -1,4 +1,4 @@
-use Rattle.std.proofs.Common.{◌≡◌, ℕ, List, Result, Ok, sym, refl, subst}
+use Rattle.std.proofs.Common.{◌≡◌, ℕ, List, Ok, sym, refl, subst}
 use Rattle.amr_config.specs.Stated.Config as config
 use Rattle.amr_events.specs.Scripts as scripts
 use Rattle.amr_replay.specs.Session.{View, at_cursor}
