@@ -28,12 +28,7 @@ script_fault (script_error.Refused fault) = Script fault
 abbrev pub fault_prefix : Fault → List ℕ
 fault_prefix (Config refusal) = codes "amreplay: config: "
 fault_prefix (Script fault) = codes "amreplay: script: "
-fault_prefix CannotReadConfig = codes "amreplay: "
-fault_prefix CannotReadScript = codes "amreplay: "
-fault_prefix CannotReadCommands = codes "amreplay: "
-fault_prefix CannotWrite = codes "amreplay: "
-fault_prefix Memory = codes "amreplay: "
-fault_prefix Usage = codes "amreplay: "
+fault_prefix fault = codes "amreplay: "
 
 abbrev pub fault_name : Fault → List ℕ
 fault_name (Config refusal) = printed_name_of (cause_of refusal)
@@ -73,12 +68,7 @@ script_location TooManyEvents = Nowhere
 abbrev pub fault_location : Fault → FaultLocation
 fault_location (Config refusal) = config_location refusal
 fault_location (Script fault) = script_location fault
-fault_location CannotReadConfig = Nowhere
-fault_location CannotReadScript = Nowhere
-fault_location CannotReadCommands = Nowhere
-fault_location CannotWrite = Nowhere
-fault_location Memory = Nowhere
-fault_location Usage = Nowhere
+fault_location fault = Nowhere
 
 abbrev pub line_with_location : List ℕ → List ℕ → FaultLocation → List ℕ
 line_with_location prefix name Nowhere = prefix ++ (name ++ codes "\n")
@@ -89,11 +79,5 @@ abbrev pub fault_line : Fault → List ℕ
 fault_line fault = line_with_location (fault_prefix fault) (fault_name fault) (fault_location fault)
 
 abbrev pub status_of : Fault → ℕ
-status_of (Config refusal) = 1
-status_of (Script fault) = 1
-status_of CannotReadConfig = 1
-status_of CannotReadScript = 1
-status_of CannotReadCommands = 1
-status_of CannotWrite = 1
-status_of Memory = 1
 status_of Usage = 2
+status_of fault = 1

@@ -5,7 +5,7 @@ use Rattle.serde_json.specs.Data.{Data, object}
 use Rattle.amr_labels.specs.Labels.{Text}
 use Rattle.amr_config.specs.Stated.Config as config
 use Rattle.amreplay.specs.declared.fault.Fault.{Fault}
-use Rattle.amreplay.specs.declared.fault.Fault.TheVariants.{Config, Script, CannotReadConfig, CannotReadScript, CannotReadCommands, CannotWrite, Memory, Usage}
+use Rattle.amreplay.specs.declared.fault.Fault.TheVariants.{Config, CannotWrite, Memory}
 use Rattle.amreplay.specs.Program.Files.{ConfigFileIs}
 use Rattle.amreplay.specs.Lines.CheckedWriter.{AppendsBeginning}
 use Rattle.amreplay.specs.Lines.Printed.{object_of, number_data, data_line}
@@ -23,13 +23,8 @@ counts_line config = data_line (counts_data config)
 -- the configuration is refused; running out of memory says nothing about it
 abbrev pub IsRefused : List ℕ → Fault → Type 0
 IsRefused bytes (Config refusal) = ConfigFileIs bytes (Err refusal)
-IsRefused bytes (Script fault) = ⊥
-IsRefused bytes CannotReadConfig = ⊥
-IsRefused bytes CannotReadScript = ⊥
-IsRefused bytes CannotReadCommands = ⊥
-IsRefused bytes CannotWrite = ⊥
 IsRefused bytes Memory = Unit {0}
-IsRefused bytes Usage = ⊥
+IsRefused bytes fault = ⊥
 
 -- A check of a configuration. If it is refused or memory runs out, nothing is written. Otherwise
 -- the line with its numbers is written, or a prefix of it if the writer fails.

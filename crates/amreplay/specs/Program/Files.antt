@@ -15,7 +15,7 @@ use Rattle.amr_events.specs.Scripts.{ScriptIs}
 use Rattle.amr_events.specs.Scripts as scripts
 use Rattle.amr_replay.specs.Session.{View, at_cursor}
 use Rattle.amreplay.specs.declared.fault.Fault.{Fault}
-use Rattle.amreplay.specs.declared.fault.Fault.TheVariants.{Config, Script, CannotReadConfig, CannotReadScript, CannotReadCommands, CannotWrite, Memory, Usage}
+use Rattle.amreplay.specs.declared.fault.Fault.TheVariants.{Config, Script, CannotReadScript, Memory}
 use Rattle.amreplay.specs.Program.Runs.{RunLeaves}
 
 -- the value that bytes spell, if they are JSON in UTF-8
@@ -54,12 +54,9 @@ pub record Hold (config_bytes script_bytes : List ℕ) (held : config.Config) (s
 abbrev pub AreRefused : List ℕ → List ℕ → Fault → Type 0
 AreRefused bytes script_bytes (Config refusal) = ConfigFileIs bytes (Err refusal)
 AreRefused bytes script_bytes (Script fault) = (held : config.Config) × ConfigFileIs bytes (Ok held) × ScriptIs script_bytes (Err fault)
-AreRefused bytes script_bytes CannotReadConfig = ⊥
 AreRefused bytes script_bytes CannotReadScript = Unit {0}
-AreRefused bytes script_bytes CannotReadCommands = ⊥
-AreRefused bytes script_bytes CannotWrite = ⊥
 AreRefused bytes script_bytes Memory = Unit {0}
-AreRefused bytes script_bytes Usage = ⊥
+AreRefused bytes script_bytes fault = ⊥
 
 -- what the two files hold, or the fault that refuses one of them
 abbrev pub FilesAre : List ℕ → List ℕ → Result (config.Config × scripts.Script) Fault → Type 0
