@@ -94,7 +94,7 @@ class EachCall:
                 at += 1
 
     def one_call_cold(self, cursor, call):
-        """As `one_call`, but with a new session for each growth, so that nothing was remembered or made before."""
+        """As `one_call`, but with a new session for each growth, so that nothing was cached or made before."""
         with self.fresh(cursor) as session:
             before = self.seen(session)
             whole = session.ask(call)[0]

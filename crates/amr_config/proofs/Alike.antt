@@ -27,7 +27,7 @@ use Rattle.amr_config.specs.declared.stated.rule_sides.RuleMatch.{RuleMatch}
 use Rattle.amr_config.specs.Stated.Config.{Config}
 use Rattle.amr_config.specs.Stated.RuleMatches.{rule_matches}
 use Rattle.amr_config.specs.Alike.{RoutingPart, routing_part, sides, AreAlike}
-use Rattle.amr_config.specs.Groups.{groups_of, known_of}
+use Rattle.amr_config.specs.Groups.{groups_of, routing_to_cache}
 use Rattle.amr_config.specs.Routing.{route_numbers, parent_of, line_within, line_of, matches_route, is_child, is_cut_off, route_is, first_stated, inherited_value, grouped_by, chosen_routes, group_of}
 
 of_mapped : {X Y Z : Type 0} (f : Y → Z) (v : X → Y) (d : Z) (o : Option X) → option_map_or f (option_map v o) d ≡ option_map_or (λ x. f (v x)) o d
@@ -88,8 +88,8 @@ unfolding rule_matches match_of
 by_sides labels rules = sym (map-map (match_of labels) sides rules)
 
 -- configurations that are alike give each label set the same groups and sides
-pub same_known : (a b : Config) → AreAlike a b → (labels : LabelSet) → known_of a labels ≡ known_of b labels
-same_known a b alike labels =
+pub same_cached : (a b : Config) → AreAlike a b → (labels : LabelSet) → routing_to_cache a labels ≡ routing_to_cache b labels
+same_cached a b alike labels =
     let rules : rule_matches labels a.rules ≡ rule_matches labels b.rules = by_sides labels a.rules ∙ ap (map (match_of labels)) alike.rules ∙ sym (by_sides labels b.rules) in
     let groups = same_groups a b alike.routes labels in
     λ i. record { groups = groups i; rules = rules i }

@@ -1,11 +1,11 @@
--- Memories of answers for label sets: without an answer, and with one more.
+-- Caches of answers for label sets: without an answer, and with one more.
 use Rattle.std.proofs.Common.{◌≡◌, cond, None, Some, refl, sym, ap, ◌∙◌}
 use Rattle.std.specs.declared.cmp.Ordering.TheVariants.{Less, Equal, Greater}
 use Rattle.std.specs.Ordering.{is_eq}
 use Rattle.amr_labels.specs.Labels.{LabelSet, label_set_cmp, label_set_cmp_total, label_set_cmp-IsAntisymmetric}
 use Rattle.amr_labels.specs.Map.{Map, empty, get, set, get-empty, get-set}
 use Rattle.amr_tables.specs.Numbered.{Numbered, map_of}
-use Rattle.amr_config.specs.Groups.{Remembers}
+use Rattle.amr_config.specs.Groups.{CachesOnly}
 
 same_of_some : {X : Type 0} (x y : X) → Some x ≡ Some y → x ≡ y
 same_of_some x y e = cc
@@ -16,28 +16,28 @@ nothing_found x y e = absurd (cc)
 module _ {X : Type 0} (answer : LabelSet → X) where
   -- what a map gives for each label set that it has is the answer
   abbrev pub Gives : Map label_set_cmp X → Type 0
-  Gives known = (labels : LabelSet) (found : X) → get known labels ≡ Some found → found ≡ answer labels
+  Gives cached = (labels : LabelSet) (found : X) → get cached labels ≡ Some found → found ≡ answer labels
 
-  pub gives_none : (known : Map label_set_cmp X) → known ≡ empty → Gives known
-  gives_none known none labels found at =
+  pub gives_none : (cached : Map label_set_cmp X) → cached ≡ empty → Gives cached
+  gives_none cached none labels found at =
       nothing_found found _ (sym (ap (λ m. get m labels) none ∙ get-empty label_set_cmp labels) ∙ at)
 
-  pub gives_more : (known more : Map label_set_cmp X) (labels : LabelSet) (x : X) → Gives known → x ≡ answer labels → more ≡ set known labels (Some x) → Gives more
-  gives_more known more labels x is_known is shows other found at =
-      let there = get-set label_set_cmp_total known labels (Some x) other in
-      elim (label_set_cmp other labels) as (λ o. label_set_cmp other labels ≡ o → cond (is_eq o) (Some x) (get known other) ≡ Some found → found ≡ answer other) [
-        | Less ↦ λ tie at. is_known other found at
+  pub gives_more : (cached more : Map label_set_cmp X) (labels : LabelSet) (x : X) → Gives cached → x ≡ answer labels → more ≡ set cached labels (Some x) → Gives more
+  gives_more cached more labels x is_cached is shows other found at =
+      let there = get-set label_set_cmp_total cached labels (Some x) other in
+      elim (label_set_cmp other labels) as (λ o. label_set_cmp other labels ≡ o → cond (is_eq o) (Some x) (get cached other) ≡ Some found → found ≡ answer other) [
+        | Less ↦ λ tie at. is_cached other found at
         | Equal ↦ λ tie at. sym (same_of_some x found at) ∙ is ∙ ap answer (sym (label_set_cmp-IsAntisymmetric other labels tie))
-        | Greater ↦ λ tie at. is_known other found at
+        | Greater ↦ λ tie at. is_cached other found at
       ] refl (sym there ∙ ap (λ m. get m other) (sym shows) ∙ at)
 
   -- it is also the answer of another kind that always gives the same
-  pub gives_same : (other : LabelSet → X) (known : Map label_set_cmp X) → ((labels : LabelSet) → other labels ≡ answer labels) → ((labels : LabelSet) (found : X) → get known labels ≡ Some found → found ≡ other labels) → Gives known
-  gives_same other known same is_known labels found at = is_known labels found at ∙ same labels
+  pub gives_same : (other : LabelSet → X) (cached : Map label_set_cmp X) → ((labels : LabelSet) → other labels ≡ answer labels) → ((labels : LabelSet) (found : X) → get cached labels ≡ Some found → found ≡ other labels) → Gives cached
+  gives_same other cached same is_cached labels found at = is_cached labels found at ∙ same labels
 
-module _ {X : Type 0} (answer : LabelSet → X) (known : Numbered LabelSet X) where
-  pub remembers_none : map_of label_set_cmp known ≡ empty → Remembers answer known
-  remembers_none = gives_none answer (map_of label_set_cmp known)
+module _ {X : Type 0} (answer : LabelSet → X) (cached : Numbered LabelSet X) where
+  pub caches_none : map_of label_set_cmp cached ≡ empty → CachesOnly answer cached
+  caches_none = gives_none answer (map_of label_set_cmp cached)
 
-  pub remembers_more : (more : Numbered LabelSet X) (labels : LabelSet) (x : X) → Remembers answer known → x ≡ answer labels → map_of label_set_cmp more ≡ set (map_of label_set_cmp known) labels (Some x) → Remembers answer more
-  remembers_more more = gives_more answer (map_of label_set_cmp known) (map_of label_set_cmp more)
+  pub caches_more : (more : Numbered LabelSet X) (labels : LabelSet) (x : X) → CachesOnly answer cached → x ≡ answer labels → map_of label_set_cmp more ≡ set (map_of label_set_cmp cached) labels (Some x) → CachesOnly answer more
+  caches_more more = gives_more answer (map_of label_set_cmp cached) (map_of label_set_cmp more)

@@ -18,22 +18,22 @@ group_at config labels route = record { route = route; labels = group_of config 
 unfoldable pub groups_of : Config → LabelSet → List RouteGroup
 groups_of config labels = map (group_at config labels) (chosen_routes config labels)
 
--- what is to be remembered of a label set
-abbrev pub known_of : Config → LabelSet → CachedRouting
-known_of config labels = record { groups = groups_of config labels; rules = rule_matches labels config.rules }
+-- what is to be cached of a label set
+abbrev pub routing_to_cache : Config → LabelSet → CachedRouting
+routing_to_cache config labels = record { groups = groups_of config labels; rules = rule_matches labels config.rules }
 
--- what is remembered of each label set is this answer
-abbrev pub Remembers : {X : Type 0} → (LabelSet → X) → Numbered LabelSet X → Type 0
-Remembers answer cache = (labels : LabelSet) (found : _) → get (map_of label_set_cmp cache) labels ≡ Some found → found ≡ answer labels
+-- what is cached of each label set is this answer
+abbrev pub CachesOnly : {X : Type 0} → (LabelSet → X) → Numbered LabelSet X → Type 0
+CachesOnly answer cache = (labels : LabelSet) (found : _) → get (map_of label_set_cmp cache) labels ≡ Some found → found ≡ answer labels
 
--- what is remembered of a label set are its groups, and the sides of the rules that it is on
+-- what is cached of a label set are its groups, and the sides of the rules that it is on
 abbrev pub IsCacheOf : Config → Numbered LabelSet CachedRouting → Type 0
-IsCacheOf config cache = Remembers (known_of config) cache
+IsCacheOf config cache = CachesOnly (routing_to_cache config) cache
 
--- what is remembered of a label set are the sides of the rules that it is on
+-- what is cached of a label set are the sides of the rules that it is on
 abbrev pub AreSides : Config → Map label_set_cmp (List RuleMatch) → Type 0
 AreSides config sides = (labels : LabelSet) (found : _) → get sides labels ≡ Some found → found ≡ rule_matches labels config.rules
 
 -- group labels are kept under themselves
 abbrev pub AreUnderThemselves : Numbered LabelSet LabelSet → Type 0
-AreUnderThemselves kept = Remembers (λ labels. labels) kept
+AreUnderThemselves kept = CachesOnly (λ labels. labels) kept

@@ -1,7 +1,7 @@
-//! A configuration that remembers, of each label set it has seen, the groups and the sides of the
+//! A configuration that caches, of each label set it has seen, the groups and the sides of the
 //! inhibition rules. The state of a replay holds it in place of the configuration, so that what was
 //! worked out travels with the configuration through a reload and back. Contracts see nothing of
-//! what it remembers.
+//! what it caches.
 ghost use Rattle.std.specs.Prelude.{◌≡◌, IfOk};
 ghost use Rattle.amr_config.specs.Groups.{groups_of, group_at};
 ghost use Rattle.amr_config.specs.Stated.RuleMatches.{rule_matches};
@@ -17,8 +17,7 @@ use std::alloc::{AllocError, Global};
 use std::marker::Model;
 use std::mem;
 
-/// A configuration that remembers what it worked out of label sets. Contracts see the
-/// configuration.
+/// A configuration that caches what it worked out of label sets. Contracts see the configuration.
 #[derive(Drop)]
 pub struct Router {
     alloc: Global,
@@ -32,8 +31,7 @@ pub struct Router {
     sides: LabelMap<Shared<Listing<RuleMatch>>>,
 }
 
-/// What is remembered of a label set: its groups, and the sides of the inhibition rules that it is
-/// on.
+/// What is cached of a label set: its groups, and the sides of the inhibition rules that it is on.
 #[derive(Drop)]
 pub(crate) struct CachedRouting {
     pub(crate) groups: Shared<Listing<RouteGroup>>,
@@ -61,7 +59,7 @@ impl Model for Router {
 }
 
 impl Router {
-    /// Takes a configuration, of which nothing is remembered yet.
+    /// Takes a configuration, of which nothing is cached yet.
     pub fn new(alloc: Global, config: Config) -> Router
         ensures { result ≡ config }
     {
@@ -123,7 +121,7 @@ impl Router {
         }
     }
 
-    /// Works out the groups that take an alert with these labels, and remembers them if there is
+    /// Works out the groups that take an alert with these labels, and caches them if there is
     /// room.
     fn work_out(&mut self, labels: &Labels) -> Result<Shared<Listing<RouteGroup>>, AllocError>
         ensures groups { IfOk result (λ groups. groups ≡ groups_of self.old labels.now) }
@@ -141,7 +139,7 @@ impl Router {
         Ok(groups)
     }
 
-    /// Remembers the groups of this label set, and the sides of the inhibition rules that it is on.
+    /// Caches the groups of this label set, and the sides of the inhibition rules that it is on.
     fn cache_groups(
         &mut self,
         labels: &Labels,
@@ -169,7 +167,7 @@ impl Router {
         }
     }
 
-    /// Returns which sides of the inhibition rules these labels are on, remembered or worked out.
+    /// Returns which sides of the inhibition rules these labels are on, cached or worked out.
     fn sides_of_kept(&mut self, kept: Labels) -> Result<Shared<Listing<RuleMatch>>, AllocError>
         ensures sides { IfOk result (λ found. found ≡ rule_matches kept self.old.rules) }
         ensures same { self.new ≡ self.old }
@@ -180,7 +178,7 @@ impl Router {
         }
     }
 
-    /// Works out which sides of the inhibition rules these labels are on, and remembers them if
+    /// Works out which sides of the inhibition rules these labels are on, and caches them if
     /// there is room.
     fn work_out_sides(&mut self, kept: Labels) -> Result<Shared<Listing<RuleMatch>>, AllocError>
         ensures sides { IfOk result (λ found. found ≡ rule_matches kept self.old.rules) }
@@ -191,7 +189,7 @@ impl Router {
         Ok(sides)
     }
 
-    /// Remembers which sides of the inhibition rules these labels are on.
+    /// Caches which sides of the inhibition rules these labels are on.
     fn cache_sides(
         &mut self,
         kept: Labels,

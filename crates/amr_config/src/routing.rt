@@ -144,7 +144,7 @@ impl Config {
 }
 
 /// Returns the numbers of the routes that take an alert with these labels, in ascending order. It
-/// asks the patterns of the matchers through the remembered answers.
+/// asks the patterns of the matchers through the cached answers.
 pub(crate) fn chosen_routes(
     alloc: Global,
     answers: &mut MatchCache,

@@ -1,4 +1,4 @@
--- A group that isn't remembered needn't be forgotten.
+-- A group that isn't cached needn't be forgotten.
 use Rattle.std.specs.Prelude.{◌≡◌, true, false, Option, Some, None, cond, is_some, IsTrue, option_copied}
 use Rattle.std.specs.Borrow.{Bor}
 use Rattle.std.specs.declared.cmp.Ordering.{Ordering}

@@ -16,7 +16,7 @@ pub mod QuietStays
 pub mod NotifiedStays
 pub mod MovesNoted
 pub mod Lasting
-pub mod Remembering
+pub mod CachedQuiet
 pub mod Forgetting
 pub mod Unnotified
 pub mod Invariant

@@ -30,7 +30,7 @@ use Rattle.amr_engine.specs.declared.quiet.QuietTime.{QuietTime}
 use Rattle.amr_engine.specs.Events as events
 use Rattle.amr_engine.specs.Flush.{Members, labels_of, log_key_of}
 use Rattle.amr_engine.specs.Quiet.{no_repeat_before, is_notified, are_notified, IsAllNotified, LeavesOthers}
-use Rattle.amr_engine.specs.Remembered.{Times, IsNotifiedIn, without_group, without_joined, without_all_joined}
+use Rattle.amr_engine.specs.CachedQuiet.{Times, IsNotifiedIn, without_group, without_joined, without_all_joined}
 use Rattle.amr_engine.proofs.Copied.{put-config}
 use Rattle.amr_engine.proofs.QuietStays.{equal, apart}
 
@@ -61,7 +61,7 @@ module _ (s t : State) (group : RouteLabels) (config : t.config ≡ s.config)
         (record { fire = notified.notified.fire; notified = all_alike period.from period.until (members s group) ∙ notified.notified.notified });
   }
 
--- ---- a group that is removed from what is remembered
+-- ---- a group that is removed from what is cached
 
 same_group : (a b : RouteLabels) → eq_by_cmp route_labels_cmp a b ≡ true → a ≡ b
 same_group a b e = route_labels_cmp-IsAntisymmetric a b (equal (route_labels_cmp a b) e)
@@ -69,23 +69,23 @@ same_group a b e = route_labels_cmp-IsAntisymmetric a b (equal (route_labels_cmp
 other_group : (a b : RouteLabels) → eq_by_cmp route_labels_cmp a b ≡ false → a ≡ b → ⊥
 other_group a b other e = absurd (cc (other, ap is_eq (tied_itself route_labels_cmp_total b), ap (λ (g : RouteLabels). eq_by_cmp route_labels_cmp g b) e))
 
--- what is still known is of another group, and was known before
-pub still_known : (times : Times) (removed group : RouteLabels) (time : QuietTime) → get (remove times removed) group ≡ Some time → (group ≡ removed → ⊥) × (get times group ≡ Some time)
-still_known times removed group time known =
+-- what is still cached is of another group, and was cached before
+pub still_cached : (times : Times) (removed group : RouteLabels) (time : QuietTime) → get (remove times removed) group ≡ Some time → (group ≡ removed → ⊥) × (get times group ≡ Some time)
+still_cached times removed group time cached =
     elim (eq_by_cmp route_labels_cmp group removed) as (λ b. eq_by_cmp route_labels_cmp group removed ≡ b → cond b None (get times group) ≡ Some time → (group ≡ removed → ⊥) × (get times group ≡ Some time)) [
       | true ↦ λ is left. absurd (cc left)
       | false ↦ λ is left. (other_group group removed is, left)
-    ] refl (sym (get-remove route_labels_cmp_total times removed group) ∙ known)
+    ] refl (sym (get-remove route_labels_cmp_total times removed group) ∙ cached)
 
--- what is known after one more was put is that, or was known before
-pub now_known : (times : Times) (added : RouteLabels) (one : QuietTime) (group : RouteLabels) (time : QuietTime) → get (insert times added one) group ≡ Some time
+-- what is cached after one more was put is that, or was cached before
+pub now_cached : (times : Times) (added : RouteLabels) (one : QuietTime) (group : RouteLabels) (time : QuietTime) → get (insert times added one) group ≡ Some time
     → ((group ≡ added) × (one ≡ time)) ⊎ (get times group ≡ Some time)
-now_known times added one group time known =
+now_cached times added one group time cached =
     elim (eq_by_cmp route_labels_cmp group added) as (λ b. eq_by_cmp route_labels_cmp group added ≡ b → cond b (Some one) (get times group) ≡ Some time
     → ((group ≡ added) × (one ≡ time)) ⊎ (get times group ≡ Some time)) [
       | true ↦ λ is found. inl (same_group group added is, cc found)
       | false ↦ λ is found. inr found
-    ] refl (sym (get-insert route_labels_cmp_total times added one group) ∙ known)
+    ] refl (sym (get-insert route_labels_cmp_total times added one group) ∙ cached)
 
 -- ---- a flush
 
@@ -142,30 +142,30 @@ module _ (labels : LabelSet) (alert : Alert) where
       ∙ put_elsewhere route_labels_cmp route_labels_cmp-IsAntisymmetric (λ route_labels. eq_by_cmp route_labels_cmp (group_key s.config route_labels) asked) (on_route route labels) alert
       (apart route_labels_cmp-IsAntisymmetric (group_key s.config (on_route route labels)) asked (λ e. other (sym e))) (entries s.placements))
 
-  -- an alert that is inserted into groups leaves those notified that are still known
+  -- an alert that is inserted into groups leaves those notified that are still cached
   left_by_insertions : (routes : List ℕ) (s : State) (times : Times) (group : RouteLabels) (time : QuietTime) → get (fold without_group times (map (group_at s.config labels) routes)) group ≡ Some time
       → (IsNotifiedIn s group time.period → IsNotifiedIn (fold (insert_into_group labels alert) s routes) group time.period) × (get times group ≡ Some time)
-  left_by_insertions [] s times group time known = (λ notified. notified, known)
-  left_by_insertions (route ∷ routes) s times group time known =
-      let rest = left_by_insertions routes (insert_into_group labels alert s route) (without_group times (group_at s.config labels route)) group time known in
-      let here = still_known times (group_key s.config (on_route route labels)) group time rest.1 in
+  left_by_insertions [] s times group time cached = (λ notified. notified, cached)
+  left_by_insertions (route ∷ routes) s times group time cached =
+      let rest = left_by_insertions routes (insert_into_group labels alert s route) (without_group times (group_at s.config labels route)) group time cached in
+      let here = still_cached times (group_key s.config (on_route route labels)) group time rest.1 in
       (λ notified. rest.0 (stays_notified s (insert_into_group labels alert s route) group refl (λ integration. refl) (inserted_one_members s route group here.0) time.period notified), here.1)
 
 left_by_post : (s : State) (times : Times) (alert : LabelSet × Alert) (group : RouteLabels) (time : QuietTime) → get (without_joined s.config times alert.0) group ≡ Some time
     → (IsNotifiedIn s group time.period → IsNotifiedIn (events.put s alert) group time.period) × (get times group ≡ Some time)
 unfolding events.put insert_into_groups groups_of
-left_by_post s times alert group time known =
+left_by_post s times alert group time cached =
     let stored : Alert = alert_to_store s.moment (get s.alerts alert.0) alert.1 in
-    let after = left_by_insertions alert.0 stored (chosen_routes s.config alert.0) (record s { alerts = insert s.alerts alert.0 stored }) times group time known in
+    let after = left_by_insertions alert.0 stored (chosen_routes s.config alert.0) (record s { alerts = insert s.alerts alert.0 stored }) times group time cached in
     (λ notified. after.0 (beside_notified s s.moment (insert s.alerts alert.0 stored) s.silences s.timers s.notes group time.period notified), after.1)
 
 -- a post of alerts leaves the groups notified that none of them joins
 pub left_by_posts : (config : Config) (alerts : List (LabelSet × Alert)) (s : State) (times : Times) → s.config ≡ config → (group : RouteLabels) (time : QuietTime)
     → get (without_all_joined config times alerts) group ≡ Some time
     → (IsNotifiedIn s group time.period → IsNotifiedIn (fold events.put s alerts) group time.period) × (get times group ≡ Some time)
-left_by_posts config [] s times same group time known = (λ notified. notified, known)
-left_by_posts config (alert ∷ alerts) s times same group time known =
-    let rest = left_by_posts config alerts (events.put s alert) (without_joined config times alert.0) (put-config s alert ∙ same) group time known in
+left_by_posts config [] s times same group time cached = (λ notified. notified, cached)
+left_by_posts config (alert ∷ alerts) s times same group time cached =
+    let rest = left_by_posts config alerts (events.put s alert) (without_joined config times alert.0) (put-config s alert ∙ same) group time cached in
     let here = left_by_post s times alert group time (subst (λ (c : Config). get (without_joined c times alert.0) group ≡ Some time) (sym same) rest.1) in
     (λ notified. rest.0 (here.0 notified), here.1)
 

@@ -4,7 +4,7 @@
 ghost use Rattle.std.specs.Prelude.{◌≡◌, ◌≤◌, ◌+◌, ◌*◌, OnOk, IfOk, length, drop};
 ghost use Rattle.amr_time.specs.Time.{latest_read};
 ghost use Rattle.amr_engine.specs.State.Kept.{GrownBy, before_open_record};
-ghost use Rattle.amr_engine.specs.Remembered.{IsTrueOf};
+ghost use Rattle.amr_engine.specs.CachedQuiet.{IsTrueOf};
 ghost use Rattle.amr_engine.specs.Moves.{advance, moves_to};
 ghost use Rattle.amr_engine.specs.Events.{move_limit};
 ghost use Rattle.amr_engine.specs.Outcomes.{acceptance, outcome_view};
@@ -31,22 +31,22 @@ use std::alloc::{AllocError, Global};
 
 /// Applies an event to the store in place. If the event is refused, or an allocation fails, the
 /// store is left half-changed. The caller must then put the open record back and clear
-/// `quiet_groups`, which is what the engine remembers of quiet groups. What `quiet_moves` knows and
-/// learns holds of the state before the event.
+/// `quiet_groups`, which is what the engine caches of quiet groups. What `quiet_moves` holds and
+/// notes is true of the state before the event.
 pub(crate) fn attempt(
     store: &mut Store,
     quiet_groups: &mut QuietGroups,
     quiet_moves: &mut QuietMoves,
     event: &Event,
 ) -> Result<Outcome, AllocError>
-    requires memory { IsTrueOf quiet_groups.old store.old.state }
+    requires cache { IsTrueOf quiet_groups.old store.old.state }
     requires quiet { AreQuietMoves quiet_moves.old store.old.state }
     ensures outcome { IfOk result
         (λ outcome. Leads store.old.state event.now store.new.state outcome) }
     ensures kept { before_open_record store.new ≡ before_open_record store.old }
     ensures light { IfOk result (λ outcome.
         IsLightIfAccepted store.old event.now store.new outcome) }
-    ensures memory { OnOk result (IsTrueOf quiet_groups.new store.new.state) }
+    ensures cache { OnOk result (IsTrueOf quiet_groups.new store.new.state) }
     ensures quiet { AreQuietMoves quiet_moves.new store.old.state }
 {
     let earlier = store.notes().len();
@@ -73,12 +73,12 @@ fn apply_in_order(
     quiet_moves: &mut QuietMoves,
     event: &Event,
 ) -> Result<Result<Done, Reason>, AllocError>
-    requires memory { IsTrueOf quiet_groups.old store.old.state }
+    requires cache { IsTrueOf quiet_groups.old store.old.state }
     requires quiet { AreQuietMoves quiet_moves.old store.old.state }
     ensures done { IfOk result (λ done. IsDone store.old.state event.now store.new.state done) }
     ensures kept { before_open_record store.new ≡ before_open_record store.old }
     ensures light { IfOk result (λ done. IsLightIfDone store.old event.now store.new done) }
-    ensures memory { OnOk result (IsTrueOf quiet_groups.new store.new.state) }
+    ensures cache { OnOk result (IsTrueOf quiet_groups.new store.new.state) }
     ensures quiet { AreQuietMoves quiet_moves.new store.old.state }
 {
     let act = event.act();
@@ -111,14 +111,14 @@ fn advance_to(
     at: Moment,
 ) -> Result<Option<usize>, AllocError>
     requires late { at ≤ latest_read }
-    requires memory { IsTrueOf quiet_groups.old store.old.state }
+    requires cache { IsTrueOf quiet_groups.old store.old.state }
     requires quiet { AreQuietMoves quiet_moves.old store.old.state }
     ensures made { IfOk result (λ made. moves_to store.new.state made
         ≡ run_moved at (advance move_limit at store.old.state)) }
     ensures kept { before_open_record store.new ≡ before_open_record store.old }
     ensures grown { OnOk result (GrownBy (1 + 2 * first_weight move_limit at store.old.state)
         store.old store.new) }
-    ensures memory { OnOk result (IsTrueOf quiet_groups.new store.new.state) }
+    ensures cache { OnOk result (IsTrueOf quiet_groups.new store.new.state) }
     ensures quiet { AreQuietMoves quiet_moves.new store.old.state }
 {
     let made = advance(store, quiet_groups, quiet_moves, at)?;
@@ -140,7 +140,7 @@ fn perform(
     ensures kept { before_open_record store.new ≡ before_open_record store.old }
     ensures grown { OnOk result (GrownBy (entries_of prepared store.old.state store.new.state)
         store.old store.new) }
-    ensures memory { OnOk result (IsTrueOf quiet_groups.new store.new.state) }
+    ensures cache { OnOk result (IsTrueOf quiet_groups.new store.new.state) }
 {
     quiet_groups.forget_changed(store, &prepared);
     change(store, prepared)

@@ -41,7 +41,7 @@ impl Model for Engine {
     ghost use Rattle.amr_labels.specs.Map as map;
     ghost use Rattle.amr_engine.specs.State.Records.{befores};
     ghost use Rattle.amr_engine.specs.State.Steps.{Steps};
-    ghost use Rattle.amr_engine.specs.Remembered.{IsTrueOf};
+    ghost use Rattle.amr_engine.specs.CachedQuiet.{IsTrueOf};
     ghost use Rattle.amr_engine.specs.Placed.{StayPlaced};
 
     ghost Value = { Steps };
@@ -84,8 +84,8 @@ impl Engine {
         self.apply_noting(&mut quiet_moves, event)
     }
 
-    /// Applies an event as `apply` does. What `quiet_moves` knows of the moves from this state
-    /// saves work, and it learns of those that the event makes.
+    /// Applies an event as `apply` does. What `quiet_moves` caches of the moves from this state
+    /// saves work, and it caches those that the event makes.
     pub fn apply_noting(
         &mut self,
         quiet_moves: &mut QuietMoves,

@@ -13,7 +13,7 @@ ghost use Rattle.amr_engine.specs.State.State as state;
 ghost use Rattle.amr_engine.specs.State.Kept.{GrownBy, before_open_record};
 ghost use Rattle.amr_engine.specs.Flush.{let_through, firing_of, resolved_of, labels_of, notified_firing, notified_resolved, notifications_of, notify_all, set_timer, drop_member, drop_resolved, run_pipeline, flush};
 ghost use Rattle.amr_engine.specs.Quiet.{with_timer_reset, IsStill};
-ghost use Rattle.amr_engine.specs.Remembered.{IsTrueOf};
+ghost use Rattle.amr_engine.specs.CachedQuiet.{IsTrueOf};
 ghost use Rattle.amr_engine.specs.Weight.{turns, flush_weight};
 
 use crate::log_key::log_key;
@@ -42,10 +42,10 @@ struct Partition {
 
 ghost use Rattle.amr_engine.specs.Partition.{IsPartition, IsGroupOf, entry_of, notified_by, notified_with};
 
-/// Flushes a group at a moment. For a group that is known to be quiet, or found so, it only sets the
+/// Flushes a group at a moment. For a group that is cached as quiet, or found so, it only sets the
 /// group timer. It asks the cache first, then whether all integrations were notified of all
-/// members, and only then what mutes the members. Returns whether the flush is known to have set the
-/// group timer alone.
+/// members, and only then what mutes the members. Returns whether the flush is known to have set
+/// the group timer alone.
 pub(crate) fn flush(
     store: &mut Store,
     quiet_groups: &mut QuietGroups,
@@ -53,13 +53,13 @@ pub(crate) fn flush(
     group: &RouteLabels,
 ) -> Result<bool, AllocError>
     requires late { at ≤ latest_read }
-    requires memory { IsTrueOf quiet_groups.old store.old.state }
+    requires cache { IsTrueOf quiet_groups.old store.old.state }
     ensures ok { OnOk result (store.new.state ≡ flush at group.now store.old.state) }
     ensures quiet { IfOk result (λ quiet. quiet ≡ true
         → flush at group.now store.old.state ≡ with_timer_reset at group.now store.old.state) }
     ensures kept { before_open_record store.new ≡ before_open_record store.old }
     ensures grown { GrownBy (2 * flush_weight store.old.state group.now) store.old store.new }
-    ensures memory { OnOk result (IsTrueOf quiet_groups.new store.new.state) }
+    ensures cache { OnOk result (IsTrueOf quiet_groups.new store.new.state) }
 {
     if quiet_groups.is_quiet_at(at, group) {
         reset_timer(store, at, group)?;
@@ -83,14 +83,14 @@ fn flush_unnotified(
     members: &[Member],
 ) -> Result<bool, AllocError>
     requires late { at ≤ latest_read }
-    requires memory { IsTrueOf quiet_groups.old store.old.state }
+    requires cache { IsTrueOf quiet_groups.old store.old.state }
     requires members { members.now ≡ state.members store.old.state group.now }
     ensures ok { OnOk result (store.new.state ≡ flush at group.now store.old.state) }
     ensures quiet { IfOk result (λ quiet. quiet ≡ true
         → flush at group.now store.old.state ≡ with_timer_reset at group.now store.old.state) }
     ensures kept { before_open_record store.new ≡ before_open_record store.old }
     ensures grown { GrownBy (2 * flush_weight store.old.state group.now) store.old store.new }
-    ensures memory { OnOk result (IsTrueOf quiet_groups.new store.new.state) }
+    ensures cache { OnOk result (IsTrueOf quiet_groups.new store.new.state) }
 {
     let through = let_through(store, at, group.route, members)?;
     if is_quiet(store, quiet_groups, at, group, members, through.as_slice())? {
@@ -111,11 +111,11 @@ fn is_all_notified(
     group: &RouteLabels,
     members: &[Member],
 ) -> Result<bool, AllocError>
-    requires memory { IsTrueOf quiet_groups.old store.now.state }
+    requires cache { IsTrueOf quiet_groups.old store.now.state }
     requires members { members.now ≡ state.members store.now.state group.now }
     ensures quiet { IfOk result (λ quiet. quiet ≡ true
         → flush at group.now store.now.state ≡ with_timer_reset at group.now store.now.state) }
-    ensures memory { OnOk result (IsTrueOf quiet_groups.new store.now.state) }
+    ensures cache { OnOk result (IsTrueOf quiet_groups.new store.now.state) }
 {
     match all_notified_until(store, at, group, members)? {
         None => Ok(false),
@@ -137,12 +137,12 @@ fn is_quiet(
     members: &[Member],
     through: &[Member],
 ) -> Result<bool, AllocError>
-    requires memory { IsTrueOf quiet_groups.old store.now.state }
+    requires cache { IsTrueOf quiet_groups.old store.now.state }
     requires members { members.now ≡ state.members store.now.state group.now }
     requires through { through.now ≡ let_through store.now.state at group.now.route members.now }
     ensures quiet { IfOk result (λ quiet. quiet ≡ true
         → flush at group.now store.now.state ≡ with_timer_reset at group.now store.now.state) }
-    ensures memory { OnOk result (IsTrueOf quiet_groups.new store.now.state) }
+    ensures cache { OnOk result (IsTrueOf quiet_groups.new store.now.state) }
 {
     if through.len() == members.len() {
         return Ok(false);
@@ -158,11 +158,11 @@ fn is_quiet(
 }
 
 /// Returns a moment until which nothing that may mute an alert changes. That is the next nanosecond
-/// if the memory knows no other and a scan of all stored alerts and silences doesn't pay yet.
+/// if the cache has no other and a scan of all stored alerts and silences doesn't pay yet.
 fn still(store: &Store, quiet_groups: &mut QuietGroups, at: Moment) -> u128
     requires { IsTrueOf quiet_groups.old store.now.state }
     ensures still { IsStill store.now.state at result }
-    ensures memory { IsTrueOf quiet_groups.new store.now.state }
+    ensures cache { IsTrueOf quiet_groups.new store.now.state }
 {
     if let Some(until) = quiet_groups.still_at(at) {
         return until;

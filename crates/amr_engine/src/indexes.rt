@@ -1,4 +1,4 @@
-//! The tables of the stored alerts and of the silences, with what is remembered of label sets: the
+//! The tables of the stored alerts and of the silences, with what is cached of label sets: the
 //! inhibition rules whose sources they can be, and when the silences that match one are active. The
 //! state has one of each.
 

@@ -3,7 +3,7 @@
 ghost use Rattle.std.specs.Prelude.{◌≡◌, ◌≤◌, ◌*◌, true, OnOk, IfOk};
 ghost use Rattle.amr_time.specs.Time.{latest_read};
 ghost use Rattle.amr_engine.specs.State.Kept.{GrownBy, before_open_record};
-ghost use Rattle.amr_engine.specs.Remembered.{IsTrueOf};
+ghost use Rattle.amr_engine.specs.CachedQuiet.{IsTrueOf};
 ghost use Rattle.amr_engine.specs.Moves.{move, advance, counted_run, moves_to};
 ghost use Rattle.amr_engine.specs.Events.{move_limit};
 ghost use Rattle.amr_engine.specs.Weight.{move_weight, first_weight};
@@ -20,7 +20,7 @@ use std::alloc::AllocError;
 /// Makes every move due at or before a moment, and returns how many there were. Returns `None` if
 /// there are more than `MOST_MOVES`, which it may find out before it makes so many; the caller then
 /// undoes those that were made. Moves that `quiet_moves` knows to set a group timer alone do just
-/// that, and it learns of the others whether they do.
+/// that, and it notes of the others whether they do.
 pub(crate) fn advance(
     store: &mut Store,
     quiet_groups: &mut QuietGroups,
@@ -28,14 +28,14 @@ pub(crate) fn advance(
     at: Moment,
 ) -> Result<Option<usize>, AllocError>
     requires late { at ≤ latest_read }
-    requires memory { IsTrueOf quiet_groups.old store.old.state }
+    requires cache { IsTrueOf quiet_groups.old store.old.state }
     requires quiet { AreQuietMoves quiet_moves.old store.old.state }
     ensures ok { IfOk result (λ made. moves_to store.new.state made
         ≡ counted_run (advance move_limit at store.old.state)) }
     ensures kept { before_open_record store.new ≡ before_open_record store.old }
     ensures grown { OnOk result (GrownBy (2 * first_weight move_limit at store.old.state)
         store.old store.new) }
-    ensures memory { OnOk result (IsTrueOf quiet_groups.new store.new.state) }
+    ensures cache { OnOk result (IsTrueOf quiet_groups.new store.new.state) }
     ensures quiet { AreQuietMoves quiet_moves.new store.old.state }
 {
     for made in 0..MOST_MOVES {
@@ -61,12 +61,12 @@ pub(crate) fn advance(
 /// have set a group timer alone.
 fn fire(store: &mut Store, quiet_groups: &mut QuietGroups, due: Due) -> Result<bool, AllocError>
     requires late { due.moment ≤ latest_read }
-    requires memory { IsTrueOf quiet_groups.old store.old.state }
+    requires cache { IsTrueOf quiet_groups.old store.old.state }
     ensures ok { OnOk result (store.new.state ≡ move due store.old.state) }
     ensures quiet { IfOk result (λ quiet. quiet ≡ true → OnlySets store.old.state due) }
     ensures kept { before_open_record store.new ≡ before_open_record store.old }
     ensures grown { GrownBy (2 * move_weight store.old.state due due.kind) store.old store.new }
-    ensures memory { OnOk result (IsTrueOf quiet_groups.new store.new.state) }
+    ensures cache { OnOk result (IsTrueOf quiet_groups.new store.new.state) }
 {
     let Due { moment, timer } = due;
     match timer {
@@ -95,13 +95,13 @@ fn make(
     is_quiet: bool,
 ) -> Result<bool, AllocError>
     requires late { due.moment ≤ latest_read }
-    requires memory { IsTrueOf quiet_groups.old store.old.state }
+    requires cache { IsTrueOf quiet_groups.old store.old.state }
     requires quiet { is_quiet ≡ true → OnlySets store.old.state due }
     ensures ok { OnOk result (store.new.state ≡ move due store.old.state) }
     ensures quiet { IfOk result (λ quiet. quiet ≡ true → OnlySets store.old.state due) }
     ensures kept { before_open_record store.new ≡ before_open_record store.old }
     ensures grown { GrownBy (2 * move_weight store.old.state due due.kind) store.old store.new }
-    ensures memory { OnOk result (IsTrueOf quiet_groups.new store.new.state) }
+    ensures cache { OnOk result (IsTrueOf quiet_groups.new store.new.state) }
 {
     match due {
         Due {

@@ -1,6 +1,6 @@
 //! The cache of the groups whose flushes only set the group timer, and until when. Most moves of a
 //! long replay are such flushes. `flush.rt` asks it before a flush and notes in it what it finds.
-//! The cache is no part of the state: it only knows what the state implies, and it forgets a group
+//! The cache is no part of the state: it only holds what the state implies, and it forgets a group
 //! for which there is no room.
 ghost use Rattle.std.specs.Prelude.{◌≡◌, ◌≤◌, ◌<◌, true, OnOk, OnErr, IfSome};
 ghost use Rattle.std.specs.List.{fold};
@@ -75,7 +75,7 @@ pub(crate) struct QuietGroups {
     budget: ScanBudget,
 }
 
-ghost use Rattle.amr_engine.specs.Remembered.{times_in, quiet_times, without_joined, without_all_joined, Outlasts, IsTrueOf};
+ghost use Rattle.amr_engine.specs.CachedQuiet.{times_in, quiet_times, without_joined, without_all_joined, Outlasts, IsTrueOf};
 
 impl QuietGroups {
     /// Returns a cache of no group.
@@ -93,11 +93,11 @@ impl QuietGroups {
 
     // ---- what it answers
 
-    /// Returns true only if the group is known to be quiet at a moment.
+    /// Returns true only if the group is cached as quiet at a moment.
     pub(crate) fn is_quiet_at(&mut self, at: Moment, group: &RouteLabels) -> bool
         ensures quiet { result ≡ true → (s : State) → IsTrueOf self.old s
             → flush at group.now s ≡ with_timer_reset at group.now s }
-        ensures memory { (s : State) → IsTrueOf self.old s → IsTrueOf self.new s }
+        ensures cache { (s : State) → IsTrueOf self.old s → IsTrueOf self.new s }
     {
         let Some(time) = self.times.get(group) else {
             return false;
@@ -115,7 +115,7 @@ impl QuietGroups {
         }
     }
 
-    /// Returns until when nothing that may mute an alert changes, if that is known of this moment.
+    /// Returns until when nothing that may mute an alert changes, if that is cached of this moment.
     pub(crate) fn still_at(&self, at: Moment) -> Option<u128>
         ensures { IfSome result (λ until. (s : State) → IsTrueOf self.now s → IsStill s at until) }
     {
@@ -141,7 +141,7 @@ impl QuietGroups {
 
     /// Notes what a scan found: nothing that may mute an alert changes from a moment until another.
     pub(crate) fn note_still(&mut self, store: &Store, at: Moment, until: u128)
-        requires memory { IsTrueOf self.old store.now.state }
+        requires cache { IsTrueOf self.old store.now.state }
         requires still { IsStill store.now.state at until }
         ensures { IsTrueOf self.new store.now.state }
     {
@@ -160,7 +160,7 @@ impl QuietGroups {
         group: &RouteLabels,
         until: u128,
     )
-        requires memory { IsTrueOf self.old store.now.state }
+        requires cache { IsTrueOf self.old store.now.state }
         requires notified { IsAllNotified store.now.state group.now at until
             (state.members store.now.state group.now) }
         ensures { IsTrueOf self.new store.now.state }
@@ -177,7 +177,7 @@ impl QuietGroups {
 
     /// Notes that a group is quiet from a moment until another, unless its next flush comes later.
     pub(crate) fn note_quiet(&mut self, store: &Store, at: Moment, group: &RouteLabels, until: u128)
-        requires memory { IsTrueOf self.old store.now.state }
+        requires cache { IsTrueOf self.old store.now.state }
         requires quiet { IsQuiet store.now.state group.now at until }
         ensures { IsTrueOf self.new store.now.state }
     {
@@ -218,12 +218,12 @@ impl QuietGroups {
         }
     }
 
-    /// Forgets what a prepared action may change. A tick changes nothing that is remembered. A post
+    /// Forgets what a prepared action may change. A tick changes nothing that is cached. A post
     /// of alerts changes nothing for groups that were notified of all their members and that no
     /// alert joins, and silences change nothing for any of those.
     pub(crate) fn forget_changed(&mut self, store: &mut Store, prepared: &Prepared)
         requires { IsTrueOf self.old store.old.state }
-        ensures memory { IsTrueOf self.new (after_prepared prepared.now store.old.state) }
+        ensures cache { IsTrueOf self.new (after_prepared prepared.now store.old.state) }
         ensures same { store.new ≡ store.old }
     {
         match prepared {
@@ -238,7 +238,7 @@ impl QuietGroups {
     /// Forgets what the post of these alerts may change.
     fn forget_joined(&mut self, store: &mut Store, alerts: &[(Labels, Alert)])
         requires { IsTrueOf self.old store.old.state }
-        ensures memory { IsTrueOf self.new (fold put store.old.state alerts.now) }
+        ensures cache { IsTrueOf self.new (fold put store.old.state alerts.now) }
         ensures same { store.new ≡ store.old }
     {
         match remove_all_joined(&mut self.times, store, alerts) {
@@ -261,7 +261,7 @@ impl QuietGroups {
     }
 
     /// Forgets what a flush that does more than set the timer may change. If no other route has the
-    /// path of its route, that is what is known of the group itself. Otherwise other groups may
+    /// path of its route, that is what is cached of the group itself. Otherwise other groups may
     /// share its entries in the notification log.
     pub(crate) fn forget_flushed(&mut self, config: &Config, group: &RouteLabels)
         ensures { (s : State) → (at : moment) → s.config ≡ config.now → IsTrueOf self.old s

@@ -30,7 +30,7 @@ impl Model for QuietMoves {
 }
 
 impl QuietMoves {
-    /// Returns an empty list, which knows of no move.
+    /// Returns an empty list, with no move.
     pub fn new(alloc: Global) -> QuietMoves
         ensures { result ≡ [] }
     {

@@ -63,8 +63,8 @@ pub(crate) fn let_through(
     Ok(through)
 }
 
-/// Works out which silences match the labels of members, where that isn't known. Without silences it
-/// copies no labels.
+/// Works out which silences match the labels of members, where that isn't cached. Without silences
+/// it copies no labels.
 fn cache_silences(store: &mut Store, at: Moment, members: &[Member]) -> Result<(), AllocError>
     ensures { store.new ≡ store.old }
 {

@@ -143,8 +143,8 @@ fn reload(
     ensures { IfOk result (λ read. ReloadIs (view value.now) (by_number read)) }
 {
     let text = value.to_string(alloc)?;
-    if let Some(known) = cache.reloads.get(text.as_str())? {
-        return Ok(Ok(known));
+    if let Some(cached) = cache.reloads.get(text.as_str())? {
+        return Ok(Ok(cached));
     }
     match config_of(alloc, cache.patterns_for_line(), value) {
         Ok(config) => {

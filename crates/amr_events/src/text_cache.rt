@@ -54,8 +54,8 @@ impl TextCache {
         ensures { IfOk result (λ labels. labels ≡ lent_texts stated.now) }
     {
         let hash_value = hash_of_texts(stated);
-        if let Some(known) = labels_among(self.labels.near(hash_value), hash_value, stated) {
-            return Ok(known.clone()?);
+        if let Some(cached) = labels_among(self.labels.near(hash_value), hash_value, stated) {
+            return Ok(cached.clone()?);
         }
         let pairs = self.share_pairs(alloc, stated)?;
         let labels = PostedLabels::new(alloc, pairs)?;
@@ -111,8 +111,8 @@ impl TextCache {
         ensures { IfOk result (λ shared. shared ≡ text.now) }
     {
         let hash_value = fnv_hash(text);
-        if let Some(known) = text_among(self.texts.near(hash_value), hash_value, text) {
-            return Ok(known.clone()?);
+        if let Some(cached) = text_among(self.texts.near(hash_value), hash_value, text) {
+            return Ok(cached.clone()?);
         }
         let shared = Text::from_str(alloc, text)?;
         self.texts.add(hash_value, shared.clone()?)?;
@@ -141,12 +141,12 @@ fn text_among<'a>(
     hash_value: usize,
     text: &str,
 ) -> Option<&'a Text>
-    ensures { IfSome result (λ known. known.now ≡ text.now) }
+    ensures { IfSome result (λ cached. cached.now ≡ text.now) }
 {
     for bucket in buckets {
         match bucket {
-            Some(known) if known.hash_value == hash_value && known.value.as_str() == text => {
-                return Some(&known.value);
+            Some(cached) if cached.hash_value == hash_value && cached.value.as_str() == text => {
+                return Some(&cached.value);
             }
             _ => {}
         }
@@ -160,13 +160,13 @@ fn labels_among<'a>(
     hash_value: usize,
     stated: &[(&str, &str)],
 ) -> Option<&'a PostedLabels>
-    ensures { IfSome result (λ known. known.now ≡ lent_texts stated.now) }
+    ensures { IfSome result (λ cached. cached.now ≡ lent_texts stated.now) }
 {
     for bucket in buckets {
         match bucket {
-            Some(known)
-                if known.hash_value == hash_value && are_stated(known.value.pairs(), stated) => {
-                return Some(&known.value);
+            Some(cached)
+                if cached.hash_value == hash_value && are_stated(cached.value.pairs(), stated) => {
+                return Some(&cached.value);
             }
             _ => {}
         }

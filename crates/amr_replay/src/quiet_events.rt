@@ -33,7 +33,7 @@ impl Model for QuietEvents {
 }
 
 impl QuietEvents {
-    /// Returns a table with no position, which knows of no move.
+    /// Returns a table with no position, which caches no move.
     pub(crate) fn new(alloc: Global) -> QuietEvents
         ensures { result ≡ [] }
     {

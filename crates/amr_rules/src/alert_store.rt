@@ -15,8 +15,8 @@ pub trait AlertStore {
 
     /// Lists the stored alerts that match the rule's source matchers and agree with a target on the
     /// labels in `equal`, with their labels and in the order of the labels. The rule's index in the
-    /// configuration, from 0, helps a store to find what it knows of the rule; no answer depends on
-    /// it.
+    /// configuration, from 0, helps a store to find what it caches of the rule; no answer depends
+    /// on it.
     fn sources(
         &self,
         alloc: Global,

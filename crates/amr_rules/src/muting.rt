@@ -1,6 +1,6 @@
 //! Muting: inhibition rules and silences. Each function returns what mutes, so that an explanation
 //! can name it. The stages of a flush call `inhibited_by`, and `SilenceTable` of `amr_engine` calls
-//! `silenced_by` for label sets of which it knows nothing.
+//! `silenced_by` for label sets of which it caches nothing.
 ghost use Rattle.std.specs.Prelude.{◌≡◌, true, map, IfOk, is_some};
 ghost use Rattle.std.specs.List.{list_all};
 ghost use Rattle.std.specs.Option.{option_copied};

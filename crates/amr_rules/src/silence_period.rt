@@ -1,5 +1,5 @@
 //! The silences that match one label set, worked out once for all moments from one on. The state
-//! remembers them, so that a flush doesn't ask the matchers of every silence again.
+//! caches them, so that a flush doesn't ask the matchers of every silence again.
 ghost use Rattle.std.specs.Prelude.{◌≡◌, ◌≤◌, IfOk};
 ghost use Rattle.std.specs.Ordering.{nat_cmp};
 ghost use Rattle.amr_labels.specs.Labels.{LabelSet};
@@ -57,7 +57,7 @@ pub fn unexpired(
 }
 
 /// Lists those of these silences that match labels and aren't expired at a moment, with their
-/// periods. It asks the patterns of the matchers through the remembered answers.
+/// periods. It asks the patterns of the matchers through the cached answers.
 pub fn silence_periods(
     alloc: Global,
     answers: &mut MatchCache,

@@ -1,5 +1,5 @@
 //! The sides of the inhibition rules that a label set is on. A pattern costs far more than a
-//! look-up, so `Router` remembers these answers, and `amr_rules` takes them in place of the
+//! look-up, so `Router` caches these answers, and `amr_rules` takes them in place of the
 //! matchers.
 ghost use Rattle.std.specs.Prelude.{◌≡◌, IfOk};
 ghost use Rattle.amr_config.specs.Stated.RuleMatches.{rule_match, rule_matches};
@@ -17,7 +17,7 @@ pub struct RuleMatch {
 }
 
 /// Works out which sides of each of these inhibition rules a label set is on, in the rules' order.
-/// It asks the patterns of the matchers through the remembered answers.
+/// It asks the patterns of the matchers through the cached answers.
 #[tactic(auto, unfolding(crate::specs::Stated::RuleMatches::rule_matches))]
 pub fn rule_matches(
     alloc: Global,

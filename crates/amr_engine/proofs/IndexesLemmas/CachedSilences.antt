@@ -1,4 +1,4 @@
--- What the table of silences remembers of label sets: nothing at first, then more, and less after
+-- What the table of silences caches of label sets: nothing at first, then more, and less after
 -- each change of a silence.
 use Rattle.std.proofs.Common.{◌≡◌, ◌≤◌, ◌<◌, ◌+◌, ℕ, Bool, true, false, not, cond, List, [], ◌∷◌, ◌++◌, length, get_or, map, Option, Some, None, arith, refl, sym, ap, subst, ◌∙◌}
 use Rattle.std.specs.Prelude.{◌==◌}
@@ -97,7 +97,7 @@ noted_right change id old changed silence is set_to =
       subst (λ (n : ℕ). change ≡ change_of n (get changed n)) (sym own) (is ∙ ap (change_of id) (sym (ap (λ (m : Silences). get m id) set_to ∙ set_own id old silence))),
     )
 
--- what is known of silences is known, but for the one that changed
+-- what is cached of silences stays cached, but for the one that changed
 one_less : (old changed : Silences) (changes : List ℕ) (found : CachedPeriods) (id : ℕ) → IsCached old changes found → SameOthers id old changed → IsCached changed (changes ++ id ∷ []) found
 one_less old changed changes found id was same =
     let more : length (changes ++ id ∷ []) ≡ length changes + 1 = length-append changes (id ∷ []) in
@@ -110,18 +110,18 @@ one_less old changed changes found id was same =
           ∙ same_picked test found.from found.labels id old changed same (ap test (sym (get_or-append_seam changes id [] 0)) ∙ none (length changes) version (omega arith));
     }
 
-known_less : (old changed : Silences) (changes : List ℕ) (known : List CachedPeriods) (id : ℕ) → AreCached old changes known → SameOthers id old changed
-    → AreCached changed (changes ++ id ∷ []) known
-known_less old changed changes known id are_known same = λ k d lt. one_less old changed changes (get_or known k d) id (are_known k d lt) same
+cached_less : (old changed : Silences) (changes : List ℕ) (cached : List CachedPeriods) (id : ℕ) → AreCached old changes cached → SameOthers id old changed
+    → AreCached changed (changes ++ id ∷ []) cached
+cached_less old changed changes cached id are_cached same = λ k d lt. one_less old changed changes (get_or cached k d) id (are_cached k d lt) same
 
 one_more_id : (changes : List SilenceChange) (change : SilenceChange) → changed_ids (changes ++ change ∷ []) ≡ changed_ids changes ++ change.id ∷ []
 one_more_id [] change = refl
 one_more_id (first ∷ changes) change = ap (λ l. first.id ∷ l) (one_more_id changes change)
 
-pub known_still : (old changed : Silences) (changes : List SilenceChange) (known : List CachedPeriods) (change : SilenceChange) → SameOthers change.id old changed
-    → AreCached old (changed_ids changes) known → AreCached changed (changed_ids (changes ++ change ∷ [])) known
-known_still old changed changes known change same are_known =
-    subst (λ (ids : List ℕ). AreCached changed ids known) (sym (one_more_id changes change)) (known_less old changed (changed_ids changes) known change.id are_known same)
+pub cached_still : (old changed : Silences) (changes : List SilenceChange) (cached : List CachedPeriods) (change : SilenceChange) → SameOthers change.id old changed
+    → AreCached old (changed_ids changes) cached → AreCached changed (changed_ids (changes ++ change ∷ [])) cached
+cached_still old changed changes cached change same are_cached =
+    subst (λ (ids : List ℕ). AreCached changed ids cached) (sym (one_more_id changes change)) (cached_less old changed (changed_ids changes) cached change.id are_cached same)
 
 pub id_at : (changes : List SilenceChange) (i : ℕ) (change : SilenceChange) → i < length changes → get_or changes i change ≡ change → get_or (changed_ids changes) i 0 ≡ change.id
 id_at changes i change lt is = get_or-map (λ (c : SilenceChange). c.id) changes i change 0 lt ∙ ap (λ (c : SilenceChange). c.id) is
@@ -155,10 +155,10 @@ noted_more old changed changes change same own was =
 pub none_noted : (silences : Silences) (changes : List SilenceChange) → changes ≡ [] → AreNoted silences changes
 none_noted silences changes none = record { latest = λ i one test lt is picks later. absurd (none_before_zero i (subst (λ (l : List SilenceChange). i < length l) none lt)) }
 
-pub none_known : (silences : Silences) (changes : List ℕ) (known : List CachedPeriods) → known ≡ [] → AreCached silences changes known
-none_known silences changes known none = subst (AreCached silences changes) (sym none) (λ k d lt. absurd (omega arith))
+pub none_cached : (silences : Silences) (changes : List ℕ) (cached : List CachedPeriods) → cached ≡ [] → AreCached silences changes cached
+none_cached silences changes cached none = subst (AreCached silences changes) (sym none) (λ k d lt. absurd (omega arith))
 
--- what was learned just now is known
+-- what was worked out just now is cached
 pub filled : (silences : Silences) (changes : List ℕ) (found : CachedPeriods) → found.periods ≡ silence_periods found.from found.labels silences → found.version ≡ length changes
     → found.bits ≡ value_bits found.labels → IsCached silences changes found
 filled silences changes found is version marked = record { version = omega arith; bits = marked; others = λ test none. ap (periods_picked test) is }
@@ -170,8 +170,8 @@ all_picked (p ∷ ps) = ap (λ l. p ∷ l) (all_picked ps)
 -- if all changes were seen, the periods are those of the silences
 pub all_seen : (silences : Silences) (changes : List ℕ) (found : CachedPeriods) → IsCached silences changes found → found.version ≡ length changes
     → found.periods ≡ silence_periods found.from found.labels silences
-all_seen silences changes found known version =
-    sym (all_picked found.periods) ∙ known.others (λ id. true) (λ i le lt. absurd (omega arith)) ∙ all_picked (silence_periods found.from found.labels silences)
+all_seen silences changes found cached version =
+    sym (all_picked found.periods) ∙ cached.others (λ id. true) (λ i le lt. absurd (omega arith)) ∙ all_picked (silence_periods found.from found.labels silences)
 
 pub same_labels : (a b : LabelSet) → not (eq_by_cmp label_set_cmp a b) ≡ false → a ≡ b
 same_labels a b e =

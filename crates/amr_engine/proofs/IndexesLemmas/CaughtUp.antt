@@ -1,4 +1,4 @@
--- What is known of a label set after it has taken in that a silence changed.
+-- What is cached of a label set after it has taken in that a silence changed.
 use Rattle.std.proofs.Common.{◌≡◌, ◌≤◌, ◌<◌, ◌+◌, ◌-◌, zero, suc, drop, ℕ, Bool, true, false, not, ◌&&◌, ◌||◌, cond, T, List, [], ◌∷◌, ◌++◌, length, get_or, map, Option, Some, None, nat_le, nat_lt, arith, refl, sym, ap, subst, ◌∙◌}
 use Rattle.std.specs.Prelude.{◌==◌, bit_or, if◌then◌else◌}
 use Rattle.std.specs.declared.cmp.Ordering.{Ordering}
@@ -242,14 +242,14 @@ taken_in : (silences : Silences) (changes : List ℕ) (found : CachedPeriods) (i
     → id ≡ get_or changes found.version 0
     → after ≡ record found { version = found.version + 1; periods = with_silence_noted id (period_from found.from found.labels id (get silences id)) found.periods }
     → IsCached silences changes after
-taken_in silences changes found id after known more is_id is =
+taken_in silences changes found id after cached more is_id is =
     let q : Option SilencePeriod = period_from found.from found.labels id (get silences id) in
     let present : List SilencePeriod = silence_periods found.from found.labels silences in
     subst (λ (k : CachedPeriods). IsCached silences changes k) (sym is) (record {
       version = omega arith;
-      bits = known.bits;
+      bits = cached.bits;
       others = λ test none.
-          noted_alike test id q found.periods present (own_id found.from found.labels id (get silences id)) (known.others (but_one test id) (later_picks changes found.version id test is_id none))
+          noted_alike test id q found.periods present (own_id found.from found.labels id (get silences id)) (cached.others (but_one test id) (later_picks changes found.version id test is_id none))
           ∙ ap (periods_picked test) (has_own found.from found.labels id silences);
     })
 
@@ -295,7 +295,7 @@ passed_over : (silences : Silences) (changes : List SilenceChange) (found : Cach
     → IsCached silences (changed_ids changes) found → found.version < length changes → get_or changes found.version change ≡ change → may_concern found.from found.bits change ≡ false
     → after ≡ record found { version = found.version + 1; periods = without_silence change.id found.periods }
     → IsCached silences (changed_ids changes) after
-passed_over silences changes found change after noted_so known more is_change passed is =
+passed_over silences changes found change after noted_so cached more is_change passed is =
     let id : ℕ = change.id in
     let present : List SilencePeriod = silence_periods found.from found.labels silences in
     let count : length (changed_ids changes) ≡ length changes = length-map changes (λ (c : SilenceChange). c.id) in
@@ -305,15 +305,15 @@ passed_over silences changes found change after noted_so known more is_change pa
       | true ↦ λ picks.
           let own : change ≡ change_of id (get silences id) = noted_so.latest found.version change test more is_change picks none in
           let over : period_from found.from found.labels id (get silences id) ≡ None =
-          no_period found.from found.labels found.bits id (get silences id) known.bits (ap (may_concern found.from found.bits) (sym own) ∙ passed) in
+          no_period found.from found.labels found.bits id (get silences id) cached.bits (ap (may_concern found.from found.bits) (sym own) ∙ passed) in
           ap (λ (q : Option SilencePeriod). periods_picked test (with_silence_noted id q present)) (sym over) ∙ ap (periods_picked test) (has_own found.from found.labels id silences)
       | false ↦ λ unpicked. picked_without test id present ∙ but_none test id present unpicked
     ] refl in
     subst (λ (k : CachedPeriods). IsCached silences (changed_ids changes) k) (sym is) (record {
       version = omega arith;
-      bits = known.bits;
+      bits = cached.bits;
       others = λ test none.
-          picked_without test id found.periods ∙ known.others (but_one test id) (later_picks (changed_ids changes) found.version id test is_id none)
+          picked_without test id found.periods ∙ cached.others (but_one test id) (later_picks (changed_ids changes) found.version id test is_id none)
           ∙ sym (picked_without test id present) ∙ left_present test none;
     })
 
@@ -330,10 +330,10 @@ is_passed false e = refl
 
 passed_some : (silences : Silences) (changes : List SilenceChange) (found : CachedPeriods) (n : ℕ) → AreNoted silences changes → IsCached silences (changed_ids changes) found → found.periods ≡ []
     → n ≤ prefix_len (is_idle found.from found.bits) (drop found.version changes) → IsCached silences (changed_ids changes) (record found { version = found.version + n })
-passed_some silences changes found zero noted_so known none le =
+passed_some silences changes found zero noted_so cached none le =
     let same : found.version ≡ found.version + 0 = omega arith in
-    subst (λ (version : ℕ). IsCached silences (changed_ids changes) (record found { version = version })) same known
-passed_some silences changes found (suc n) noted_so known none le =
+    subst (λ (version : ℕ). IsCached silences (changed_ids changes) (record found { version = version })) same cached
+passed_some silences changes found (suc n) noted_so cached none le =
     let idle : SilenceChange → Bool = is_idle found.from found.bits in
     let left : List SilenceChange = drop found.version changes in
     let at_most : prefix_len idle left ≤ length left = prefix_len-le-length idle left in
@@ -346,7 +346,7 @@ passed_some silences changes found (suc n) noted_so known none le =
     let kept : found.periods ≡ without_silence change.id found.periods = none ∙ sym (ap (without_silence change.id) none) in
     let step : found.version + suc n ≡ found.version + n + 1 = omega arith in
     passed_over silences changes (record found { version = found.version + n }) change (record found { version = found.version + suc n }) noted_so
-    (passed_some silences changes found n noted_so known none (omega arith)) more is (is_passed (may_concern found.from found.bits change) passes) (λ i. record found { version = step i; periods = kept i })
+    (passed_some silences changes found n noted_so cached none (omega arith)) more is (is_passed (may_concern found.from found.bits change) passes) (λ i. record found { version = step i; periods = kept i })
 
 pub passed_on : (changes : List SilenceChange) (found : CachedPeriods) → found.version ≤ (passed_by changes found).version
 passed_on changes found =
@@ -357,12 +357,12 @@ passed_on changes found =
 
 pub all_passed : (silences : Silences) (changes : List SilenceChange) (found after : CachedPeriods) → AreNoted silences changes → IsCached silences (changed_ids changes) found
     → after ≡ passed_by changes found → IsCached silences (changed_ids changes) after
-all_passed silences changes found after noted_so known is =
+all_passed silences changes found after noted_so cached is =
     subst (λ (k : CachedPeriods). IsCached silences (changed_ids changes) k) (sym is)
     (elim (length found.periods == 0) as (λ b. (length found.periods == 0) ≡ b
     → IsCached silences (changed_ids changes) (record found { version = cond b (next_concern found.from found.bits changes found.version) found.version })) [
-      | true ↦ λ empty. passed_some silences changes found (prefix_len (is_idle found.from found.bits) (drop found.version changes)) noted_so known (no_periods found.periods empty) (omega arith)
-      | false ↦ λ some. known
+      | true ↦ λ empty. passed_some silences changes found (prefix_len (is_idle found.from found.bits) (drop found.version changes)) noted_so cached (no_periods found.periods empty) (omega arith)
+      | false ↦ λ some. cached
     ] refl)
 
 -- the next change is taken in, or passed over
@@ -373,14 +373,14 @@ pub caught_up : (silences : Silences) (changes : List SilenceChange) (found : Ca
       periods = if may_concern found.from found.bits change then with_silence_noted change.id (period_from found.from found.labels change.id (get silences change.id)) found.periods
           else without_silence change.id found.periods;
     } → IsCached silences (changed_ids changes) after
-caught_up silences changes found change after noted_so known more is_change is =
+caught_up silences changes found change after noted_so cached more is_change is =
     let count : length (changed_ids changes) ≡ length changes = length-map changes (λ (c : SilenceChange). c.id) in
     let within : found.version < length (changed_ids changes) = omega arith in
     let taken : List SilencePeriod = with_silence_noted change.id (period_from found.from found.labels change.id (get silences change.id)) found.periods in
     elim (may_concern found.from found.bits change) as (λ b. may_concern found.from found.bits change ≡ b
     → after ≡ record found { version = found.version + 1; periods = cond b taken (without_silence change.id found.periods) } → IsCached silences (changed_ids changes) after) [
-      | true ↦ λ may is. taken_in silences (changed_ids changes) found change.id after known within (sym (id_at changes found.version change more is_change)) is
-      | false ↦ λ passed is. passed_over silences changes found change after noted_so known more is_change passed is
+      | true ↦ λ may is. taken_in silences (changed_ids changes) found change.id after cached within (sym (id_at changes found.version change more is_change)) is
+      | false ↦ λ passed is. passed_over silences changes found change after noted_so cached more is_change passed is
     ] refl is
 
 -- ---- what has ended is left out
@@ -398,14 +398,14 @@ later_periods at from labels silences le =
 
 pub left_out : (silences : Silences) (changes : List ℕ) (found after : CachedPeriods) (at : Moment) → IsCached silences changes found → found.from ≤ at
     → after ≡ record found { from = at; periods = filter (ends_after at) found.periods } → IsCached silences changes after
-left_out silences changes found after at known le is =
+left_out silences changes found after at cached le is =
     let swap : (test : ℕ → Bool) (periods : List SilencePeriod) → periods_picked test (filter (ends_after at) periods) ≡ filter (ends_after at) (periods_picked test periods) = λ test periods.
     filters_alike (λ (p : SilencePeriod). test p.id) (ends_after at) (ends_after at) (λ (p : SilencePeriod). test p.id) (λ p. and_turned (ends_after at p) (test p.id)) periods in
     subst (λ (k : CachedPeriods). IsCached silences changes k) (sym is) (record {
-      version = known.version;
-      bits = known.bits;
+      version = cached.version;
+      bits = cached.bits;
       others = λ test none.
-          swap test found.periods ∙ ap (filter (ends_after at)) (known.others test none) ∙ sym (swap test (silence_periods found.from found.labels silences))
+          swap test found.periods ∙ ap (filter (ends_after at)) (cached.others test none) ∙ sym (swap test (silence_periods found.from found.labels silences))
           ∙ ap (periods_picked test) (later_periods at found.from found.labels silences le);
     })
 

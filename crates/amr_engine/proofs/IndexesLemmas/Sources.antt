@@ -156,11 +156,11 @@ unfolding map_of get from_sorted if_sorted
 none_listed sources values none =
     sym (ap (λ es. get (from_sorted {R = values_cmp} es) values) (ap (λ cells. filter_map (entry_at cells) sources.numbers) (nil_from_length sources.cells none) ∙ no_entries sources.numbers))
 
--- a side of which nothing is known yet
-pub side_new : (arrived : List LabelSet) (known : CachedSide) → known.covered ≡ 0 → map_of values_cmp known.sources ≡ empty → ListsSide arrived known
-side_new arrived known covered none = record {
+-- a side of which nothing is cached yet
+pub side_new : (arrived : List LabelSet) (cached : CachedSide) → cached.covered ≡ 0 → map_of values_cmp cached.sources ≡ empty → ListsSide arrived cached
+side_new arrived cached covered none = record {
   within = omega (arith, covered);
-  exact = λ values q. ap (λ m. is_in (get m values) q) none ∙ ap (λ found. is_in found q) (get-empty values_cmp values) ∙ (λ i. has label_set_cmp (take (sym covered i) arrived) q && is_source known.side q values);
+  exact = λ values q. ap (λ m. is_in (get m values) q) none ∙ ap (λ found. is_in found q) (get-empty values_cmp values) ∙ (λ i. has label_set_cmp (take (sym covered i) arrived) q && is_source cached.side q values);
 }
 
 -- a label set that matches the side is put at it
@@ -179,12 +179,12 @@ agrees_by_values (name ∷ names) a b =
     ∙ ap (λ x. eq_by_cmp text_cmp (value_of a name) (value_of b name) && x) (agrees_by_values names a b)
 
 -- a side that has covered all label sets lists those that agree with the target under its values
-pub side_agreeing : (arrived : List LabelSet) (known : CachedSide) (rule : InhibitRule) (target : LabelSet) (values : List Text) (found : Option (Set label_set_cmp)) → ListsSide arrived known → IsSideOf known.side rule
-    → length arrived ≤ known.covered → values ≡ label_values rule.equal target → found ≡ get (map_of values_cmp known.sources) values → ListsAgreeing rule target arrived found
-side_agreeing arrived known rule target values found is of covered are lists = λ q.
+pub side_agreeing : (arrived : List LabelSet) (cached : CachedSide) (rule : InhibitRule) (target : LabelSet) (values : List Text) (found : Option (Set label_set_cmp)) → ListsSide arrived cached → IsSideOf cached.side rule
+    → length arrived ≤ cached.covered → values ≡ label_values rule.equal target → found ≡ get (map_of values_cmp cached.sources) values → ListsAgreeing rule target arrived found
+side_agreeing arrived cached rule target values found is of covered are lists = λ q.
     let o = values_cmp_total in
     ap (λ f. is_in f q) lists ∙ is.exact values q
-    ∙ ap (λ l. has label_set_cmp l q && is_source known.side q values) (take_all known.covered arrived covered)
+    ∙ ap (λ l. has label_set_cmp l q && is_source cached.side q values) (take_all cached.covered arrived covered)
     ∙ (λ i. has label_set_cmp arrived q && (all_hold (of.source i) q && eq_by_cmp values_cmp (are i) (label_values (of.equal i) q)))
     ∙ ap (λ b. has label_set_cmp arrived q && (all_hold rule.source q && b)) ((eq_by_cmp_equiv o).symm (label_values rule.equal target) (label_values rule.equal q) ∙ agrees_by_values rule.equal q target)
 

@@ -14,7 +14,7 @@ use Rattle.amr_labels.specs.Map.{entries, get-entries}
 use Rattle.amr_labels.specs.Labels.{Text, LabelSet, text_cmp, text_cmp-IsAntisymmetric, is_empty, value_of}
 use Rattle.amr_labels.specs.declared.matcher.Operator.TheVariants.{Equal, NotEqual, Matches, NotMatches}
 use Rattle.amr_labels.specs.Matcher.Matchers.{Matcher, compares, holds, all_hold}
-use Rattle.amr_engine.specs.Indexes.ValueBits.{value_bit, value_bits, mark_asked, required_bit, required_bits}
+use Rattle.amr_engine.specs.Indexes.ValueBits.{value_bit, value_bits, bits_asked, required_bit, required_bits}
 
 max_assoc : (a b c : ℕ) → max (max a b) c ≡ max a (max b c)
 max_assoc a b c = grind (arith, nat_tests)
@@ -87,7 +87,7 @@ none_asked bits = or_comm bits 0 ∙ or_zero_l bits
 
 asked_marked : (labels : LabelSet) (matcher : Matcher) → holds matcher labels ≡ true → within (value_bits labels) (required_bit matcher)
 asked_marked labels matcher h =
-    elim matcher.operator as (λ o. compares o matcher.value (value_of labels matcher.name) ≡ true → within (value_bits labels) (mark_asked o matcher.value)) [
+    elim matcher.operator as (λ o. compares o matcher.value (value_of labels matcher.name) ≡ true → within (value_bits labels) (bits_asked o matcher.value)) [
       | Equal ↦ λ h.
           let own : value_of labels matcher.name ≡ matcher.value = same_text (value_of labels matcher.name) matcher.value h in
           elim (is_empty matcher.value) as (λ b. is_empty matcher.value ≡ b → within (value_bits labels) (cond b 0 (value_bit matcher.value))) [

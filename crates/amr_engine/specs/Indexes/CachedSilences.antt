@@ -1,4 +1,4 @@
--- What the table of silences remembers of label sets.
+-- What the table of silences caches of label sets.
 use Rattle.std.specs.Prelude.{◌≡◌, ◌≢◌, ◌≤◌, ◌<◌, ℕ, Bool, false, not, List, ◌∷◌, ◌++◌, ◌+◌, length, map, drop, get_or, Option, Some, None, if◌then◌else◌, nat_lt, ◌&&◌, ◌==◌, bit_or, IsTrue}
 use Rattle.std.specs.List.{All, filter, list_any, prefix_len}
 use Rattle.std.specs.Ordering.{nat_cmp, eq_by_cmp, is_lt}
@@ -75,7 +75,7 @@ next_concern from bits changes version = version + prefix_len (is_idle from bits
 
 -- where there are no periods, changes that don't concern the labels count as seen
 abbrev pub passed_by : List SilenceChange → CachedPeriods → CachedPeriods
-passed_by changes known = record known { version = if length known.periods == 0 then next_concern known.from known.bits changes known.version else known.version }
+passed_by changes cached = record cached { version = if length cached.periods == 0 then next_concern cached.from cached.bits changes cached.version else cached.version }
 
 -- the ids of the silences that changed
 abbrev pub changed_ids : List SilenceChange → List ℕ
@@ -87,15 +87,15 @@ pub record AreNoted (silences : Silences) (changes : List SilenceChange) : Type 
       → PicksNone test (changed_ids changes) (i + 1) → change ≡ change_of change.id (get silences change.id)
 
 -- the periods are those of the silences that may mute the labels, but for silences that changed
--- since they were learned
+-- since they were cached
 pub record IsCached (silences : Silences) (changes : List ℕ) (found : CachedPeriods) : Type 0 where
   pub version : found.version ≤ length changes
   pub bits : found.bits ≡ value_bits found.labels
   pub others : (test : ℕ → Bool) → PicksNone test changes found.version → periods_picked test found.periods ≡ periods_picked test (silence_periods found.from found.labels silences)
 
--- what is remembered of each label set is right
+-- what is cached of each label set is right
 abbrev pub AreCached : Silences → List ℕ → List CachedPeriods → Type 0
-AreCached silences changes known = All (IsCached silences changes) known
+AreCached silences changes cached = All (IsCached silences changes) cached
 
 -- only the silence with this id may have changed
 abbrev pub SameOthers : ℕ → Silences → Silences → Type 0

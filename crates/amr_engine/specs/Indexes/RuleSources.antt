@@ -36,9 +36,9 @@ is_source side labels values = all_hold side.source labels && eq_by_cmp values_c
 
 -- Of the label sets that were seen, those that match the side are listed under their values, and
 -- nothing else.
-pub record ListsSide (arrived : List LabelSet) (known : CachedSide) : Type 0 where
-  pub within : known.covered ≤ length arrived
-  pub exact : (values : List Text) (labels : LabelSet) → is_under known.sources values labels ≡ (has label_set_cmp (take known.covered arrived) labels && is_source known.side labels values)
+pub record ListsSide (arrived : List LabelSet) (cached : CachedSide) : Type 0 where
+  pub within : cached.covered ≤ length arrived
+  pub exact : (values : List Text) (labels : LabelSet) → is_under cached.sources values labels ≡ (has label_set_cmp (take cached.covered arrived) labels && is_source cached.side labels values)
 
 -- the side is that of the rule
 pub record IsSideOf (side : SourceSide) (rule : InhibitRule) : Type 0 where

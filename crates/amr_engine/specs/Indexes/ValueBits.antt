@@ -12,22 +12,22 @@ abbrev pub value_bit : Text → ℕ
 value_bit value = bit_or (1 * 2 ^ (text_fnv_hash value % 64) % 2 ^ 64) (1 * 2 ^ (text_fnv_hash value / 64 % 64) % 2 ^ 64)
 
 -- the bits of the values of these labels, all together
-abbrev pub marks_among : List (Text × Text) → ℕ
-marks_among labels = fold (λ bits label. bit_or bits (value_bit label.1)) 0 labels
+abbrev pub bits_among : List (Text × Text) → ℕ
+bits_among labels = fold (λ bits label. bit_or bits (value_bit label.1)) 0 labels
 
 -- the bits of the values of a label set
 abbrev pub value_bits : LabelSet → ℕ
-value_bits labels = marks_among (entries labels)
+value_bits labels = bits_among (entries labels)
 
 -- the mark of the value that `=` asks for, but for the empty value, which an absent label has too
-abbrev pub mark_asked : Operator → Text → ℕ
-mark_asked Equal value = if is_empty value then 0 else value_bit value
-mark_asked NotEqual value = 0
-mark_asked Matches value = 0
-mark_asked NotMatches value = 0
+abbrev pub bits_asked : Operator → Text → ℕ
+bits_asked Equal value = if is_empty value then 0 else value_bit value
+bits_asked NotEqual value = 0
+bits_asked Matches value = 0
+bits_asked NotMatches value = 0
 
 abbrev pub required_bit : Matcher → ℕ
-required_bit matcher = mark_asked matcher.operator matcher.value
+required_bit matcher = bits_asked matcher.operator matcher.value
 
 -- the bits of the values that all these matchers ask for
 abbrev pub required_bits : List Matcher → ℕ

@@ -157,8 +157,8 @@ impl AlertStore for AlertTable {
         rule: &InhibitRule,
         target: &Labels,
     ) -> Result<Vec<(&Labels, &Alert)>, AllocError> {
-        let known = self.sources.agreeing(index, rule, target)?;
-        let Some(listed) = known else {
+        let cached = self.sources.agreeing(index, rule, target)?;
+        let Some(listed) = cached else {
             return sources_among(alloc, &self.alerts, rule, target);
         };
         match listed {

@@ -1,4 +1,4 @@
-//! What is known of a label set: when the silences that match it are active. When silences change,
+//! What is cached of a label set: when the silences that match it are active. When silences change,
 //! only those are asked that did. `silence_table.rt` keeps one of these for each label set that
 //! flushes asked about.
 ghost use Rattle.std.specs.Prelude.{◌≡◌, ◌≤◌, ◌++◌, ◌∷◌, [], length, OnOk, OnErr, IfOk, option_map, if◌then◌else◌, Some, None};
@@ -48,8 +48,10 @@ impl CachedPeriods {
     ) -> Result<(), AllocError>
         requires before { self.old.from ≤ at }
         requires noted { AreNoted (map_of nat_cmp silences.now) changes.now }
-        requires known { IsCached (map_of nat_cmp silences.now) (changed_ids changes.now) self.old }
-        ensures known { IsCached (map_of nat_cmp silences.now) (changed_ids changes.now) self.new }
+        requires cached { IsCached (map_of nat_cmp silences.now) (changed_ids changes.now)
+            self.old }
+        ensures cached { IsCached (map_of nat_cmp silences.now) (changed_ids changes.now)
+            self.new }
         ensures version { OnOk result (self.new.version ≡ length changes.now) }
         ensures labels { self.new.labels ≡ self.old.labels }
         ensures from { self.new.from ≤ at }

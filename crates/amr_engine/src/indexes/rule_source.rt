@@ -14,8 +14,9 @@ use std::alloc::{AllocError, Global};
 use std::collections::BTreeMap;
 use std::marker::Model;
 
-/// How many label sets all sides list together before no more are learned. The next event forgets
-/// them. A list counts as `LIST` label sets more, and a side as `SIDE`, by the memory that they take.
+/// How many label sets all sides list together before no more are cached. The next event forgets
+/// them. A list counts as `LIST` label sets more, and a side as `SIDE`, by the memory that they
+/// take.
 const MOST_LISTED: usize = 10_000_000;
 
 const LIST: usize = 10;
@@ -29,8 +30,8 @@ pub(crate) struct SourceSide {
     pub equal: Vec<Text>,
 }
 
-/// What is known of a side: of the first `seen` label sets, those that match it, under their values
-/// of the labels in `equal`.
+/// What is cached of a side: of the first `seen` label sets, those that match it, under their
+/// values of the labels in `equal`.
 #[derive(Drop)]
 pub(crate) struct CachedSide {
     pub side: SourceSide,
@@ -40,16 +41,16 @@ pub(crate) struct CachedSide {
     pub listed: usize,
 }
 
-/// A side that was learned: the number of its `CachedSide`, and how many label sets had come then.
+/// A side that was cached: the number of its `CachedSide`, and how many label sets had come then.
 #[derive(Clone, Copy)]
 struct FilledSide {
     number: usize,
     covered: usize,
 }
 
-/// Label sets in the order in which they came, with the source sides that are known of them. A side
-/// is learned when it is first asked for, and takes in the label sets that came since when it is
-/// learned again. Contracts see the label sets.
+/// Label sets in the order in which they came, with the source sides that are cached of them. A
+/// side is cached when it is first asked for, and takes in the label sets that came since when it
+/// is cached again. Contracts see the label sets.
 #[derive(Drop)]
 pub(crate) struct RuleSources {
     alloc: Global,
@@ -57,7 +58,7 @@ pub(crate) struct RuleSources {
     arrived: Vec<Labels>,
     numbers: BTreeMap<SourceSide, usize>,
     sides: Vec<CachedSide>,
-    /// The side of each rule that was learned in this event, by the rule's index in the
+    /// The side of each rule that was cached in this event, by the rule's index in the
     /// configuration. It saves look-ups, and no answer depends on it.
     filled: Vec<Option<FilledSide>>,
     /// How many label sets the sides list, with what lists and sides count as.
@@ -97,7 +98,7 @@ impl RuleSources {
         }
     }
 
-    /// Adds a label set. No side has it before it is learned again.
+    /// Adds a label set. No side has it before it is cached again.
     pub(crate) fn add(&mut self, labels: Labels) -> Result<(), AllocError>
         ensures ok { OnOk result (self.new ≡ self.old ++ labels ∷ []) }
         ensures err { OnErr result (self.new ≡ self.old) }
@@ -115,7 +116,7 @@ impl RuleSources {
 
     /// Returns the label sets that match a rule's source matchers and agree with a target on the
     /// labels in `equal`; if none does, the second option may be `None`. Returns `None` if the
-    /// rule's side isn't known, or not of all label sets.
+    /// rule's side isn't cached, or not of all label sets.
     pub(crate) fn agreeing(
         &self,
         index: usize,
@@ -140,7 +141,7 @@ impl RuleSources {
     }
 
     /// Takes in all label sets at the source side of the rule at an index of the configuration, so
-    /// that `agreeing` answers for it. It learns nothing if the sides list many label sets by now,
+    /// that `agreeing` answers for it. It caches nothing if the sides list many label sets by now,
     /// and forgets them all if there is no room.
     pub(crate) fn cache(&mut self, index: usize, rule: &InhibitRule)
         ensures { self.new ≡ self.old }
@@ -153,7 +154,7 @@ impl RuleSources {
         }
     }
 
-    /// Forgets which rules were learned, since other rules may be at their indexes from now on. If
+    /// Forgets which rules were cached, since other rules may be at their indexes from now on. If
     /// the sides list too many label sets, it forgets them too.
     pub(crate) fn forget_indexes(&mut self)
         ensures { self.new ≡ self.old }
@@ -183,7 +184,7 @@ impl RuleSources {
         self.note_filled(index, number)
     }
 
-    /// Returns whether the rule at an index was learned, and no label set came since.
+    /// Returns whether the rule at an index was cached, and no label set came since.
     fn is_filled(&self, index: usize) -> bool {
         match self.filled.get(index) {
             Some(Some(filled)) => filled.covered == self.arrived.len(),
@@ -191,7 +192,7 @@ impl RuleSources {
         }
     }
 
-    /// Notes that the side with this number is that of the rule at an index, and is learned.
+    /// Notes that the side with this number is that of the rule at an index, and is cached.
     fn note_filled(&mut self, index: usize, number: usize) -> Result<(), AllocError>
         ensures { self.new ≡ self.old }
     {
@@ -221,7 +222,7 @@ impl RuleSources {
         Ok(())
     }
 
-    /// Returns what is known of the side of the rule at an index. If the rule was learned in this
+    /// Returns what is cached of the side of the rule at an index. If the rule was cached in this
     /// event, its side isn't looked for.
     fn cached(&self, index: usize, rule: &InhibitRule) -> Result<Option<&CachedSide>, AllocError>
         ensures side { IfOk result (λ found. IfSome found (λ cached.
@@ -239,7 +240,7 @@ impl RuleSources {
         }
     }
 
-    /// Returns what is known of the side with a number, if it is the rule's.
+    /// Returns what is cached of the side with a number, if it is the rule's.
     fn cached_at(&self, number: usize, rule: &InhibitRule) -> Option<&CachedSide>
         ensures side { IfSome result (λ cached. IsSideOf cached.now.side rule.now) }
         ensures lists { IfSome result (λ cached. ListsSide self.now cached.now) }
@@ -255,7 +256,7 @@ impl RuleSources {
         }
     }
 
-    /// Returns the number of a rule's side. It is added if it isn't known.
+    /// Returns the number of a rule's side. It is added if it isn't cached.
     fn number_of(&mut self, rule: &InhibitRule) -> Result<usize, AllocError>
         ensures { self.new ≡ self.old }
     {
@@ -266,7 +267,7 @@ impl RuleSources {
         }
     }
 
-    /// Adds a rule's side, of which nothing is known yet, and returns its number.
+    /// Adds a rule's side, of which nothing is cached yet, and returns its number.
     fn add_side(&mut self, side: SourceSide, rule: &InhibitRule) -> Result<usize, AllocError>
         ensures { self.new ≡ self.old }
     {

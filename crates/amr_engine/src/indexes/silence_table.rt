@@ -1,4 +1,4 @@
-//! The silences by id, with what is known of the label sets that flushes asked about: the periods
+//! The silences by id, with what is cached of the label sets that flushes asked about: the periods
 //! of the silences that match them. `store.rt` changes the table and asks it which silence mutes.
 ghost use Rattle.std.specs.Prelude.{◌≡◌, ◌<◌, ◌≤◌, ℕ, List, [], Some, is_some, OnOk, IfOk, IfSome};
 ghost use Rattle.std.specs.Ordering.{nat_cmp};
@@ -27,19 +27,19 @@ use std::marker::Model;
 /// answers take.
 const MOST_AT_ONCE: usize = 1024;
 
-/// How many label sets the silences are asked for at once at least. For fewer, remembered answers
+/// How many label sets the silences are asked for at once at least. For fewer, cached answers
 /// are faster than preparing the search of each pattern.
 const FEWEST_AT_ONCE: usize = 4;
 
 /// How many label sets have to have arrived, at least, for the silences to be asked ahead for them.
-/// If alerts come one by one, most values are known, and their answers are remembered.
+/// If alerts come one by one, most values were met before, and their answers are cached.
 const FEWEST_AHEAD: usize = 64;
 
-/// How many changes of silences are kept at most. When one more comes, all that is known of label
+/// How many changes of silences are kept at most. When one more comes, all that is cached of label
 /// sets is forgotten.
 const MOST_CHANGES: usize = 1000;
 
-/// The silences by id. It remembers of label sets when silences that match them are active, and
+/// The silences by id. It caches of label sets when silences that match them are active, and
 /// keeps which silences changed since.
 #[derive(Drop)]
 pub struct SilenceTable {
@@ -47,11 +47,11 @@ pub struct SilenceTable {
     silences: Keyed<SilenceId, Silence>,
     /// What the patterns of the silences' matchers answered.
     answers: MatchCache,
-    /// What is known of label sets, in the order in which they were asked about first.
+    /// What is cached of label sets, in the order in which they were asked about first.
     cached: Vec<CachedPeriods>,
     /// Their indexes in that list.
     index_by_labels: Keyed<Labels, usize>,
-    /// The changes of silences since the table began to remember, the latest last.
+    /// The changes of silences since the table began to cache, the latest last.
     changes: Vec<SilenceChange>,
     /// The number of label sets, in the order of arrival, that the silences were asked ahead for.
     asked_ahead: usize,
@@ -116,7 +116,7 @@ impl SilenceTable {
     }
 
     /// Returns the least id of a silence that mutes labels at a moment, or `None` if no silence
-    /// does. It asks the silences' matchers only for labels of which it knows nothing.
+    /// does. It asks the silences' matchers only for labels of which it caches nothing.
     pub fn silenced_by(&self, at: Moment, labels: &Labels) -> Result<Option<SilenceId>, AllocError>
         ensures named { IfOk result (λ found. found
             ≡ silencer_of at labels.now (map_of nat_cmp self.now)) }
@@ -130,10 +130,10 @@ impl SilenceTable {
     }
 
     /// Works out when silences that match these label sets are active from a moment on, and
-    /// remembers it. Skips label sets that are known, and does nothing if no silence is stored. If
-    /// some are unknown and many arrived, it first asks for those that arrived, which the next
+    /// caches it. Skips label sets that are cached, and does nothing if no silence is stored. If
+    /// some aren't cached and many arrived, it first asks for those that arrived, which the next
     /// flushes most likely meet: the search of each pattern is then prepared once for all. If there
-    /// is no room, it forgets what it knows of label sets.
+    /// is no room, it forgets what it caches of label sets.
     pub fn cache(&mut self, at: Moment, label_sets: &[Labels], arrived: &[Labels])
         ensures { self.new ≡ self.old }
     {
@@ -142,7 +142,7 @@ impl SilenceTable {
         }
     }
 
-    /// Forgets what it knows of label sets.
+    /// Forgets what it caches of label sets.
     fn forget(&mut self)
         ensures { self.new ≡ self.old }
     {
@@ -156,7 +156,7 @@ impl SilenceTable {
     }
 
     /// Works out when silences that match those of these label sets are active of which nothing is
-    /// known, and remembers it. It may do so for others that arrived.
+    /// cached, and caches it. It may do so for others that arrived.
     fn cache_missing(
         &mut self,
         at: Moment,
@@ -192,7 +192,7 @@ impl SilenceTable {
         self.cache_all(at, missing.as_slice())
     }
 
-    /// Works out when silences that match these label sets are active, and remembers it.
+    /// Works out when silences that match these label sets are active, and caches it.
     fn cache_all(&mut self, at: Moment, label_sets: &[Labels]) -> Result<(), AllocError>
         ensures { self.new ≡ self.old }
     {
@@ -202,7 +202,7 @@ impl SilenceTable {
         Ok(())
     }
 
-    /// Returns those of the label sets of which nothing is known at a moment.
+    /// Returns those of the label sets of which nothing is cached at a moment.
     fn missing(&mut self, at: Moment, label_sets: &[Labels]) -> Result<Vec<Labels>, AllocError>
         ensures { self.new ≡ self.old }
     {
@@ -215,8 +215,8 @@ impl SilenceTable {
         Ok(missing)
     }
 
-    /// Returns whether it is known of labels, from a moment on, when silences that match them are
-    /// active. It first asks the silences that changed since that was learned.
+    /// Returns whether it is cached of labels, from a moment on, when silences that match them are
+    /// active. It first asks the silences that changed since that was cached.
     fn is_cached(&mut self, at: Moment, labels: &Labels) -> Result<bool, AllocError>
         ensures { self.new ≡ self.old }
     {
@@ -238,7 +238,7 @@ impl SilenceTable {
         Ok(true)
     }
 
-    /// Works out when silences that match these label sets are active, and remembers it. It asks
+    /// Works out when silences that match these label sets are active, and caches it. It asks
     /// only silences that aren't expired, and keeps the list of them until a silence changes.
     fn cache_some(&mut self, at: Moment, label_sets: &[Labels]) -> Result<(), AllocError>
         ensures { self.new ≡ self.old }
@@ -266,7 +266,7 @@ impl SilenceTable {
         }
     }
 
-    /// Works out when those of these silences that match the label sets are active, and remembers
+    /// Works out when those of these silences that match the label sets are active, and caches
     /// it. No other silence is unexpired.
     fn cache_from(
         &mut self,
@@ -286,7 +286,7 @@ impl SilenceTable {
         self.cache_rows(at, label_sets, rows.as_slice())
     }
 
-    /// Remembers the silences that rows list for each of these label sets.
+    /// Caches the silences that rows list for each of these label sets.
     fn cache_rows(
         &mut self,
         at: Moment,
@@ -303,7 +303,7 @@ impl SilenceTable {
         Ok(())
     }
 
-    /// Asks these silences for each of these label sets, and remembers the answers of patterns. No
+    /// Asks these silences for each of these label sets, and caches the answers of patterns. No
     /// other silence is unexpired.
     fn cache_one_by_one(
         &mut self,
@@ -323,7 +323,7 @@ impl SilenceTable {
         Ok(())
     }
 
-    /// Remembers when the silences that match labels are active from a moment on.
+    /// Caches when the silences that match labels are active from a moment on.
     fn insert(
         &mut self,
         at: Moment,
@@ -343,7 +343,7 @@ impl SilenceTable {
         keep(&mut self.cached, &mut self.index_by_labels, cached)
     }
 
-    /// Returns what is known of labels, if it reaches back to a moment and no silence changed
+    /// Returns what is cached of labels, if it reaches back to a moment and no silence changed
     /// since: when the silences that match them are active.
     fn periods(&self, at: Moment, labels: &Labels) -> Option<&[SilencePeriod]>
         ensures { IfSome result (λ periods. silenced_in at periods.now
@@ -379,7 +379,7 @@ impl SilenceTable {
         ensures entered { SameEntered nat_cmp self.old self.new }
         ensures places { KeepsPlaces nat_cmp self.old self.new }
     {
-        // Room for this change and for its undoing. Without room everything known is forgotten.
+        // Room for this change and for its undoing. Without room everything cached is forgotten.
         drop(self.changes.reserve(2));
         self.silences.make_place(*id)?;
         match self.silences.number_of(id) {
@@ -415,7 +415,7 @@ impl SilenceTable {
     }
 }
 
-/// Notes that a silence changes. Forgets all that is known of label sets if there have been many
+/// Notes that a silence changes. Forgets all that is cached of label sets if there have been many
 /// changes, or if there is no room for one more. It takes no memory.
 fn note_change(
     alloc: Global,
@@ -440,7 +440,7 @@ fn note_change(
     }
 }
 
-/// Forgets all that is known of label sets.
+/// Forgets all that is cached of label sets.
 fn forget(
     alloc: Global,
     cached: &mut Vec<CachedPeriods>,
@@ -457,7 +457,7 @@ fn forget(
     *asked_ahead = 0;
 }
 
-/// Keeps what is known of a label set in place of what was known of it before.
+/// Keeps what is cached of a label set in place of what was cached of it before.
 fn keep(
     cached: &mut Vec<CachedPeriods>,
     index_by_labels: &mut Keyed<Labels, usize>,
@@ -476,7 +476,7 @@ fn keep(
     }
 }
 
-/// Adds what is known of a label set.
+/// Adds what is cached of a label set.
 fn add(
     cached: &mut Vec<CachedPeriods>,
     index_by_labels: &mut Keyed<Labels, usize>,

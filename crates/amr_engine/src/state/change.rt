@@ -51,7 +51,7 @@ impl Model for BoxedRouter {
 }
 
 impl BoxedRouter {
-    /// Takes a configuration, of which nothing is remembered yet.
+    /// Takes a configuration, of which nothing is cached yet.
     pub(crate) fn new(alloc: Global, config: Config) -> Result<BoxedRouter, AllocError>
         ensures { IfOk result (λ boxed. boxed ≡ config) }
     {

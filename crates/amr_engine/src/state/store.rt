@@ -450,7 +450,7 @@ impl Store {
     }
 
     /// Returns the group of a label set on a route. It makes no labels anew if the route takes the
-    /// label set, whose groups are remembered then.
+    /// label set, whose groups are cached then.
     fn group_on(&mut self, route_labels: &RouteLabels) -> Result<RouteLabels, AllocError>
         ensures group { IfOk result (λ group. group
             ≡ group_key self.old.state.config route_labels.now) }

@@ -95,7 +95,7 @@ impl Timetable {
     }
 
     /// Works out which label sets can be sources of those rules that have a label set as a target,
-    /// given which sides of each rule it is on. Skips a rule that is known.
+    /// given which sides of each rule it is on. Skips a rule that is cached.
     pub(crate) fn cache_sources(
         &mut self,
         rules: &[InhibitRule],

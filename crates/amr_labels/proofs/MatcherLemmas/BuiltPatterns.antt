@@ -14,12 +14,12 @@ same_of_some : {X : Type 0} (x y : X) → Some x ≡ Some y → x ≡ y
 same_of_some x y e = cc
 
 pub one_more : (built more : BTreeMap Text Text) (text pattern : Text) → AreUnderTheirTexts built → pattern ≡ text → more.entries ≡ insert_entry text_cmp built.entries text pattern → AreUnderTheirTexts more
-one_more built more text pattern are is entries other known at =
+one_more built more text pattern are is entries other cached at =
     let there = find-put text_cmp nat_list_cmp_total other text pattern built.entries in
-    elim (text_cmp other text) as (λ o. text_cmp other text ≡ o → cond (is_eq o) (Some pattern) (find text_cmp other built.entries) ≡ Some known → known ≡ other) [
-      | Less ↦ λ tie at. are other known at
-      | Equal ↦ λ tie at. sym (same_of_some pattern known at) ∙ is ∙ sym (text_cmp-IsAntisymmetric other text tie)
-      | Greater ↦ λ tie at. are other known at
+    elim (text_cmp other text) as (λ o. text_cmp other text ≡ o → cond (is_eq o) (Some pattern) (find text_cmp other built.entries) ≡ Some cached → cached ≡ other) [
+      | Less ↦ λ tie at. are other cached at
+      | Equal ↦ λ tie at. sym (same_of_some pattern cached at) ∙ is ∙ sym (text_cmp-IsAntisymmetric other text tie)
+      | Greater ↦ λ tie at. are other cached at
     ] refl (sym there ∙ ap (find text_cmp other) (sym (put_is text_cmp built.entries text pattern) ∙ sym entries) ∙ at)
 
 pub as_before : (built same : BTreeMap Text Text) → AreUnderTheirTexts built → same.entries ≡ built.entries → AreUnderTheirTexts same

@@ -74,8 +74,8 @@ impl Patterns {
         ensures read { IfOk result (λ shared. shared ≡ text) }
         ensures refused { IfErr result (RefusedOnlyIf (MayRefuse text)) }
     {
-        if let Some(known) = self.built.get(&text) {
-            return Ok(known.clone()?);
+        if let Some(cached) = self.built.get(&text) {
+            return Ok(cached.clone()?);
         }
         self.build(text)
     }

@@ -1,5 +1,5 @@
 //! The commands that only ask: those that list what the state holds, and `cursor`. None of them
-//! moves the cursor or changes the state, though the session may remember what it works out.
+//! moves the cursor or changes the state, though the session may cache what it works out.
 ghost use Rattle.std.specs.Prelude.{◌≡◌, ◌++◌, IfOk};
 ghost use Rattle.amreplay.specs.declared.command_lines.command.ParsedLine.TheVariants.{Asks};
 ghost use Rattle.amreplay.specs.declared.command_lines.command.Command.TheVariants as command;

@@ -24,7 +24,7 @@ loop-made-init c = record {
   ok = begins move_limit c.args.at c.args.store.now.state;
   kept = refl;
   grown = none_spent move_limit c.args.at c.args.store.now.state (length c.args.store.now.current);
-  memory = c.requires.memory;
+  cache = c.requires.cache;
   here = refl;
   quiet = c.requires.quiet;
 }
@@ -45,7 +45,7 @@ loop-made-preserved c =
       kept = made.kept ∙ c.loop-made.invariant.kept;
       grown = spent move_limit c.loop-made.made c.args.at c.loop-made.store.state c.make.new.store.state c.in-Some.due (length c.loop-made.store.current) (length c.make.new.store.current)
           (length c.args.store.now.current + 2 * first_weight move_limit c.args.at c.args.store.now.state) c.loop-made.invariant.grown less next made.ok made.grown;
-      memory = made.memory;
+      cache = made.cache;
       here = one_more c.loop-made.made c.args.store.now.state c.loop-made.store.state c.make.new.store.state c.args.at c.in-Some.due c.loop-made.invariant.here next made.ok;
       quiet = note_move c.loop-made.quiet_moves c.note-forgotten.new.self c.loop-made.made c.in_ok-is_quiet-in-Some.is_quiet c.args.store.now.state c.loop-made.store.state c.args.at c.in-Some.due
           c.loop-made.invariant.here c.loop-made.invariant.quiet next made.quiet (noted_or_not c.note-forgotten.result _ _ c.note-forgotten.ensures.ok c.note-forgotten.ensures.err);

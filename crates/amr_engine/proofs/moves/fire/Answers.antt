@@ -1,7 +1,7 @@
 use Rattle.std.proofs.Common.{rules, sym, subst}
 use Rattle.amr_engine.specs.Moves.{move}
-use Rattle.amr_engine.specs.Remembered.{IsTrueOf}
-use Rattle.amr_engine.proofs.Remembering.{stays_true}
+use Rattle.amr_engine.specs.CachedQuiet.{IsTrueOf}
+use Rattle.amr_engine.proofs.CachedQuiet.{stays_true}
 use Rattle.amr_engine.proofs.moves.fire.Goals as goal
 
 pub returns-in_ok-change-in-AlertRemoval-clause-ok : goal.returns-in_ok-change-in-AlertRemoval-clause-ok
@@ -12,10 +12,10 @@ pub returns-in_ok-change-in-GroupRemoval-clause-ok : goal.returns-in_ok-change-i
 unfolding move
 returns-in_ok-change-in-GroupRemoval-clause-ok c = search rules
 
-pub returns-in_ok-change-in-GroupRemoval-clause-memory : goal.returns-in_ok-change-in-GroupRemoval-clause-memory
-returns-in_ok-change-in-GroupRemoval-clause-memory c =
+pub returns-in_ok-change-in-GroupRemoval-clause-cache : goal.returns-in_ok-change-in-GroupRemoval-clause-cache
+returns-in_ok-change-in-GroupRemoval-clause-cache c =
     subst (IsTrueOf c.args.quiet_groups.now) (sym c.in_ok-change-in-GroupRemoval.ensures.ok)
-    (stays_true c.args.store.now.state c.args.store.now.state.moment _ c.args.store.now.state.notes c.args.quiet_groups.now c.requires.memory)
+    (stays_true c.args.store.now.state c.args.store.now.state.moment _ c.args.store.now.state.notes c.args.quiet_groups.now c.requires.cache)
 
 pub returns-in-GroupFlush-clause-ok : goal.returns-in-GroupFlush-clause-ok
 unfolding move

@@ -1,5 +1,5 @@
 use Rattle.std.proofs.Common.{◌≡◌, drop}
-use Rattle.amr_engine.specs.Remembered.{times_in, without_all_joined}
+use Rattle.amr_engine.specs.CachedQuiet.{times_in, without_all_joined}
 use Rattle.amr_engine.proofs.quiet.remove_all_joined.Given as goal
 
 -- without the groups of the alerts so far, and then those of the alerts that are left

@@ -1,6 +1,6 @@
 use Rattle.std.proofs.Common.{◌≡◌, drop}
 use Rattle.std.specs.List.{fold}
-use Rattle.amr_engine.specs.Remembered.{times_in, without_group, without_joined}
+use Rattle.amr_engine.specs.CachedQuiet.{times_in, without_group, without_joined}
 use Rattle.amr_engine.proofs.quiet.remove_joined.Given as goal
 
 -- without the groups so far, and then those that are left

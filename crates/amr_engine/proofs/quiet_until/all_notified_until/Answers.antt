@@ -1,5 +1,5 @@
 use Rattle.std.proofs.Common.{◌<◌, arith}
-use Rattle.amr_engine.proofs.Remembering.{found_all_notified}
+use Rattle.amr_engine.proofs.CachedQuiet.{found_all_notified}
 use Rattle.amr_engine.proofs.quiet_until.all_notified_until.Goals as goal
 
 pub returns-in-Some : goal.returns-in-Some

@@ -1,6 +1,6 @@
 use Rattle.std.proofs.Common.{arith}
 use Rattle.amr_engine.specs.Flush.{labels_of}
-use Rattle.amr_engine.proofs.Remembering.{notified_sooner, all_notified}
+use Rattle.amr_engine.proofs.CachedQuiet.{notified_sooner, all_notified}
 use Rattle.amr_engine.proofs.quiet_until.each_notified_until.Goals as goal
 
 pub loop-integration-preserved : goal.loop-integration-preserved

@@ -1,6 +1,6 @@
 use Rattle.std.proofs.Common.{true, false, refl, sym, ◌∙◌, length}
 use Rattle.std.specs.Prelude.{◌==◌}
-use Rattle.amr_engine.proofs.Remembering.{untimed_by}
+use Rattle.amr_engine.proofs.CachedQuiet.{untimed_by}
 use Rattle.amr_engine.proofs.quiet_until.is_untimed.Goals as goal
 
 pub returns-then-is_empty : goal.returns-then-is_empty

@@ -1,6 +1,6 @@
 use Rattle.std.proofs.Common.{◌≡◌, ◌<◌, true, arith}
 use Rattle.amr_engine.specs.Quiet.{is_untimed}
-use Rattle.amr_engine.proofs.Remembering.{found_quiet}
+use Rattle.amr_engine.proofs.CachedQuiet.{found_quiet}
 use Rattle.amr_engine.proofs.quiet_until.quiet_until.Goals as goal
 
 pub returns-in-Some : goal.returns-in-Some

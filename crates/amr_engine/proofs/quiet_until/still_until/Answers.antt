@@ -1,4 +1,4 @@
-use Rattle.amr_engine.proofs.Remembering.{still_by}
+use Rattle.amr_engine.proofs.CachedQuiet.{still_by}
 use Rattle.amr_engine.proofs.quiet_until.still_until.Goals as goal
 
 pub returns : goal.returns

@@ -2,7 +2,7 @@ use Rattle.std.proofs.Common.{◌≡◌, ◌≤◌, ◌<◌, ◌+◌, true, leng
 use Rattle.amr_engine.specs.Flush.{Members}
 use Rattle.amr_engine.specs.Quiet.{all_fire_until}
 use Rattle.amr_engine.proofs.Lasting.{some_members}
-use Rattle.amr_engine.proofs.Remembering.{fire_sooner}
+use Rattle.amr_engine.proofs.CachedQuiet.{fire_sooner}
 use Rattle.amr_engine.proofs.too_many.do_all_fire.Goals as goal
 
 pub returns : goal.returns

@@ -11,10 +11,10 @@ inside x y same = cc
 
 pub returns-in-Some : goal.returns-in-Some
 returns-in-Some c =
-    let spelled : Spells c.as_str.result.now c.in-Some.known = rw c.in-Some.is at c.in_ok-known.ensures in
+    let spelled : Spells c.as_str.result.now c.in-Some.cached = rw c.in-Some.is at c.in_ok-cached.ensures in
     let reads : read c.as_str.result.now ≡ Some (view c.args.value.now) = ap read c.as_str.ensures.value ∙ c.in_ok-text.ensures.reads_back c.requires in
-    let same : Some (config_of (view c.args.value.now)) ≡ Some (Ok c.in-Some.known) = ap (option_map config_of) (sym reads) ∙ spelled in
-    (Ok c.in-Some.known, inside _ _ same, refl)
+    let same : Some (config_of (view c.args.value.now)) ≡ Some (Ok c.in-Some.cached) = ap (option_map config_of) (sym reads) ∙ spelled in
+    (Ok c.in-Some.cached, inside _ _ same, refl)
 
 pub returns-in-Ok : goal.returns-in-Ok
 returns-in-Ok c = (Ok c.in-Ok.config, c.in-Ok.ensures, refl)

@@ -5,8 +5,8 @@ use Rattle.amr_tables.specs.Numbered.{map_of}
 use Rattle.amr_config.specs.Stated.Config.{Config}
 use Rattle.amr_config.specs.Stated.RuleMatches.{rule_matches}
 use Rattle.amr_config.specs.declared.router.CachedRouting.{CachedRouting}
-use Rattle.amr_config.specs.Groups.{groups_of, known_of}
-use Rattle.amr_config.proofs.Cached.{remembers_more}
+use Rattle.amr_config.specs.Groups.{groups_of, routing_to_cache}
+use Rattle.amr_config.proofs.Cached.{caches_more}
 use Rattle.amr_config.proofs.router.Router.cache_groups.Goals as goal
 
 pub invariant_of-self-2 : goal.invariant_of-self-2
@@ -18,7 +18,7 @@ invariant_of-self-2 c =
     let found : CachedRouting = record { groups = c.args.groups; rules = c.in_ok-rules.rules } in
     let groups : c.args.groups ≡ groups_of config here = c.requires ∙ ap (λ k. groups_of k here) (sym same) in
     let rules : c.in_ok-rules.rules ≡ rule_matches here config.rules = c.in_ok-rules.ensures.sides ∙ ap (λ k. rule_matches here k.rules) (sym same) in
-    let is : found ≡ known_of config here = λ i. record { groups = groups i; rules = rules i } in
+    let is : found ≡ routing_to_cache config here = λ i. record { groups = groups i; rules = rules i } in
     let shows : map_of label_set_cmp c.displace.new.self ≡ set (map_of label_set_cmp cache) here (Some found) =
     c.displace.ensures.shown ∙ ap (λ m. set m here (Some found)) c.make_place.ensures.shown in
-    (remembers_more (known_of config) cache c.displace.new.self here found c.self.invariant.0 is shows, c.self.invariant.1)
+    (caches_more (routing_to_cache config) cache c.displace.new.self here found c.self.invariant.0 is shows, c.self.invariant.1)

@@ -5,7 +5,7 @@ use Rattle.amr_engine.specs.State.Steps.{Steps}
 use Rattle.amr_engine.specs.State.Kept.{Kept}
 use Rattle.amr_engine.specs.State.Records.{befores, put_back}
 use Rattle.amr_engine.specs.Events.{after_event}
-use Rattle.amr_engine.specs.Remembered.{IsTrueOf}
+use Rattle.amr_engine.specs.CachedQuiet.{IsTrueOf}
 use Rattle.amr_engine.specs.Placed.{StayPlaced}
 use Rattle.amr_engine.specs.declared.engine.Engine.TheInside.{Inside}
 use Rattle.amr_engine.specs.Weight.{event_weight}
@@ -58,8 +58,8 @@ invariant_of-self-in-Ok c =
     ]) in (
       c.close.ensures.current,
       elim c.if-is_refused.branch [
-        | then-is_refused w ↦ subst (λ memory. IsTrueOf memory state) (sym (ap (λ x. x.quiet_groups) w.self-inside-is)) (w.clear.ensures state)
-        | else-is_refused w ↦ subst (λ (x : Inside). IsTrueOf x.quiet_groups state) (sym w.self-inside-is) (subst (IsTrueOf c.attempt.new.quiet_groups) (sym (c.close.ensures.state ∙ ap (λ (x : Inside). x.store.state) w.self-inside-is)) c.in-Ok.ensures.memory)
+        | then-is_refused w ↦ subst (λ cache. IsTrueOf cache state) (sym (ap (λ x. x.quiet_groups) w.self-inside-is)) (w.clear.ensures state)
+        | else-is_refused w ↦ subst (λ (x : Inside). IsTrueOf x.quiet_groups state) (sym w.self-inside-is) (subst (IsTrueOf c.attempt.new.quiet_groups) (sym (c.close.ensures.state ∙ ap (λ (x : Inside). x.store.state) w.self-inside-is)) c.in-Ok.ensures.cache)
       ],
       applied_stays before.state state (befores before.records before.state) (befores after.records state) c.args.event.now
           (c.close.ensures.state ∙ done.state ∙ ap (λ (s : State). after_event s c.args.event.now) c.in_ok-begin.ensures.state)

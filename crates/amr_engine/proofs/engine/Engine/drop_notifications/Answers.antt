@@ -2,8 +2,8 @@ use Rattle.std.proofs.Common.{sym, subst, ap, ◌∙◌}
 use Rattle.amr_engine.specs.State.Steps.{Steps}
 use Rattle.amr_engine.specs.State.Records.{befores}
 use Rattle.amr_engine.proofs.PlacedRuns.{dropped_stays}
-use Rattle.amr_engine.specs.Remembered.{IsTrueOf}
-use Rattle.amr_engine.proofs.Remembering.{stays_true}
+use Rattle.amr_engine.specs.CachedQuiet.{IsTrueOf}
+use Rattle.amr_engine.proofs.CachedQuiet.{stays_true}
 use Rattle.amr_engine.proofs.Settling.{no_past}
 use Rattle.amr_engine.proofs.engine.Engine.drop_notifications.Goals as goal
 

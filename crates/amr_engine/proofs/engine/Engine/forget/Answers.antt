@@ -1,6 +1,6 @@
 use Rattle.amr_engine.specs.State.Records.{befores}
 use Rattle.std.proofs.Common.{sym, subst, ◌∙◌}
-use Rattle.amr_engine.specs.Remembered.{IsTrueOf}
+use Rattle.amr_engine.specs.CachedQuiet.{IsTrueOf}
 use Rattle.amr_engine.proofs.PlacedRuns.{forgotten_stays}
 use Rattle.amr_engine.proofs.Settling.{no_past}
 use Rattle.amr_engine.proofs.engine.Engine.forget.Goals as goal

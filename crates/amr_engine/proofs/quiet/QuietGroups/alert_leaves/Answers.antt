@@ -1,6 +1,6 @@
 use Rattle.std.proofs.Common.{refl}
 use Rattle.amr_labels.specs.Map.{remove}
-use Rattle.amr_engine.proofs.Remembering.{no_rules, true_alike, unmuted}
+use Rattle.amr_engine.proofs.CachedQuiet.{no_rules, true_alike, unmuted}
 use Rattle.amr_engine.proofs.quiet.QuietGroups.alert_leaves.Goals as goal
 
 pub returns-then-not-is_empty : goal.returns-then-not-is_empty

@@ -3,7 +3,7 @@ use Rattle.amr_config.specs.Stated.Config.{Config}
 use Rattle.amr_config.specs.Routing.{HasOwnPath}
 use Rattle.amr_engine.specs.Flush.{flush}
 use Rattle.amr_engine.proofs.QuietStays.{flush_leaves}
-use Rattle.amr_engine.proofs.Remembering.{flushed_alone, outlasts_flush}
+use Rattle.amr_engine.proofs.CachedQuiet.{flushed_alone, outlasts_flush}
 use Rattle.amr_engine.proofs.quiet.QuietGroups.forget_flushed.Goals as goal
 
 pub returns-then-has_own_path : goal.returns-then-has_own_path

@@ -1,5 +1,5 @@
 use Rattle.std.proofs.Common.{◌<◌, arith}
-use Rattle.amr_engine.proofs.Remembering.{outlasted}
+use Rattle.amr_engine.proofs.CachedQuiet.{outlasted}
 use Rattle.amr_engine.proofs.quiet.QuietGroups.forget_muting.Goals as goal
 
 pub returns-in-None : goal.returns-in-None

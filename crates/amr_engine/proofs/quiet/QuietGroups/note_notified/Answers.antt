@@ -5,7 +5,7 @@ use Rattle.amr_config.specs.Routing.{HasOwnPath}
 use Rattle.amr_engine.specs.State.State.{members}
 use Rattle.amr_engine.specs.Quiet.{IsAllNotified}
 use Rattle.amr_engine.proofs.QuietLaws.{notified_quiet}
-use Rattle.amr_engine.proofs.Remembering.{kept_if}
+use Rattle.amr_engine.proofs.CachedQuiet.{kept_if}
 use Rattle.amr_engine.proofs.quiet.QuietGroups.note_notified.Goals as goal
 
 pub note_quiet-requires-clause-quiet : goal.note_quiet-requires-clause-quiet
@@ -19,4 +19,4 @@ returns c =
       own = subst (λ (config : Config). HasOwnPath config c.args.group.now.route) c.config.ensures (c.has_own_path.ensures.0 c.if-not-has_own_path.false);
       notified = subst (λ (p : Moment × Moment). IsAllNotified s c.args.group.now p.0 p.1 (members s c.args.group.now)) (λ i. (sym c.new.ensures.from i, sym c.new.ensures.until i)) c.requires.notified;
     })
-    c.requires.memory
+    c.requires.cache

@@ -2,7 +2,7 @@ use Rattle.std.proofs.Common.{◌≤◌, ◌<◌, length, sym, subst, arith}
 use Rattle.amr_time.specs.Time.{Moment}
 use Rattle.amr_config.specs.Stated.Config.{Config}
 use Rattle.amr_engine.specs.Quiet.{IsQuiet}
-use Rattle.amr_engine.proofs.Remembering.{kept_if}
+use Rattle.amr_engine.proofs.CachedQuiet.{kept_if}
 use Rattle.amr_engine.proofs.quiet.QuietGroups.note_quiet.Goals as goal
 
 pub returns : goal.returns
@@ -16,4 +16,4 @@ returns c =
       not_later = present;
       quiet = λ _. subst (λ (p : Moment × Moment). IsQuiet s c.args.group.now p.0 p.1) (λ i. (sym c.new.ensures.from i, sym c.new.ensures.until i)) c.requires.quiet;
     })
-    c.requires.memory
+    c.requires.cache

@@ -1,4 +1,4 @@
-use Rattle.amr_engine.proofs.Remembering.{still_rest}
+use Rattle.amr_engine.proofs.CachedQuiet.{still_rest}
 use Rattle.amr_engine.proofs.quiet.QuietGroups.still_at.Goals as goal
 
 pub returns-in-Some : goal.returns-in-Some

@@ -14,7 +14,7 @@ returns-in-None c =
     let t = c.self.inside in
     let rule = c.args.rule.now in
     let target = c.args.target.now in
-    let listed = rw c.in-Some.is at c.in_ok-known.ensures in
+    let listed = rw c.in-Some.is at c.in_ok-cached.ensures in
     let none : ListsAgreeing rule target t.sources None = subst (λ found. ListsAgreeing rule target t.sources (option_copied found)) c.in-None.is listed in
     ap (λ (found : List (Bor LabelSet × Bor Alert)). map deref_pair found) c.new.ensures.items
     ∙ sources_are (map_of label_set_cmp t.alerts) rule target t.sources None none (λ q h. c.self.invariant.arrived q (c.self.invariant.stored q h))
@@ -25,7 +25,7 @@ returns-in-Some-listed c =
     let t = c.self.inside in
     let rule = c.args.rule.now in
     let target = c.args.target.now in
-    let listed = rw c.in-Some.is at c.in_ok-known.ensures in
+    let listed = rw c.in-Some.is at c.in_ok-cached.ensures in
     let source = c.in-Some-listed.listed.now in
     let some : ListsAgreeing rule target t.sources (Some source) = subst (λ found. ListsAgreeing rule target t.sources (option_copied found)) c.in-Some-listed.is listed in
     subst (λ pairs. IfOk c.stored_of.result (λ found. map deref_pair found.items ≡ pairs))

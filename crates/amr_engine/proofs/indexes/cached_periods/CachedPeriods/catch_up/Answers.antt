@@ -15,22 +15,22 @@ loop-turn-init c =
     let left = c.in_ok-leave_out_ended.ensures.left in
     let from : c.leave_out_ended.new.self.from ≡ c.args.at = ap (λ (k : CachedPeriods). k.from) left in
     let le : c.leave_out_ended.new.self.from ≤ c.args.at = omega arith in
-    (omega arith, refl, le, left_out (map_of nat_cmp c.args.silences.now) (changed_ids c.args.changes.now) c.args.self.now c.leave_out_ended.new.self c.args.at c.requires.known c.requires.before left)
+    (omega arith, refl, le, left_out (map_of nat_cmp c.args.silences.now) (changed_ids c.args.changes.now) c.args.self.now c.leave_out_ended.new.self c.args.at c.requires.cached c.requires.before left)
 
 pub loop-turn-preserved : goal.loop-turn-preserved
 loop-turn-preserved c =
     let silences : Silences = map_of nat_cmp c.args.silences.now in
-    let known : CachedPeriods = c.loop-turn.self in
+    let cached : CachedPeriods = c.loop-turn.self in
     let changes = c.args.changes.now in
     let passed : CachedPeriods = c.pass_over.new.self in
-    let passed_is : passed ≡ passed_by changes known = c.pass_over.ensures in
-    let still : IsCached silences (changed_ids changes) passed = all_passed silences changes known passed c.requires.noted c.loop-turn.invariant.3 passed_is in
+    let passed_is : passed ≡ passed_by changes cached = c.pass_over.ensures in
+    let still : IsCached silences (changed_ids changes) passed = all_passed silences changes cached passed c.requires.noted c.loop-turn.invariant.3 passed_is in
     let noted = c.in_ok-take_in.ensures.noted in
     let from : c.take_in.new.self.from ≡ passed.from = ap (λ (k : CachedPeriods). k.from) noted in
-    let same_from : passed.from ≡ known.from = ap (λ (k : CachedPeriods). k.from) passed_is in
-    let before : known.from ≤ c.args.at = c.loop-turn.invariant.2 in
-    let turns : c.loop-turn._turn ≤ known.version = c.loop-turn.invariant.0 in
-    let on : known.version ≤ passed.version = subst (λ (k : CachedPeriods). known.version ≤ k.version) (sym passed_is) (passed_on changes known) in
+    let same_from : passed.from ≡ cached.from = ap (λ (k : CachedPeriods). k.from) passed_is in
+    let before : cached.from ≤ c.args.at = c.loop-turn.invariant.2 in
+    let turns : c.loop-turn._turn ≤ cached.version = c.loop-turn.invariant.0 in
+    let on : cached.version ≤ passed.version = subst (λ (k : CachedPeriods). cached.version ≤ k.version) (sym passed_is) (passed_on changes cached) in
     let more : passed.version < length changes = first_of (search rules, grind (arith, common_steps)) in
     let change : SilenceChange = c.index-changes-index.result in
     let is : get_or changes passed.version change ≡ change = sym c.index-changes-index.is in
@@ -43,22 +43,22 @@ loop-turn-preserved c =
           (λ i. record { labels = (noted i).labels; bits = (noted i).bits; from = (noted i).from; version = passed.version + 1; periods = (noted i).periods }),
     )
 
-pub returns-then-self-changes-2-clause-known : goal.returns-then-self-changes-2-clause-known
-returns-then-self-changes-2-clause-known c =
+pub returns-then-self-changes-2-clause-cached : goal.returns-then-self-changes-2-clause-cached
+returns-then-self-changes-2-clause-cached c =
     all_passed (map_of nat_cmp c.args.silences.now) c.args.changes.now c.loop-turn.self c.pass_over.new.self c.requires.noted c.loop-turn.invariant.3 c.pass_over.ensures
 
 pub returns-then-self-changes-2-clause-version : goal.returns-then-self-changes-2-clause-version
 returns-then-self-changes-2-clause-version c =
     let changes = c.args.changes.now in
-    let known : IsCached (map_of nat_cmp c.args.silences.now) (changed_ids changes) c.pass_over.new.self =
+    let cached : IsCached (map_of nat_cmp c.args.silences.now) (changed_ids changes) c.pass_over.new.self =
     all_passed (map_of nat_cmp c.args.silences.now) changes c.loop-turn.self c.pass_over.new.self c.requires.noted c.loop-turn.invariant.3 c.pass_over.ensures in
-    let within : c.pass_over.new.self.version ≤ length (changed_ids changes) = known.version in
+    let within : c.pass_over.new.self.version ≤ length (changed_ids changes) = cached.version in
     let count : length (changed_ids changes) ≡ length changes = length-map changes (λ (change : SilenceChange). change.id) in
     let all : length changes ≤ c.pass_over.new.self.version = first_of (search rules, grind (arith, common_steps)) in
     omega arith
 
-pub returns-in_err-take_in-clause-known : goal.returns-in_err-take_in-clause-known
-returns-in_err-take_in-clause-known c =
+pub returns-in_err-take_in-clause-cached : goal.returns-in_err-take_in-clause-cached
+returns-in_err-take_in-clause-cached c =
     let silences : Silences = map_of nat_cmp c.args.silences.now in
     let changes = c.args.changes.now in
     subst (λ (k : CachedPeriods). IsCached silences (changed_ids changes) k) (sym c.in_err-take_in.ensures.err)

@@ -7,6 +7,6 @@ use Rattle.amr_engine.proofs.indexes.cached_periods.CachedPeriods.leave_out_list
 
 pub returns-else-lists-clause-left : goal.returns-else-lists-clause-left
 returns-else-lists-clause-left c =
-    let known : CachedPeriods = c.args.self.now in
-    let none : lists known.periods c.args.id.now ≡ false = sym (ap (λ (ps : List SilencePeriod). lists ps c.args.id.now) c.as_slice.ensures) ∙ sym c.lists.ensures ∙ c.if-lists.false in
-    ap (λ (ps : List SilencePeriod). record known { periods = ps }) (sym (not_listed c.args.id.now known.periods none))
+    let cached : CachedPeriods = c.args.self.now in
+    let none : lists cached.periods c.args.id.now ≡ false = sym (ap (λ (ps : List SilencePeriod). lists ps c.args.id.now) c.as_slice.ensures) ∙ sym c.lists.ensures ∙ c.if-lists.false in
+    ap (λ (ps : List SilencePeriod). record cached { periods = ps }) (sym (not_listed c.args.id.now cached.periods none))

@@ -1,4 +1,4 @@
--- The memory of quiet groups, and what keeps it true of the state.
+-- The cache of quiet groups, and what keeps it true of the state.
 use Rattle.std.specs.Prelude.{◌≡◌, ℕ, Bool, true, not, ◌&&◌, List, [], ◌∷◌, Option, Some, None, Result, Ok, Err, option_map, ◌≤◌, ◌<◌, ◌+◌, nat_le, ◌==◌, length, ◌⊎◌}
 use Rattle.std.specs.Option.{option_or, is_none}
 use Rattle.std.specs.Result.{OnOk, OnErr, IfOk}
@@ -36,49 +36,49 @@ use Rattle.amr_engine.specs.Prepared.{after_prepared}
 use Rattle.amr_engine.specs.Events.{put}
 use Rattle.amr_engine.specs.Flush.{Members, let_through, labels_of, log_key_of, flush}
 use Rattle.amr_engine.specs.Quiet.{is_outside, no_alert_ends, no_source_ends, no_silence_turns, all_fire_until, is_untimed, no_repeat_before, is_notified, are_notified, with_timer_reset, IsStill, IsQuiet, IsQuietWith, IsAllNotified, LeavesOthers}
-use Rattle.amr_engine.specs.Remembered.{Times, times_in, quiet_times, IsNotifiedIn, IsQuietSince, IsTrueTime, IsTrueOf, Outlasts, without_all_joined}
+use Rattle.amr_engine.specs.CachedQuiet.{Times, times_in, quiet_times, IsNotifiedIn, IsQuietSince, IsTrueTime, IsTrueOf, Outlasts, without_all_joined}
 use Rattle.amr_engine.proofs.FewerNotified.{both}
 use Rattle.amr_engine.proofs.QuietLaws.{quiet_flush, notified_flush, stays_quiet}
-use Rattle.amr_engine.proofs.NotifiedStays.{beside_notified, left_notified, other_key, still_known, now_known, left_by_posts}
+use Rattle.amr_engine.proofs.NotifiedStays.{beside_notified, left_notified, other_key, still_cached, now_cached, left_by_posts}
 use Rattle.amr_engine.proofs.QuietStays.{flush_leaves, quiet_left, still_left}
 
--- ---- what is remembered
+-- ---- what is cached
 
--- a memory of no group is true of each state
-pub nothing_known : (memory : QuietGroups) → quiet_times memory ≡ empty → memory.still ≡ None → (s : State) → IsTrueOf memory s
-nothing_known memory times still s = record {
-  quiet = λ group time known.
-      let none : get (quiet_times memory) group ≡ None = ap (λ (m : Times). get m group) times ∙ get-empty route_labels_cmp group in
-      absurd (cc (known, none));
-  still = λ period known. absurd (cc (known, still));
+-- a cache of no group is true of each state
+pub nothing_cached : (cache : QuietGroups) → quiet_times cache ≡ empty → cache.still ≡ None → (s : State) → IsTrueOf cache s
+nothing_cached cache times still s = record {
+  quiet = λ group time cached.
+      let none : get (quiet_times cache) group ≡ None = ap (λ (m : Times). get m group) times ∙ get-empty route_labels_cmp group in
+      absurd (cc (cached, none));
+  still = λ period cached. absurd (cc (cached, still));
 }
 
 -- one more group that is quiet
-pub one_more : (memory : QuietGroups) (table : Numbered RouteLabels QuietTime) (group : RouteLabels) (time : QuietTime) (s : State) → times_in table ≡ insert (quiet_times memory) group time
-    → IsTrueTime memory.generation s group time.period time.generation → IsTrueOf memory s → IsTrueOf (record memory { times = table }) s
-one_more memory table group time s are is holds = record {
-  quiet = λ other its known. by other its (now_known (quiet_times memory) group time other its (ap (λ (m : Times). get m other) (sym are) ∙ known));
+pub one_more : (cache : QuietGroups) (table : Numbered RouteLabels QuietTime) (group : RouteLabels) (time : QuietTime) (s : State) → times_in table ≡ insert (quiet_times cache) group time
+    → IsTrueTime cache.generation s group time.period time.generation → IsTrueOf cache s → IsTrueOf (record cache { times = table }) s
+one_more cache table group time s are is holds = record {
+  quiet = λ other its cached. by other its (now_cached (quiet_times cache) group time other its (ap (λ (m : Times). get m other) (sym are) ∙ cached));
   still = holds.still;
 }
   where
-    by : (other : RouteLabels) (its : QuietTime) → ((other ≡ group) × (time ≡ its)) ⊎ (get (quiet_times memory) other ≡ Some its) → IsTrueTime memory.generation s other its.period its.generation
-    by other its (inl same) = subst (λ (x : RouteLabels × QuietTime). IsTrueTime memory.generation s x.0 x.1.period x.1.generation) (λ i. (sym same.0 i, same.1 i)) is
-    by other its (inr known) = holds.quiet other its known
+    by : (other : RouteLabels) (its : QuietTime) → ((other ≡ group) × (time ≡ its)) ⊎ (get (quiet_times cache) other ≡ Some its) → IsTrueTime cache.generation s other its.period its.generation
+    by other its (inl same) = subst (λ (x : RouteLabels × QuietTime). IsTrueTime cache.generation s x.0 x.1.period x.1.generation) (λ i. (sym same.0 i, same.1 i)) is
+    by other its (inr cached) = holds.quiet other its cached
 
 -- or of none, if there was no room
-pub same_times : (memory : QuietGroups) (table : Numbered RouteLabels QuietTime) (s : State) → times_in table ≡ quiet_times memory → IsTrueOf memory s → IsTrueOf (record memory { times = table }) s
-same_times memory table s are holds = record {
-  quiet = λ group time known. holds.quiet group time (ap (λ (m : Times). get m group) (sym are) ∙ known);
+pub same_times : (cache : QuietGroups) (table : Numbered RouteLabels QuietTime) (s : State) → times_in table ≡ quiet_times cache → IsTrueOf cache s → IsTrueOf (record cache { times = table }) s
+same_times cache table s are holds = record {
+  quiet = λ group time cached. holds.quiet group time (ap (λ (m : Times). get m group) (sym are) ∙ cached);
   still = holds.still;
 }
 
-pub kept_if : {T E : Type 0} (r : Result T E) (memory : QuietGroups) (table : Numbered RouteLabels QuietTime) (group : RouteLabels) (time : QuietTime) (s : State)
-    → OnOk r (times_in table ≡ insert (quiet_times memory) group time) → OnErr r (times_in table ≡ quiet_times memory)
-    → IsTrueTime memory.generation s group time.period time.generation → IsTrueOf memory s → IsTrueOf (record memory { times = table }) s
-kept_if (Ok x) memory table group time s ok err is holds = one_more memory table group time s ok is holds
-kept_if (Err e) memory table group time s ok err is holds = same_times memory table s err holds
+pub kept_if : {T E : Type 0} (r : Result T E) (cache : QuietGroups) (table : Numbered RouteLabels QuietTime) (group : RouteLabels) (time : QuietTime) (s : State)
+    → OnOk r (times_in table ≡ insert (quiet_times cache) group time) → OnErr r (times_in table ≡ quiet_times cache)
+    → IsTrueTime cache.generation s group time.period time.generation → IsTrueOf cache s → IsTrueOf (record cache { times = table }) s
+kept_if (Ok x) cache table group time s ok err is holds = one_more cache table group time s ok is holds
+kept_if (Err e) cache table group time s ok err is holds = same_times cache table s err holds
 
--- what is remembered of a group, in a later state and perhaps a later generation
+-- what is cached of a group, in a later state and perhaps a later generation
 carried : (before now : ℕ) (s t : State) (group : RouteLabels) (period : Period) → t.config ≡ s.config → before ≤ now → (IsNotifiedIn s group period → IsNotifiedIn t group period)
     → (group.route < length s.config.routes → now ≡ before → IsQuiet s group period.from period.until → IsQuiet t group period.from period.until)
     → (generation : Option ℕ) → IsTrueTime before s group period generation → IsTrueTime now t group period generation
@@ -94,84 +94,84 @@ carried before now s t group period config later notified quiet (Some n) time =
           quiet time.there same (time.quiet then);
     }
 
--- a memory stays true where all stays true that it may know
-pub held : (memory : QuietGroups) (s t : State) → t.config ≡ s.config → ((group : RouteLabels) (period : Period) → IsNotifiedIn s group period → IsNotifiedIn t group period)
+-- a cache stays true where all stays true that it may hold
+pub held : (cache : QuietGroups) (s t : State) → t.config ≡ s.config → ((group : RouteLabels) (period : Period) → IsNotifiedIn s group period → IsNotifiedIn t group period)
     → ((group : RouteLabels) (from until : Moment) → IsQuiet s group from until → IsQuiet t group from until) → ((from until : Moment) → IsStill s from until → IsStill t from until)
-    → IsTrueOf memory s → IsTrueOf memory t
-held memory s t config notified quiet still holds = record {
-  quiet = λ group time known.
-      let same : memory.generation ≤ memory.generation = omega arith in
-      carried memory.generation memory.generation s t group time.period config same (notified group time.period) (λ _ _. quiet group time.period.from time.period.until) time.generation (holds.quiet group time known);
-  still = λ period known. still period.from period.until (holds.still period known);
+    → IsTrueOf cache s → IsTrueOf cache t
+held cache s t config notified quiet still holds = record {
+  quiet = λ group time cached.
+      let same : cache.generation ≤ cache.generation = omega arith in
+      carried cache.generation cache.generation s t group time.period config same (notified group time.period) (λ _ _. quiet group time.period.from time.period.until) time.generation (holds.quiet group time cached);
+  still = λ period cached. still period.from period.until (holds.still period cached);
 }
 
--- in a new generation it is, where what it knows for all generations stays true
-pub outlasted : (memory : QuietGroups) (next : ℕ) → memory.generation < next → (s t : State) → t.config ≡ s.config → Outlasts memory s t → IsTrueOf memory s
-    → IsTrueOf (record memory { generation = next; still = None }) t
-outlasted memory next later s t config outlasts holds = record {
-  quiet = λ group time known.
-      let not_before : memory.generation ≤ next = omega (arith, later) in
-      carried memory.generation next s t group time.period config not_before (outlasts group time known) (λ _ same. absurd (omega (arith, same, later))) time.generation (holds.quiet group time known);
-  still = λ period known. absurd (cc known);
+-- in a new generation it is, where what it holds for all generations stays true
+pub outlasted : (cache : QuietGroups) (next : ℕ) → cache.generation < next → (s t : State) → t.config ≡ s.config → Outlasts cache s t → IsTrueOf cache s
+    → IsTrueOf (record cache { generation = next; still = None }) t
+outlasted cache next later s t config outlasts holds = record {
+  quiet = λ group time cached.
+      let not_before : cache.generation ≤ next = omega (arith, later) in
+      carried cache.generation next s t group time.period config not_before (outlasts group time cached) (λ _ same. absurd (omega (arith, same, later))) time.generation (holds.quiet group time cached);
+  still = λ period cached. absurd (cc cached);
 }
 
 -- a period that was noted is still, as was found
 pub noted_still : (s : State) (from until : Moment) (noted period : Period) → noted.from ≡ from → noted.until ≡ until → Some noted ≡ Some period → IsStill s from until → IsStill s period.from period.until
-noted_still s from until noted period first last known still =
-    let same : noted ≡ period = cc known in
+noted_still s from until noted period first last cached still =
+    let same : noted ≡ period = cc cached in
     subst (λ (p : Period). IsStill s p.from p.until) same (subst (λ (p : Moment × Moment). IsStill s p.0 p.1) (λ i. (sym first i, sym last i)) still)
 
 -- ---- a flush
 
--- the flush of a group whose route has a path of its own leaves what is known of other groups
-pub flushed_alone : (memory : QuietGroups) (table : Numbered RouteLabels QuietTime) (s : State) (group : RouteLabels) (at : Moment) → HasOwnPath s.config group.route
-    → times_in table ≡ remove (quiet_times memory) group → IsTrueOf memory s → IsTrueOf (record memory { times = table }) (flush at group s)
-flushed_alone memory table s flushed at own are holds =
+-- the flush of a group whose route has a path of its own leaves what is cached of other groups
+pub flushed_alone : (cache : QuietGroups) (table : Numbered RouteLabels QuietTime) (s : State) (group : RouteLabels) (at : Moment) → HasOwnPath s.config group.route
+    → times_in table ≡ remove (quiet_times cache) group → IsTrueOf cache s → IsTrueOf (record cache { times = table }) (flush at group s)
+flushed_alone cache table s flushed at own are holds =
     let t : State = flush at flushed s in
     let left : LeavesOthers flushed s t = flush_leaves flushed at s in
-    let same : memory.generation ≤ memory.generation = omega arith in
+    let same : cache.generation ≤ cache.generation = omega arith in
     record {
-      quiet = λ group time known.
-          let still = still_known (quiet_times memory) flushed group time (ap (λ (m : Times). get m group) (sym are) ∙ known) in
-          carried memory.generation memory.generation s t group time.period left.config same
+      quiet = λ group time cached.
+          let still = still_cached (quiet_times cache) flushed group time (ap (λ (m : Times). get m group) (sym are) ∙ cached) in
+          carried cache.generation cache.generation s t group time.period left.config same
           (λ notified. left_notified s t flushed left group still.0 (other_key s.config group flushed notified.own.is_there own still.0) time.period notified)
           (λ there _. quiet_left flushed s t left group still.0 (other_key s.config group flushed there own still.0) time.period.from time.period.until)
           time.generation (holds.quiet group time still.1);
-      still = λ period known. still_left flushed s t left period.from period.until (holds.still period known);
+      still = λ period cached. still_left flushed s t left period.from period.until (holds.still period cached);
     }
 
 -- the flush of a group on another route that is there leaves the groups notified
-pub outlasts_flush : (memory : QuietGroups) (s : State) (group : RouteLabels) (at : Moment) → (HasOwnPath s.config group.route → ⊥) → group.route < length s.config.routes
-    → Outlasts memory s (flush at group s)
-outlasts_flush memory s flushed at shared there = λ group time known notified.
+pub outlasts_flush : (cache : QuietGroups) (s : State) (group : RouteLabels) (at : Moment) → (HasOwnPath s.config group.route → ⊥) → group.route < length s.config.routes
+    → Outlasts cache s (flush at group s)
+outlasts_flush cache s flushed at shared there = λ group time cached notified.
     let other : group ≡ flushed → ⊥ = λ same. shared (subst (λ (g : RouteLabels). HasOwnPath s.config g.route) same notified.own) in
     left_notified s (flush at flushed s) flushed (flush_leaves flushed at s) group other
     (λ integration its e. other_key s.config flushed group there notified.own (λ same. other (sym same)) its integration (sym e)) time.period notified
 
--- a flush of a group that is remembered as quiet sets the group timer and changes nothing else
-pub known_quiet : (memory : QuietGroups) (s : State) (group : RouteLabels) (at : Moment) (time : QuietTime) → get (quiet_times memory) group ≡ Some time → time.period.from ≤ at → at < time.period.until
-    → (time.generation ≡ None) ⊎ (time.generation ≡ Some memory.generation) → IsTrueOf memory s → flush at group s ≡ with_timer_reset at group s
-known_quiet memory s group at time known not_before before (inl always) holds =
-    let notified : IsNotifiedIn s group time.period = subst (IsTrueTime memory.generation s group time.period) always (holds.quiet group time known) in
+-- a flush of a group that is cached as quiet sets the group timer and changes nothing else
+pub cached_quiet : (cache : QuietGroups) (s : State) (group : RouteLabels) (at : Moment) (time : QuietTime) → get (quiet_times cache) group ≡ Some time → time.period.from ≤ at → at < time.period.until
+    → (time.generation ≡ None) ⊎ (time.generation ≡ Some cache.generation) → IsTrueOf cache s → flush at group s ≡ with_timer_reset at group s
+cached_quiet cache s group at time cached not_before before (inl always) holds =
+    let notified : IsNotifiedIn s group time.period = subst (IsTrueTime cache.generation s group time.period) always (holds.quiet group time cached) in
     notified_flush s group time.period.from time.period.until at not_before before notified.notified
-known_quiet memory s group at time known not_before before (inr present) holds =
-    let since : IsQuietSince memory.generation s group time.period memory.generation = subst (IsTrueTime memory.generation s group time.period) present (holds.quiet group time known) in
+cached_quiet cache s group at time cached not_before before (inr present) holds =
+    let since : IsQuietSince cache.generation s group time.period cache.generation = subst (IsTrueTime cache.generation s group time.period) present (holds.quiet group time cached) in
     quiet_flush s group time.period.from time.period.until at not_before before (since.quiet refl)
 
 -- ---- a post of alerts
 
-pub joined_true : (memory : QuietGroups) (table : Numbered RouteLabels QuietTime) (s : State) (alerts : List (LabelSet × Alert)) → times_in table ≡ without_all_joined s.config (quiet_times memory) alerts
-    → IsTrueOf memory s → IsTrueOf (record memory { times = table }) s
-joined_true memory table s alerts are holds = record {
-  quiet = λ group time known.
-      holds.quiet group time (left_by_posts s.config alerts s (quiet_times memory) refl group time (ap (λ (m : Times). get m group) (sym are) ∙ known)).1;
+pub joined_true : (cache : QuietGroups) (table : Numbered RouteLabels QuietTime) (s : State) (alerts : List (LabelSet × Alert)) → times_in table ≡ without_all_joined s.config (quiet_times cache) alerts
+    → IsTrueOf cache s → IsTrueOf (record cache { times = table }) s
+joined_true cache table s alerts are holds = record {
+  quiet = λ group time cached.
+      holds.quiet group time (left_by_posts s.config alerts s (quiet_times cache) refl group time (ap (λ (m : Times). get m group) (sym are) ∙ cached)).1;
   still = holds.still;
 }
 
-pub joined_outlasts : (memory : QuietGroups) (table : Numbered RouteLabels QuietTime) (s : State) (alerts : List (LabelSet × Alert)) → times_in table ≡ without_all_joined s.config (quiet_times memory) alerts
-    → Outlasts (record memory { times = table }) s (fold put s alerts)
-joined_outlasts memory table s alerts are = λ group time known.
-    (left_by_posts s.config alerts s (quiet_times memory) refl group time (ap (λ (m : Times). get m group) (sym are) ∙ known)).0
+pub joined_outlasts : (cache : QuietGroups) (table : Numbered RouteLabels QuietTime) (s : State) (alerts : List (LabelSet × Alert)) → times_in table ≡ without_all_joined s.config (quiet_times cache) alerts
+    → Outlasts (record cache { times = table }) s (fold put s alerts)
+joined_outlasts cache table s alerts are = λ group time cached.
+    (left_by_posts s.config alerts s (quiet_times cache) refl group time (ap (λ (m : Times). get m group) (sym are) ∙ cached)).0
 
 -- ---- the clock, group timers, notifications, stored alerts and silences
 
@@ -179,16 +179,16 @@ still_stays : (s : State) (moment : Moment) (timers : Map route_labels_cmp Group
     → IsStill (record s { moment = moment; timers = timers; notes = notes }) from until
 still_stays s moment timers notes from until still = record { sources = still.sources; silences = still.silences }
 
--- what is remembered depends on neither the clock nor group timers nor notifications
-pub stays_true : (s : State) (moment : Moment) (timers : Map route_labels_cmp GroupTimer) (notes : List Notification) (memory : QuietGroups) → IsTrueOf memory s
-    → IsTrueOf memory (record s { moment = moment; timers = timers; notes = notes })
-stays_true s moment timers notes memory holds =
-    held memory s (record s { moment = moment; timers = timers; notes = notes }) refl (beside_notified s moment s.alerts s.silences timers notes) (stays_quiet s moment timers notes)
+-- what is cached depends on neither the clock nor group timers nor notifications
+pub stays_true : (s : State) (moment : Moment) (timers : Map route_labels_cmp GroupTimer) (notes : List Notification) (cache : QuietGroups) → IsTrueOf cache s
+    → IsTrueOf cache (record s { moment = moment; timers = timers; notes = notes })
+stays_true s moment timers notes cache holds =
+    held cache s (record s { moment = moment; timers = timers; notes = notes }) refl (beside_notified s moment s.alerts s.silences timers notes) (stays_quiet s moment timers notes)
     (still_stays s moment timers notes) holds
 
 -- notified groups stay so, whatever may mute their members
-pub unmuted : (memory : QuietGroups) (s : State) (alerts : Alerts) (silences : Silences) → Outlasts memory s (record s { alerts = alerts; silences = silences })
-unmuted memory s alerts silences = λ group time known. beside_notified s s.moment alerts silences s.timers s.notes group time.period
+pub unmuted : (cache : QuietGroups) (s : State) (alerts : Alerts) (silences : Silences) → Outlasts cache s (record s { alerts = alerts; silences = silences })
+unmuted cache s alerts silences = λ group time cached. beside_notified s s.moment alerts silences s.timers s.notes group time.period
 
 -- ---- the removal of a stored alert
 
@@ -232,21 +232,21 @@ module _ (s : State) (alerts : Alerts) (none : s.config.rules ≡ []) where
   unfolding IsQuiet members
   quiet_alike group from until quiet = with_alike group from until (members s group) quiet
 
-  -- without inhibition rules, nothing that is remembered depends on the stored alerts
-  pub true_alike : (memory : QuietGroups) → IsTrueOf memory s → IsTrueOf memory (record s { alerts = alerts })
-  true_alike memory holds = held memory s (record s { alerts = alerts }) refl (beside_notified s s.moment alerts s.silences s.timers s.notes) quiet_alike still_alike holds
+  -- without inhibition rules, nothing that is cached depends on the stored alerts
+  pub true_alike : (cache : QuietGroups) → IsTrueOf cache s → IsTrueOf cache (record s { alerts = alerts })
+  true_alike cache holds = held cache s (record s { alerts = alerts }) refl (beside_notified s s.moment alerts s.silences s.timers s.notes) quiet_alike still_alike holds
 
 -- ---- steps of the code
 
--- a memory that forgot what a prepared action may change, after the action
-pub performed_true : {T E : Type 0} (r : Result T E) (memory : QuietGroups) (prepared : Prepared) (s same after : State) → same ≡ s → IsTrueOf memory (after_prepared prepared s)
-    → IfOk r (λ x. after ≡ after_prepared prepared same) → OnOk r (IsTrueOf memory after)
-performed_true (Ok x) memory prepared s same after is holds done = subst (IsTrueOf memory) (sym (done ∙ ap (after_prepared prepared) is)) holds
-performed_true (Err e) memory prepared s same after is holds done = tt
+-- a cache that forgot what a prepared action may change, after the action
+pub performed_true : {T E : Type 0} (r : Result T E) (cache : QuietGroups) (prepared : Prepared) (s same after : State) → same ≡ s → IsTrueOf cache (after_prepared prepared s)
+    → IfOk r (λ x. after ≡ after_prepared prepared same) → OnOk r (IsTrueOf cache after)
+performed_true (Ok x) cache prepared s same after is holds done = subst (IsTrueOf cache) (sym (done ∙ ap (after_prepared prepared) is)) holds
+performed_true (Err e) cache prepared s same after is holds done = tt
 
--- a group timer that is set leaves the memory true
-pub reset_true : (s : State) (at : Moment) (group : RouteLabels) (memory : QuietGroups) → IsTrueOf memory s → IsTrueOf memory (with_timer_reset at group s)
-reset_true s at group memory holds = stays_true s s.moment (with_timer_reset at group s).timers s.notes memory holds
+-- a group timer that is set leaves the cache true
+pub reset_true : (s : State) (at : Moment) (group : RouteLabels) (cache : QuietGroups) → IsTrueOf cache s → IsTrueOf cache (with_timer_reset at group s)
+reset_true s at group cache holds = stays_true s s.moment (with_timer_reset at group s).timers s.notes cache holds
 
 -- ---- until when
 

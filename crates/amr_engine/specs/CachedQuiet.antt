@@ -1,4 +1,4 @@
--- What the memory of quiet groups knows of a state.
+-- What the cache of quiet groups says of a state.
 use Rattle.std.specs.Prelude.{◌≡◌, ℕ, List, Option, Some, None, ◌<◌, ◌≤◌, length}
 use Rattle.std.specs.List.{fold}
 use Rattle.amr_labels.specs.Map.{Map, get, remove}
@@ -24,7 +24,7 @@ abbrev pub times_in : Numbered RouteLabels QuietTime → Times
 times_in table = map_of route_labels_cmp table
 
 abbrev pub quiet_times : QuietGroups → Times
-quiet_times memory = times_in memory.times
+quiet_times cache = times_in cache.times
 
 -- In the period all integrations were notified of all members of the group, so it doesn't matter
 -- what mutes those. No group of another route shares its log entries.
@@ -38,20 +38,20 @@ pub record IsQuietSince (present : ℕ) (s : State) (group : RouteLabels) (perio
   pub not_later : generation ≤ present
   pub quiet : generation ≡ present → IsQuiet s group period.from period.until
 
--- what is remembered of a group, for all generations or for one
+-- what is cached of a group, for all generations or for one
 abbrev pub IsTrueTime : ℕ → State → RouteLabels → Period → Option ℕ → Type 0
 IsTrueTime present s group period None = IsNotifiedIn s group period
 IsTrueTime present s group period (Some generation) = IsQuietSince present s group period generation
 
--- all that is remembered holds in the state
-pub record IsTrueOf (memory : QuietGroups) (s : State) : Type 0 where
-  pub quiet : (group : RouteLabels) (time : QuietTime) → get (quiet_times memory) group ≡ Some time → IsTrueTime memory.generation s group time.period time.generation
-  pub still : (period : Period) → memory.still ≡ Some period → IsStill s period.from period.until
+-- all that is cached holds in the state
+pub record IsTrueOf (cache : QuietGroups) (s : State) : Type 0 where
+  pub quiet : (group : RouteLabels) (time : QuietTime) → get (quiet_times cache) group ≡ Some time → IsTrueTime cache.generation s group time.period time.generation
+  pub still : (period : Period) → cache.still ≡ Some period → IsStill s period.from period.until
 
--- what is remembered of groups for all generations still holds in the second state, if it held in
+-- what is cached of groups for all generations still holds in the second state, if it held in
 -- the first
 abbrev pub Outlasts : QuietGroups → State → State → Type 0
-Outlasts memory s t = (group : RouteLabels) (time : QuietTime) → get (quiet_times memory) group ≡ Some time → IsNotifiedIn s group time.period → IsNotifiedIn t group time.period
+Outlasts cache s t = (group : RouteLabels) (time : QuietTime) → get (quiet_times cache) group ≡ Some time → IsNotifiedIn s group time.period → IsNotifiedIn t group time.period
 
 -- without the group
 abbrev pub without_group : Times → RouteGroup → Times
