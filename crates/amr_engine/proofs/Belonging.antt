@@ -14,7 +14,7 @@ use Rattle.amr_rules.specs.declared.alert.Alert.{Alert}
 use Rattle.amr_rules.specs.Dedup.{needs_update}
 use Rattle.amr_engine.specs.declared.state.route_labels.RouteLabels.{RouteLabels}
 use Rattle.amr_engine.specs.State.State.{State, on_route, route_labels_cmp, route_labels_cmp-IsAntisymmetric, group_key, members}
-use Rattle.amr_engine.specs.Flush.{Members, firing_of, resolved_of, labels_of, log_key_of, record_notification, notify, notify_all}
+use Rattle.amr_engine.specs.Flush.{Members, firing_of, resolved_of, labels_of, log_key_of, record_notification, notify_if_due, notify_receiver}
 use Rattle.amr_engine.specs.Partition.{IsGroupOf}
 use Rattle.amr_engine.proofs.QuietStays.{equal}
 
@@ -43,8 +43,8 @@ unfolding members
 group_of_members s t group found same is =
     subst (λ (c : Config). IsGroupOf c group found) (sym same) (subst (λ (ms : Members). IsGroupOf s.config group ms) (sym is) (group_of_each s.config group (entries s.placements)))
 
-pub notify_config : (at : Moment) (group : RouteLabels) (ms : Members) (s : State) (integration : Integration) → (notify at group ms s integration).config ≡ s.config
-unfolding notify
+pub notify_config : (at : Moment) (group : RouteLabels) (ms : Members) (s : State) (integration : Integration) → (notify_if_due at group ms s integration).config ≡ s.config
+unfolding notify_if_due
 notify_config at group ms s integration =
     elim (needs_update (get s.log (log_key_of s.config group integration)) (labels_of (firing_of at ms)) (labels_of (resolved_of at ms)) integration.send_resolved at (repeat_interval_of s.config group.route))
     as (λ b. (if b then record_notification at group (log_key_of s.config group integration) integration.send_resolved ms s else s).config ≡ s.config) [
@@ -52,16 +52,16 @@ notify_config at group ms s integration =
       | false ↦ refl
     ]
 
-notify_each_config : (at : Moment) (group : RouteLabels) (ms : Members) (s : State) (integrations : List Integration) → (fold (notify at group ms) s integrations).config ≡ s.config
-notify_each_config at group ms s [] = refl
-notify_each_config at group ms s (integration ∷ integrations) =
-    notify_each_config at group ms (notify at group ms s integration) integrations ∙ notify_config at group ms s integration
+notify_integrations_config : (at : Moment) (group : RouteLabels) (ms : Members) (s : State) (integrations : List Integration) → (fold (notify_if_due at group ms) s integrations).config ≡ s.config
+notify_integrations_config at group ms s [] = refl
+notify_integrations_config at group ms s (integration ∷ integrations) =
+    notify_integrations_config at group ms (notify_if_due at group ms s integration) integrations ∙ notify_config at group ms s integration
 
-notify_all_config : (at : Moment) (group : RouteLabels) (ms : Members) (s : State) → (notify_all at group ms s).config ≡ s.config
-notify_all_config at group [] s = refl
-notify_all_config at group (m ∷ ms) s = notify_each_config at group (m ∷ ms) s (integrations_of s.config group.route)
+notify_receiver_config : (at : Moment) (group : RouteLabels) (ms : Members) (s : State) → (notify_receiver at group ms s).config ≡ s.config
+notify_receiver_config at group [] s = refl
+notify_receiver_config at group (m ∷ ms) s = notify_integrations_config at group (m ∷ ms) s (integrations_of s.config group.route)
 
 -- notifications leave the group of the members as it is
-pub group_after : (at : Moment) (group : RouteLabels) (through ms : Members) (s t : State) → t ≡ notify_all at group through s → IsGroupOf s.config group ms → IsGroupOf t.config group ms
+pub group_after : (at : Moment) (group : RouteLabels) (through ms : Members) (s t : State) → t ≡ notify_receiver at group through s → IsGroupOf s.config group ms → IsGroupOf t.config group ms
 group_after at group through ms s t is of =
-    subst (λ (c : Config). IsGroupOf c group ms) (sym (ap (λ (x : State). x.config) is ∙ notify_all_config at group through s)) of
+    subst (λ (c : Config). IsGroupOf c group ms) (sym (ap (λ (x : State). x.config) is ∙ notify_receiver_config at group through s)) of

@@ -23,7 +23,7 @@ use Rattle.amr_engine.specs.declared.state.route_labels.RouteLabels.{RouteLabels
 use Rattle.amr_engine.specs.declared.state.due.Kind.TheVariants.{GroupRemoval}
 use Rattle.amr_engine.specs.State.State.{State, route_labels_cmp, route_labels_cmp_total, route_labels_cmp-IsAntisymmetric, members, members_among}
 use Rattle.amr_engine.specs.State.Dues.{Due, alert_removal_of, group_removal_of, flush_of, least_due, due_by, dues, next_due}
-use Rattle.amr_engine.specs.Flush.{Members, firing_of, resolved_of, let_through, log_key_of, record_notification, notify, notify_all, set_timer, drop_member, mark_if_empty, drop_resolved, run_pipeline, flush}
+use Rattle.amr_engine.specs.Flush.{Members, firing_of, resolved_of, let_through, log_key_of, record_notification, notify_if_due, notify_receiver, set_timer, drop_member, mark_if_empty, drop_resolved, run_pipeline, flush}
 use Rattle.amr_engine.specs.Quiet.{all_fire_until, with_timer_reset}
 use Rattle.amr_engine.specs.Runs.{after_step}
 use Rattle.amr_engine.specs.Moves.{move, advance}
@@ -176,17 +176,17 @@ chosen_parts : (b : Bool) (x y : State) → parts x ≡ parts y → parts (if b 
 chosen_parts true x y e = e
 chosen_parts false x y e = refl
 
-notify_parts : (at : Moment) (group : RouteLabels) (ms : Members) (s : State) (i : Integration) → parts (notify at group ms s i) ≡ parts s
-unfolding notify
+notify_parts : (at : Moment) (group : RouteLabels) (ms : Members) (s : State) (i : Integration) → parts (notify_if_due at group ms s i) ≡ parts s
+unfolding notify_if_due
 notify_parts at group ms s i = chosen_parts _ (record_notification at group (log_key_of s.config group i) i.send_resolved ms s) s refl
 
-fold_parts : (at : Moment) (group : RouteLabels) (ms : Members) (is : List Integration) (s : State) → parts (fold (notify at group ms) s is) ≡ parts s
+fold_parts : (at : Moment) (group : RouteLabels) (ms : Members) (is : List Integration) (s : State) → parts (fold (notify_if_due at group ms) s is) ≡ parts s
 fold_parts at group ms [] s = refl
-fold_parts at group ms (i ∷ is) s = fold_parts at group ms is (notify at group ms s i) ∙ notify_parts at group ms s i
+fold_parts at group ms (i ∷ is) s = fold_parts at group ms is (notify_if_due at group ms s i) ∙ notify_parts at group ms s i
 
-notify_all_parts : (at : Moment) (group : RouteLabels) (ms : Members) (s : State) → parts (notify_all at group ms s) ≡ parts s
-notify_all_parts at group [] s = refl
-notify_all_parts at group (m ∷ ms) s = fold_parts at group (m ∷ ms) (integrations_of s.config group.route) s
+notify_receiver_parts : (at : Moment) (group : RouteLabels) (ms : Members) (s : State) → parts (notify_receiver at group ms s) ≡ parts s
+notify_receiver_parts at group [] s = refl
+notify_receiver_parts at group (m ∷ ms) s = fold_parts at group (m ∷ ms) (integrations_of s.config group.route) s
 
 -- ---- a group whose members all fire until after the moment
 
@@ -217,9 +217,9 @@ module _ (at : Moment) (group : RouteLabels) where
     pipeline_other m [] s = refl
     pipeline_other m (x ∷ ms) s =
         let through : Members = let_through s m other.route (x ∷ ms) in
-        mark_other m (firing_of m (x ∷ ms)) (fold (drop_member other) (notify_all m other through s) (resolved_of m (x ∷ ms)))
-        ∙ drop_other (resolved_of m (x ∷ ms)) (notify_all m other through s)
-        ∙ ap (λ (p : Parts). get p.1.1 group) (notify_all_parts m other through s)
+        mark_other m (firing_of m (x ∷ ms)) (fold (drop_member other) (notify_receiver m other through s) (resolved_of m (x ∷ ms)))
+        ∙ drop_other (resolved_of m (x ∷ ms)) (notify_receiver m other through s)
+        ∙ ap (λ (p : Parts). get p.1.1 group) (notify_receiver_parts m other through s)
 
     flush_other : (m : Moment) (s : State) → get (flush m other s).timers group ≡ get s.timers group
     unfolding flush
@@ -239,20 +239,20 @@ module _ (at : Moment) (group : RouteLabels) where
   abbrev reset : Moment → State → GroupTimer → GroupTimer
   reset m s timer = record timer { next_flush = m + group_interval_of s.config group.route; flushed = true }
 
-  pipeline_own : (m : Moment) (ms : Members) (s : State) → m ≤ at → 0 < length ms → all_fire_until (at + 1) ms ≡ true → run_pipeline m group ms s ≡ notify_all m group (let_through s m group.route ms) s
+  pipeline_own : (m : Moment) (ms : Members) (s : State) → m ≤ at → 0 < length ms → all_fire_until (at + 1) ms ≡ true → run_pipeline m group ms s ≡ notify_receiver m group (let_through s m group.route ms) s
   unfolding drop_resolved
   pipeline_own m [] s soon some fire = absurd (omega (arith, some))
   pipeline_own m (x ∷ ms) s soon some fire =
       let before : m < at + 1 = omega (arith, soon) in
       let itself : m ≤ m = omega arith in
-      let told : State = notify_all m group (let_through s m group.route (x ∷ ms)) s in
+      let told : State = notify_receiver m group (let_through s m group.route (x ∷ ms)) s in
       λ i. mark_if_empty m group (firing_all m (at + 1) m itself before (x ∷ ms) fire i) (fold (drop_member group) told (resolved_none m (at + 1) m itself before (x ∷ ms) fire i))
 
   own_parts : (m : Moment) (s : State) (timer : GroupTimer) → m ≤ at → Lasts s at group timer → parts (flush m group s) ≡ parts (with_timer_reset m group s)
   unfolding flush
   own_parts m s timer soon lasts =
       ap parts (pipeline_own m (members s group) (with_timer_reset m group s) soon lasts.some lasts.fire)
-      ∙ notify_all_parts m group (let_through (with_timer_reset m group s) m group.route (members s group)) (with_timer_reset m group s)
+      ∙ notify_receiver_parts m group (let_through (with_timer_reset m group s) m group.route (members s group)) (with_timer_reset m group s)
 
   reset_timed : (m : Moment) (s : State) (timer : GroupTimer) → get s.timers group ≡ Some timer → get (with_timer_reset m group s).timers group ≡ Some (reset m s timer)
   reset_timed m s timer timed =

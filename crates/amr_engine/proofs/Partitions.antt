@@ -17,7 +17,7 @@ use Rattle.amr_engine.specs.State.State.{State}
 use Rattle.amr_engine.specs.declared.flush.Partition.{Partition}
 use Rattle.amr_engine.specs.Stages.{taken_away}
 use Rattle.amr_engine.specs.Quiet.{with_timer_reset}
-use Rattle.amr_engine.specs.Flush.{Members, let_through, firing_of, resolved_of, log_key_of, notifications_of, notify, notify_all, set_timer, mark_if_empty, drop_member, drop_resolved}
+use Rattle.amr_engine.specs.Flush.{Members, let_through, firing_of, resolved_of, log_key_of, notifications_of, notify_if_due, notify_receiver, set_timer, mark_if_empty, drop_member, drop_resolved}
 use Rattle.amr_engine.specs.Partition.{IsPartition, notified_by}
 
 -- what follows for the value of a result
@@ -36,8 +36,8 @@ turn at group firing resolved firing_labels resolved_labels s integration =
 
 -- notifying by split members is notifying by all
 pub notified : (at : Moment) (group : RouteLabels) (members : Members) (partition : Partition) → IsPartition at members partition → (s : State) (integration : Integration)
-    → notified_by at group partition s integration ≡ notify at group members s integration
-unfolding notify
+    → notified_by at group partition s integration ≡ notify_if_due at group members s integration
+unfolding notify_if_due
 notified at group members partition is s integration = λ i. turn at group (is.firing i) (is.resolved i) (is.firing_labels i) (is.resolved_labels i) s integration
 
 fold_same : {A X : Type 0} (f g : A → X → A) → ((a : A) (x : X) → f a x ≡ g a x) → (a : A) (xs : List X) → fold f a xs ≡ fold g a xs
@@ -45,10 +45,10 @@ fold_same f g same a [] = refl
 fold_same f g same a (x ∷ xs) = ap (λ b. fold f b xs) (same a x) ∙ fold_same f g same (g a x) xs
 
 pub notified_all : (at : Moment) (group : RouteLabels) (members : Members) (partition : Partition) (s : State) → (length members == 0) ≡ false → IsPartition at members partition
-    → fold (notified_by at group partition) s (integrations_of s.config group.route) ≡ notify_all at group members s
+    → fold (notified_by at group partition) s (integrations_of s.config group.route) ≡ notify_receiver at group members s
 notified_all at group [] partition s some is = absurd (cc)
 notified_all at group (member ∷ members) partition s some is =
-    fold_same (notified_by at group partition) (notify at group (member ∷ members)) (notified at group (member ∷ members) partition is) s (integrations_of s.config group.route)
+    fold_same (notified_by at group partition) (notify_if_due at group (member ∷ members)) (notified at group (member ∷ members) partition is) s (integrations_of s.config group.route)
 
 abbrev emptied : Moment → RouteLabels → State → State
 emptied at group = set_timer group (λ timer. record timer { empty_since = Some at })

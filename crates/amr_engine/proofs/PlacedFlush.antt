@@ -21,7 +21,7 @@ use Rattle.amr_engine.specs.declared.state.notification.LogKey.{LogKey}
 use Rattle.amr_engine.specs.declared.state.notification.Notification.{Notification}
 use Rattle.amr_engine.specs.declared.state.route_labels.RouteLabels.{RouteLabels}
 use Rattle.amr_engine.specs.State.State.{State, on_route, route_labels_cmp, route_labels_cmp_total, route_labels_cmp-IsAntisymmetric, log_key_cmp, group_key, members_among, members}
-use Rattle.amr_engine.specs.Flush.{Members, firing_of, resolved_of, labels_of, log_key_of, let_through, notify, notify_all, record_notification, set_timer, drop_member, mark_if_empty, drop_resolved, run_pipeline, flush}
+use Rattle.amr_engine.specs.Flush.{Members, firing_of, resolved_of, labels_of, log_key_of, let_through, notify_if_due, notify_receiver, record_notification, set_timer, drop_member, mark_if_empty, drop_resolved, run_pipeline, flush}
 use Rattle.amr_engine.specs.Placed.{IsTimed, IsPlaced}
 use Rattle.amr_engine.proofs.QuietStays.{equal}
 use Rattle.amr_engine.proofs.PlacedLists.{Each, IsAmong, each_kept, kept_among, all_pass, get-inserted, get-insert_apart, get-removed, get-remove_apart, get-before_remove, get-remove_none, get-each, among_entries}
@@ -84,8 +84,8 @@ record Noted (s t : State) : Type 0 where
 noted_itself : (s : State) → Noted s s
 noted_itself s = record { log = s.log; notes = s.notes; is = refl }
 
-notify_noted : (at : Moment) (group : RouteLabels) (ms : Members) (s : State) (integration : Integration) → Noted s (notify at group ms s integration)
-unfolding notify
+notify_noted : (at : Moment) (group : RouteLabels) (ms : Members) (s : State) (integration : Integration) → Noted s (notify_if_due at group ms s integration)
+unfolding notify_if_due
 notify_noted at group ms s integration =
     let key : LogKey = log_key_of s.config group integration in
     elim (needs_update (get s.log key) (labels_of (firing_of at ms)) (labels_of (resolved_of at ms)) integration.send_resolved at (repeat_interval_of s.config group.route))
@@ -94,17 +94,17 @@ notify_noted at group ms s integration =
       | false ↦ noted_itself s
     ]
 
-notify_each_noted : (at : Moment) (group : RouteLabels) (ms : Members) (s : State) (integrations : List Integration) → Noted s (fold (notify at group ms) s integrations)
-notify_each_noted at group ms s [] = noted_itself s
-notify_each_noted at group ms s (integration ∷ integrations) =
-    let first : Noted s (notify at group ms s integration) = notify_noted at group ms s integration in
-    let rest : Noted (notify at group ms s integration) (fold (notify at group ms) (notify at group ms s integration) integrations) =
-    notify_each_noted at group ms (notify at group ms s integration) integrations in
+notify_integrations_noted : (at : Moment) (group : RouteLabels) (ms : Members) (s : State) (integrations : List Integration) → Noted s (fold (notify_if_due at group ms) s integrations)
+notify_integrations_noted at group ms s [] = noted_itself s
+notify_integrations_noted at group ms s (integration ∷ integrations) =
+    let first : Noted s (notify_if_due at group ms s integration) = notify_noted at group ms s integration in
+    let rest : Noted (notify_if_due at group ms s integration) (fold (notify_if_due at group ms) (notify_if_due at group ms s integration) integrations) =
+    notify_integrations_noted at group ms (notify_if_due at group ms s integration) integrations in
     record { log = rest.log; notes = rest.notes; is = rest.is ∙ ap (λ (x : State). record x { log = rest.log; notes = rest.notes }) first.is }
 
-notify_all_noted : (at : Moment) (group : RouteLabels) (ms : Members) (s : State) → Noted s (notify_all at group ms s)
-notify_all_noted at group [] s = noted_itself s
-notify_all_noted at group (m ∷ ms) s = notify_each_noted at group (m ∷ ms) s (integrations_of s.config group.route)
+notify_receiver_noted : (at : Moment) (group : RouteLabels) (ms : Members) (s : State) → Noted s (notify_receiver at group ms s)
+notify_receiver_noted at group [] s = noted_itself s
+notify_receiver_noted at group (m ∷ ms) s = notify_integrations_noted at group (m ∷ ms) s (integrations_of s.config group.route)
 
 -- ---- the members that leave
 
@@ -260,8 +260,8 @@ module _ (at now : Moment) (group : RouteLabels) (s : State) (order : now ≤ at
   pipeline_placed : (found : Members) → found ≡ members_among s.config s.placements group → IsPlaced at s → IsPlaced at (run_pipeline now group found s)
   pipeline_placed [] is placed = placed
   pipeline_placed (m ∷ rest) is placed =
-      let t : State = notify_all now group (let_through s now group.route (m ∷ rest)) s in
-      let noted : Noted s t = notify_all_noted now group (let_through s now group.route (m ∷ rest)) s in
+      let t : State = notify_receiver now group (let_through s now group.route (m ∷ rest)) s in
+      let noted : Noted s t = notify_receiver_noted now group (let_through s now group.route (m ∷ rest)) s in
       subst (λ (found : Members). IsPlaced at (drop_resolved now group found t)) (noted_members t noted ∙ sym is) (resolved_dropped at now group t order (noted_placed t noted placed))
 
 pub flush_placed : (at now : Moment) (group : RouteLabels) (s : State) → now ≤ at → IsPlaced at s → IsPlaced at (flush now group s)

@@ -21,7 +21,7 @@ use Rattle.amr_rules.specs.Dedup.{LabelSets, needs_update}
 use Rattle.amr_engine.specs.declared.state.route_labels.RouteLabels.{RouteLabels}
 use Rattle.amr_engine.specs.State.State.{State, members, route_labels_cmp}
 use Rattle.amr_engine.specs.Stages.{taken_away}
-use Rattle.amr_engine.specs.Flush.{Members, let_through, firing_of, resolved_of, labels_of, log_key_of, record_notification, notify, notify_all, drop_member, mark_if_empty, drop_resolved, run_pipeline, flush}
+use Rattle.amr_engine.specs.Flush.{Members, let_through, firing_of, resolved_of, labels_of, log_key_of, record_notification, notify_if_due, notify_receiver, drop_member, mark_if_empty, drop_resolved, run_pipeline, flush}
 use Rattle.amr_engine.specs.declared.state.notification.GroupTimer.{GroupTimer}
 use Rattle.amr_engine.specs.declared.state.notification.Notification.{Notification}
 use Rattle.amr_labels.specs.Set.{is_subset, is_empty}
@@ -151,24 +151,24 @@ module _ (from until at : Moment) (not_before : from ≤ at) (before : at < unti
       (nat_lt (entry.time + interval) from) notified
 
   notify_none : (s : State) (group : RouteLabels) (ms : Members) → all_fire_until until ms ≡ true → (integration : Integration) → is_notified s group from until (labels_of ms) integration ≡ true
-      → notify at group ms s integration ≡ s
-  unfolding notify
+      → notify_if_due at group ms s integration ≡ s
+  unfolding notify_if_due
   notify_none s group ms fire integration notified =
       let parts = both _ _ notified in
       ap (λ b. if b then record_notification at group (log_key_of s.config group integration) integration.send_resolved ms s else s)
       ((λ i. needs_update (get s.log (log_key_of s.config group integration)) (labels_of (firing_all ms fire i)) (labels_of (resolved_none ms fire i)) integration.send_resolved at (repeat_interval_of s.config group.route))
       ∙ still_notified (get s.log (log_key_of s.config group integration)) (labels_of ms) (labels_of []) integration.send_resolved (repeat_interval_of s.config group.route) (is_no _ parts.0) parts.1)
 
-  notify_each_none : (s : State) (group : RouteLabels) (ms : Members) → all_fire_until until ms ≡ true → (integrations : List Integration)
-      → list_all (is_notified s group from until (labels_of ms)) integrations ≡ true → fold (notify at group ms) s integrations ≡ s
-  notify_each_none s group ms fire [] notified = refl
-  notify_each_none s group ms fire (integration ∷ integrations) notified =
+  notify_integrations_none : (s : State) (group : RouteLabels) (ms : Members) → all_fire_until until ms ≡ true → (integrations : List Integration)
+      → list_all (is_notified s group from until (labels_of ms)) integrations ≡ true → fold (notify_if_due at group ms) s integrations ≡ s
+  notify_integrations_none s group ms fire [] notified = refl
+  notify_integrations_none s group ms fire (integration ∷ integrations) notified =
       let parts = both (is_notified s group from until (labels_of ms) integration) (list_all (is_notified s group from until (labels_of ms)) integrations) notified in
-      ap (λ (x : State). fold (notify at group ms) x integrations) (notify_none s group ms fire integration parts.0) ∙ notify_each_none s group ms fire integrations parts.1
+      ap (λ (x : State). fold (notify_if_due at group ms) x integrations) (notify_none s group ms fire integration parts.0) ∙ notify_integrations_none s group ms fire integrations parts.1
 
-  notify_all_none : (s : State) (group : RouteLabels) (ms : Members) → all_fire_until until ms ≡ true → are_notified s group from until ms ≡ true → notify_all at group ms s ≡ s
-  notify_all_none s group [] fire notified = refl
-  notify_all_none s group (m ∷ ms) fire notified = notify_each_none s group (m ∷ ms) fire (integrations_of s.config group.route) notified
+  notify_receiver_none : (s : State) (group : RouteLabels) (ms : Members) → all_fire_until until ms ≡ true → are_notified s group from until ms ≡ true → notify_receiver at group ms s ≡ s
+  notify_receiver_none s group [] fire notified = refl
+  notify_receiver_none s group (m ∷ ms) fire notified = notify_integrations_none s group (m ∷ ms) fire (integrations_of s.config group.route) notified
 
   drop_none : (s : State) (group : RouteLabels) (m : LabelSet × Alert) (ms : Members) → all_fire_until until (m ∷ ms) ≡ true → drop_resolved at group (m ∷ ms) s ≡ s
   unfolding drop_resolved
@@ -182,12 +182,12 @@ module _ (from until at : Moment) (not_before : from ≤ at) (before : at < unti
       let through : let_through s at group.route (m ∷ ms) ≡ let_through s from group.route (m ∷ ms) =
       (λ i. filter (λ member. is_none (taken_same s group.route quiet.still quiet.untimed member.0 i)) (m ∷ ms)) in
       let fire : all_fire_until until (let_through s from group.route (m ∷ ms)) ≡ true = fire_kept (λ member. is_none (taken_away s from group.route member.0)) (m ∷ ms) quiet.fire in
-      ap (λ (ps : Members). drop_resolved at group (m ∷ ms) (notify_all at group ps s)) through
-      ∙ ap (drop_resolved at group (m ∷ ms)) (notify_all_none s group (let_through s from group.route (m ∷ ms)) fire quiet.notified)
+      ap (λ (ps : Members). drop_resolved at group (m ∷ ms) (notify_receiver at group ps s)) through
+      ∙ ap (drop_resolved at group (m ∷ ms)) (notify_receiver_none s group (let_through s from group.route (m ∷ ms)) fire quiet.notified)
       ∙ drop_none s group m ms quiet.fire
   pipeline_none s group (m ∷ ms) (inr notified) =
       let through : LabelSet × Alert → Bool = λ member. is_none (taken_away s at group.route member.0) in
-      ap (drop_resolved at group (m ∷ ms)) (notify_all_none s group (filter through (m ∷ ms)) (fire_kept through (m ∷ ms) notified.fire) (fewer_notified s group from until through (m ∷ ms) notified.notified))
+      ap (drop_resolved at group (m ∷ ms)) (notify_receiver_none s group (filter through (m ∷ ms)) (fire_kept through (m ∷ ms) notified.fire) (fewer_notified s group from until through (m ∷ ms) notified.notified))
       ∙ drop_none s group m ms notified.fire
 
 -- ---- what keeps a group quiet

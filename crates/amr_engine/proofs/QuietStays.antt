@@ -23,7 +23,7 @@ use Rattle.amr_rules.specs.Alerts.{is_resolved_at}
 use Rattle.amr_engine.specs.declared.state.route_labels.RouteLabels.{RouteLabels}
 use Rattle.amr_engine.specs.State.State.{State, on_route, route_labels_cmp, route_labels_cmp-IsAntisymmetric, log_key_cmp_total, log_key_cmp-IsAntisymmetric, group_key, members}
 use Rattle.amr_engine.specs.Stages.{taken_away}
-use Rattle.amr_engine.specs.Flush.{Members, firing_of, resolved_of, labels_of, log_key_of, record_notification, notify, notify_all, set_timer, drop_member, mark_if_empty, drop_resolved, run_pipeline, flush, let_through}
+use Rattle.amr_engine.specs.Flush.{Members, firing_of, resolved_of, labels_of, log_key_of, record_notification, notify_if_due, notify_receiver, set_timer, drop_member, mark_if_empty, drop_resolved, run_pipeline, flush, let_through}
 use Rattle.amr_engine.specs.Quiet.{with_timer_reset, no_repeat_before, is_notified, are_notified, IsQuietWith, IsQuiet, LeavesOthers, IsStill, no_source_ends, no_silence_turns}
 
 -- ---- states that are the same for other groups
@@ -173,8 +173,8 @@ module _ (flushed : RouteLabels) where
         ∙ ap (λ b. cond b (Some entry) (get s.log asked)) (apart log_key_cmp-IsAntisymmetric asked key (λ e. other integration (e ∙ of)));
   }
 
-  notify_leaves : (at : Moment) (ms : Members) (s : State) (integration : Integration) → LeavesOthers flushed s (notify at flushed ms s integration)
-  unfolding notify
+  notify_leaves : (at : Moment) (ms : Members) (s : State) (integration : Integration) → LeavesOthers flushed s (notify_if_due at flushed ms s integration)
+  unfolding notify_if_due
   notify_leaves at ms s integration =
       elim (needs_update (get s.log (log_key_of s.config flushed integration)) (labels_of (firing_of at ms)) (labels_of (resolved_of at ms)) integration.send_resolved at (repeat_interval_of s.config flushed.route))
       as (λ b. LeavesOthers flushed s (if b then record_notification at flushed (log_key_of s.config flushed integration) integration.send_resolved ms s else s)) [
@@ -182,9 +182,9 @@ module _ (flushed : RouteLabels) where
         | false ↦ leaves_all flushed s
       ]
 
-  notify_all_leaves : (at : Moment) (ms : Members) (s : State) → LeavesOthers flushed s (notify_all at flushed ms s)
-  notify_all_leaves at [] s = leaves_all flushed s
-  notify_all_leaves at (m ∷ ms) s = leaves_fold flushed (notify at flushed (m ∷ ms)) (notify_leaves at (m ∷ ms)) s (integrations_of s.config flushed.route)
+  notify_receiver_leaves : (at : Moment) (ms : Members) (s : State) → LeavesOthers flushed s (notify_receiver at flushed ms s)
+  notify_receiver_leaves at [] s = leaves_all flushed s
+  notify_receiver_leaves at (m ∷ ms) s = leaves_fold flushed (notify_if_due at flushed (m ∷ ms)) (notify_leaves at (m ∷ ms)) s (integrations_of s.config flushed.route)
 
   -- a member of another group isn't one of the flushed group
   stays_member : (config : Config) (group : RouteLabels) → (group ≡ flushed → ⊥) → (gone : RouteLabels) → group_key config gone ≡ flushed → (placement : RouteLabels × Alert)
@@ -226,9 +226,9 @@ module _ (flushed : RouteLabels) where
   pipeline_leaves at [] s of = leaves_all flushed s
   pipeline_leaves at (m ∷ ms) s of =
       let through : Members = let_through s at flushed.route (m ∷ ms) in
-      let notified : LeavesOthers flushed s (notify_all at flushed through s) = notify_all_leaves at through s in
-      leaves_then flushed s (notify_all at flushed through s) (drop_resolved at flushed (m ∷ ms) (notify_all at flushed through s)) notified
-      (drop_leaves at (m ∷ ms) (notify_all at flushed through s) (subst (λ (c : Config). AllBelong c flushed (m ∷ ms)) (sym notified.config) of))
+      let notified : LeavesOthers flushed s (notify_receiver at flushed through s) = notify_receiver_leaves at through s in
+      leaves_then flushed s (notify_receiver at flushed through s) (drop_resolved at flushed (m ∷ ms) (notify_receiver at flushed through s)) notified
+      (drop_leaves at (m ∷ ms) (notify_receiver at flushed through s) (subst (λ (c : Config). AllBelong c flushed (m ∷ ms)) (sym notified.config) of))
 
   -- the flush of a group leaves alone what flushes of other groups depend on
   pub flush_leaves : (at : Moment) (s : State) → LeavesOthers flushed s (flush at flushed s)

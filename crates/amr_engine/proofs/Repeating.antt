@@ -19,7 +19,7 @@ use Rattle.amr_engine.specs.State.Dues.{Due}
 use Rattle.amr_engine.specs.declared.state.due.Kind.{Kind}
 use Rattle.amr_engine.specs.declared.state.due.Kind.TheVariants.{GroupFlush}
 use Rattle.amr_engine.specs.State.State.{State, on_route, log_key_cmp, log_key_cmp_total, log_key_cmp-IsAntisymmetric, members}
-use Rattle.amr_engine.specs.Flush.{Members, firing_of, resolved_of, labels_of, log_key_of, let_through, record_notification, notify, notify_all, run_pipeline, flush}
+use Rattle.amr_engine.specs.Flush.{Members, firing_of, resolved_of, labels_of, log_key_of, let_through, record_notification, notify_if_due, notify_receiver, run_pipeline, flush}
 use Rattle.amr_engine.specs.Told.{RepeatsWait}
 use Rattle.amr_engine.specs.Moves.{move, move_of_kind}
 use Rattle.amr_engine.proofs.QuietStays.{equal}
@@ -84,8 +84,8 @@ module _ (at : Moment) (group : RouteLabels) (ms : Members) (config : Config) (k
           ],
         )
 
-  notify_due : (s : State) (integration : Integration) → IsOldOrDue s → IsOldOrDue (notify at group ms s integration)
-  unfolding notify
+  notify_due : (s : State) (integration : Integration) → IsOldOrDue s → IsOldOrDue (notify_if_due at group ms s integration)
+  unfolding notify_if_due
   notify_due s integration is =
       let at_key : LogKey = log_key_of s.config group integration in
       elim (needs_update (get s.log at_key) written.firing written.resolved integration.send_resolved at (repeat_interval_of s.config group.route))
@@ -109,17 +109,17 @@ module _ (at : Moment) (group : RouteLabels) (ms : Members) (config : Config) (k
 
 -- ---- a flush
 
-notify_all_due : (at : Moment) (group : RouteLabels) (ms : Members) (s : State) (key : LogKey) (old : LogEntry) → get s.log key ≡ Some old → IsOldOrDue at group ms s.config key old (notify_all at group ms s)
-notify_all_due at group [] s key old was = (refl, inl was)
-notify_all_due at group (m ∷ ms) s key old was =
-    fold_holds (IsOldOrDue at group (m ∷ ms) s.config key old) (notify at group (m ∷ ms)) (notify_due at group (m ∷ ms) s.config key old) (integrations_of s.config group.route) s (refl, inl was)
+notify_receiver_due : (at : Moment) (group : RouteLabels) (ms : Members) (s : State) (key : LogKey) (old : LogEntry) → get s.log key ≡ Some old → IsOldOrDue at group ms s.config key old (notify_receiver at group ms s)
+notify_receiver_due at group [] s key old was = (refl, inl was)
+notify_receiver_due at group (m ∷ ms) s key old was =
+    fold_holds (IsOldOrDue at group (m ∷ ms) s.config key old) (notify_if_due at group (m ∷ ms)) (notify_due at group (m ∷ ms) s.config key old) (integrations_of s.config group.route) s (refl, inl was)
 
 pipeline_due : (at : Moment) (group : RouteLabels) (ms : Members) (s : State) (key : LogKey) (old : LogEntry) → get s.log key ≡ Some old
     → (through : Members) × IsOldOrDue at group through s.config key old (run_pipeline at group ms s)
 pipeline_due at group [] s key old was = ([], (refl, inl was))
 pipeline_due at group (m ∷ ms) s key old was =
     let through : Members = let_through s at group.route (m ∷ ms) in
-    (through, drop_holds (IsOldOrDue at group through s.config key old) (λ group at s is. is) (λ group s member is. is) at group (m ∷ ms) (notify_all at group through s) (notify_all_due at group through s key old was))
+    (through, drop_holds (IsOldOrDue at group through s.config key old) (λ group at s is. is) (λ group s member is. is) at group (m ∷ ms) (notify_receiver at group through s) (notify_receiver_due at group through s key old was))
 
 flush_waits : (at : Moment) (group : RouteLabels) (s : State) → RepeatsWait s group.route (flush at group s)
 unfolding flush

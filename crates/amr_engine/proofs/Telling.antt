@@ -26,7 +26,7 @@ use Rattle.amr_engine.specs.declared.state.notification.LogKey.{LogKey}
 use Rattle.amr_engine.specs.declared.state.route_labels.RouteLabels.{RouteLabels}
 use Rattle.amr_engine.specs.State.State.{State, on_route, log_key_cmp, log_key_cmp_total, members}
 use Rattle.amr_engine.specs.Stages.{taken_away}
-use Rattle.amr_engine.specs.Flush.{Members, firing_of, resolved_of, labels_of, log_key_of, let_through, record_notification, notify, notify_all, run_pipeline, flush}
+use Rattle.amr_engine.specs.Flush.{Members, firing_of, resolved_of, labels_of, log_key_of, let_through, record_notification, notify_if_due, notify_receiver, run_pipeline, flush}
 use Rattle.amr_engine.specs.Moves.{move, move_of_kind, Advances}
 use Rattle.amr_engine.specs.Said.{Does}
 use Rattle.amr_engine.specs.Neutral.{Accepts}
@@ -88,8 +88,8 @@ module _ (at : Moment) (group : RouteLabels) (ms : Members) (labels : LabelSet) 
   )
 
   -- the integration's entry has it after its turn
-  notify_logs : (s : State) (integration : Integration) → HasLogged (key_at s integration) labels (notify at group ms s integration)
-  unfolding notify
+  notify_logs : (s : State) (integration : Integration) → HasLogged (key_at s integration) labels (notify_if_due at group ms s integration)
+  unfolding notify_if_due
   notify_logs s integration =
       elim (needs_update (get s.log (key_at s integration)) firing resolved integration.send_resolved at (repeat_interval_of s.config group.route))
       as (λ b. needs_update (get s.log (key_at s integration)) firing resolved integration.send_resolved at (repeat_interval_of s.config group.route) ≡ b
@@ -99,8 +99,8 @@ module _ (at : Moment) (group : RouteLabels) (ms : Members) (labels : LabelSet) 
       ] refl
 
   -- and after the turns of others
-  notify_leaves : (key : LogKey) (s : State) (integration : Integration) → HasLogged key labels s → HasLogged key labels (notify at group ms s integration)
-  unfolding notify
+  notify_leaves : (key : LogKey) (s : State) (integration : Integration) → HasLogged key labels s → HasLogged key labels (notify_if_due at group ms s integration)
+  unfolding notify_if_due
   notify_leaves key s integration has =
       elim (needs_update (get s.log (key_at s integration)) firing resolved integration.send_resolved at (repeat_interval_of s.config group.route))
       as (λ b. HasLogged key labels (if b then record_notification at group (key_at s integration) integration.send_resolved ms s else s)) [
@@ -109,14 +109,14 @@ module _ (at : Moment) (group : RouteLabels) (ms : Members) (labels : LabelSet) 
       ]
 
   each_logs : (integrations : List Integration) (s : State) (integration : Integration) → Contains integrations integration
-      → HasLogged (key_at s integration) labels (fold (notify at group ms) s integrations)
+      → HasLogged (key_at s integration) labels (fold (notify_if_due at group ms) s integrations)
   each_logs [] s integration listed = absurd (none_listed integration listed)
   each_logs (first ∷ rest) s integration listed =
       elim (first_or_rest first integration rest listed) [
-        | inl same ↦ fold_holds (HasLogged (key_at s integration) labels) (notify at group ms) (notify_leaves (key_at s integration)) rest (notify at group ms s first)
-            (subst (λ (i : Integration). HasLogged (key_at s i) labels (notify at group ms s first)) same (notify_logs s first))
-        | inr later ↦ subst (λ (c : Config). HasLogged (log_key_of c group integration) labels (fold (notify at group ms) (notify at group ms s first) rest)) (notify_config at group ms s first)
-            (each_logs rest (notify at group ms s first) integration later)
+        | inl same ↦ fold_holds (HasLogged (key_at s integration) labels) (notify_if_due at group ms) (notify_leaves (key_at s integration)) rest (notify_if_due at group ms s first)
+            (subst (λ (i : Integration). HasLogged (key_at s i) labels (notify_if_due at group ms s first)) same (notify_logs s first))
+        | inr later ↦ subst (λ (c : Config). HasLogged (log_key_of c group integration) labels (fold (notify_if_due at group ms) (notify_if_due at group ms s first) rest)) (notify_config at group ms s first)
+            (each_logs rest (notify_if_due at group ms s first) integration later)
       ]
 
 -- ---- a flush
@@ -127,10 +127,10 @@ module _ (at : Moment) (group : RouteLabels) (member : LabelSet × Alert) (fires
       in_set (map (λ member. member.0) (firing_of at ms)) member.0
       (listed_map (λ member. member.0) (firing_of at ms) member (listed_filter (λ member. not (is_resolved_at at member.1)) ms member (ap not fires) listed))
 
-  notify_all_logs : (ms : Members) (s : State) (integration : Integration) → Contains ms member → Contains (integrations_of s.config group.route) integration
-      → HasLogged (log_key_of s.config group integration) member.0 (notify_all at group ms s)
-  notify_all_logs [] s integration listed of = absurd (none_listed member listed)
-  notify_all_logs (m ∷ ms) s integration listed of =
+  notify_receiver_logs : (ms : Members) (s : State) (integration : Integration) → Contains ms member → Contains (integrations_of s.config group.route) integration
+      → HasLogged (log_key_of s.config group integration) member.0 (notify_receiver at group ms s)
+  notify_receiver_logs [] s integration listed of = absurd (none_listed member listed)
+  notify_receiver_logs (m ∷ ms) s integration listed of =
       each_logs at group (m ∷ ms) member.0 (among_firing (m ∷ ms) listed) (integrations_of s.config group.route) s integration of
 
   pipeline_logs : (ms : Members) (s : State) (integration : Integration) → Contains ms member → taken_away s at group.route member.0 ≡ None → Contains (integrations_of s.config group.route) integration
@@ -138,8 +138,8 @@ module _ (at : Moment) (group : RouteLabels) (member : LabelSet × Alert) (fires
   pipeline_logs [] s integration listed unmuted of = absurd (none_listed member listed)
   pipeline_logs (m ∷ ms) s integration listed unmuted of =
       let through : Members = let_through s at group.route (m ∷ ms) in
-      drop_holds (HasLogged (log_key_of s.config group integration) member.0) (λ group at s has. has) (λ group s member has. has) at group (m ∷ ms) (notify_all at group through s)
-      (notify_all_logs through s integration (listed_filter (λ other. is_none (taken_away s at group.route other.0)) (m ∷ ms) member (ap is_none unmuted) listed) of)
+      drop_holds (HasLogged (log_key_of s.config group integration) member.0) (λ group at s has. has) (λ group s member has. has) at group (m ∷ ms) (notify_receiver at group through s)
+      (notify_receiver_logs through s integration (listed_filter (λ other. is_none (taken_away s at group.route other.0)) (m ∷ ms) member (ap is_none unmuted) listed) of)
 
   flush_logs : (s : State) (integration : Integration) → Contains (members s group) member → taken_away s at group.route member.0 ≡ None → Contains (integrations_of s.config group.route) integration
       → HasLogged (log_key_of s.config group integration) member.0 (flush at group s)

@@ -25,7 +25,7 @@ use Rattle.amr_engine.specs.declared.state.notification.LogKey.{LogKey}
 use Rattle.amr_engine.specs.declared.state.notification.Notification.{Notification}
 use Rattle.amr_engine.specs.declared.state.route_labels.RouteLabels.{RouteLabels}
 use Rattle.amr_engine.specs.State.State.{State, start, on_route, log_key_cmp, log_key_cmp_total, log_key_cmp-IsAntisymmetric, members, insert_into_groups, insert_into_group}
-use Rattle.amr_engine.specs.Flush.{Members, firing_of, resolved_of, labels_of, log_key_of, let_through, notified_firing, notified_resolved, notifications_of, record_notification, notify, notify_all, drop_member, mark_if_empty, drop_resolved, run_pipeline, flush}
+use Rattle.amr_engine.specs.Flush.{Members, firing_of, resolved_of, labels_of, log_key_of, let_through, notified_firing, notified_resolved, notifications_of, record_notification, notify_if_due, notify_receiver, drop_member, mark_if_empty, drop_resolved, run_pipeline, flush}
 use Rattle.amr_engine.specs.Moves.{move, move_of_kind, Advances}
 use Rattle.amr_engine.specs.Events.{put, put_all, valid_alerts, with_config, with_silences, on_ok, after_act, run_of}
 use Rattle.amr_engine.specs.Told.{HasNotification, LogIsNotified, after_moves}
@@ -99,8 +99,8 @@ module _ (at : Moment) (group : RouteLabels) (key : LogKey) (send_resolved : Boo
 
 -- ---- a flush
 
-notify_holds : (at : Moment) (group : RouteLabels) (ms : Members) (s : State) (integration : Integration) → LogIsNotified s → LogIsNotified (notify at group ms s integration)
-unfolding notify
+notify_holds : (at : Moment) (group : RouteLabels) (ms : Members) (s : State) (integration : Integration) → LogIsNotified s → LogIsNotified (notify_if_due at group ms s integration)
+unfolding notify_if_due
 notify_holds at group ms s integration holds =
     elim (needs_update (get s.log (log_key_of s.config group integration)) (labels_of (firing_of at ms)) (labels_of (resolved_of at ms)) integration.send_resolved at (repeat_interval_of s.config group.route))
     as (λ b. LogIsNotified (if b then record_notification at group (log_key_of s.config group integration) integration.send_resolved ms s else s)) [
@@ -108,9 +108,9 @@ notify_holds at group ms s integration holds =
       | false ↦ holds
     ]
 
-notify_all_holds : (at : Moment) (group : RouteLabels) (ms : Members) (s : State) → LogIsNotified s → LogIsNotified (notify_all at group ms s)
-notify_all_holds at group [] s holds = holds
-notify_all_holds at group (m ∷ ms) s holds = fold_holds LogIsNotified (notify at group (m ∷ ms)) (notify_holds at group (m ∷ ms)) (integrations_of s.config group.route) s holds
+notify_receiver_holds : (at : Moment) (group : RouteLabels) (ms : Members) (s : State) → LogIsNotified s → LogIsNotified (notify_receiver at group ms s)
+notify_receiver_holds at group [] s holds = holds
+notify_receiver_holds at group (m ∷ ms) s holds = fold_holds LogIsNotified (notify_if_due at group (m ∷ ms)) (notify_holds at group (m ∷ ms)) (integrations_of s.config group.route) s holds
 
 -- what group timers and members leaving don't change holds after they leave
 module _ (P : State → Type 0) (timed : (group : RouteLabels) (at : Moment) (s : State) → P s → P (mark_if_empty at group [] s))
@@ -128,7 +128,7 @@ pipeline_holds : (at : Moment) (group : RouteLabels) (ms : Members) (s : State) 
 pipeline_holds at group [] s holds = holds
 pipeline_holds at group (m ∷ ms) s holds =
     let through : Members = let_through s at group.route (m ∷ ms) in
-    drop_holds LogIsNotified (λ group at s holds. holds) (λ group s member holds. holds) at group (m ∷ ms) (notify_all at group through s) (notify_all_holds at group through s holds)
+    drop_holds LogIsNotified (λ group at s holds. holds) (λ group s member holds. holds) at group (m ∷ ms) (notify_receiver at group through s) (notify_receiver_holds at group through s holds)
 
 flush_holds : (at : Moment) (group : RouteLabels) (s : State) → LogIsNotified s → LogIsNotified (flush at group s)
 unfolding flush

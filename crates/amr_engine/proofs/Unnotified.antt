@@ -21,7 +21,7 @@ use Rattle.amr_engine.specs.declared.state.route_labels.RouteLabels.{RouteLabels
 use Rattle.amr_engine.specs.State.State.{State, on_route, members, insert_into_groups, insert_into_group}
 use Rattle.amr_engine.specs.State.Dues.{Due, dues, next_due}
 use Rattle.amr_engine.specs.Stages.{taken_away}
-use Rattle.amr_engine.specs.Flush.{Members, notify, notify_all, record_notification, notifications_of, drop_member, mark_if_empty, drop_resolved, run_pipeline, flush, firing_of, resolved_of, let_through, log_key_of}
+use Rattle.amr_engine.specs.Flush.{Members, notify_if_due, notify_receiver, record_notification, notifications_of, drop_member, mark_if_empty, drop_resolved, run_pipeline, flush, firing_of, resolved_of, let_through, log_key_of}
 use Rattle.amr_engine.specs.Runs as run
 use Rattle.amr_engine.specs.Moves.{move, move_of_kind, advance}
 use Rattle.amr_engine.specs.Events.{put, put_all, valid_alerts, with_config, with_silences, on_ok, after_act, at_moment, finish, judge, act_within, do_within, do_event, after_event, Outcome, skipped_of, outcome_from, outcome_of, without_notifications, move_limit}
@@ -56,15 +56,15 @@ module _ (earlier : List Notification) where
       → record_notification at group key send_resolved ms (after s) ≡ after (record_notification at group key send_resolved ms s)
   recorded_after at group key send_resolved ms s = λ i. record (record_notification at group key send_resolved ms s) { notes = append_assoc earlier s.notes (notifications_of at group key send_resolved (firing_of at ms) (resolved_of at ms)) i }
 
-  notify_after : (at : Moment) (group : RouteLabels) (ms : Members) (s : State) (i : Integration) → notify at group ms (after s) i ≡ after (notify at group ms s i)
-  unfolding notify
+  notify_after : (at : Moment) (group : RouteLabels) (ms : Members) (s : State) (i : Integration) → notify_if_due at group ms (after s) i ≡ after (notify_if_due at group ms s i)
+  unfolding notify_if_due
   notify_after at group ms s i =
       let key : LogKey = log_key_of s.config group i in
       chosen_after _ (record_notification at group key i.send_resolved ms (after s)) (record_notification at group key i.send_resolved ms s) s (recorded_after at group key i.send_resolved ms s)
 
-  notify_all_after : (at : Moment) (group : RouteLabels) (ms : Members) (s : State) → notify_all at group ms (after s) ≡ after (notify_all at group ms s)
-  notify_all_after at group [] s = refl
-  notify_all_after at group (m ∷ ms) s = fold_after (notify at group (m ∷ ms)) (notify_after at group (m ∷ ms)) (integrations_of s.config group.route) s
+  notify_receiver_after : (at : Moment) (group : RouteLabels) (ms : Members) (s : State) → notify_receiver at group ms (after s) ≡ after (notify_receiver at group ms s)
+  notify_receiver_after at group [] s = refl
+  notify_receiver_after at group (m ∷ ms) s = fold_after (notify_if_due at group (m ∷ ms)) (notify_after at group (m ∷ ms)) (integrations_of s.config group.route) s
 
   mark_after : (at : Moment) (group : RouteLabels) (ms : Members) (s : State) → mark_if_empty at group ms (after s) ≡ after (mark_if_empty at group ms s)
   mark_after at group [] s = refl
@@ -80,8 +80,8 @@ module _ (earlier : List Notification) where
   unfolding taken_away
   pipeline_after at group [] s = refl
   pipeline_after at group (m ∷ ms) s =
-      ap (drop_resolved at group (m ∷ ms)) (notify_all_after at group (let_through s at group.route (m ∷ ms)) s)
-      ∙ drop_after at group (m ∷ ms) (notify_all at group (let_through s at group.route (m ∷ ms)) s)
+      ap (drop_resolved at group (m ∷ ms)) (notify_receiver_after at group (let_through s at group.route (m ∷ ms)) s)
+      ∙ drop_after at group (m ∷ ms) (notify_receiver at group (let_through s at group.route (m ∷ ms)) s)
 
   flush_after : (at : Moment) (group : RouteLabels) (s : State) → flush at group (after s) ≡ after (flush at group s)
   unfolding flush members

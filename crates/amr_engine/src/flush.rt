@@ -11,7 +11,7 @@ ghost use Rattle.amr_time.specs.Time.{latest_read};
 ghost use Rattle.amr_rules.specs.Alerts.{is_resolved_at};
 ghost use Rattle.amr_engine.specs.State.State as state;
 ghost use Rattle.amr_engine.specs.State.Kept.{GrownBy, before_open_record};
-ghost use Rattle.amr_engine.specs.Flush.{let_through, firing_of, resolved_of, labels_of, notified_firing, notified_resolved, notifications_of, notify_all, set_timer, drop_member, drop_resolved, run_pipeline, flush};
+ghost use Rattle.amr_engine.specs.Flush.{let_through, firing_of, resolved_of, labels_of, notified_firing, notified_resolved, notifications_of, notify_receiver, set_timer, drop_member, drop_resolved, run_pipeline, flush};
 ghost use Rattle.amr_engine.specs.Quiet.{with_timer_reset, IsStill};
 ghost use Rattle.amr_engine.specs.CachedQuiet.{IsTrueOf};
 ghost use Rattle.amr_engine.specs.Weight.{turns, flush_weight};
@@ -237,20 +237,20 @@ fn run_pipeline(
     if members.is_empty() {
         return Ok(());
     }
-    notify_all(store, at, group, through)?;
+    notify_receiver(store, at, group, through)?;
     drop_resolved(store, at, group, members)
 }
 
 /// Runs the dedup check for each integration of the group's receiver, and notifies those that are
 /// due. Does nothing if all members are muted.
-fn notify_all(
+fn notify_receiver(
     store: &mut Store,
     at: Moment,
     group: &RouteLabels,
     through: &[Member],
 ) -> Result<(), AllocError>
     ensures ok { OnOk result (store.new.state
-        ≡ notify_all at group.now through.now store.old.state) }
+        ≡ notify_receiver at group.now through.now store.old.state) }
     ensures kept { before_open_record store.new ≡ before_open_record store.old }
     ensures grown { GrownBy (2 * turns store.old.state group.now) store.old store.new }
 {
@@ -258,7 +258,7 @@ fn notify_all(
         return Ok(());
     }
     let partition = partition_of(store.alloc(), at, through)?;
-    notify_each(store, at, group, partition)
+    notify_integrations(store, at, group, partition)
 }
 
 /// Splits members into firing and resolved ones.
@@ -305,7 +305,7 @@ fn resolved_of(alloc: Global, at: Moment, members: &[Member]) -> Result<Vec<Memb
 
 /// Runs the dedup check for each integration of the group's receiver, in order, and notifies those
 /// that are due. The last one gets the label sets themselves, and the others get copies.
-fn notify_each(
+fn notify_integrations(
     store: &mut Store,
     at: Moment,
     group: &RouteLabels,
@@ -329,7 +329,7 @@ fn notify_each(
     };
     let firing = partition.firing.as_slice();
     let resolved = partition.resolved.as_slice();
-    notify(store, group, firing, resolved, entry, last)
+    notify_if_due(store, group, firing, resolved, entry, last)
 }
 
 /// Runs the dedup check for each of these integrations, in order, and notifies those that are due.
@@ -349,14 +349,14 @@ fn notify_others(
     let resolved = partition.resolved.as_slice();
     for integration in others {
         let entry = log_entry(at, partition)?;
-        notify(store, group, firing, resolved, entry, integration)?;
+        notify_if_due(store, group, firing, resolved, entry, integration)?;
     }
     Ok(())
 }
 
 /// Runs the dedup check for one integration, and writes the log entry and appends the notification
 /// if they are due.
-fn notify(
+fn notify_if_due(
     store: &mut Store,
     group: &RouteLabels,
     firing: &[Member],
