@@ -45,7 +45,7 @@ fn is_plain_text(text: &Text) -> bool
 }
 
 /// Returns whether a byte can stand between quotes as it is.
-fn is_plain(byte: u8) -> bool
+pub fn is_plain(byte: u8) -> bool
     ensures { result ≡ is_plain byte }
 {
     byte >= 0x20 && byte != b'"' && byte != b'\\'
