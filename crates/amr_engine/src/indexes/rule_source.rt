@@ -30,7 +30,7 @@ pub(crate) struct SourceSide {
     pub equal: Vec<Text>,
 }
 
-/// What is cached of a side: of the first `seen` label sets, those that match it, under their
+/// What is cached of a side: of the first `covered` label sets, those that match it, under their
 /// values of the labels in `equal`.
 #[derive(Drop)]
 pub(crate) struct CachedSide {
@@ -41,7 +41,7 @@ pub(crate) struct CachedSide {
     pub listed: usize,
 }
 
-/// A side that was cached: the number of its `CachedSide`, and how many label sets had come then.
+/// A side that was filled: the number of its `CachedSide`, and how many label sets had come then.
 #[derive(Clone, Copy)]
 struct FilledSide {
     number: usize,
@@ -49,8 +49,8 @@ struct FilledSide {
 }
 
 /// Label sets in the order in which they came, with the source sides that are cached of them. A
-/// side is cached when it is first asked for, and takes in the label sets that came since when it
-/// is cached again. Contracts see the label sets.
+/// side is cached when it is first filled, and takes in the label sets that came since when it is
+/// filled again. Contracts see the label sets.
 #[derive(Drop)]
 pub(crate) struct RuleSources {
     alloc: Global,
@@ -58,7 +58,7 @@ pub(crate) struct RuleSources {
     arrived: Vec<Labels>,
     numbers: BTreeMap<SourceSide, usize>,
     sides: Vec<CachedSide>,
-    /// The side of each rule that was cached in this event, by the rule's index in the
+    /// The side of each rule that was filled in this event, by the rule's index in the
     /// configuration. It saves look-ups, and no answer depends on it.
     filled: Vec<Option<FilledSide>>,
     /// How many label sets the sides list, with what lists and sides count as.
@@ -98,7 +98,7 @@ impl RuleSources {
         }
     }
 
-    /// Adds a label set. No side has it before it is cached again.
+    /// Adds a label set. No side has it before it is filled again.
     pub(crate) fn add(&mut self, labels: Labels) -> Result<(), AllocError>
         ensures ok { OnOk result (self.new ≡ self.old ++ labels ∷ []) }
         ensures err { OnErr result (self.new ≡ self.old) }
@@ -141,7 +141,7 @@ impl RuleSources {
     }
 
     /// Takes in all label sets at the source side of the rule at an index of the configuration, so
-    /// that `agreeing` answers for it. It caches nothing if the sides list many label sets by now,
+    /// that `agreeing` answers for it. It does nothing if the sides list many label sets by now,
     /// and forgets them all if there is no room.
     pub(crate) fn cache(&mut self, index: usize, rule: &InhibitRule)
         ensures { self.new ≡ self.old }
@@ -154,8 +154,8 @@ impl RuleSources {
         }
     }
 
-    /// Forgets which rules were cached, since other rules may be at their indexes from now on. If
-    /// the sides list too many label sets, it forgets them too.
+    /// Forgets which rules' sides were filled, since other rules may be at their indexes from now
+    /// on. If the sides list too many label sets, it forgets them too.
     pub(crate) fn forget_indexes(&mut self)
         ensures { self.new ≡ self.old }
     {
@@ -184,7 +184,7 @@ impl RuleSources {
         self.note_filled(index, number)
     }
 
-    /// Returns whether the rule at an index was cached, and no label set came since.
+    /// Returns whether the side of the rule at an index was filled, and no label set came since.
     fn is_filled(&self, index: usize) -> bool {
         match self.filled.get(index) {
             Some(Some(filled)) => filled.covered == self.arrived.len(),
@@ -192,7 +192,7 @@ impl RuleSources {
         }
     }
 
-    /// Notes that the side with this number is that of the rule at an index, and is cached.
+    /// Notes that the side with this number is that of the rule at an index, and is filled.
     fn note_filled(&mut self, index: usize, number: usize) -> Result<(), AllocError>
         ensures { self.new ≡ self.old }
     {
@@ -222,8 +222,8 @@ impl RuleSources {
         Ok(())
     }
 
-    /// Returns what is cached of the side of the rule at an index. If the rule was cached in this
-    /// event, its side isn't looked for.
+    /// Returns what is cached of the side of the rule at an index. If it was filled in this event,
+    /// it isn't looked for.
     fn cached(&self, index: usize, rule: &InhibitRule) -> Result<Option<&CachedSide>, AllocError>
         ensures side { IfOk result (λ found. IfSome found (λ cached.
             IsSideOf cached.now.side rule.now)) }

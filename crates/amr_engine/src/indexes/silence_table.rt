@@ -27,8 +27,8 @@ use std::marker::Model;
 /// answers take.
 const MOST_AT_ONCE: usize = 1024;
 
-/// How many label sets the silences are asked for at once at least. For fewer, cached answers
-/// are faster than preparing the search of each pattern.
+/// How many label sets the silences are asked for at once at least. For fewer, cached answers are
+/// faster than preparing the search of each pattern.
 const FEWEST_AT_ONCE: usize = 4;
 
 /// How many label sets have to have arrived, at least, for the silences to be asked ahead for them.
@@ -39,8 +39,8 @@ const FEWEST_AHEAD: usize = 64;
 /// sets is forgotten.
 const MOST_CHANGES: usize = 1000;
 
-/// The silences by id. It caches of label sets when silences that match them are active, and
-/// keeps which silences changed since.
+/// The silences by id. It caches of label sets when silences that match them are active, and keeps
+/// which silences changed since.
 #[derive(Drop)]
 pub struct SilenceTable {
     alloc: Global,
@@ -129,11 +129,11 @@ impl SilenceTable {
         }
     }
 
-    /// Works out when silences that match these label sets are active from a moment on, and
-    /// caches it. Skips label sets that are cached, and does nothing if no silence is stored. If
-    /// some aren't cached and many arrived, it first asks for those that arrived, which the next
-    /// flushes most likely meet: the search of each pattern is then prepared once for all. If there
-    /// is no room, it forgets what it caches of label sets.
+    /// Works out when silences that match these label sets are active from a moment on, and caches
+    /// it. Skips label sets that are cached, and does nothing if no silence is stored. If some
+    /// aren't cached and many arrived, it first asks for those that arrived, which the next flushes
+    /// most likely meet: the search of each pattern is then prepared once for all. If there is no
+    /// room, it forgets what it caches of label sets.
     pub fn cache(&mut self, at: Moment, label_sets: &[Labels], arrived: &[Labels])
         ensures { self.new ≡ self.old }
     {
