@@ -1,6 +1,7 @@
 pub mod Listed
 pub mod Counting
-pub mod Marking
+pub mod Placing
+pub mod Stamping
 pub mod Numbering
 pub mod Sorting
 pub mod Linking

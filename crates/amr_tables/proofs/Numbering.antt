@@ -13,8 +13,8 @@ use Rattle.std.proofs.lemmas.Bool.{true≢false}
 use Rattle.amr_labels.proofs.Sorted.{both, first, second, less}
 use Rattle.amr_labels.specs.Map.{from_sorted, entries, get, empty, same_map, same_entries_map, entries-from_sorted, get-entries, get-set}
 use Rattle.amr_labels.specs.Map as map
-use Rattle.amr_tables.specs.Places.{value_at}
-use Rattle.amr_tables.specs.Marked.{is_marked}
+use Rattle.amr_tables.specs.Places.{Places, value_at, is_marked}
+use Rattle.amr_tables.proofs.Placing.{value_set, value_apart, value_past, value_push, length-slice_set, length-push}
 use Rattle.amr_tables.specs.Numbered.{Numbered, entry_at, has_place, is_entered, map_of, IsNumbering}
 
 either_way : {A : Type 0} (b : Bool) (x : A) → x ≡ cond b x x
@@ -85,13 +85,6 @@ module _ {K V : Type 0} (R : K → K → Ordering) where
 
 -- ---- a value at another place
 
-value_apart : {V : Type 0} (cells : List (Option V)) (n m : ℕ) (v : Option V) → (m ≡ n → ⊥) → value_at (slice_set cells n v) m ≡ value_at cells m
-value_apart [] n m v h = refl
-value_apart (c ∷ cells) zero zero v h = absurd (h refl)
-value_apart (c ∷ cells) zero (suc m) v h = refl
-value_apart (c ∷ cells) (suc n) zero v h = refl
-value_apart (c ∷ cells) (suc n) (suc m) v h = value_apart cells n m v (λ e. h (ap suc e))
-
 mark_apart : (marks : List Bool) (n m : ℕ) (v : Bool) → (m ≡ n → ⊥) → is_marked (slice_set marks n v) m ≡ is_marked marks m
 mark_apart [] n m v h = refl
 mark_apart (c ∷ marks) zero zero v h = absurd (h refl)
@@ -115,11 +108,6 @@ no_mark : (marks : List Bool) (m : ℕ) → is_marked (map (λ _. false) marks) 
 no_mark [] m = refl
 no_mark (c ∷ marks) zero = refl
 no_mark (c ∷ marks) (suc m) = no_mark marks m
-
-value_past : {V : Type 0} (cells : List (Option V)) (n : ℕ) → length cells ≤ n → value_at cells n ≡ None
-value_past [] n h = refl
-value_past (c ∷ cells) zero h = absurd (omega arith)
-value_past (c ∷ cells) (suc n) h = value_past cells n (omega arith)
 
 -- ---- changes
 
@@ -151,20 +139,6 @@ or_is false c = refl
 map_or_same : {A B : Type 0} (f g : A → B) (o : Option A) (d : B) → ((x : A) → f x ≡ g x) → option_map_or f o d ≡ option_map_or g o d
 map_or_same f g None d h = refl
 map_or_same f g (Some x) d h = h x
-
-value_set : {V : Type 0} (cells : List (Option V)) (n : ℕ) (v : Option V) → n < length cells → value_at (slice_set cells n v) n ≡ v
-value_set [] n v h = absurd (omega arith)
-value_set (c ∷ cells) zero v h = refl
-value_set (c ∷ cells) (suc n) v h = value_set cells n v (omega arith)
-
-pub length-slice_set : {A : Type 0} (xs : List A) (n : ℕ) (x : A) → length (slice_set xs n x) ≡ length xs
-length-slice_set [] n x = refl
-length-slice_set (y ∷ xs) zero x = refl
-length-slice_set (y ∷ xs) (suc n) x = ap suc (length-slice_set xs n x)
-
-length-push : {A : Type 0} (xs : List A) (x : A) → length (xs ++ x ∷ []) ≡ suc (length xs)
-length-push [] x = refl
-length-push (y ∷ xs) x = ap suc (length-push xs x)
 
 length-none : (marks : List Bool) → length (map {B = Bool} (λ _. false) marks) ≡ length marks
 length-none [] = refl
@@ -355,50 +329,30 @@ module _ {K V : Type 0} (R : K → K → Ordering) where
     pub entered : (q : K) → is_entered R u q ≡ is_entered R t q
     pub placed : (q : K) → IsTrue (has_place R t q) → IsTrue (has_place R u q)
 
-  -- what a place more comes with
-  pub record HasRoom (t : Numbered K V) (numbers : List (K × ℕ)) (cells : List (Option V)) (marks : List Bool) : Type 0 where
-    pub numbering : IsNumbering R t
-    pub numbers_are : numbers ≡ t.numbers
-    pub marks_are : marks ≡ t.marks ++ false ∷ []
-    pub values : (n : ℕ) → value_at cells n ≡ value_at t.cells n
-    pub more : length t.cells ≤ length cells
-    pub bound : length cells ≤ length t.cells + 1
-
-  grown_pushed : (o : IsTotalOrder R) (t : Numbered K V) (cells : List (Option V)) → HasRoom t t.numbers cells (t.marks ++ false ∷ []) → Grows t (record { numbers = t.numbers; cells = cells; marks = t.marks ++ false ∷ [] })
+  -- a key more, with an empty place that isn't marked
+  pub added_table : (o : IsTotalOrder R) (t : Numbered K V) (k : K) (numbers : List (K × ℕ)) (places : Places V) → IsNumbering R t → find R k t.numbers ≡ None → numbers ≡ put R k (length t.cells) t.numbers → places ≡ record { values = t.cells ++ None ∷ []; marks = t.marks ++ false ∷ [] } → Grows t (record { numbers = numbers; cells = places.values; marks = places.marks }) × IsTrue (has_place R (record { numbers = numbers; cells = places.values; marks = places.marks }) k)
   unfolding is_entered has_place
-  grown_pushed o t cells h =
-      let same = length-push t.marks false in
-      let marked = h.numbering.marked in
-      let more = h.more in
-      let bound = h.bound in record {
-        numbering = grown_is o (record t { marks = t.marks ++ false ∷ [] }) cells more (omega arith) (pushed_is o t h.numbering);
-        same = shown-grown o t cells (t.marks ++ false ∷ []) h.values;
-        entered = entered-pushed o t;
-        placed = λ q p. p;
-      }
-
-  pub grown_table : (o : IsTotalOrder R) (t : Numbered K V) (numbers : List (K × ℕ)) (cells : List (Option V)) (marks : List Bool) → HasRoom t numbers cells marks → Grows t (record { numbers = numbers; cells = cells; marks = marks })
-  grown_table o t numbers cells marks h =
-      subst (λ n. Grows t (record { numbers = n; cells = cells; marks = marks })) (sym h.numbers_are)
-      (subst (λ m. Grows t (record { numbers = t.numbers; cells = cells; marks = m })) (sym h.marks_are)
-      (grown_pushed o t cells (record { numbering = h.numbering; numbers_are = refl; marks_are = refl; values = h.values; more = h.more; bound = h.bound })))
-
-  pub added_table : (o : IsTotalOrder R) (t : Numbered K V) (k : K) (reserved numbers : List (K × ℕ)) (cells : List (Option V)) (marks : List Bool) → HasRoom t reserved cells marks → find R k t.numbers ≡ None → length t.cells < length cells → numbers ≡ put R k (length t.cells) t.numbers → Grows t (record { numbers = numbers; cells = cells; marks = marks }) × IsTrue (has_place R (record { numbers = numbers; cells = cells; marks = marks }) k)
-  added_table o t k reserved numbers cells marks h none lt is =
+  added_table o t k numbers places is none numbers_are places_are =
       let n = length t.cells in
+      let cells = t.cells ++ None ∷ [] in
+      let marks = t.marks ++ false ∷ [] in
       let u : Numbered K V = record { numbers = t.numbers; cells = cells; marks = marks } in
-      let grown = grown_table o t t.numbers cells marks (record { numbering = h.numbering; numbers_are = refl; marks_are = h.marks_are; values = h.values; more = h.more; bound = h.bound }) in
-      let no_value : value_at cells n ≡ None = h.values n ∙ value_past t.cells n (omega arith) in
-      let no_mark : is_marked marks n ≡ false = ap (λ m. is_marked m n) h.marks_are ∙ mark-push t.marks n ∙ h.numbering.spare n (omega arith) in
-      subst (λ x. Grows t (record { numbers = x; cells = cells; marks = marks }) × IsTrue (has_place R (record { numbers = x; cells = cells; marks = marks }) k)) (sym is) (
+      let more : length cells ≡ suc n = length-push t.cells None in
+      let more_marks = length-push t.marks false in
+      let marked = is.marked in
+      let numbering = grown_is o (record t { marks = marks }) cells (omega arith) (omega arith) (pushed_is o t is) in
+      let no_value : value_at cells n ≡ None = value_push t.cells n ∙ value_past t.cells n (omega arith) in
+      let no_mark : is_marked marks n ≡ false = mark-push t.marks n ∙ is.spare n (omega arith) in
+      subst (λ (p : Places V). Grows t (record { numbers = numbers; cells = p.values; marks = p.marks }) × IsTrue (has_place R (record { numbers = numbers; cells = p.values; marks = p.marks }) k)) (sym places_are)
+      (subst (λ x. Grows t (record { numbers = x; cells = cells; marks = marks }) × IsTrue (has_place R (record { numbers = x; cells = cells; marks = marks }) k)) (sym numbers_are) (
         record {
-          numbering = added_is o u k n none lt h.numbering.within grown.numbering;
-          same = shown-added o u k n none no_value ∙ grown.same;
-          entered = λ q. entered-added o u k q n none no_mark ∙ grown.entered q;
-          placed = λ q p. subst IsTrue (sym (placed-added o u k q n)) (or_right (eq_by_cmp R q k) (has_place R u q) (grown.placed q p));
+          numbering = added_is o u k n none (omega arith) is.within numbering;
+          same = shown-added o u k n none no_value ∙ shown-grown o t cells marks (value_push t.cells);
+          entered = λ q. entered-added o u k q n none no_mark ∙ entered-pushed o t q;
+          placed = λ q p. subst IsTrue (sym (placed-added o u k q n)) (or_right (eq_by_cmp R q k) (has_place R u q) p);
         },
         subst IsTrue (sym (placed-added o u k k n)) (ap (λ r. is_eq r || has_place R u k) (tied_itself o k)),
-      )
+      ))
 
 -- a key more has a number more
 pub length-added : {K : Type 0} (R : K → K → Ordering) (o : IsTotalOrder R) (k : K) (n : ℕ) (numbers : List (K × ℕ)) → T (is_sorted R numbers) → find R k numbers ≡ None → length (put R k n numbers) ≡ length numbers + 1

@@ -1,7 +1,5 @@
 pub mod Places
 pub mod Records
-pub mod Laws
-pub mod Marked
 pub mod Numbered
 pub mod Members
 pub mod Grouped

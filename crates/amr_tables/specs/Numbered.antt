@@ -9,7 +9,7 @@ use Rattle.std.specs.Borrow.{Bor}
 use Rattle.std.specs.Coded.{Coded, code_by, coded×, coded_ℕ, coded_bool, coded_list, coded_option}
 use Rattle.amr_labels.specs.Map.{Map, from_sorted, get, set}
 use Rattle.amr_tables.specs.Places.{value_at}
-use Rattle.amr_tables.specs.Marked.{is_marked}
+use Rattle.amr_tables.specs.Places.{is_marked}
 
 -- The number of each key, in the order of the keys, the value at each place, and which places are
 -- marked as entered.

@@ -8,12 +8,10 @@ ghost use Rattle.amr_labels.specs.Map as map;
 ghost use Rattle.amr_tables.specs.Places.{value_at, values_of};
 ghost use Rattle.amr_tables.specs.Numbered.{map_of, has_place, next_number, number_of, KeepsPlaces, GetsPlace, GetsNumber, IsValueOf, IsNumber, IsMarkOf, IsSetAt, EntersAt, SamePlaces, SameEntered, NoneEntered, IsNumbering, key_at};
 
+use crate::cells::Cells;
 use crate::key::Key;
-use crate::marks::Marks;
 use crate::numbers::Numbers;
 use crate::ranking::Ranking;
-use crate::slots::Slots;
-use crate::table::Table;
 use crate::values::Values;
 use std::alloc::{AllocError, Global};
 use std::cmp::Ordering;
@@ -25,8 +23,7 @@ use std::marker::Model;
 #[derive(Drop)]
 pub struct Keyed<K: Key, V> {
     numbers: Numbers<K>,
-    slots: Slots<V>,
-    entered: Marks,
+    cells: Cells<V>,
 }
 
 impl<K: Key, V> Model for Keyed<K, V> {
@@ -37,10 +34,10 @@ impl<K: Key, V> Model for Keyed<K, V> {
 
     ghost coded = { numbered_code K.code V.code };
 
-    ghost view = { λ t. record { numbers = t.numbers.list; cells = t.slots; marks = t.entered } };
+    ghost view = { λ t. record { numbers = t.numbers.list; cells = t.cells.values; marks = t.cells.marks } };
 
-    ghost invariant = { λ t. IsNumbering K.cmp (record { numbers = t.numbers.list; cells = t.slots; marks = t.entered })
-        × (length t.numbers.list ≡ length t.slots) };
+    ghost invariant = { λ t. IsNumbering K.cmp (record { numbers = t.numbers.list; cells = t.cells.values; marks = t.cells.marks })
+        × (length t.numbers.list ≡ length t.cells.values) };
 }
 
 impl<K: Key + Drop, V: Drop> Keyed<K, V> {
@@ -52,8 +49,7 @@ impl<K: Key + Drop, V: Drop> Keyed<K, V> {
     {
         Keyed {
             numbers: Numbers::new(alloc),
-            slots: Slots::new(alloc),
-            entered: Marks::new(alloc),
+            cells: Cells::new(alloc),
         }
     }
 
@@ -63,7 +59,7 @@ impl<K: Key + Drop, V: Drop> Keyed<K, V> {
     {
         match self.numbers.get(key) {
             None => None,
-            Some(number) => self.slots.look(number),
+            Some(number) => self.cells.at(number),
         }
     }
 
@@ -76,7 +72,7 @@ impl<K: Key + Drop, V: Drop> Keyed<K, V> {
         let numbers = self.numbers.sorted(alloc)?;
         let mut found = Vec::with_capacity(alloc, numbers.len())?;
         for (key, number) in numbers.as_slice() {
-            if let Some(value) = self.slots.look(*number) {
+            if let Some(value) = self.cells.at(*number) {
                 found.push((*key, value))?;
             }
         }
@@ -88,7 +84,7 @@ impl<K: Key + Drop, V: Drop> Keyed<K, V> {
         ensures { result ≡ values_of self.now.cells }
     {
         Values {
-            cells: self.slots.as_slice(),
+            cells: self.cells.as_slice(),
         }
     }
 
@@ -108,7 +104,7 @@ impl<K: Key + Drop, V: Drop> Keyed<K, V> {
     {
         match self.numbers.get(key) {
             None => (None, None),
-            Some(number) => (Some(number), self.slots.look(number)),
+            Some(number) => (Some(number), self.cells.at(number)),
         }
     }
 
@@ -133,7 +129,7 @@ impl<K: Key + Drop, V: Drop> Keyed<K, V> {
         ensures next { result ≡ next_number self.now }
         ensures numbering { IsNumbering K.cmp self.now }
     {
-        self.slots.len()
+        self.cells.len()
     }
 
     /// Returns the value at a place. It compares no keys, so it is faster than `get`.
@@ -141,7 +137,7 @@ impl<K: Key + Drop, V: Drop> Keyed<K, V> {
         ensures place { option_copied result ≡ value_at self.now.cells number }
         ensures key { IsValueOf K.cmp self.now number (option_copied result) }
     {
-        self.slots.look(number)
+        self.cells.at(number)
     }
 
     /// Makes an empty place for a key, unless it has one.
@@ -162,8 +158,7 @@ impl<K: Key + Drop, V: Drop> Keyed<K, V> {
             return Ok(());
         }
         self.numbers.reserve()?;
-        self.entered.add_place()?;
-        self.slots.make_place(self.slots.len())?;
+        self.cells.add_place()?;
         self.numbers.insert(key);
         Ok(())
     }
@@ -179,7 +174,7 @@ impl<K: Key + Drop, V: Drop> Keyed<K, V> {
         ensures keys { self.new.numbers ≡ self.old.numbers }
     {
         match self.numbers.get(key) {
-            Some(number) => self.slots.displace(number, value),
+            Some(number) => self.cells.displace(number, value),
             None => unreachable!(),
         }
     }
@@ -196,10 +191,7 @@ impl<K: Key + Drop, V: Drop> Keyed<K, V> {
         ensures entered { EntersAt K.cmp self.old number self.new }
         ensures keys { self.new.numbers ≡ self.old.numbers }
     {
-        let was_entered = self.entered.is_marked(number);
-        self.entered.mark(number);
-        self.slots.swap(number, value);
-        was_entered
+        self.cells.swap(number, value)
     }
 
     /// Clears the marks of all places. It takes no memory.
@@ -209,7 +201,7 @@ impl<K: Key + Drop, V: Drop> Keyed<K, V> {
         ensures places { SamePlaces K.cmp self.old self.new }
         ensures keys { self.new.numbers ≡ self.old.numbers }
     {
-        self.entered.clear();
+        self.cells.clear_marks();
     }
 }
 

@@ -2,16 +2,14 @@
 //! numbers with moments and in groups. The state is made of them. Nothing here knows alerts or routes.
 #![tactic(auto)]
 
+mod cells;
 mod earliest;
 mod grouped;
 mod journal;
 mod key;
 mod keyed;
-mod marks;
 mod numbers;
 mod ranking;
-mod slots;
-mod table;
 mod values;
 
 pub use earliest::Earliest;
@@ -19,8 +17,5 @@ pub use grouped::Grouped;
 pub use journal::Journal;
 pub use key::Key;
 pub use keyed::Keyed;
-pub use marks::Marks;
 pub use ranking::Ranking;
-pub use slots::Slots;
-pub use table::Table;
 pub use values::Values;

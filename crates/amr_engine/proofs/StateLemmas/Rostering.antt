@@ -1,6 +1,6 @@
 -- The members of groups by number, how a change of one of them goes on, and the members of a group.
 use Rattle.std.proofs.Common.{◌≡◌, ◌≢◌, ◌≤◌, ◌<◌, ◌+◌, ℕ, zero, suc, Bool, true, false, IsTrue, cond, ◌||◌, ◌&&◌, T, List, [], ◌∷◌, ◌++◌, Option, Some, None, is_some, map, length, get_or, drop, Bor, refl, sym, ap, subst, ◌∙◌, arith}
-use Rattle.std.specs.Prelude.{◌==◌, option_map, if◌then◌else◌, nat_lt, IfSome, IsPermutation, IsSorted, slice_set}
+use Rattle.std.specs.Prelude.{◌==◌, option_map, if◌then◌else◌, IfSome, IsPermutation, IsSorted, slice_set}
 use Rattle.std.specs.Option.{option_and_then}
 use Rattle.std.specs.List.{All, AllByRecursion, IsDistinct, list_any, filter, filter_map, cons_option}
 use Rattle.std.specs.List.Sorted.{IsStrictlySortedBy}
@@ -21,7 +21,7 @@ use Rattle.amr_labels.specs.Map.{Map, get, set, empty, entries, get-set, get-emp
 use Rattle.amr_config.specs.Stated.Config.{Config}
 use Rattle.amr_rules.specs.declared.alert.Alert.{Alert}
 use Rattle.amr_tables.specs.Places.{value_at}
-use Rattle.amr_tables.specs.Laws.{at_law, others_law}
+use Rattle.amr_tables.proofs.Placing.{value_set, value_apart}
 use Rattle.amr_tables.specs.Members.{has}
 use Rattle.amr_tables.specs.Numbered.{Numbered, map_of, number_of, has_place, next_number, key_at, GetsNumber, IsNumber, IsNumbering}
 use Rattle.amr_tables.specs.Grouped.{Grouped, group_at, AreNumbersOf}
@@ -167,18 +167,15 @@ module _ (config : Config) (a : Numbered RouteLabels Alert) (gs : Numbered Route
       value : (other : RouteLabels) → get (map_of route_labels_cmp b) other ≡ cond (eq_by_cmp route_labels_cmp other key) w (get (map_of route_labels_cmp a) other)
       value other = ap (λ (s : Map route_labels_cmp Alert). get s other) shows ∙ get-set route_labels_cmp_total (map_of route_labels_cmp a) key w other
 
-      within : IsTrue (nat_lt n (length m.groups))
-      within = let room = is.room key n at in grind (arith, nat_tests)
-
       own : (o : Option Alert) → option_map (λ _. g) o ≡ group_number config gs key o
       own None = refl
       own (Some x) = sym in_g
 
       apart : (x : ℕ) → x ≢ n → group_at k x ≡ group_at m x
-      apart x e = ap (λ gs. value_at gs x) groups ∙ others_law m.groups n (option_map (λ _. g) w) x e
+      apart x e = ap (λ gs. value_at gs x) groups ∙ value_apart m.groups n x (option_map (λ _. g) w) e
 
       there_now : group_at k n ≡ option_map (λ _. g) w
-      there_now = ap (λ gs. value_at gs n) groups ∙ at_law m.groups n (option_map (λ _. g) w) within
+      there_now = ap (λ gs. value_at gs n) groups ∙ value_set m.groups n (option_map (λ _. g) w) (is.room key n at)
 
       by_key : (other : RouteLabels) (x : ℕ) → number_of route_labels_cmp a other ≡ Some x → group_at k x ≡ group_number config gs other (get (map_of route_labels_cmp b) other)
       by_key other x there =

@@ -1,6 +1,6 @@
 -- The moments of alerts and groups by number, as the tables change, and the first of them.
 use Rattle.std.proofs.Common.{◌≡◌, ◌≢◌, ◌≤◌, ◌<◌, ◌⊎◌, inl, inr, ℕ, Bool, true, false, cond, IsTrue, is_some, [], Option, Some, None, length, refl, sym, ap, subst, ◌∙◌, arith}
-use Rattle.std.specs.Prelude.{◌==◌, if◌then◌else◌, nat_lt, slice_set}
+use Rattle.std.specs.Prelude.{◌==◌, if◌then◌else◌, slice_set}
 use Rattle.std.specs.Option.{option_cmp}
 use Rattle.std.specs.declared.cmp.Ordering.{Ordering}
 use Rattle.std.specs.declared.cmp.Ordering.TheVariants.{Less, Equal, Greater}
@@ -17,7 +17,7 @@ use Rattle.amr_labels.specs.Labels.{LabelSet, label_set_cmp, label_set_cmp_total
 use Rattle.amr_rules.specs.declared.alert.Alert.{Alert}
 use Rattle.amr_rules.specs.Muting.{Alerts}
 use Rattle.amr_time.specs.Time.{Moment}
-use Rattle.amr_tables.specs.Laws.{at_law, others_law}
+use Rattle.amr_tables.proofs.Placing.{value_set, value_apart}
 use Rattle.amr_tables.specs.Places.{value_at}
 use Rattle.amr_tables.specs.Numbered.{Numbered, map_of, has_place, number_of, next_number, key_with, key_at, rank_of, KeepsPlaces, GetsNumber, IsNumbering}
 use Rattle.amr_tables.specs.Earliest.{Earliest, moment_at, IsTournament, IsEarliest}
@@ -46,9 +46,6 @@ not_both b P off on = absurd (true≢false (sym on ∙ off))
 the_value : {A : Type 0} (x : Option A) → IsTrue (is_some x) → (a : A) × (x ≡ Some a)
 the_value None h = absurd (true≢false (sym h))
 the_value (Some a) h = (a, refl)
-
-is_within : (n m : ℕ) → n < m → IsTrue (nat_lt n m)
-is_within n m lt = grind (arith, nat_tests)
 
 module _ {K V : Type 0} {R : K → K → Ordering} (o : IsTotalOrder R) (exact : IsAntisymmetric R) where
   -- ---- the numbers of keys
@@ -121,8 +118,8 @@ module _ {K V : Type 0} {R : K → K → Ordering} (o : IsTotalOrder R) (exact :
           ap (λ l. value_at l m) moments ∙ elim (eq_by_cmp R key k) as (λ b. eq_by_cmp R key k ≡ b → value_at (slice_set e.moments n (moment_of value)) m ≡ moment_of (cond b value (get (map_of R t) key))) [
             | true ↦ λ same.
                 let number : m ≡ n = some_same m n (sym old ∙ ap (number_of R t) (tells_apart exact key k same) ∙ at) in
-                ap (value_at (slice_set e.moments n (moment_of value))) number ∙ at_law e.moments n (moment_of value) (is_within n (length e.moments) (is.room k n at))
-            | false ↦ λ other. others_law e.moments n (moment_of value) m (λ number. not_both (eq_by_cmp R key k) _ other (
+                ap (value_at (slice_set e.moments n (moment_of value))) number ∙ value_set e.moments n (moment_of value) (is.room k n at)
+            | false ↦ λ other. value_apart e.moments n m (moment_of value) (λ number. not_both (eq_by_cmp R key k) _ other (
                 ap (λ x. eq_by_cmp R x k) (numbered.apart key k n (old ∙ ap (λ m. Some m) number) at) ∙ ap is_eq (tied_itself o k))) ∙ is.timed key m old
           ] refl ∙ ap moment_of (sym value_is);
       named = λ m moment there.
@@ -131,7 +128,7 @@ module _ {K V : Type 0} {R : K → K → Ordering} (o : IsTotalOrder R) (exact :
             | true ↦ λ same. let number : m ≡ n = grind (arith, nat_tests) in (k, ap (find R k) numbers ∙ at ∙ ap (λ m. Some m) (sym number))
             | false ↦ λ other.
                 let apart : m ≢ n = λ number. absurd (grind (arith, nat_tests)) in
-                let key = is.named m moment (sym (others_law e.moments n (moment_of value) m apart) ∙ now) in
+                let key = is.named m moment (sym (value_apart e.moments n m (moment_of value) apart) ∙ now) in
                 (key.0, ap (find R key.0) numbers ∙ key.1)
           ] refl;
       room = λ key m there.

@@ -1,7 +1,7 @@
 use Rattle.std.proofs.Common.{◌≡◌, ◌≢◌, ◌<◌, ◌/◌, ◌+◌, length, refl, slice_set, sym, ap, subst, ◌∙◌, arith}
 use Rattle.std.proofs.lemmas.Bool.Decides.{nat_tests}
-use Rattle.amr_tables.specs.Laws.{same_law}
 use Rattle.amr_tables.specs.Earliest.{Earliest, later_winner, IsTournament}
+use Rattle.amr_tables.proofs.Placing.{same_value_set}
 use Rattle.amr_tables.proofs.Playing.{IsClimbed, begun, climbs, ended, half_as_was, stopped, length_set, half_bounds}
 use Rattle.amr_tables.proofs.earliest.Earliest.set.Goals as goal
 
@@ -61,4 +61,4 @@ returns-clause-kept g c =
     ended (g.O.Ranking.rank c.args.order.now) c.args.number t c.loop-node.self c.loop-node.node c.loop-node.invariant.climbed c.loop-node.invariant.moments (grind (arith, nat_tests))
 
 pub returns-then-is_same-clause-moments : goal.returns-then-is_same-clause-moments
-returns-then-is_same-clause-moments g c = same_law c.args.self.now.moments c.args.number c.args.moment c.requires.room (sym c.at.ensures ∙ c.is_same.ensures c.if-is_same.true)
+returns-then-is_same-clause-moments g c = same_value_set c.args.self.now.moments c.args.number c.args.moment c.requires.room (sym c.at.ensures ∙ c.is_same.ensures c.if-is_same.true)

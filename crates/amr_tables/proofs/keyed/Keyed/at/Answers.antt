@@ -12,6 +12,6 @@ returns-clause-key g c = λ key is.
     let R = g.K.Ord.cmp in
     let t = c.self.inside in
     let at : find R key t.numbers.list ≡ Some c.args.number = ap (λ v. number_of R v key) c.self.view_is ∙ is in
-    c.look.ensures
-    ∙ sym (get-shown R g.met.K.Ord.total _ key c.self.invariant.0 ∙ ap (option_and_then (value_at t.slots)) at)
+    c.at.ensures
+    ∙ sym (get-shown R g.met.K.Ord.total _ key c.self.invariant.0 ∙ ap (option_and_then (value_at t.cells.values)) at)
     ∙ ap (λ v. map.get (map_of R v) key) c.self.view_is

@@ -5,15 +5,15 @@ use Rattle.std.proofs.lemmas.Bool.Decides.{nat_tests}
 use Rattle.amr_labels.specs.Map as map
 use Rattle.amr_tables.specs.Places.{value_at}
 use Rattle.amr_tables.specs.Numbered.{IsNumbering, map_of, has_place, is_entered}
-use Rattle.amr_tables.proofs.Numbering.{get-shown, displaced_is, length-slice_set, shown-displaced}
+use Rattle.amr_tables.proofs.Placing.{length-slice_set}
+use Rattle.amr_tables.proofs.Numbering.{get-shown, displaced_is, shown-displaced}
 use Rattle.amr_tables.proofs.keyed.Keyed.displace.Goals as goal
 
 pub displace-requires : goal.displace-requires
 displace-requires g c =
     let R = g.K.Ord.cmp in
     let at : find R c.args.key.now c.self.inside.numbers.list ≡ Some c.in-Some.number = sym c.get.ensures ∙ c.in-Some.is in
-    let lt = c.self.invariant.0.within c.args.key.now c.in-Some.number at in
-    grind (arith, nat_tests)
+    c.self.invariant.0.within c.args.key.now c.in-Some.number at
 
 pub unreachable-requires : goal.unreachable-requires
 unfolding has_place
@@ -28,8 +28,8 @@ pub returns-clause-answer : goal.returns-clause-answer
 returns-clause-answer g c =
     let R = g.K.Ord.cmp in
     let at : find R c.args.key.now c.self.inside.numbers.list ≡ Some c.in-Some.number = sym c.get.ensures ∙ c.in-Some.is in
-    c.displace.ensures.answer
-    ∙ sym (get-shown R g.met.K.Ord.total _ c.args.key.now c.self.invariant.0 ∙ ap (option_and_then (value_at c.self.inside.slots)) at)
+    c.displace.ensures.former
+    ∙ sym (get-shown R g.met.K.Ord.total _ c.args.key.now c.self.invariant.0 ∙ ap (option_and_then (value_at c.self.inside.cells.values)) at)
     ∙ ap (λ v. map.get (map_of R v) c.args.key.now) c.self.view_is
 
 pub returns-clause-shown : goal.returns-clause-shown
@@ -37,8 +37,8 @@ returns-clause-shown g c =
     let R = g.K.Ord.cmp in
     let t = c.self.inside in
     let at : find R c.args.key.now t.numbers.list ≡ Some c.in-Some.number = sym c.get.ensures ∙ c.in-Some.is in
-    ap (λ s. map_of R (record { numbers = t.numbers.list; cells = s; marks = t.entered })) c.displace.ensures.table
-    ∙ shown-displaced g.met.K.Ord.total g.met.K.Key.exact (record { numbers = t.numbers.list; cells = t.slots; marks = t.entered }) c.args.key.now c.in-Some.number c.args.value c.self.invariant.0 at
+    ap (λ p. map_of R (record { numbers = t.numbers.list; cells = p.values; marks = p.marks })) c.displace.ensures.places
+    ∙ shown-displaced g.met.K.Ord.total g.met.K.Key.exact (record { numbers = t.numbers.list; cells = t.cells.values; marks = t.cells.marks }) c.args.key.now c.in-Some.number c.args.value c.self.invariant.0 at
     ∙ ap (λ v. map.set (map_of R v) c.args.key.now c.args.value) c.self.view_is
 
 pub returns-clause-places : goal.returns-clause-places
@@ -47,13 +47,16 @@ returns-clause-places g c = λ other. ap (λ v. has_place g.K.Ord.cmp v other) c
 
 pub returns-clause-entered : goal.returns-clause-entered
 unfolding is_entered
-returns-clause-entered g c = λ other. ap (λ v. is_entered g.K.Ord.cmp v other) c.self.view_is
+returns-clause-entered g c = λ other.
+    let R = g.K.Ord.cmp in
+    ap (λ p. is_entered R (record { numbers = c.self.inside.numbers.list; cells = p.values; marks = p.marks }) other) c.displace.ensures.places
+    ∙ ap (λ v. is_entered R v other) c.self.view_is
 
 pub invariant_of-self : goal.invariant_of-self
 invariant_of-self g c =
     let R = g.K.Ord.cmp in
     let t = c.self.inside in (
-      subst (λ s. IsNumbering R (record { numbers = t.numbers.list; cells = s; marks = t.entered })) (sym c.displace.ensures.table)
-          (displaced_is g.met.K.Ord.total (record { numbers = t.numbers.list; cells = t.slots; marks = t.entered }) c.in-Some.number c.args.value c.self.invariant.0),
-      c.self.invariant.1 ∙ sym (ap length c.displace.ensures.table ∙ length-slice_set t.slots c.in-Some.number c.args.value),
+      subst (λ p. IsNumbering R (record { numbers = t.numbers.list; cells = p.values; marks = p.marks })) (sym c.displace.ensures.places)
+          (displaced_is g.met.K.Ord.total (record { numbers = t.numbers.list; cells = t.cells.values; marks = t.cells.marks }) c.in-Some.number c.args.value c.self.invariant.0),
+      c.self.invariant.1 ∙ sym (ap (λ p. length p.values) c.displace.ensures.places ∙ length-slice_set t.cells.values c.in-Some.number c.args.value),
     )

@@ -11,15 +11,15 @@ pub returns-in-None-clause-value : goal.returns-in-None-clause-value
 returns-in-None-clause-value g c =
     let t = c.self.inside in
     let at : find g.K.Ord.cmp c.args.key.now t.numbers.list ≡ None = sym c.get.ensures ∙ c.in-None.is in
-    sym (get-shown g.K.Ord.cmp g.met.K.Ord.total _ c.args.key.now c.self.invariant.0 ∙ ap (option_and_then (value_at t.slots)) at)
+    sym (get-shown g.K.Ord.cmp g.met.K.Ord.total _ c.args.key.now c.self.invariant.0 ∙ ap (option_and_then (value_at t.cells.values)) at)
     ∙ ap (λ v. map.get (map_of g.K.Ord.cmp v) c.args.key.now) c.self.view_is
 
 pub returns-in-Some-clause-value : goal.returns-in-Some-clause-value
 returns-in-Some-clause-value g c =
     let t = c.self.inside in
     let at : find g.K.Ord.cmp c.args.key.now t.numbers.list ≡ Some c.in-Some.number = sym c.get.ensures ∙ c.in-Some.is in
-    c.look.ensures
-    ∙ sym (get-shown g.K.Ord.cmp g.met.K.Ord.total _ c.args.key.now c.self.invariant.0 ∙ ap (option_and_then (value_at t.slots)) at)
+    c.at.ensures
+    ∙ sym (get-shown g.K.Ord.cmp g.met.K.Ord.total _ c.args.key.now c.self.invariant.0 ∙ ap (option_and_then (value_at t.cells.values)) at)
     ∙ ap (λ v. map.get (map_of g.K.Ord.cmp v) c.args.key.now) c.self.view_is
 
 pub returns-in-None-clause-number : goal.returns-in-None-clause-number

@@ -12,25 +12,25 @@ use Rattle.amr_tables.proofs.keyed.Keyed.sorted.Goals as goal
 
 pub loop-key-preserved : goal.loop-key-preserved
 loop-key-preserved g c =
-    let cells = c.self.inside.slots in
+    let cells = c.self.inside.cells.values in
     let items = c.as_slice-key-items.result.now in
     let item = c.loop-key-item.result in
     let more = listed_more cells items c.loop-key.key-index item c.loop-key-test.true c.loop-key-item.is in
-    elim c.match-look.branch [
+    elim c.match-at.branch [
       | in-Some+in_ok-push w ↦
           ap (λ v. map deref_pair v.items) w.found-is ∙ ap (map deref_pair) w.in_ok-push.ensures.items ∙ map-append deref_pair c.loop-key.found.items _
           ∙ ap (λ es. es ++ (item.0.now, w.in-Some.value.now) ∷ []) c.loop-key.invariant
-          ∙ with_value cells _ (numbered_key item) w.in-Some.value.now (sym c.look.ensures ∙ ap option_copied w.in-Some.is)
+          ∙ with_value cells _ (numbered_key item) w.in-Some.value.now (sym c.at.ensures ∙ ap option_copied w.in-Some.is)
           ∙ sym more
       | in_default w ↦
           ap (λ v. map deref_pair v.items) w.found-is ∙ c.loop-key.invariant
-          ∙ without_value cells _ (numbered_key item) (sym c.look.ensures ∙ ap option_copied w.in_default.is)
+          ∙ without_value cells _ (numbered_key item) (sym c.at.ensures ∙ ap option_copied w.in_default.is)
           ∙ sym more
     ]
 
 pub returns : goal.returns
 returns g c =
     c.loop-key.invariant
-    ∙ ap (λ items. filter_map (entry_at c.self.inside.slots) (map numbered_key items)) (take_all _ _ c.loop-key-test.false ∙ c.as_slice-key-items.ensures.value)
-    ∙ ap (filter_map (entry_at c.self.inside.slots)) c.in_ok-numbers.ensures
+    ∙ ap (λ items. filter_map (entry_at c.self.inside.cells.values) (map numbered_key items)) (take_all _ _ c.loop-key-test.false ∙ c.as_slice-key-items.ensures.value)
+    ∙ ap (filter_map (entry_at c.self.inside.cells.values)) c.in_ok-numbers.ensures
     ∙ sym (entries-shown g.K.Ord.cmp _ c.self.invariant.0) ∙ ap (λ t. entries (map_of g.K.Ord.cmp t)) c.self.view_is

@@ -1,0 +1,28 @@
+use Rattle.std.proofs.Common.{◌≡◌, ◌<◌, ◌+◌, length, ap, ◌∙◌, sym, arith, refl, slice_set}
+use Rattle.amr_tables.proofs.Placing.{length-slice_set}
+use Rattle.amr_tables.proofs.Stamping.{kept_values, wiped_more}
+use Rattle.amr_tables.proofs.cells.wipe.Goals as goal
+
+pub loop-place-init : goal.loop-place-init
+loop-place-init g c = record {
+  values = refl;
+  count = sym (c.len-place-end.ensures ∙ c.args.cells.now.ok.0);
+  wiped = λ k d w l. absurd (omega arith);
+}
+
+pub loop-place-preserved : goal.loop-place-preserved
+loop-place-preserved g c =
+    let cells = c.loop-place.cells.items in
+    let n = c.loop-place.place in
+    let cell = c.index_mut.result.now in
+    record {
+      values = kept_values cells n cell 0 c.index_mut.ensures.value ∙ c.loop-place.invariant.values;
+      count = length-slice_set cells n (record cell { stamp = 0 }) ∙ c.loop-place.invariant.count;
+      wiped = wiped_more cells n (record cell { stamp = 0 }) refl c.loop-place.invariant.wiped;
+    }
+
+pub returns-clause-values : goal.returns-clause-values
+returns-clause-values g c = c.loop-place.invariant.values
+
+pub returns-clause-stamps : goal.returns-clause-stamps
+returns-clause-stamps g c = λ k d w. c.loop-place.invariant.wiped k d (let count = c.loop-place.invariant.count in omega arith) w
