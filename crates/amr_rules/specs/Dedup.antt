@@ -23,26 +23,26 @@ unfoldable pub needs_update : Option LogEntry → LabelSets → LabelSets → Bo
 needs_update None firing resolved send_resolved now repeat_interval = not (is_empty firing)
 needs_update (Some entry) firing resolved send_resolved now repeat_interval = differs entry firing resolved send_resolved now repeat_interval
 
--- ---- the cause of a new entry
+-- ---- why a new entry is due
 
--- why a new entry is due
-pub data Cause : Type 0 where
-  NoEntry : Cause  -- something fires, and there is no entry yet
-  NewFiring : Cause  -- an alert fires that the entry doesn't have as firing
-  NoneFires : Cause  -- nothing fires any more
-  NewResolved : Cause  -- resolved alerts are sent, and the entry doesn't have one of them as resolved
-  RepeatInterval : Cause  -- the repeat interval is over
+-- the need for a new entry
+pub data Need : Type 0 where
+  NoEntry : Need  -- something fires, and there is no entry yet
+  NewFiring : Need  -- an alert fires that the entry doesn't have as firing
+  NoneFires : Need  -- nothing fires any more
+  NewResolved : Need  -- resolved alerts are sent, and the entry doesn't have one of them as resolved
+  RepeatInterval : Need  -- the repeat interval is over
 
--- the first cause that applies, if one does
-unfoldable pub cause_of : Option LogEntry → LabelSets → LabelSets → Bool → Moment → Span → Option Cause
-cause_of None firing resolved send_resolved now repeat_interval = if is_empty firing then None else Some NoEntry
-cause_of (Some entry) firing resolved send_resolved now repeat_interval =
+-- the first need that applies, if one does
+unfoldable pub need_of : Option LogEntry → LabelSets → LabelSets → Bool → Moment → Span → Option Need
+need_of None firing resolved send_resolved now repeat_interval = if is_empty firing then None else Some NoEntry
+need_of (Some entry) firing resolved send_resolved now repeat_interval =
     if not (is_subset firing entry.firing) then Some NewFiring
     else (if is_empty firing then (if is_empty entry.firing then None else Some NoneFires)
     else (if send_resolved && not (is_subset resolved entry.resolved) then Some NewResolved
     else (if nat_lt (entry.time + repeat_interval) now then Some RepeatInterval else None)))
 
--- a new entry is due exactly if there is a cause
-abbrev pub EntriesHaveCauses : Type 0
-EntriesHaveCauses = (entry : Option LogEntry) (firing resolved : LabelSets) (send_resolved : Bool) (now : Moment) (repeat_interval : Span)
-    → needs_update entry firing resolved send_resolved now repeat_interval ≡ is_some (cause_of entry firing resolved send_resolved now repeat_interval)
+-- a new entry is due exactly if it is needed
+abbrev pub DueIsNeeded : Type 0
+DueIsNeeded = (entry : Option LogEntry) (firing resolved : LabelSets) (send_resolved : Bool) (now : Moment) (repeat_interval : Span)
+    → needs_update entry firing resolved send_resolved now repeat_interval ≡ is_some (need_of entry firing resolved send_resolved now repeat_interval)
