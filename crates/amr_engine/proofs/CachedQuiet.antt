@@ -1,8 +1,8 @@
 -- The cache of quiet groups, and what keeps it true of the state.
 use Rattle.std.specs.Prelude.{◌≡◌, ℕ, Bool, true, not, ◌&&◌, List, [], ◌∷◌, Option, Some, None, Result, Ok, Err, option_map, ◌≤◌, ◌<◌, ◌+◌, nat_le, ◌==◌, length, ◌⊎◌}
 use Rattle.std.specs.Option.{option_or, is_none}
-use Rattle.std.specs.Result.{OnOk, OnErr, IfOk}
-use Rattle.std.specs.List.{list_all, filter, fold}
+use Rattle.std.specs.Result.{OnOk, OnErr}
+use Rattle.std.specs.List.{list_all, filter}
 use Rattle.std.proofs.Common.{refl, sym, ap, ◌∙◌, subst, arith, get_or, drop, inl, inr}
 use Rattle.std.proofs.lemmas.List.{at_drop_more}
 use Rattle.std.proofs.lemmas.Bool.Decides.{nat_tests}
@@ -31,15 +31,13 @@ use Rattle.amr_engine.specs.Stages.{by_active_time, by_mute_time, by_silence, ta
 use Rattle.amr_engine.specs.declared.quiet.Period.{Period}
 use Rattle.amr_engine.specs.declared.quiet.QuietTime.{QuietTime}
 use Rattle.amr_engine.specs.declared.quiet.QuietGroups.{QuietGroups}
-use Rattle.amr_engine.specs.declared.prepare.Prepared.{Prepared}
-use Rattle.amr_engine.specs.Prepared.{after_prepared}
 use Rattle.amr_engine.specs.Events.{put}
 use Rattle.amr_engine.specs.Flush.{Members, let_through, labels_of, log_key_of, flush}
 use Rattle.amr_engine.specs.Quiet.{is_outside, no_alert_ends, no_source_ends, no_silence_turns, all_fire_until, is_untimed, no_repeat_before, is_notified, are_notified, with_timer_reset, IsStill, IsQuiet, IsQuietWith, IsAllNotified, LeavesOthers}
-use Rattle.amr_engine.specs.CachedQuiet.{Times, times_in, quiet_times, IsNotifiedIn, IsQuietSince, IsTrueTime, IsTrueOf, Outlasts, without_all_joined}
+use Rattle.amr_engine.specs.CachedQuiet.{Times, times_in, quiet_times, IsNotifiedIn, IsQuietSince, IsTrueTime, IsTrueOf, Outlasts, without_joined}
 use Rattle.amr_engine.proofs.FewerNotified.{both}
 use Rattle.amr_engine.proofs.QuietLaws.{quiet_flush, notified_flush, stays_quiet}
-use Rattle.amr_engine.proofs.NotifiedStays.{beside_notified, left_notified, other_key, still_cached, now_cached, left_by_posts}
+use Rattle.amr_engine.proofs.NotifiedStays.{beside_notified, left_notified, other_key, still_cached, now_cached, left_by_post}
 use Rattle.amr_engine.proofs.QuietStays.{flush_leaves, quiet_left, still_left}
 
 -- ---- what is cached
@@ -158,20 +156,20 @@ cached_quiet cache s group at time cached not_before before (inr present) holds 
     let since : IsQuietSince cache.generation s group time.period cache.generation = subst (IsTrueTime cache.generation s group time.period) present (holds.quiet group time cached) in
     quiet_flush s group time.period.from time.period.until at not_before before (since.quiet refl)
 
--- ---- a post of alerts
+-- ---- the post of an alert
 
-pub joined_true : (cache : QuietGroups) (table : Numbered RouteLabels QuietTime) (s : State) (alerts : List (LabelSet × Alert)) → times_in table ≡ without_all_joined s.config (quiet_times cache) alerts
+pub joined_true : (cache : QuietGroups) (table : Numbered RouteLabels QuietTime) (s : State) (alert : LabelSet × Alert) → times_in table ≡ without_joined s.config (quiet_times cache) alert.0
     → IsTrueOf cache s → IsTrueOf (record cache { times = table }) s
-joined_true cache table s alerts are holds = record {
+joined_true cache table s alert are holds = record {
   quiet = λ group time cached.
-      holds.quiet group time (left_by_posts s.config alerts s (quiet_times cache) refl group time (ap (λ (m : Times). get m group) (sym are) ∙ cached)).1;
+      holds.quiet group time (left_by_post s (quiet_times cache) alert group time (ap (λ (m : Times). get m group) (sym are) ∙ cached)).1;
   still = holds.still;
 }
 
-pub joined_outlasts : (cache : QuietGroups) (table : Numbered RouteLabels QuietTime) (s : State) (alerts : List (LabelSet × Alert)) → times_in table ≡ without_all_joined s.config (quiet_times cache) alerts
-    → Outlasts (record cache { times = table }) s (fold put s alerts)
-joined_outlasts cache table s alerts are = λ group time cached.
-    (left_by_posts s.config alerts s (quiet_times cache) refl group time (ap (λ (m : Times). get m group) (sym are) ∙ cached)).0
+pub joined_outlasts : (cache : QuietGroups) (table : Numbered RouteLabels QuietTime) (s : State) (alert : LabelSet × Alert) → times_in table ≡ without_joined s.config (quiet_times cache) alert.0
+    → Outlasts (record cache { times = table }) s (put s alert)
+joined_outlasts cache table s alert are = λ group time cached.
+    (left_by_post s (quiet_times cache) alert group time (ap (λ (m : Times). get m group) (sym are) ∙ cached)).0
 
 -- ---- the clock, group timers, notifications, stored alerts and silences
 
@@ -238,11 +236,10 @@ module _ (s : State) (alerts : Alerts) (none : s.config.rules ≡ []) where
 
 -- ---- steps of the code
 
--- a cache that forgot what a prepared action may change, after the action
-pub performed_true : {T E : Type 0} (r : Result T E) (cache : QuietGroups) (prepared : Prepared) (s same after : State) → same ≡ s → IsTrueOf cache (after_prepared prepared s)
-    → IfOk r (λ x. after ≡ after_prepared prepared same) → OnOk r (IsTrueOf cache after)
-performed_true (Ok x) cache prepared s same after is holds done = subst (IsTrueOf cache) (sym (done ∙ ap (after_prepared prepared) is)) holds
-performed_true (Err e) cache prepared s same after is holds done = tt
+-- a cache that is true of a state is so of what is done, if that is the state
+pub still_true : {T E : Type 0} (r : Result T E) (cache : QuietGroups) (s middle t : State) → IsTrueOf cache t → middle ≡ t → OnOk r (s ≡ middle) → OnOk r (IsTrueOf cache s)
+still_true (Ok x) cache s middle t holds is same = subst (IsTrueOf cache) (sym (same ∙ is)) holds
+still_true (Err e) cache s middle t holds is same = tt
 
 -- a group timer that is set leaves the cache true
 pub reset_true : (s : State) (at : Moment) (group : RouteLabels) (cache : QuietGroups) → IsTrueOf cache s → IsTrueOf cache (with_timer_reset at group s)

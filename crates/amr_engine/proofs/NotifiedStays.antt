@@ -30,8 +30,7 @@ use Rattle.amr_engine.specs.declared.quiet.QuietTime.{QuietTime}
 use Rattle.amr_engine.specs.Events as events
 use Rattle.amr_engine.specs.Flush.{Members, labels_of, log_key_of}
 use Rattle.amr_engine.specs.Quiet.{no_repeat_before, is_notified, are_notified, IsAllNotified, LeavesOthers}
-use Rattle.amr_engine.specs.CachedQuiet.{Times, IsNotifiedIn, without_group, without_joined, without_all_joined}
-use Rattle.amr_engine.proofs.Copied.{put-config}
+use Rattle.amr_engine.specs.CachedQuiet.{Times, IsNotifiedIn, without_group, without_joined}
 use Rattle.amr_engine.proofs.QuietStays.{equal, apart}
 
 -- ---- one group
@@ -151,24 +150,11 @@ module _ (labels : LabelSet) (alert : Alert) where
       let here = still_cached times (group_key s.config (on_route route labels)) group time rest.1 in
       (λ notified. rest.0 (stays_notified s (insert_into_group labels alert s route) group refl (λ integration. refl) (inserted_one_members s route group here.0) time.period notified), here.1)
 
-left_by_post : (s : State) (times : Times) (alert : LabelSet × Alert) (group : RouteLabels) (time : QuietTime) → get (without_joined s.config times alert.0) group ≡ Some time
+-- the post of an alert leaves the groups notified that it doesn't join
+pub left_by_post : (s : State) (times : Times) (alert : LabelSet × Alert) (group : RouteLabels) (time : QuietTime) → get (without_joined s.config times alert.0) group ≡ Some time
     → (IsNotifiedIn s group time.period → IsNotifiedIn (events.put s alert) group time.period) × (get times group ≡ Some time)
 unfolding events.put insert_into_groups groups_of
 left_by_post s times alert group time cached =
     let stored : Alert = alert_to_store s.moment (get s.alerts alert.0) alert.1 in
     let after = left_by_insertions alert.0 stored (chosen_routes s.config alert.0) (record s { alerts = insert s.alerts alert.0 stored }) times group time cached in
     (λ notified. after.0 (beside_notified s s.moment (insert s.alerts alert.0 stored) s.silences s.timers s.notes group time.period notified), after.1)
-
--- a post of alerts leaves the groups notified that none of them joins
-pub left_by_posts : (config : Config) (alerts : List (LabelSet × Alert)) (s : State) (times : Times) → s.config ≡ config → (group : RouteLabels) (time : QuietTime)
-    → get (without_all_joined config times alerts) group ≡ Some time
-    → (IsNotifiedIn s group time.period → IsNotifiedIn (fold events.put s alerts) group time.period) × (get times group ≡ Some time)
-left_by_posts config [] s times same group time cached = (λ notified. notified, cached)
-left_by_posts config (alert ∷ alerts) s times same group time cached =
-    let rest = left_by_posts config alerts (events.put s alert) (without_joined config times alert.0) (put-config s alert ∙ same) group time cached in
-    let here = left_by_post s times alert group time (subst (λ (c : Config). get (without_joined c times alert.0) group ≡ Some time) (sym same) rest.1) in
-    (λ notified. rest.0 (here.0 notified), here.1)
-
-pub puts_config : (alerts : List (LabelSet × Alert)) (s : State) → (fold events.put s alerts).config ≡ s.config
-puts_config [] s = refl
-puts_config (alert ∷ alerts) s = puts_config alerts (events.put s alert) ∙ put-config s alert

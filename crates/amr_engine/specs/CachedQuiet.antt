@@ -1,5 +1,5 @@
 -- What the cache of quiet groups says of a state.
-use Rattle.std.specs.Prelude.{◌≡◌, ℕ, List, Option, Some, None, ◌<◌, ◌≤◌, length}
+use Rattle.std.specs.Prelude.{◌≡◌, ℕ, Option, Some, None, ◌<◌, ◌≤◌, length}
 use Rattle.std.specs.List.{fold}
 use Rattle.amr_labels.specs.Map.{Map, get, remove}
 use Rattle.amr_labels.specs.Labels.{LabelSet}
@@ -7,7 +7,6 @@ use Rattle.amr_config.specs.Stated.Config.{Config}
 use Rattle.amr_config.specs.Routing.{HasOwnPath}
 use Rattle.amr_config.specs.Groups.{groups_of}
 use Rattle.amr_config.specs.declared.router.RouteGroup.{RouteGroup}
-use Rattle.amr_rules.specs.declared.alert.Alert.{Alert}
 use Rattle.amr_engine.specs.declared.state.route_labels.RouteLabels.{RouteLabels}
 use Rattle.amr_engine.specs.State.State.{State, on_route, route_labels_cmp, members}
 use Rattle.amr_tables.specs.Numbered.{Numbered, map_of}
@@ -60,7 +59,3 @@ without_group times group = remove times (on_route group.route group.labels)
 -- without the groups that an alert with these labels joins
 abbrev pub without_joined : Config → Times → LabelSet → Times
 without_joined config times labels = fold without_group times (groups_of config labels)
-
--- without the groups that these alerts join
-abbrev pub without_all_joined : Config → Times → List (LabelSet × Alert) → Times
-without_all_joined config = fold (λ times alert. without_joined config times alert.0)

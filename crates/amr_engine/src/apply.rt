@@ -126,8 +126,8 @@ fn advance_to(
     Ok(made)
 }
 
-/// Performs a prepared action. Returns the positions of the alerts that it skips, from 1. The
-/// cache of quiet groups first forgets what the action may change.
+/// Performs a prepared action. Returns the positions of the alerts that it skips, from 1. The cache
+/// of quiet groups first forgets what the action may change, which is nothing for a tick.
 fn perform(
     store: &mut Store,
     quiet_groups: &mut QuietGroups,
@@ -142,32 +142,27 @@ fn perform(
         store.old store.new) }
     ensures cache { OnOk result (IsTrueOf quiet_groups.new store.new.state) }
 {
-    quiet_groups.forget_changed(store, &prepared);
-    change(store, prepared)
-}
-
-/// Changes the store by a prepared action. Returns the positions of the alerts that the action
-/// skips, from 1.
-fn change(store: &mut Store, prepared: Prepared) -> Result<Listing<usize>, AllocError>
-    ensures done { IfOk result (λ skipped. store.new.state
-        ≡ after_prepared prepared store.old.state) }
-    ensures skipped { IfOk result (λ skipped. skipped ≡ skipped_by prepared) }
-    ensures kept { before_open_record store.new ≡ before_open_record store.old }
-    ensures grown { OnOk result (GrownBy (entries_of prepared store.old.state store.new.state)
-        store.old store.new) }
-{
     match prepared {
         Prepared::Put(validated) => {
-            put_all(store, validated.valid.as_slice())?;
+            put_all(store, quiet_groups, validated.valid.as_slice())?;
             return Ok(validated.skipped);
         }
         Prepared::Silence {
             id,
             new_id,
             silence_update,
-        } => store_update(store, id, new_id, silence_update)?,
-        Prepared::Expire { id, ended } => store.change(Change::OfSilence(id, Some(ended)))?,
-        Prepared::Reload(config) => reload(store, config)?,
+        } => {
+            quiet_groups.forget_muting();
+            store_update(store, id, new_id, silence_update)?
+        }
+        Prepared::Expire { id, ended } => {
+            quiet_groups.forget_muting();
+            store.change(Change::OfSilence(id, Some(ended)))?
+        }
+        Prepared::Reload(config) => {
+            quiet_groups.clear();
+            reload(store, config)?
+        }
         Prepared::Tick => {}
     }
     Ok(Listing::new(store.alloc()))

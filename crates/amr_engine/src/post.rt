@@ -6,10 +6,12 @@ ghost use Rattle.amr_labels.specs.Map as map;
 ghost use Rattle.amr_time.specs.Time.{before_year_10000};
 ghost use Rattle.amr_rules.specs.Alerts.{completed_alert, alert_to_store};
 ghost use Rattle.amr_engine.specs.State.Kept.{GrownBy, before_open_record};
+ghost use Rattle.amr_engine.specs.CachedQuiet.{IsTrueOf};
 ghost use Rattle.amr_engine.specs.Events.{put, skipped_from};
 ghost use Rattle.amr_engine.specs.Weight.{alert_weight, alerts_weight};
 
-use crate::state::{Change, Store, insert_into_groups};
+use crate::quiet::QuietGroups;
+use crate::state::{Change, Store, insert_into_each};
 use amr_events::posts::PostedAlert;
 use amr_labels::{Labels, Listing};
 use amr_rules::{Alert, complete_alert, merge};
@@ -62,26 +64,43 @@ fn joined(store: &Store, labels: &Labels, alert: Alert) -> Alert
 }
 
 /// Stores a valid alert, merged with the stored one of its labels, and inserts it into its groups.
+/// The cache of quiet groups first forgets what that may change.
 #[tactic(auto, unfolding(crate::specs::Events::put))]
-fn put(store: &mut Store, labels: &Labels, alert: Alert) -> Result<(), AllocError>
+fn put(
+    store: &mut Store,
+    quiet_groups: &mut QuietGroups,
+    labels: &Labels,
+    alert: Alert,
+) -> Result<(), AllocError>
+    requires { IsTrueOf quiet_groups.old store.old.state }
     ensures ok { OnOk result (store.new.state ≡ put store.old.state (labels.now, alert)) }
     ensures kept { before_open_record store.new ≡ before_open_record store.old }
     ensures grown { GrownBy (alert_weight store.old.state.config labels.now) store.old store.new }
+    ensures cache { OnOk result (IsTrueOf quiet_groups.new store.new.state) }
 {
+    let groups = store.groups_of(labels)?;
+    let groups = groups.get().as_slice();
+    quiet_groups.forget_joined(groups);
     let stored = joined(store, labels, alert);
     let change = Change::OfAlert(labels.clone()?, Some(stored.clone()?));
     store.change(change)?;
-    insert_into_groups(store, labels, &stored)
+    insert_into_each(store, groups, labels, &stored)
 }
 
 /// Stores the valid alerts, in order.
-pub(crate) fn put_all(store: &mut Store, valid: &[(Labels, Alert)]) -> Result<(), AllocError>
+pub(crate) fn put_all(
+    store: &mut Store,
+    quiet_groups: &mut QuietGroups,
+    valid: &[(Labels, Alert)],
+) -> Result<(), AllocError>
+    requires { IsTrueOf quiet_groups.old store.old.state }
     ensures ok { OnOk result (store.new.state ≡ fold put store.old.state valid.now) }
     ensures kept { before_open_record store.new ≡ before_open_record store.old }
     ensures grown { GrownBy (alerts_weight store.old.state.config valid.now) store.old store.new }
+    ensures cache { OnOk result (IsTrueOf quiet_groups.new store.new.state) }
 {
     for (labels, alert) in valid {
-        put(store, labels, alert.clone()?)?;
+        put(store, quiet_groups, labels, alert.clone()?)?;
     }
     Ok(())
 }

@@ -11,14 +11,14 @@ ghost use Rattle.amr_engine.specs.State.State as state;
 ghost use Rattle.amr_engine.specs.Flush.{flush};
 ghost use Rattle.amr_engine.specs.Quiet.{with_timer_reset, IsStill, IsQuiet, IsAllNotified};
 ghost use Rattle.amr_engine.specs.Events.{put};
-ghost use Rattle.amr_engine.specs.Prepared.{after_prepared};
+ghost use Rattle.amr_config.specs.Groups.{groups_of};
+ghost use Rattle.amr_labels.specs.Labels.{LabelSet};
+ghost use Rattle.amr_rules.specs.declared.alert.Alert.{Alert};
 
-use crate::prepare::Prepared;
 use crate::scan_budget::ScanBudget;
 use crate::state::{RouteLabels, Store};
-use amr_config::Config;
+use amr_config::{Config, RouteGroup};
 use amr_labels::Labels;
-use amr_rules::Alert;
 use amr_tables::Keyed;
 use amr_time::Moment;
 use std::alloc::{AllocError, Global};
@@ -75,7 +75,7 @@ pub(crate) struct QuietGroups {
     budget: ScanBudget,
 }
 
-ghost use Rattle.amr_engine.specs.CachedQuiet.{times_in, quiet_times, without_joined, without_all_joined, Outlasts, IsTrueOf};
+ghost use Rattle.amr_engine.specs.CachedQuiet.{times_in, quiet_times, without_group, Outlasts, IsTrueOf};
 
 impl QuietGroups {
     /// Returns a cache of no group.
@@ -205,7 +205,7 @@ impl QuietGroups {
     }
 
     /// Forgets all that depends on what mutes alerts, by a new generation.
-    fn forget_muting(&mut self)
+    pub(crate) fn forget_muting(&mut self)
         ensures { (s : State) → (t : State) → t.config ≡ s.config → Outlasts self.old s t
             → IsTrueOf self.old s → IsTrueOf self.new t }
     {
@@ -218,30 +218,13 @@ impl QuietGroups {
         }
     }
 
-    /// Forgets what a prepared action may change. A tick changes nothing that is cached. A post
-    /// of alerts changes nothing for groups that were notified of all their members and that no
-    /// alert joins, and silences change nothing for any of those.
-    pub(crate) fn forget_changed(&mut self, store: &mut Store, prepared: &Prepared)
-        requires { IsTrueOf self.old store.old.state }
-        ensures cache { IsTrueOf self.new (after_prepared prepared.now store.old.state) }
-        ensures same { store.new ≡ store.old }
+    /// Forgets what the post of an alert that joins these groups may change: all that is cached of
+    /// them, and all that depends on what mutes alerts.
+    pub(crate) fn forget_joined(&mut self, groups: &[RouteGroup])
+        ensures { (s : State) → (alert : LabelSet × Alert) → groups.now ≡ groups_of s.config alert.0
+            → IsTrueOf self.old s → IsTrueOf self.new (put s alert) }
     {
-        match prepared {
-            Prepared::Tick => {}
-            Prepared::Put(validated) => self.forget_joined(store, validated.valid.as_slice()),
-            Prepared::Reload(_) => self.clear(),
-            Prepared::Silence { .. } => self.forget_muting(),
-            Prepared::Expire { .. } => self.forget_muting(),
-        }
-    }
-
-    /// Forgets what the post of these alerts may change.
-    fn forget_joined(&mut self, store: &mut Store, alerts: &[(Labels, Alert)])
-        requires { IsTrueOf self.old store.old.state }
-        ensures cache { IsTrueOf self.new (fold put store.old.state alerts.now) }
-        ensures same { store.new ≡ store.old }
-    {
-        match remove_all_joined(&mut self.times, store, alerts) {
+        match remove_all(&mut self.times, groups) {
             Ok(()) => self.forget_muting(),
             Err(_) => self.clear(),
         }
@@ -300,35 +283,17 @@ fn remove(times: &mut Times, group: &RouteLabels)
     }
 }
 
-/// Removes the groups that an alert with these labels joins.
-fn remove_joined(times: &mut Times, store: &mut Store, labels: &Labels) -> Result<(), AllocError>
-    ensures times { OnOk result (times_in times.new
-        ≡ without_joined store.old.state.config (times_in times.old) labels.now) }
-    ensures same { store.new ≡ store.old }
+/// Removes groups.
+fn remove_all(times: &mut Times, groups: &[RouteGroup]) -> Result<(), AllocError>
+    ensures { OnOk result (times_in times.new
+        ≡ fold without_group (times_in times.old) groups.now) }
 {
-    let groups = store.groups_of(labels)?;
-    for group in groups.get().as_slice() {
+    for group in groups {
         let group = RouteLabels {
             route: group.route,
             labels: group.labels.clone()?,
         };
         remove(times, &group);
-    }
-    Ok(())
-}
-
-/// Removes the groups that these alerts join.
-fn remove_all_joined(
-    times: &mut Times,
-    store: &mut Store,
-    alerts: &[(Labels, Alert)],
-) -> Result<(), AllocError>
-    ensures times { OnOk result (times_in times.new
-        ≡ without_all_joined store.old.state.config (times_in times.old) alerts.now) }
-    ensures same { store.new ≡ store.old }
-{
-    for (labels, _) in alerts {
-        remove_joined(times, store, labels)?;
     }
     Ok(())
 }

@@ -18,6 +18,7 @@ pub mod views;
 
 pub use change::Change;
 pub use due::{Due, Timer};
+pub(crate) use inserting::insert_into_each;
 pub use inserting::insert_into_groups;
 pub use members::Member;
 pub use membership::Membership;

@@ -1,5 +1,5 @@
 -- Stored alerts have places, and the label sets that have a place are among those that arrived.
-use Rattle.std.proofs.Common.{◌≡◌, ℕ, true, false, cond, List, [], Option, Some, None, refl, sym, ap, subst, ◌∙◌, IsTrue, is_some}
+use Rattle.std.proofs.Common.{◌≡◌, ℕ, true, false, cond, List, [], Option, refl, sym, ap, subst, ◌∙◌, IsTrue, is_some}
 use Rattle.std.specs.Ordering.{eq_by_cmp}
 use Rattle.std.specs.FinMap.{find}
 use Rattle.std.proofs.lemmas.Bool.{true≢false}

@@ -3,7 +3,7 @@
 //! It sets group timers, but flushes nothing.
 ghost use Rattle.std.specs.Prelude.{◌≡◌, ◌+◌, ◌*◌, ◌≤◌, Some, length, true, OnOk, IfOk, nat_lt};
 ghost use Rattle.amr_config.specs.Routing.{chosen_routes};
-ghost use Rattle.amr_config.specs.Groups.{group_at};
+ghost use Rattle.amr_config.specs.Groups.{group_at, groups_of};
 ghost use Rattle.amr_labels.specs.Map as map;
 ghost use Rattle.amr_time.specs.Time.{latest_read};
 ghost use Rattle.amr_engine.specs.State.State.{timer_with, insert_into_group, insert_into_groups};
@@ -32,7 +32,24 @@ pub fn insert_into_groups(
         store.old store.new }
 {
     let groups = store.groups_of(labels)?;
-    for group in groups.get().as_slice() {
+    insert_into_each(store, groups.get().as_slice(), labels, alert)
+}
+
+/// Inserts an alert into its groups, which are these.
+pub(crate) fn insert_into_each(
+    store: &mut Store,
+    groups: &[RouteGroup],
+    labels: &Labels,
+    alert: &Alert,
+) -> Result<(), AllocError>
+    requires { groups.now ≡ groups_of store.old.state.config labels.now }
+    ensures ok { OnOk result (store.new.state
+        ≡ insert_into_groups store.old.state (labels.now, alert.now)) }
+    ensures kept { before_open_record store.new ≡ before_open_record store.old }
+    ensures grown { GrownBy (2 * length (chosen_routes store.old.state.config labels.now))
+        store.old store.new }
+{
+    for group in groups {
         insert_into_group(store, group, labels, alert)?;
     }
     Ok(())

@@ -344,7 +344,7 @@ fn with_alerts(
         ≡ filter_map (with_alert (map_of route_labels_cmp placements.now) route)
         (labels_of_numbered members.now)) }
 {
-    let mut found = Vec::new(alloc);
+    let mut found = Vec::with_capacity(alloc, members.len())?;
     for &(labels, number) in members {
         push_member(&mut found, placements, route, labels, number)?;
     }

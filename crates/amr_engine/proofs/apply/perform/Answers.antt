@@ -1,18 +1,23 @@
-use Rattle.std.specs.Prelude.{IfOk, OnOk, ◌≡◌}
-use Rattle.std.proofs.Common.{ap, ◌∙◌, subst}
-use Rattle.amr_engine.specs.State.Kept.{Kept, GrownBy, before_open_record}
-use Rattle.amr_engine.specs.Prepared.{after_prepared, entries_of}
-use Rattle.amr_engine.proofs.CachedQuiet.{performed_true}
+use Rattle.std.proofs.Common.{◌≡◌, refl, sym, subst}
+use Rattle.amr_engine.specs.State.Kept.{Kept}
+use Rattle.amr_engine.specs.declared.quiet.QuietGroups.{QuietGroups}
+use Rattle.amr_engine.specs.CachedQuiet.{IsTrueOf}
+use Rattle.amr_engine.proofs.CachedQuiet.{unmuted}
+use Rattle.amr_engine.proofs.apply.perform.Goals.{in-Silence+in_ok-store_update-in-Silence, in-Expire+in_ok-change-in-Expire, in-Reload+in_ok-reload-in-Reload, in-Tick}
 use Rattle.amr_engine.proofs.apply.perform.Goals as goal
 
-pub returns : goal.returns
-returns c =
-    let same = c.forget_changed.ensures.same in
-    record {
-      done = subst (λ (before : Kept). IfOk c.change.result (λ skipped. c.change.new.store.state ≡ after_prepared c.args.prepared before.state)) same c.change.ensures.done;
-      skipped = c.change.ensures.skipped;
-      kept = c.change.ensures.kept ∙ ap before_open_record same;
-      grown = subst (λ (before : Kept). OnOk c.change.result (GrownBy (entries_of c.args.prepared before.state c.change.new.store.state) before c.change.new.store)) same c.change.ensures.grown;
-      cache = performed_true c.change.result c.forget_changed.new.self c.args.prepared c.args.store.now.state c.forget_changed.new.store.state c.change.new.store.state
-          (ap (λ (k : Kept). k.state) same) c.forget_changed.ensures.cache c.change.ensures.done;
-    }
+merged : (q quiet : QuietGroups) (k kept : Kept) → q ≡ quiet → k ≡ kept → IsTrueOf quiet kept.state → IsTrueOf q k.state
+merged q quiet k kept q_is k_is holds = subst (λ (x : QuietGroups). IsTrueOf x k.state) (sym q_is) (subst (λ (x : Kept). IsTrueOf quiet x.state) (sym k_is) holds)
+
+pub returns-clause-cache : goal.returns-clause-cache
+returns-clause-cache c =
+    let s = c.args.store.now.state in
+    let cache = c.args.quiet_groups.now in
+    elim c.match-prepared.branch [
+      | in-Silence+in_ok-store_update-in-Silence w ↦ merged _ _ _ _ w.quiet_groups-is w.store-is
+          (subst (IsTrueOf w.forget_muting.new.self) (sym w.in_ok-store_update-in-Silence.ensures.ok) (w.forget_muting.ensures s _ refl (unmuted cache s s.alerts _) c.requires))
+      | in-Expire+in_ok-change-in-Expire w ↦ merged _ _ _ _ w.quiet_groups-is w.store-is
+          (subst (IsTrueOf w.forget_muting-in-Expire.new.self) (sym w.in_ok-change-in-Expire.ensures.ok) (w.forget_muting-in-Expire.ensures s _ refl (unmuted cache s s.alerts _) c.requires))
+      | in-Reload+in_ok-reload-in-Reload w ↦ merged _ _ _ _ w.quiet_groups-is w.store-is (w.clear.ensures _)
+      | in-Tick w ↦ merged _ _ _ _ w.quiet_groups-is w.store-is c.requires
+    ]

@@ -14,6 +14,7 @@ loop-labels-preserved c = record {
       (c.in_ok-put.ensures.ok ∙ ap (λ (a : Alert). put c.loop-labels.store.state (c.loop-labels-item.result.0, a)) c.in_ok-clone.ensures.cases)
       ∙ sym (fold_left put c.loop-labels.store.state c.args.valid.now c.loop-labels.labels-index c.loop-labels-item.result c.loop-labels-test.true c.loop-labels-item.is) ∙ c.loop-labels.invariant.ok;
   kept = c.in_ok-put.ensures.kept ∙ c.loop-labels.invariant.kept;
+  cache = c.in_ok-put.ensures.cache;
   config = ap (λ (s : State). s.config) c.in_ok-put.ensures.ok ∙ put-config c.loop-labels.store.state (c.loop-labels-item.result.0, c.in_ok-clone.field-0) ∙ c.loop-labels.invariant.config;
   grown = put_more c.args.store.now.state.config c.loop-labels.store.state.config c.args.valid.now c.loop-labels.labels-index c.loop-labels-item.result (length c.loop-labels.store.current)
       (length c.put.new.store.current) (length c.args.store.now.current + alerts_weight c.args.store.now.state.config c.args.valid.now) c.loop-labels.invariant.grown c.loop-labels-test.true

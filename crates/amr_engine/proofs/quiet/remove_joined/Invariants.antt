@@ -1,8 +1,0 @@
-use Rattle.std.proofs.Common.{◌≡◌, drop}
-use Rattle.std.specs.List.{fold}
-use Rattle.amr_engine.specs.CachedQuiet.{times_in, without_group, without_joined}
-use Rattle.amr_engine.proofs.quiet.remove_joined.Given as goal
-
--- without the groups so far, and then those that are left
-abbrev pub invariant-loop-group : goal.invariant-loop-group
-invariant-loop-group l = fold without_group (times_in l.times) (drop l.group-index l.group-items) ≡ without_joined l.fn.store.state.config (times_in l.fn.times) l.labels
