@@ -1,5 +1,5 @@
 -- The marks of places, by the stamps beside their values.
-use Rattle.std.proofs.Common.{◌≡◌, ℕ, zero, suc, ◌+◌, ◌<◌, ◌≤◌, Bool, true, false, nat_eq, List, [], ◌∷◌, Option, map, length, refl, sym, ap, ◌∙◌, arith, slice_set, slice_index_or, get_or}
+use Rattle.std.proofs.Common.{◌≡◌, ℕ, zero, suc, ◌+◌, ◌<◌, Bool, true, false, nat_eq, List, [], ◌∷◌, Option, map, length, refl, sym, ap, ◌∙◌, arith, slice_set, slice_index_or, get_or}
 use Rattle.std.specs.List.{All}
 use Rattle.std.proofs.lemmas.List.{map-set}
 use Rattle.std.proofs.lemmas.Bool.Decides.{nat_tests}

@@ -97,7 +97,8 @@ impl<V> Cells<V> {
     pub(crate) fn displace(&mut self, place: usize, value: Option<V>) -> Option<V>
         requires { place < length self.old.values }
         ensures former { result ≡ value_at self.old.values place }
-        ensures places { self.new ≡ record self.old { values = slice_set self.old.values place value } }
+        ensures places { self.new
+            ≡ record self.old { values = slice_set self.old.values place value } }
     {
         mem::replace(&mut self.cells[place].value, value)
     }

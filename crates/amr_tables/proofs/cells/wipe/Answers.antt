@@ -1,4 +1,4 @@
-use Rattle.std.proofs.Common.{◌≡◌, ◌<◌, ◌+◌, length, ap, ◌∙◌, sym, arith, refl, slice_set}
+use Rattle.std.proofs.Common.{◌∙◌, sym, arith, refl}
 use Rattle.amr_tables.proofs.Placing.{length-slice_set}
 use Rattle.amr_tables.proofs.Stamping.{kept_values, wiped_more}
 use Rattle.amr_tables.proofs.cells.wipe.Goals as goal

@@ -1,4 +1,4 @@
-use Rattle.std.proofs.Common.{◌≡◌, ◌+◌, ap, ◌∙◌, arith, map, false, refl}
+use Rattle.std.proofs.Common.{◌+◌, ap, ◌∙◌, arith, map, false, refl}
 use Rattle.amr_tables.specs.Places.{Places}
 use Rattle.amr_tables.proofs.Stamping.{none_marked}
 use Rattle.amr_tables.proofs.cells.Cells.clear_marks.Goals as goal

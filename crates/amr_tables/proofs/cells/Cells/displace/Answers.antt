@@ -1,4 +1,4 @@
-use Rattle.std.proofs.Common.{◌≡◌, ap, ◌∙◌, slice_set}
+use Rattle.std.proofs.Common.{ap, ◌∙◌, slice_set}
 use Rattle.amr_tables.specs.Places.{Places}
 use Rattle.amr_tables.proofs.Stamping.{places_of, places_displaced}
 use Rattle.amr_tables.proofs.cells.Cells.displace.Goals as goal

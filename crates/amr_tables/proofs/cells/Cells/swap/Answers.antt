@@ -1,4 +1,4 @@
-use Rattle.std.proofs.Common.{◌≡◌, ap, ◌∙◌, slice_set, true}
+use Rattle.std.proofs.Common.{ap, ◌∙◌, slice_set, true}
 use Rattle.amr_tables.proofs.Stamping.{places_of, places_swapped}
 use Rattle.amr_tables.proofs.cells.Cells.swap.Goals as goal
 

@@ -1,7 +1,6 @@
-use Rattle.std.proofs.Common.{length, ◌≡◌, true, false, None, Some, sym, ap, subst, ◌∙◌, arith, is_some, IsTrue}
+use Rattle.std.proofs.Common.{length, ◌≡◌, true, false, None, Some, sym, ap, subst, ◌∙◌, is_some, IsTrue}
 use Rattle.std.specs.Prelude.{option_and_then}
 use Rattle.std.specs.FinMap.{find}
-use Rattle.std.proofs.lemmas.Bool.Decides.{nat_tests}
 use Rattle.amr_labels.specs.Map as map
 use Rattle.amr_tables.specs.Places.{value_at}
 use Rattle.amr_tables.specs.Numbered.{IsNumbering, map_of, has_place, is_entered}

@@ -1,4 +1,4 @@
-use Rattle.std.proofs.Common.{ℕ, List, ◌+◌, ◌≡◌, ◌<◌, true, false, None, Some, length, sym, ap, subst, ◌∙◌, arith, is_some, IsTrue}
+use Rattle.std.proofs.Common.{ℕ, List, ◌+◌, ◌≡◌, true, false, None, Some, length, sym, ap, subst, ◌∙◌, arith, IsTrue}
 use Rattle.std.specs.Prelude.{◌||◌, if◌then◌else◌}
 use Rattle.std.specs.Ordering.{eq_by_cmp}
 use Rattle.std.specs.FinMap.{find, put}
