@@ -65,7 +65,7 @@ fn standings(
     ensures { IfOk result (λ standings. standings.items
         ≡ standings_at config.now labels.now (length config.now.routes)) }
 {
-    let mut standings = Vec::new(alloc);
+    let mut standings = Vec::with_capacity(alloc, config.route_count())?;
     for _route in 0..config.route_count() {
         note_next(answers, config, labels, &mut standings)?;
     }

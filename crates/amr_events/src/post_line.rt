@@ -75,7 +75,8 @@ fn post(
 /// Reads a moment, in RFC 3339.
 fn usual_moment(reader: &mut Reader<'_>) -> Option<Moment>
     ensures read { IfSome result (λ at. (depth : ℕ)
-        → States (λ d. option_and_then moment_at (as_str d) ≡ Some at) depth reader.old reader.new) }
+        → States (λ d. option_and_then moment_at (as_str d) ≡ Some at) depth
+        reader.old reader.new) }
     ensures bound { IfSome result (λ at. at ≤ latest_read) }
     ensures shorter { IfSome result (λ _. length reader.new < length reader.old) }
 {

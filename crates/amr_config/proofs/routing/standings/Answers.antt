@@ -5,7 +5,7 @@ use Rattle.amr_config.proofs.routing.standings.Goals as goal
 
 pub loop-route-init : goal.loop-route-init
 unfolding standings_at
-loop-route-init c = record { count = c.new-standings.ensures.len; standings = c.new-standings.ensures.items }
+loop-route-init c = record { count = c.in_ok-standings.ensures.len; standings = c.in_ok-standings.ensures.items }
 
 pub loop-route-preserved : goal.loop-route-preserved
 loop-route-preserved c =
