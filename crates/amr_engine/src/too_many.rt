@@ -33,13 +33,17 @@ pub(crate) fn are_too_many(store: &Store, at: Moment, made: usize) -> Result<boo
     is_one_beyond(store, at, MOST_MOVES - made)
 }
 
-/// Returns true only if one group alone is flushed more than `left` times up to a moment.
+/// Returns true only if one group alone is flushed more than `left` times up to a moment. It takes
+/// the groups in the order of their numbers, since it needs no other.
 fn is_one_beyond(store: &Store, at: Moment, left: usize) -> Result<bool, AllocError>
     requires { left ≤ move_limit }
     ensures { IfOk result (λ beyond. beyond ≡ true → advance left at store.now.state ≡ None) }
 {
-    let timers = store.timers().sorted(store.alloc())?;
-    for &(group, _) in timers.as_slice() {
+    let timers = store.timers();
+    for number in 0..timers.next_number() {
+        let Some(group) = timers.key_at(number) else {
+            continue;
+        };
         if is_beyond(store, at, left, group)? {
             return Ok(true);
         }
