@@ -29,7 +29,8 @@ pub(crate) fn reload(store: &mut Store, config: Config) -> Result<(), AllocError
 
 /// Inserts alerts into the groups of their chosen routes, in order.
 fn insert_all(store: &mut Store, alerts: &[(Labels, Alert)]) -> Result<(), AllocError>
-    ensures ok { OnOk result (store.new.state ≡ fold insert_into_groups store.old.state alerts.now) }
+    ensures ok { OnOk result (store.new.state
+        ≡ fold insert_into_groups store.old.state alerts.now) }
     ensures kept { before_open_record store.new ≡ before_open_record store.old }
     ensures grown { GrownBy (2 * copies store.old.state.config alerts.now) store.old store.new }
 {

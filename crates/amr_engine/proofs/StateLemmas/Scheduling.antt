@@ -19,7 +19,7 @@ use Rattle.amr_rules.specs.Muting.{Alerts}
 use Rattle.amr_time.specs.Time.{Moment}
 use Rattle.amr_tables.proofs.Placing.{value_set, value_apart}
 use Rattle.amr_tables.specs.Places.{value_at}
-use Rattle.amr_tables.specs.Numbered.{Numbered, map_of, has_place, number_of, next_number, key_with, key_at, rank_of, KeepsPlaces, GetsNumber, IsNumbering}
+use Rattle.amr_tables.specs.Numbered.{Numbered, map_of, has_place, number_of, next_number, key_with, key_at, rank_of, KeepsPlaces, GetsNumber, IsNumber, IsNumbering}
 use Rattle.amr_tables.specs.Earliest.{Earliest, moment_at, IsTournament, IsEarliest}
 use Rattle.amr_tables.proofs.Playing.{tournament_agrees}
 use Rattle.amr_tables.specs.Members.{has}
@@ -94,6 +94,12 @@ module _ {K V : Type 0} {R : K → K → Ordering} (o : IsTotalOrder R) (exact :
     placed = λ key h. not_both _ _ (ap is_some (ap (λ (m : Map R V). get m key) shows ∙ get-empty R key)) h;
     apart = λ a b n e f. not_none n _ (sym e ∙ ap (find R a) none);
   }
+
+  -- the key that a number names has it, if a key has it
+  pub number_of_named : (t : Numbered K V) → IsNumbering R t → (n : ℕ) (key : K) → IsNumber R t n → key_at t n ≡ Some key → number_of R t key ≡ Some n
+  number_of_named t numbering n key by named =
+      let same : by.0 ≡ key = some_same by.0 key (sym (key_at_number o exact t numbering by.0 n by.1) ∙ named) in
+      ap (number_of R t) (sym same) ∙ by.1
 
   -- ---- their moments
 
@@ -213,9 +219,7 @@ module _ {K V : Type 0} {R : K → K → Ordering} (o : IsTotalOrder R) (exact :
     pub first_moment : (t : Numbered K V) (e : Earliest) (n : ℕ) (moment : Moment) (key : K) → moment_of None ≡ None → IsNumbering R t → AreNumbered R t → IsScheduled R moment_of t e
         → moment_at e n ≡ Some moment → IsEarliest (rank_of R t) e n → key_at t n ≡ Some key → IsFirstMoment (map_of R t) key moment
     first_moment t e n moment key none numbering numbered is at earliest named =
-        let by = is.named n moment at in
-        let same : by.0 ≡ key = some_same by.0 key (sym (key_at_number o exact t numbering by.0 n by.1) ∙ named) in
-        let number : number_of R t key ≡ Some n = ap (number_of R t) (sym same) ∙ by.1 in
+        let number : number_of R t key ≡ Some n = number_of_named t numbering n key (is.named n moment at) named in
         let first : earliest.0 ≡ moment = some_same earliest.0 moment (sym earliest.1 ∙ at) in (
           sym (is.timed key n number) ∙ at,
           λ other x later.

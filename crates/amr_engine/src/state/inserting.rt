@@ -26,7 +26,8 @@ pub fn insert_into_groups(
     labels: &Labels,
     alert: &Alert,
 ) -> Result<(), AllocError>
-    ensures ok { OnOk result (store.new.state ≡ insert_into_groups store.old.state (labels.now, alert.now)) }
+    ensures ok { OnOk result (store.new.state
+        ≡ insert_into_groups store.old.state (labels.now, alert.now)) }
     ensures kept { before_open_record store.new ≡ before_open_record store.old }
     ensures grown { GrownBy (2 * length (chosen_routes store.old.state.config labels.now))
         store.old store.new }

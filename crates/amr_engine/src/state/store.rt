@@ -354,7 +354,7 @@ impl Store {
         ensures kept { before_open_record self.new ≡ before_open_record self.old }
         ensures grown { GrownBy 1 self.old self.new }
     {
-        let (number, former) = self.tables.timetable.timers().look_up_number(group);
+        let (number, former) = self.tables.timetable.look_up_timer(group);
         let (Some(number), Some(former)) = (number, former.copied()) else {
             return Ok(());
         };

@@ -1,11 +1,12 @@
 //! The stored alerts and the group timers, with the moments at which each alert is removed, and each
 //! group flushed or removed. `Store` changes alerts and timers here, and the moments follow. Nothing
 //! is fired here.
-ghost use Rattle.std.specs.Prelude.{◌≡◌, ◌≢◌, ◌<◌, ◌≤◌, ℕ, length, option_map, None, Some, OnOk, IfOk};
+ghost use Rattle.std.specs.Prelude.{◌≡◌, ◌≢◌, ◌<◌, ◌≤◌, ℕ, true, IsTrue, length, is_some, option_map, None, Some, OnOk, IfOk};
+ghost use Rattle.std.specs.Option.{option_copied};
 ghost use Rattle.amr_tables.specs.Earliest.{moment_at, IsTournament};
 ghost use Rattle.amr_labels.specs.Labels.{label_set_cmp};
 ghost use Rattle.amr_labels.specs.Map as map;
-ghost use Rattle.amr_tables.specs.Numbered.{map_of, number_of, EntersAt, KeepsPlaces, SamePlaces, SameEntered, NoneEntered, IsMarkOf, IsNumber, IsNumbering, IsSetAt, IsValueOf, next_number, rank_of};
+ghost use Rattle.amr_tables.specs.Numbered.{map_of, number_of, key_at, EntersAt, KeepsPlaces, SamePlaces, SameEntered, NoneEntered, IsMarkOf, IsNumber, IsNumbering, IsSetAt, IsValueOf, next_number, rank_of};
 ghost use Rattle.amr_engine.specs.State.State.{route_labels_cmp};
 ghost use Rattle.amr_engine.specs.State.Dues.{dues_of, least_due, due_by, kind_of, group_of};
 ghost use Rattle.amr_engine.specs.declared.state.due.Kind.TheVariants.{AlertRemoval};
@@ -212,6 +213,22 @@ impl Timetable {
         }
     }
 
+    /// Returns the number of a group's place, if it has one, and its timer. It compares the group that
+    /// is flushed next before it looks for the group, since that is mostly the one.
+    pub(crate) fn look_up_timer(&self, group: &RouteLabels) -> (Option<usize>, Option<&GroupTimer>)
+        ensures number { result.0 ≡ number_of route_labels_cmp self.now.timers group.now }
+        ensures value { option_copied result.1
+            ≡ map.get (map_of route_labels_cmp self.now.timers) group.now }
+        ensures placed { IsTrue (is_some result.1) → IsTrue (is_some result.0) }
+    {
+        match self.flushes.first() {
+            Some(number) if is_key_at(&self.timers, number, group) => {
+                (Some(number), self.timers.at(number))
+            }
+            _ => self.timers.look_up_number(group),
+        }
+    }
+
     /// Makes a place for a group that has none, with room for its moments. Returns its number.
     fn add_timer(&mut self, group: &RouteLabels) -> Result<usize, AllocError>
         requires { number_of route_labels_cmp self.old.timers group.now ≡ None }
@@ -231,6 +248,17 @@ impl Timetable {
             Some(number) => Ok(number),
             None => unreachable!(),
         }
+    }
+}
+
+/// Returns whether a group is the key with a number.
+fn is_key_at(timers: &Keyed<RouteLabels, GroupTimer>, number: usize, group: &RouteLabels) -> bool
+    ensures key { result ≡ true → key_at timers.now number ≡ Some group.now }
+    ensures numbering { IsNumbering route_labels_cmp timers.now }
+{
+    match timers.key_at(number) {
+        None => false,
+        Some(key) => key == group,
     }
 }
 
