@@ -1,5 +1,5 @@
 -- Texts are ordered as their heads are, if these differ.
-use Rattle.std.proofs.Common.{arith, ◌≡◌, ℕ, zero, suc, ◌+◌, ◌*◌, ◌<◌, ◌≤◌, [], ◌∷◌, ◌++◌, ◌&&◌, true, false, cond, length, take, drop, get_or, nat_eq, refl, sym, ap, subst, ◌∙◌}
+use Rattle.std.proofs.Common.{arith, ◌≡◌, ℕ, zero, suc, ◌+◌, ◌*◌, ◌<◌, ◌≤◌, [], ◌∷◌, ◌++◌, ◌&&◌, true, false, cond, length, take, drop, get_or, nat_eq, Bool, refl, sym, ap, subst, ◌∙◌}
 use Rattle.std.specs.Cmp.{nat_cmp_is, tied_itself}
 use Rattle.std.specs.Cmp.Lexicographic.{nat_list_cmp_total}
 use Rattle.std.specs.declared.cmp.Ordering.{Ordering}
@@ -9,7 +9,7 @@ use Rattle.std.proofs.lemmas.Cmp.{ranked, nat_cmp_total}
 use Rattle.std.proofs.lemmas.Bool.{true≢false}
 use Rattle.std.proofs.lemmas.List.{take-append-drop}
 use Rattle.amr_labels.specs.Labels.{Text, text_cmp}
-use Rattle.amr_labels.specs.Head.{with_head, head_past}
+use Rattle.amr_labels.specs.Head.{with_head, standing, head_past}
 use lib.Pointwise.{pointwise, bytes_decides}
 
 abbrev pub AreBytes : Text → Type 0
@@ -56,44 +56,100 @@ heads_decide (suc n) x (a ∷ s) (b ∷ t) h l =
         let over : b < a = f in
         absurd (omega (arith, l, rises n (x * 256 + b) (x * 256 + a) t s (rest_are_bytes b t h) (omega (arith, over))))
 
--- no head is greater than that of a text which is greater than the prefix and doesn't begin with it
-at_most : (ps t : Text) → AreBytes t → head_past ps t ≤ with_head 7 2 []
-at_most [] t h = let less = rises 7 1 2 t [] h (omega arith) in omega (arith, less)
-at_most (p ∷ ps) [] h = omega arith
-at_most (p ∷ ps) (b ∷ t) h =
-    elim (nat_cmp b p) as (λ r. match_ordering r 0 (head_past ps t) (with_head 7 2 []) ≤ with_head 7 2 []) [
-      | Less ↦ omega arith
-      | Equal ↦ at_most ps t (rest_are_bytes b t h)
-      | Greater ↦ omega arith
-    ]
+dropped_are_bytes : (n : ℕ) (text : Text) → AreBytes text → AreBytes (drop n text)
+dropped_are_bytes zero text h = h
+dropped_are_bytes (suc n) [] h = h
+dropped_are_bytes (suc n) (b ∷ text) h = dropped_are_bytes n text (rest_are_bytes b text h)
 
--- the text with the lesser head is the lesser
-pub heads_differ : (ps s t : Text) → AreBytes s → AreBytes t → head_past ps s < head_past ps t → text_cmp s t ≡ Less
-heads_differ [] s t hs ht l = heads_decide 7 1 s t ht l
-heads_differ (p ∷ ps) [] [] hs ht l = absurd (omega (arith, l))
-heads_differ (p ∷ ps) [] (b ∷ t) hs ht l = refl
-heads_differ (p ∷ ps) (a ∷ s) [] hs ht l = absurd (omega (arith, l))
-heads_differ (p ∷ ps) (a ∷ s) (b ∷ t) hs ht l =
-    by (heads_differ ps s t (rest_are_bytes a s hs) (rest_are_bytes b t ht)) (nat_cmp a p) (ranked a p (nat_cmp a p) refl) (nat_cmp b p) (ranked b p (nat_cmp b p) refl) l
+-- ---- texts before, among and after those that begin with a prefix
+
+abbrev Before : Ordering → Ordering → Type 0
+Before Less Less = ⊥
+Before Less Equal = Unit {0}
+Before Less Greater = Unit {0}
+Before Equal Less = ⊥
+Before Equal Equal = ⊥
+Before Equal Greater = Unit {0}
+Before Greater q = ⊥
+
+none_before_less : (r : Ordering) → Before r Less → ⊥
+none_before_less Less h = h
+none_before_less Equal h = h
+none_before_less Greater h = h
+
+-- of two texts that stand apart the first is the lesser
+apart : (ps s t : Text) → Before (standing ps s) (standing ps t) → text_cmp s t ≡ Less
+apart [] s t h = absurd h
+apart (p ∷ ps) [] [] h = absurd h
+apart (p ∷ ps) [] (b ∷ t) h = refl
+apart (p ∷ ps) (a ∷ s) [] h = absurd (none_before_less (standing (p ∷ ps) (a ∷ s)) h)
+apart (p ∷ ps) (a ∷ s) (b ∷ t) h =
+    by (apart ps s t) (nat_cmp a p) (ranked a p (nat_cmp a p) refl) (nat_cmp b p) (ranked b p (nat_cmp b p) refl) h
   where
     lesser : a < b → ordering_then (nat_cmp a b) (text_cmp s t) ≡ Less
     lesser h = ap (λ r. ordering_then r (text_cmp s t)) (below a b h)
 
-    by : (head_past ps s < head_past ps t → text_cmp s t ≡ Less)
+    by : (Before (standing ps s) (standing ps t) → text_cmp s t ≡ Less)
         → (r : Ordering) → MatchOrdering r (a < p) (a ≡ p) (p < a) → (q : Ordering) → MatchOrdering q (b < p) (b ≡ p) (p < b)
-        → match_ordering r 0 (head_past ps s) (with_head 7 2 []) < match_ordering q 0 (head_past ps t) (with_head 7 2 [])
+        → Before (ordering_then r (standing ps s)) (ordering_then q (standing ps t))
         → ordering_then (nat_cmp a b) (text_cmp s t) ≡ Less
-    by later Less f Less g m = absurd (omega (arith, m))
+    by later Less f Less g m = absurd m
     by later Less f Equal g m = let under : a < p = f in let level : b ≡ p = g in lesser (omega (arith, under, level))
     by later Less f Greater g m = let under : a < p = f in let over : p < b = g in lesser (omega (arith, under, over))
-    by later Equal f Less g m = absurd (omega (arith, m))
+    by later Equal f Less g m = absurd (none_before_less (standing ps s) m)
     by later Equal f Equal g m =
         ap (λ r. ordering_then r (text_cmp s t)) ((λ i. nat_cmp (f i) (g i)) ∙ tied_itself nat_cmp_total p)
         ∙ later m
     by later Equal f Greater g m = let level : a ≡ p = f in let over : p < b = g in lesser (omega (arith, level, over))
-    by later Greater f Less g m = absurd (omega (arith, m))
-    by later Greater f Equal g m = absurd (omega (arith, m, at_most ps t (rest_are_bytes b t ht)))
-    by later Greater f Greater g m = absurd (omega (arith, m))
+    by later Greater f Less g m = absurd m
+    by later Greater f Equal g m = absurd m
+    by later Greater f Greater g m = absurd m
+
+-- texts among those that begin with the prefix are ordered as what follows it
+among : (ps s t : Text) → standing ps s ≡ Equal → standing ps t ≡ Equal → text_cmp s t ≡ text_cmp (drop (length ps) s) (drop (length ps) t)
+among [] s t e f = refl
+among (p ∷ ps) [] t e f = cc
+among (p ∷ ps) (a ∷ s) [] e f = cc
+among (p ∷ ps) (a ∷ s) (b ∷ t) e f =
+    by (among ps s t) (nat_cmp a p) (ranked a p (nat_cmp a p) refl) (nat_cmp b p) (ranked b p (nat_cmp b p) refl) e f
+  where
+    by : (standing ps s ≡ Equal → standing ps t ≡ Equal → text_cmp s t ≡ text_cmp (drop (length ps) s) (drop (length ps) t))
+        → (r : Ordering) → MatchOrdering r (a < p) (a ≡ p) (p < a) → (q : Ordering) → MatchOrdering q (b < p) (b ≡ p) (p < b)
+        → ordering_then r (standing ps s) ≡ Equal → ordering_then q (standing ps t) ≡ Equal
+        → ordering_then (nat_cmp a b) (text_cmp s t) ≡ text_cmp (drop (length ps) s) (drop (length ps) t)
+    by later Less l q g e f = cc
+    by later Greater l q g e f = cc
+    by later Equal l Less g e f = cc
+    by later Equal l Greater g e f = cc
+    by later Equal l Equal g e f =
+        ap (λ r. ordering_then r (text_cmp s t)) ((λ i. nat_cmp (l i) (g i)) ∙ tied_itself nat_cmp_total p)
+        ∙ later e f
+
+-- the text with the lesser head is the lesser
+pub heads_differ : (ps s t : Text) → AreBytes s → AreBytes t → head_past ps s < head_past ps t → text_cmp s t ≡ Less
+heads_differ ps s t hs ht = by (standing ps s) (standing ps t) refl refl
+  where
+    later_s : Text
+    later_s = drop (length ps) s
+
+    later_t : Text
+    later_t = drop (length ps) t
+
+    parted : (r q : Ordering) → standing ps s ≡ r → standing ps t ≡ q → Before r q → text_cmp s t ≡ Less
+    parted r q e f h = apart ps s t (subst (λ (x : Ordering × Ordering). Before x.0 x.1) (λ i. (sym e i, sym f i)) h)
+
+    by : (r q : Ordering) → standing ps s ≡ r → standing ps t ≡ q
+        → match_ordering r (with_head 7 0 s) (with_head 7 1 later_s) (with_head 7 2 s) < match_ordering q (with_head 7 0 t) (with_head 7 1 later_t) (with_head 7 2 t)
+        → text_cmp s t ≡ Less
+    by Less Less e f l = heads_decide 7 0 s t ht l
+    by Less Equal e f l = parted Less Equal e f tt
+    by Less Greater e f l = parted Less Greater e f tt
+    by Equal Less e f l = let over = rises 7 0 1 t later_s ht (omega arith) in absurd (omega (arith, l, over))
+    by Equal Equal e f l = among ps s t e f ∙ heads_decide 7 1 later_s later_t (dropped_are_bytes (length ps) t ht) l
+    by Equal Greater e f l = parted Equal Greater e f tt
+    by Greater Less e f l = let over = rises 7 0 2 t s ht (omega arith) in absurd (omega (arith, l, over))
+    by Greater Equal e f l = let over = rises 7 1 2 later_t s (dropped_are_bytes (length ps) t ht) (omega arith) in absurd (omega (arith, l, over))
+    by Greater Greater e f l = heads_decide 7 2 s t ht l
 
 -- heads that differ are ordered as the texts are
 pub heads_tell : (ps s t : Text) → AreBytes s → AreBytes t → (head_past ps s ≡ head_past ps t → ⊥) → nat_cmp (head_past ps s) (head_past ps t) ≡ text_cmp s t
@@ -105,29 +161,39 @@ heads_tell ps s t hs ht e =
     by Equal f = absurd (e f)
     by Greater f = sym (nat_list_cmp_total.antisymm s t ∙ ap ordering_reverse (heads_differ ps t s ht hs f))
 
--- the head of a text that begins with the prefix
-begins : (ps rest : Text) → head_past ps (ps ++ rest) ≡ with_head 7 1 rest
+-- a text that begins with the prefix is among those
+begins : (ps rest : Text) → standing ps (ps ++ rest) ≡ Equal
 begins [] rest = refl
-begins (p ∷ ps) rest =
-    ap (λ r. match_ordering r 0 (head_past ps (ps ++ rest)) (with_head 7 2 [])) (tied_itself nat_cmp_total p) ∙ begins ps rest
+begins (p ∷ ps) rest = ap (λ r. ordering_then r (standing ps (ps ++ rest))) (tied_itself nat_cmp_total p) ∙ begins ps rest
+
+standing_at : (ps text : Text) (r : Ordering) → standing ps text ≡ r → head_past ps text ≡ match_ordering r (with_head 7 0 text) (with_head 7 1 (drop (length ps) text)) (with_head 7 2 text)
+standing_at ps text r e = ap (λ r. match_ordering r (with_head 7 0 text) (with_head 7 1 (drop (length ps) text)) (with_head 7 2 text)) e
 
 pub head_inside : (ps text : Text) → pointwise nat_eq (take (length ps) text) ps ≡ true → head_past ps text ≡ with_head 7 1 (drop (length ps) text)
 head_inside ps text e =
-    ap (head_past ps) (sym (take-append-drop (length ps) text) ∙ ap (λ xs. xs ++ drop (length ps) text) ((bytes_decides (take (length ps) text) ps).0 e))
-    ∙ begins ps (drop (length ps) text)
+    standing_at ps text Equal (
+    ap (standing ps) (sym (take-append-drop (length ps) text) ∙ ap (λ xs. xs ++ drop (length ps) text) ((bytes_decides (take (length ps) text) ps).0 e))
+    ∙ begins ps (drop (length ps) text))
 
--- and of one that does not
-pub head_outside : (ps text : Text) → pointwise nat_eq (take (length ps) text) ps ≡ false → head_past ps text ≡ cond (is_lt (text_cmp text ps)) 0 (with_head 7 2 [])
-head_outside [] text e = absurd (true≢false e)
-head_outside (p ∷ ps) [] e = refl
-head_outside (p ∷ ps) (b ∷ bs) e = by (head_outside ps bs) (nat_cmp b p) (ranked b p (nat_cmp b p) refl)
+outside : (ps text : Text) → pointwise nat_eq (take (length ps) text) ps ≡ false → standing ps text ≡ cond (is_lt (text_cmp text ps)) Less Greater
+outside [] text e = absurd (true≢false e)
+outside (p ∷ ps) [] e = refl
+outside (p ∷ ps) (b ∷ bs) e = by (outside ps bs) (nat_cmp b p) (ranked b p (nat_cmp b p) refl)
   where
-    by : (pointwise nat_eq (take (length ps) bs) ps ≡ false → head_past ps bs ≡ cond (is_lt (text_cmp bs ps)) 0 (with_head 7 2 []))
+    by : (pointwise nat_eq (take (length ps) bs) ps ≡ false → standing ps bs ≡ cond (is_lt (text_cmp bs ps)) Less Greater)
         → (r : Ordering) → MatchOrdering r (b < p) (b ≡ p) (p < b)
-        → match_ordering r 0 (head_past ps bs) (with_head 7 2 []) ≡ cond (is_lt (ordering_then r (text_cmp bs ps))) 0 (with_head 7 2 [])
+        → ordering_then r (standing ps bs) ≡ cond (is_lt (ordering_then r (text_cmp bs ps))) Less Greater
     by later Less f = refl
     by later Equal f =
         let level : b ≡ p = f in
         let same : nat_eq b p ≡ true = grind arith in
         later (ap (λ x. x && pointwise nat_eq (take (length ps) bs) ps) (sym same) ∙ e)
     by later Greater f = refl
+
+-- and of one that does not
+pub head_outside : (ps text : Text) → pointwise nat_eq (take (length ps) text) ps ≡ false → head_past ps text ≡ cond (is_lt (text_cmp text ps)) (with_head 7 0 text) (with_head 7 2 text)
+head_outside ps text e = standing_at ps text (cond (is_lt (text_cmp text ps)) Less Greater) (outside ps text e) ∙ chosen (is_lt (text_cmp text ps))
+  where
+    chosen : (b : Bool) → match_ordering (cond b Less Greater) (with_head 7 0 text) (with_head 7 1 (drop (length ps) text)) (with_head 7 2 text) ≡ cond b (with_head 7 0 text) (with_head 7 2 text)
+    chosen true = refl
+    chosen false = refl

@@ -1,8 +1,10 @@
 -- Numbers that tell most label sets apart in their order: if two heads differ, the sort key with the
--- lesser one is the lesser. Most sort keys begin with the name `alertname`, so a head is made of what
--- follows it.
-use Rattle.std.specs.Prelude.{ℕ, zero, suc, ◌+◌, ◌*◌, [], ◌∷◌, codes}
-use Rattle.std.specs.Ordering.{nat_cmp, match_ordering}
+-- lesser one is the lesser. Most sort keys begin with the name `alertname`, so the head of such a one
+-- is made of what follows it. The head of another is made of its own first bytes.
+use Rattle.std.specs.Prelude.{ℕ, zero, suc, ◌+◌, ◌*◌, [], ◌∷◌, codes, length, drop}
+use Rattle.std.specs.declared.cmp.Ordering.{Ordering}
+use Rattle.std.specs.declared.cmp.Ordering.TheVariants.{Less, Equal}
+use Rattle.std.specs.Ordering.{nat_cmp, ordering_then, match_ordering}
 use Rattle.amr_labels.specs.Labels.{Text}
 use Rattle.amr_labels.specs.SortKey.{key_of_text}
 
@@ -12,11 +14,15 @@ with_head zero number text = number
 with_head (suc n) number [] = with_head n (number * 256) []
 with_head (suc n) number (b ∷ bs) = with_head n (number * 256 + b) bs
 
--- that of what follows a prefix; 0 for lesser texts, and more than any of these for greater ones
+-- whether a text is before all that begin with a prefix, among them or after them
+abbrev pub standing : Text → Text → Ordering
+standing [] text = Equal
+standing (p ∷ ps) [] = Less
+standing (p ∷ ps) (b ∷ bs) = ordering_then (nat_cmp b p) (standing ps bs)
+
+-- the head of a text among those that begin with a prefix and the others
 abbrev pub head_past : Text → Text → ℕ
-head_past [] text = with_head 7 1 text
-head_past (p ∷ ps) [] = 0
-head_past (p ∷ ps) (b ∷ bs) = match_ordering (nat_cmp b p) 0 (head_past ps bs) (with_head 7 2 [])
+head_past prefix text = match_ordering (standing prefix text) (with_head 7 0 text) (with_head 7 1 (drop (length prefix) text)) (with_head 7 2 text)
 
 -- the name that most label sets begin with, as it stands in a sort key
 abbrev pub usual_name : Text

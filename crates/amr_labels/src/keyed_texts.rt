@@ -216,8 +216,8 @@ fn head_of(key: &str) -> u64
     let usual_name = "alertname\0";
     match key.as_bytes().strip_prefix(usual_name.as_bytes()) {
         Some(rest) => headed(1, rest),
-        None if key < usual_name => 0,
-        None => headed(2, &[]),
+        None if key < usual_name => headed(0, key.as_bytes()),
+        None => headed(2, key.as_bytes()),
     }
 }
 

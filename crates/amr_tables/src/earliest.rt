@@ -1,7 +1,7 @@
 //! Moments by number, and which of them is the earliest. The pending timers are kept like this, by
 //! the numbers of alerts and groups. All memory is taken before a moment is set, so that undoing an
 //! event takes none.
-ghost use Rattle.std.specs.Prelude.{◌≡◌, true, ◌<◌, ◌≤◌, ◌*◌, ◌+◌, ◌-◌, ℕ, [], None, Some, length, OnOk, IfSome, IfNone, slice_set, if◌then◌else◌};
+ghost use Rattle.std.specs.Prelude.{◌≡◌, ◌≢◌, true, false, ◌<◌, ◌≤◌, ◌*◌, ◌+◌, ◌-◌, ℕ, [], None, Some, length, OnOk, IfSome, IfNone, slice_set, if◌then◌else◌};
 ghost use Rattle.std.specs.declared.cmp.Ordering.{Ordering};
 ghost use Rattle.std.specs.Ordering.{is_lt};
 ghost use Rattle.std.specs.Cmp.{IsTotalOrder};
@@ -192,7 +192,8 @@ impl Earliest {
 
 /// Returns whether two moments are one, or both are missing.
 fn is_same(a: Option<u128>, b: Option<u128>) -> bool
-    ensures { result ≡ true → a ≡ b }
+    ensures same { result ≡ true → a ≡ b }
+    ensures other { result ≡ false → a ≢ b }
 {
     match (a, b) {
         (Some(moment), Some(other)) => moment == other,

@@ -1,4 +1,4 @@
-use Rattle.std.proofs.Common.{[], cond, sym, ap, ◌∙◌}
+use Rattle.std.proofs.Common.{cond, sym, ap, ◌∙◌}
 use Rattle.std.specs.Ordering.{is_lt}
 use Rattle.amr_labels.specs.Labels.{text_cmp}
 use Rattle.amr_labels.specs.Head.{with_head, head_past, text_head}
@@ -15,16 +15,19 @@ returns-in-Some c =
 pub returns-in-None : goal.returns-in-None
 unfolding text_head
 returns-in-None c =
-    sym (head_outside c.as_bytes-2.result.now c.as_bytes.result.now c.in-None.ensures.cases
-    ∙ (λ i. cond (is_lt (text_cmp (c.as_bytes.ensures.value i) (c.as_bytes-2.ensures.value i))) 0 (with_head 7 2 []))
-    ∙ ap (λ b. cond b 0 (with_head 7 2 [])) (sym c.lt.ensures ∙ c.if-lt.true))
+    let key = c.args.key.now in
+    c.headed-in-None.ensures ∙ ap (with_head 7 0) c.as_bytes-in-None.ensures.value
+    ∙ sym (head_outside c.as_bytes-2.result.now c.as_bytes.result.now c.in-None.ensures.cases
+    ∙ (λ i. cond (is_lt (text_cmp (c.as_bytes.ensures.value i) (c.as_bytes-2.ensures.value i))) (with_head 7 0 (c.as_bytes.ensures.value i)) (with_head 7 2 (c.as_bytes.ensures.value i)))
+    ∙ ap (λ b. cond b (with_head 7 0 key) (with_head 7 2 key)) (sym c.lt.ensures ∙ c.if-lt.true))
     ∙ (λ i. head_past (c.as_bytes-2.ensures.value i) (c.as_bytes.ensures.value i))
 
 pub returns-in-None-2 : goal.returns-in-None-2
 unfolding text_head
 returns-in-None-2 c =
-    c.headed-in-None-2.ensures
+    let key = c.args.key.now in
+    c.headed-in-None-2.ensures ∙ ap (with_head 7 2) c.as_bytes-in-None-2.ensures.value
     ∙ sym (head_outside c.as_bytes-2.result.now c.as_bytes.result.now c.in-None-2.ensures.cases
-    ∙ (λ i. cond (is_lt (text_cmp (c.as_bytes.ensures.value i) (c.as_bytes-2.ensures.value i))) 0 (with_head 7 2 []))
-    ∙ ap (λ b. cond b 0 (with_head 7 2 [])) (sym c.lt.ensures ∙ c.if-lt.false))
+    ∙ (λ i. cond (is_lt (text_cmp (c.as_bytes.ensures.value i) (c.as_bytes-2.ensures.value i))) (with_head 7 0 (c.as_bytes.ensures.value i)) (with_head 7 2 (c.as_bytes.ensures.value i)))
+    ∙ ap (λ b. cond b (with_head 7 0 key) (with_head 7 2 key)) (sym c.lt.ensures ∙ c.if-lt.false))
     ∙ (λ i. head_past (c.as_bytes-2.ensures.value i) (c.as_bytes.ensures.value i))

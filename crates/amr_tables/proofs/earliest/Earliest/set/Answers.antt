@@ -61,4 +61,4 @@ returns-clause-kept g c =
     ended (g.O.Ranking.rank c.args.order.now) c.args.number t c.loop-node.self c.loop-node.node c.loop-node.invariant.climbed c.loop-node.invariant.moments (grind (arith, nat_tests))
 
 pub returns-then-is_same-clause-moments : goal.returns-then-is_same-clause-moments
-returns-then-is_same-clause-moments g c = same_value_set c.args.self.now.moments c.args.number c.args.moment c.requires.room (sym c.at.ensures ∙ c.is_same.ensures c.if-is_same.true)
+returns-then-is_same-clause-moments g c = same_value_set c.args.self.now.moments c.args.number c.args.moment c.requires.room (sym c.at.ensures ∙ c.is_same.ensures.same c.if-is_same.true)
