@@ -2,4 +2,3 @@ pub mod Arriving
 pub mod Sources
 pub mod CachedSilences
 pub mod CaughtUp
-pub mod ValueBits

@@ -1,4 +1,3 @@
 pub mod LabelValues
 pub mod RuleSources
 pub mod CachedSilences
-pub mod ValueBits

@@ -8,7 +8,6 @@ mod label_values;
 mod rule_source;
 mod silence_change;
 mod silence_table;
-mod value_bits;
 
 pub use alert_table::AlertTable;
 pub use silence_table::SilenceTable;

@@ -1,3 +1,4 @@
+pub mod ValueBits
 pub mod Asking
 pub mod Finds
 pub mod WithoutGroups

@@ -4,6 +4,7 @@ pub mod Questions
 pub mod Matchers
 pub mod Comparisons
 pub mod Candidates
+pub mod ValueBits
 pub mod MatcherText
 pub mod MatcherReading
 pub mod MatcherRefusals

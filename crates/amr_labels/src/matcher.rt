@@ -1,6 +1,7 @@
 //! Label matchers, lists of them, and reading them from texts. Routes, inhibition rules and
 //! silences have matchers. A pattern is built once, when its matcher is read.
 
+mod bits;
 mod candidates;
 mod comparison;
 mod error;
@@ -16,6 +17,7 @@ mod patterns;
 mod search;
 mod ungrouped;
 
+pub use bits::{bits_of, required_bits, value_bits};
 pub use error::MatcherError;
 pub use match_cache::MatchCache;
 pub use matcher::Matcher;

@@ -15,6 +15,7 @@ use Rattle.std.specs.Cmp.{nat_cmp_total, tied_itself}
 use Rattle.std.specs.FinMap.{nat_cmp-IsAntisymmetric}
 use Rattle.amr_labels.specs.Map.{entries, get, set, retain_keys, entries-retain_keys, get-set, get-retain_keys, same_map}
 use Rattle.amr_labels.specs.Labels.{LabelSet, label_set_cmp, label_set_cmp-IsAntisymmetric}
+use Rattle.amr_labels.specs.Matcher.ValueBits.{value_bits}
 use Rattle.amr_time.specs.Time.{Moment}
 use Rattle.amr_rules.specs.declared.silence.Silence.{Silence}
 use Rattle.amr_rules.specs.declared.silence_period.SilencePeriod.{SilencePeriod}
@@ -22,7 +23,6 @@ use Rattle.amr_rules.specs.Silences.{Silences}
 use Rattle.amr_rules.specs.SilencePeriods.{may_silence, period_of, silence_periods}
 use Rattle.amr_engine.specs.declared.indexes.cached_periods.CachedPeriods.{CachedPeriods}
 use Rattle.amr_engine.specs.declared.indexes.silence_change.SilenceChange.{SilenceChange}
-use Rattle.amr_engine.specs.Indexes.ValueBits.{value_bits}
 use Rattle.amr_engine.specs.Indexes.CachedSilences.{periods_picked, PicksNone, change_of, changed_ids, AreNoted, IsCached, AreCached, SameOthers}
 
 apart_bools : {A : Type 0} → true ≡ false → A

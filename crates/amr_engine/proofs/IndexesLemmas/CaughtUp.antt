@@ -16,6 +16,8 @@ use Rattle.amr_labels.specs.Map.{entries, get, entries-sorted, get-entries}
 use Rattle.amr_labels.specs.Labels.{LabelSet}
 use Rattle.amr_labels.proofs.Sorted.{both, first, second, less}
 use Rattle.amr_labels.specs.Matcher.Matchers.{all_hold}
+use Rattle.amr_labels.specs.Matcher.ValueBits.{value_bits, required_bits}
+use Rattle.amr_labels.proofs.MatcherLemmas.ValueBits.{matching_marked}
 use Rattle.amr_time.specs.Time.{Moment}
 use Rattle.amr_rules.specs.declared.silence.Silence.{Silence}
 use Rattle.amr_rules.specs.declared.silence_period.SilencePeriod.{SilencePeriod}
@@ -23,10 +25,8 @@ use Rattle.amr_rules.specs.Silences.{Silences}
 use Rattle.amr_rules.specs.SilencePeriods.{may_silence, period_of, silence_periods}
 use Rattle.amr_engine.specs.declared.indexes.cached_periods.CachedPeriods.{CachedPeriods}
 use Rattle.amr_engine.specs.declared.indexes.silence_change.SilenceChange.{SilenceChange}
-use Rattle.amr_engine.specs.Indexes.ValueBits.{value_bits, required_bits}
 use Rattle.amr_engine.specs.Indexes.CachedSilences.{lists, periods_picked, PicksNone, is_below, is_above, ends_after, without_silence, with_period, with_silence_noted, period_from, change_of, may_concern, is_idle, next_concern, passed_by, changed_ids, AreNoted, IsCached}
 use Rattle.amr_engine.proofs.IndexesLemmas.CachedSilences.{filters_swap, id_at}
-use Rattle.amr_engine.proofs.IndexesLemmas.ValueBits.{matching_marked}
 
 -- ---- two tests, one after the other
 

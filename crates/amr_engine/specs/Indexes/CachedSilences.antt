@@ -4,6 +4,7 @@ use Rattle.std.specs.List.{All, filter, list_any, prefix_len}
 use Rattle.std.specs.Ordering.{nat_cmp, eq_by_cmp, is_lt}
 use Rattle.amr_labels.specs.Map.{get}
 use Rattle.amr_labels.specs.Labels.{LabelSet}
+use Rattle.amr_labels.specs.Matcher.ValueBits.{value_bits, required_bits}
 use Rattle.amr_time.specs.Time.{Moment}
 use Rattle.amr_rules.specs.declared.silence.Silence.{Silence}
 use Rattle.amr_rules.specs.declared.silence_period.SilencePeriod.{SilencePeriod}
@@ -12,7 +13,6 @@ use Rattle.amr_rules.specs.SilencePeriods.{may_silence, period_of, silence_perio
 use Rattle.amr_engine.specs.declared.indexes.cached_periods.CachedPeriods.{CachedPeriods}
 use Rattle.amr_engine.specs.declared.indexes.silence_change.SilenceChange.{SilenceChange}
 use Rattle.amr_engine.specs.declared.indexes.silence_table.Unexpired.{Unexpired}
-use Rattle.amr_engine.specs.Indexes.ValueBits.{value_bits, required_bits}
 
 -- the silence with this id has one of the periods
 abbrev pub lists : List SilencePeriod → ℕ → Bool

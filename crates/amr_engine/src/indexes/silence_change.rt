@@ -3,8 +3,8 @@
 ghost use Rattle.std.specs.Prelude.{◌≡◌};
 ghost use Rattle.std.specs.Option.{option_copied};
 
-use crate::indexes::value_bits::required_bits;
 use amr_events::posts::SilenceId;
+use amr_labels::matcher::required_bits;
 use amr_rules::Silence;
 use amr_time::Moment;
 

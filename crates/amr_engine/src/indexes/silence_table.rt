@@ -10,9 +10,8 @@ ghost use Rattle.amr_tables.specs.Numbered.{map_of, number_of, is_entered, Enter
 
 use crate::indexes::cached_periods::CachedPeriods;
 use crate::indexes::silence_change::SilenceChange;
-use crate::indexes::value_bits::value_bits;
 use amr_events::posts::SilenceId;
-use amr_labels::matcher::MatchCache;
+use amr_labels::matcher::{MatchCache, value_bits};
 use amr_labels::{Labels, Listing};
 use amr_rules::{
     Silence, SilencePeriod, SilenceRow, periods_at, silence_periods, silence_rows, silenced_by,

@@ -1,15 +1,22 @@
 -- Asking one matcher after the other is asking all of them.
-use Rattle.std.proofs.Common.{◌≡◌, ℕ, zero, suc, ◌+◌, ◌<◌, Bool, true, false, ◌&&◌, List, [], ◌∷◌, map, fold, length, take, set, get_or, replicate, refl, sym, ap, ◌∙◌, arith, add-one}
+use Rattle.std.proofs.Common.{◌≡◌, ℕ, zero, suc, ◌+◌, ◌<◌, Bool, true, false, ◌&&◌, List, [], ◌∷◌, map, length, take, set, get_or, refl, sym, ap, ◌∙◌, arith, add-one, eq-eqb}
+use Rattle.std.specs.Prelude.{◌==◌, bit_or}
 use Rattle.std.proofs.Math.Bool.{and_assoc}
 use Rattle.std.specs.List.{list_any}
 use Rattle.std.proofs.lemmas.Bool.{true≢false}
 use Rattle.amr_labels.specs.Labels.{LabelSet}
 use Rattle.amr_labels.specs.Matcher.Matchers.{Matcher, holds, all_hold}
-use Rattle.amr_labels.specs.Matcher.Candidates.{candidates_after, kept_by, matches_each}
+use Rattle.amr_labels.specs.Matcher.Candidates.{candidates_by_bits, candidates_after, kept_by, kept_by_all, matches_each}
+use Rattle.amr_labels.specs.Matcher.ValueBits.{value_bits, required_bits}
+use Rattle.amr_labels.proofs.MatcherLemmas.ValueBits.{matching_marked}
 
 and_true : (b : Bool) → (b && true) ≡ b
 and_true true = refl
 and_true false = refl
+
+and_false : (b : Bool) → (b && false) ≡ false
+and_false true = refl
+and_false false = refl
 
 -- one more matcher is asked of label sets with what is known of them
 kept_more : (matcher : Matcher) (known : LabelSet → Bool) (label_sets : List LabelSet)
@@ -18,23 +25,38 @@ kept_more matcher known [] = refl
 kept_more matcher known (labels ∷ label_sets) = λ i. (known labels && holds matcher labels) ∷ kept_more matcher known label_sets i
 
 asked_all : (matchers : List Matcher) (known : LabelSet → Bool) (label_sets : List LabelSet)
-    → fold (λ candidates matcher. kept_by matcher label_sets candidates) (map known label_sets) matchers
+    → kept_by_all matchers label_sets (map known label_sets)
     ≡ map (λ labels. known labels && all_hold matchers labels) label_sets
 asked_all [] known label_sets = λ i. map (λ labels. sym (and_true (known labels)) i) label_sets
 asked_all (matcher ∷ matchers) known label_sets =
-    ap (λ candidates. fold (λ candidates matcher. kept_by matcher label_sets candidates) candidates matchers) (kept_more matcher known label_sets)
+    ap (kept_by_all matchers label_sets) (kept_more matcher known label_sets)
     ∙ asked_all matchers (λ labels. known labels && holds matcher labels) label_sets
     ∙ (λ i. map (λ labels. and_assoc (known labels) (holds matcher labels) (all_hold matchers labels) i) label_sets)
 
-all_marked : (label_sets : List LabelSet) → replicate (length label_sets) true ≡ map (λ labels. true) label_sets
-all_marked [] = refl
-all_marked (labels ∷ label_sets) = ap (λ candidates. true ∷ candidates) (all_marked label_sets)
+-- the label set's values have the bits that the matchers ask for
+abbrev has_bits : List Matcher → LabelSet → Bool
+has_bits matchers labels = bit_or (value_bits labels) (required_bits matchers) == value_bits labels
+
+have_bits : (matchers : List Matcher) (label_sets : List LabelSet)
+    → candidates_by_bits (required_bits matchers) (map value_bits label_sets) ≡ map (has_bits matchers) label_sets
+have_bits matchers [] = refl
+have_bits matchers (labels ∷ label_sets) = ap (λ candidates. has_bits matchers labels ∷ candidates) (have_bits matchers label_sets)
+
+-- that test changes nothing of the answer of all matchers
+bits_besides : (matchers : List Matcher) (labels : LabelSet) → (has_bits matchers labels && all_hold matchers labels) ≡ all_hold matchers labels
+bits_besides matchers labels =
+    elim (all_hold matchers labels) as (λ all. all_hold matchers labels ≡ all → (has_bits matchers labels && all) ≡ all) [
+      | true ↦ λ all. and_true (has_bits matchers labels) ∙ eq-eqb _ _ (matching_marked labels matchers all)
+      | false ↦ λ all. and_false (has_bits matchers labels)
+    ] refl
 
 pub asked_each : (matchers : List Matcher) (label_sets : List LabelSet)
-    → fold (λ candidates matcher. kept_by matcher label_sets candidates) (replicate (length label_sets) true) matchers ≡ matches_each matchers label_sets
+    → kept_by_all matchers label_sets (candidates_by_bits (required_bits matchers) (map value_bits label_sets))
+    ≡ matches_each matchers label_sets
 asked_each matchers label_sets =
-    ap (λ candidates. fold (λ candidates matcher. kept_by matcher label_sets candidates) candidates matchers) (all_marked label_sets)
-    ∙ asked_all matchers (λ labels. true) label_sets
+    ap (kept_by_all matchers label_sets) (have_bits matchers label_sets)
+    ∙ asked_all matchers (has_bits matchers) label_sets
+    ∙ (λ i. map (λ labels. bits_besides matchers labels i) label_sets)
 
 -- no label set is left, so one more matcher changes nothing
 none_left : (matcher : Matcher) (label_sets : List LabelSet) (candidates : List Bool) → list_any (λ mark. mark) candidates ≡ false → kept_by matcher label_sets candidates ≡ candidates
@@ -44,10 +66,10 @@ none_left matcher (labels ∷ label_sets) (true ∷ candidates) none = absurd (t
 none_left matcher (labels ∷ label_sets) (false ∷ candidates) none = ap (λ kept. false ∷ kept) (none_left matcher label_sets candidates none)
 
 pub asked_in_vain : (matchers : List Matcher) (label_sets : List LabelSet) (candidates : List Bool) → list_any (λ mark. mark) candidates ≡ false
-    → fold (λ candidates matcher. kept_by matcher label_sets candidates) candidates matchers ≡ candidates
+    → kept_by_all matchers label_sets candidates ≡ candidates
 asked_in_vain [] label_sets candidates none = refl
 asked_in_vain (matcher ∷ matchers) label_sets candidates none =
-    ap (λ kept. fold (λ candidates matcher. kept_by matcher label_sets candidates) kept matchers) (none_left matcher label_sets candidates none)
+    ap (kept_by_all matchers label_sets) (none_left matcher label_sets candidates none)
     ∙ asked_in_vain matchers label_sets candidates none
 
 -- the mark at an index is changed after those before it

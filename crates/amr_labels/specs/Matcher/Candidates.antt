@@ -1,9 +1,13 @@
 -- Label sets of which a list of matchers is asked one matcher after the other.
-use Rattle.std.specs.Prelude.{Bool, ◌&&◌, not, List, [], ◌∷◌, map, if◌then◌else◌}
+use Rattle.std.specs.Prelude.{ℕ, Bool, ◌==◌, ◌&&◌, not, List, [], ◌∷◌, map, fold, bit_or, if◌then◌else◌}
 use Rattle.std.specs.Ordering.{eq_by_cmp}
 use Rattle.amr_labels.specs.Labels.{LabelSet, Text, text_cmp, value_of}
 use Rattle.amr_labels.specs.Matcher.Patterns.{pattern_matches}
 use Rattle.amr_labels.specs.Matcher.Matchers.{Matcher, holds, all_hold}
+
+-- which label sets are candidates at first: those whose values have the bits that are required
+abbrev pub candidates_by_bits : ℕ → List ℕ → List Bool
+candidates_by_bits required bits = map (λ own. bit_or own required == own) bits
 
 -- which label sets are candidates, where those alone stay so that pass the test too
 abbrev pub candidates_after : (LabelSet → Bool) → List LabelSet → List Bool → List Bool
@@ -14,6 +18,10 @@ candidates_after test (labels ∷ label_sets) [] = []
 -- one more matcher is asked
 abbrev pub kept_by : Matcher → List LabelSet → List Bool → List Bool
 kept_by matcher = candidates_after (holds matcher)
+
+-- all these matchers are asked, one after the other
+abbrev pub kept_by_all : List Matcher → List LabelSet → List Bool → List Bool
+kept_by_all matchers label_sets candidates = fold (λ kept matcher. kept_by matcher label_sets kept) candidates matchers
 
 -- the label with this name is compared too
 abbrev pub kept_where : (Text → Bool) → Text → List LabelSet → List Bool → List Bool

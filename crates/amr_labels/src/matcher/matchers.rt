@@ -1,5 +1,5 @@
 //! Lists of matchers, shared by their clones, since routes and silences are cloned often.
-ghost use Rattle.std.specs.Prelude.{◌≡◌, ◌==◌, [], length, IfOk};
+ghost use Rattle.std.specs.Prelude.{◌≡◌, ◌==◌, [], length, map, IfOk};
 ghost use Rattle.std.proofs.Common.{rules};
 ghost use Rattle.std.specs.Cmp.{partial_order_from_own_ties};
 ghost use Rattle.std.specs.Cmp.Rules.{comparing};
@@ -7,6 +7,7 @@ ghost use Rattle.std.specs.Cmp.Lexicographic.{slice_cmp, lists_total};
 ghost use Rattle.std.specs.Ordering.{as_partial_cmp, eq_by_cmp};
 ghost use Rattle.amr_labels.specs.Matcher.Candidates.{matches_each};
 ghost use Rattle.amr_labels.specs.Matcher.Matchers.{all_hold, matcher_cmp, matcher_cmp_total};
+ghost use Rattle.amr_labels.specs.Matcher.ValueBits.{value_bits};
 
 use crate::matcher::candidates::match_each;
 use crate::matcher::match_cache::MatchCache;
@@ -83,11 +84,18 @@ impl Matchers {
         Ok(true)
     }
 
-    /// Returns for each label set whether all matchers match it.
-    pub fn match_each(&self, alloc: Global, label_sets: &[Labels]) -> Result<Vec<bool>, AllocError>
+    /// Returns for each label set whether all matchers match it. The caller gives the bits of each
+    /// (`bits_of`), which are made once for many lists of matchers.
+    pub fn match_each(
+        &self,
+        alloc: Global,
+        label_sets: &[Labels],
+        bits: &[u64],
+    ) -> Result<Vec<bool>, AllocError>
+        requires { bits.now ≡ map value_bits label_sets.now }
         ensures { IfOk result (λ found. found.items ≡ matches_each self.now label_sets.now) }
     {
-        match_each(alloc, self.as_slice(), label_sets)
+        match_each(alloc, self.as_slice(), label_sets, bits)
     }
 }
 

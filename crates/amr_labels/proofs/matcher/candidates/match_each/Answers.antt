@@ -1,22 +1,18 @@
-use Rattle.std.proofs.Common.{◌≡◌, ◌∙◌, true, false, List, Bool, length, replicate, drop, fold, sym, ap}
-use Rattle.std.specs.List.{list_any}
-use Rattle.std.proofs.lemmas.List.{length-replicate}
-use Rattle.amr_labels.specs.Matcher.Candidates.{kept_by}
-use Rattle.amr_labels.proofs.MatcherLemmas.Asking.{asked_each, asked_in_vain}
+use Rattle.std.proofs.Common.{◌≡◌, ◌∙◌, length, ◌++◌, take, drop, map, ap, arith, rules}
+use Rattle.std.proofs.lemmas.Grind.{common_steps}
+use Rattle.amr_labels.specs.Matcher.Candidates.{candidates_by_bits, kept_by_all}
+use Rattle.amr_labels.specs.Matcher.ValueBits.{value_bits, required_bits}
+use Rattle.amr_labels.proofs.MatcherLemmas.Asking.{asked_each}
 use Rattle.amr_labels.proofs.matcher.candidates.match_each.Goals as goal
 
-pub loop-matcher-init : goal.loop-matcher-init
-loop-matcher-init c =
+pub returns : goal.returns
+returns c =
     let label_sets = c.args.label_sets.now in
     let matchers = c.args.matchers.now in
-    let all : c.in_ok-candidates.candidates.items ≡ replicate (length label_sets) true = c.in_ok-candidates.ensures.items_if_clones_equal (λ y h. h) in (
-      ap length all ∙ length-replicate (length label_sets) true,
-      ap (λ (candidates : List Bool). fold (λ candidates matcher. kept_by matcher label_sets candidates) candidates matchers) all ∙ asked_each matchers label_sets,
-    )
-
-pub returns-then-not-is_any_left : goal.returns-then-not-is_any_left
-returns-then-not-is_any_left c =
-    let candidates = c.loop-matcher.candidates.items in
-    let none : list_any (λ candidate. candidate) candidates ≡ false =
-    ap (list_any (λ candidate. candidate)) (sym c.as_slice.ensures.value) ∙ sym c.is_any_left.ensures ∙ c.if-not-is_any_left.true in
-    sym (asked_in_vain (drop c.loop-matcher.matcher-index c.args.matchers.now) c.args.label_sets.now candidates none) ∙ c.loop-matcher.invariant.1
+    let begun = c.in_ok-candidates.candidates in
+    let kept = c.keep_matching.new.candidates in
+    let first : begun.items ≡ candidates_by_bits (required_bits matchers) (map value_bits label_sets) =
+    c.in_ok-candidates.ensures ∙ (λ i. candidates_by_bits (c.required_bits.ensures i) (c.requires i)) in
+    let written : take begun.len (kept ++ drop (length kept) begun.items) ≡ kept = first_of (search rules, grind (arith, common_steps)) in
+    let asked : kept ≡ kept_by_all matchers label_sets begun.items = c.in_ok-keep_matching.ensures ∙ ap (kept_by_all matchers label_sets) c.as_mut_slice.ensures.value in
+    written ∙ asked ∙ ap (kept_by_all matchers label_sets) first ∙ asked_each matchers label_sets

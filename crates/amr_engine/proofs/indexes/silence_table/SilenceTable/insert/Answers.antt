@@ -1,12 +1,12 @@
 use Rattle.std.proofs.Common.{sym, ap, ◌∙◌, length}
 use Rattle.std.proofs.lemmas.List.{length-map}
 use Rattle.std.specs.Ordering.{nat_cmp}
+use Rattle.amr_labels.specs.Matcher.ValueBits.{value_bits}
 use Rattle.amr_tables.specs.Numbered.{map_of}
 use Rattle.amr_rules.specs.SilencePeriods.{silence_periods}
 use Rattle.amr_engine.specs.declared.indexes.cached_periods.CachedPeriods.{CachedPeriods}
 use Rattle.amr_engine.specs.declared.indexes.silence_change.SilenceChange.{SilenceChange}
 use Rattle.amr_engine.specs.Indexes.CachedSilences.{changed_ids}
-use Rattle.amr_engine.specs.Indexes.ValueBits.{value_bits}
 use Rattle.amr_engine.proofs.IndexesLemmas.CachedSilences.{filled}
 use Rattle.amr_engine.proofs.indexes.silence_table.SilenceTable.insert.Goals as goal
 

@@ -14,7 +14,7 @@ use Rattle.amr_labels.specs.Map.{entries, get-entries}
 use Rattle.amr_labels.specs.Labels.{Text, LabelSet, text_cmp, text_cmp-IsAntisymmetric, is_empty, value_of}
 use Rattle.amr_labels.specs.declared.matcher.Operator.TheVariants.{Equal, NotEqual, Matches, NotMatches}
 use Rattle.amr_labels.specs.Matcher.Matchers.{Matcher, compares, holds, all_hold}
-use Rattle.amr_engine.specs.Indexes.ValueBits.{value_bit, value_bits, bits_asked, required_bit, required_bits}
+use Rattle.amr_labels.specs.Matcher.ValueBits.{value_bit, value_bits, bits_asked, required_bit, required_bits}
 
 max_assoc : (a b c : ℕ) → max (max a b) c ≡ max a (max b c)
 max_assoc a b c = grind (arith, nat_tests)

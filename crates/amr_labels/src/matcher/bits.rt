@@ -1,14 +1,23 @@
 //! Bits of label values: numbers of 64 bits, of which each value sets two. Comparing the bits of
 //! a label set with those that matchers ask for shows at once of most silences that they don't
 //! match.
-ghost use Rattle.std.specs.Prelude.{◌≡◌};
-ghost use Rattle.amr_engine.specs.Indexes.ValueBits.{value_bit, value_bits, required_bit, required_bits};
+ghost use Rattle.std.specs.Prelude.{◌≡◌, map, IfOk};
+ghost use Rattle.amr_labels.specs.Matcher.ValueBits.{value_bit, value_bits, required_bit, required_bits};
 
-use amr_labels::matcher::{Matcher, Operator};
-use amr_labels::{Labels, fnv_hash};
+use crate::matcher::Operator;
+use crate::matcher::matcher::Matcher;
+use crate::{Labels, fnv_hash};
+use std::alloc::{AllocError, Global};
+
+/// Returns for each label set the bits of its values.
+pub fn bits_of(alloc: Global, label_sets: &[Labels]) -> Result<Vec<u64>, AllocError>
+    ensures { IfOk result (λ bits. bits.items ≡ map value_bits label_sets.now) }
+{
+    label_sets.iter().map(value_bits).collect(alloc)
+}
 
 /// Returns the bits of the values of a label set.
-pub(crate) fn value_bits(labels: &Labels) -> u64
+pub fn value_bits(labels: &Labels) -> u64
     ensures { result ≡ value_bits labels.now }
 {
     let mut bits: u64 = 0;
@@ -19,7 +28,7 @@ pub(crate) fn value_bits(labels: &Labels) -> u64
 }
 
 /// Returns the bits that each label set has that all these matchers match.
-pub(crate) fn required_bits(matchers: &[Matcher]) -> u64
+pub fn required_bits(matchers: &[Matcher]) -> u64
     ensures { result ≡ required_bits matchers.now }
 {
     let mut bits: u64 = 0;
