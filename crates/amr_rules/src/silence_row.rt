@@ -1,14 +1,16 @@
 //! The silences that match each of many label sets. The state calls `silence_rows` for many of them
 //! at a time, and then `periods_at` for each.
-ghost use Rattle.std.specs.Prelude.{◌≡◌, ◌<◌, ◌≤◌, List, length, get_or, IfOk};
+ghost use Rattle.std.specs.Prelude.{◌≡◌, ◌<◌, ◌≤◌, List, length, map, get_or, IfOk};
 ghost use Rattle.amr_labels.specs.Labels.{LabelSet};
 ghost use Rattle.amr_labels.specs.Map as map;
+ghost use Rattle.amr_labels.specs.Matcher.ValueBits.{value_bits};
 ghost use Rattle.amr_time.specs.Time.{Moment};
 ghost use Rattle.amr_rules.specs.Silences.{Silences};
 
 use crate::silence::Silence;
 use crate::silence_period::SilencePeriod;
 use amr_events::posts::SilenceId;
+use amr_labels::matcher::bits_of;
 use amr_labels::{Labels, Listing};
 use amr_time::Moment;
 use std::alloc::{AllocError, Global};
@@ -23,7 +25,8 @@ pub struct SilenceRow {
 ghost use Rattle.amr_rules.specs.SilencePeriods.{row_of, rows_among, silence_rows, matches_at, periods_at, silence_periods, unexpired_silences};
 
 /// Asks each of these silences that isn't expired at a moment whether it matches these label sets.
-/// It prepares a search for each pattern, which serves all label sets.
+/// It prepares a search for each pattern, which serves all label sets, and makes the bits of the
+/// label sets once for all silences.
 pub fn silence_rows(
     alloc: Global,
     listed: &[(SilenceId, Silence)],
@@ -36,22 +39,25 @@ pub fn silence_rows(
         → earlier ≤ from → listed.now ≡ unexpired_silences earlier silences
         → rows.items ≡ silence_rows from label_sets.now silences) }
 {
+    let bits = bits_of(alloc, label_sets)?;
     let mut rows = Vec::new(alloc);
     for (id, silence) in listed {
         if !silence.is_expired_at(from) {
-            rows.push(row_of(alloc, *id, silence, label_sets)?)?;
+            rows.push(row_of(alloc, *id, silence, label_sets, &bits)?)?;
         }
     }
     Ok(rows)
 }
 
-/// Asks one silence.
+/// Asks one silence. The bits are those of the label sets.
 fn row_of(
     alloc: Global,
     id: SilenceId,
     silence: &Silence,
     label_sets: &[Labels],
+    bits: &[u64],
 ) -> Result<SilenceRow, AllocError>
+    requires { bits.now ≡ map value_bits label_sets.now }
     ensures { IfOk result (λ row. row ≡ row_of label_sets.now (id, silence.now)) }
 {
     Ok(SilenceRow {
@@ -60,7 +66,7 @@ fn row_of(
             starts_at: silence.starts_at,
             ends_at: silence.ends_at,
         },
-        matches: Listing::from_vec(silence.matchers.match_each(alloc, label_sets)?),
+        matches: Listing::from_vec(silence.matchers.match_each(alloc, label_sets, bits)?),
     })
 }
 
